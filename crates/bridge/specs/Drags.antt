@@ -1,0 +1,450 @@
+-- The dual pass of a suggestion: with its mark whole it ends in a good state of the theory with no slack's row below 0, and the values are the best. Assumes nothing.
+use mathlib.Core.Path.{_≡_, refl, sym, ap, ap₂, _∙_, subst}
+use mathlib.Core.Logic.{_⊎_, inl, inr, _≢_}
+use mathlib.Core.List.{List, [], _∷_, _++_, reverse, reverseAux}
+use mathlib.Core.Option.{Option, none, some}
+use Prim.Native.Nat.{ℕ, zero, suc, _+_, _<_}
+use mathlib.Core.Bool.{Bool, true, false, _&&_, cond, true≢false}
+use lib.Dec.{T, eqb, eqb→eq, eqb-refl}
+use lib.IntN.{ℤ, negsuc, negℤ, _+ℤ_, _*ℤ_}
+use lib.Signed.{ltZ-yes}
+use lib.Ieee.{ne}
+use Rattle.laws.specs.Z.{_≼_, _≺_}
+use Rattle.laws.specs.Ring.{ring, v, k as κ, _⊞_, _⊠_, ⊟_}
+use Rattle.simplex.specs.Ord.{0ℤ, 1ℤ, ≼-of-eq, ≺→≼, clash, ≺-or-≼, neg-pos}
+use Rattle.simplex.specs.Lin.{Vec, δ, δ-same, δ-other}
+use Rattle.simplex.specs.Choose.{All}
+use Rattle.simplex.specs.Basis.{swap}
+use Rattle.simplex.specs.Tab.{pivoted, pivot as pivotZ}
+use Rattle.simplex.specs.Opt.{Kind as KindZ, const, external, slack, dummy, slack≢external}
+use Rattle.simplex.specs.Pass.{State, step}
+use Rattle.simplex.specs.Bound.{Mem}
+use Rattle.simplex.specs.Dual.{Good}
+use Rattle.simplex.specs.Problem.{Con, Models}
+use Rattle.simplex.specs.Final.{Best, dual-models, dragged}
+use Rattle.steps.specs.Number.{zero64, belowZero, Mark, allWhole, notWhole, notFinite}
+use Rattle.steps.specs.Symbol.{Symbol, isExternal, isRestricted}
+use Rattle.steps.specs.Row.{Row, Written, solveForSymbols}
+use Rattle.steps.specs.State.{Basic}
+use Rattle.steps.specs.Work.{Work, Outcome, refused, going, _>>=_, refuse, checkFinite, countPivot, marking, withRows, withTableau, withChanges, withArtificial, withObjective, withInfeasible, findRow, dropRow, keepRow}
+use Rattle.steps.specs.Changes.{note}
+use Rattle.steps.specs.Substitute.{substituteInRows, rowsOf, without, push, pushBelow, substitute, enterBasis, pivot}
+use Rattle.steps.specs.Optimise.{isBelow, Popped, allPopped, popped, popBelow, getDualEnteringSymbol, DualChoice, feasible, noEntering, dualPivotOn, chooseDualPivot, countedDualPivot, dualOptimise}
+use Rattle.bridge.specs.Quot.{yes}
+use Rattle.bridge.specs.Nums.{belowZero-z, finite≢}
+use Rattle.bridge.specs.Rows.{In, Sym?, is, isnt, sym?, ReadsRow}
+use Rattle.bridge.specs.Finds.{none≢some, some-injective, find-hit, find-miss, find-none, find-keep-other, sub-all, drop-all}
+use Rattle.bridge.specs.Table.{kindOf, RowAt, Live, ReadsWork, in-nonzero, found-in, enter-parts}
+use Rattle.bridge.specs.Chosen.{restricted-is, slack-restricted}
+use Rattle.bridge.specs.Runs.{markOf, pivot-mark}
+use Rattle.bridge.specs.Duals.{Enters, Entering, dual-entering, dual-pivot, Moved}
+
+-- ---- lists of ids
+mem-rev : (j : ℕ) (l r : List ℕ) → Mem j l ⊎ Mem j r → Mem j (reverseAux l r)
+mem-rev j [] r (inl m) = absurd m
+mem-rev j [] r (inr m) = m
+mem-rev j (x ∷ l) r (inl (inl e)) = mem-rev j l (x ∷ r) (inr (inl e))
+mem-rev j (x ∷ l) r (inl (inr m)) = mem-rev j l (x ∷ r) (inl m)
+mem-rev j (x ∷ l) r (inr m) = mem-rev j l (x ∷ r) (inr (inr m))
+
+all-rev : (Q : ℕ → Type 0) (l r : List ℕ) → All Q l → All Q r → All Q (reverseAux l r)
+all-rev Q [] r a b = b
+all-rev Q (x ∷ l) r a b = all-rev Q l (x ∷ r) (a .1) (a .0, b)
+
+at-mem : (Q : ℕ → Type 0) (l : List ℕ) (j : ℕ) → All Q l → Mem j l → Q j
+at-mem Q [] j a m = absurd m
+at-mem Q (x ∷ l) j a (inl e) = subst Q (sym e) (a .0)
+at-mem Q (x ∷ l) j a (inr m) = at-mem Q l j (a .1) m
+
+mem-end : (s : ℕ) (l : List ℕ) → Mem s (l ++ (s ∷ []))
+mem-end s [] = inl refl
+mem-end s (x ∷ l) = inr (mem-end s l)
+
+mem-front : (j s : ℕ) (l : List ℕ) → Mem j l → Mem j (l ++ (s ∷ []))
+mem-front j s [] m = absurd m
+mem-front j s (x ∷ l) (inl e) = inl e
+mem-front j s (x ∷ l) (inr m) = inr (mem-front j s l m)
+
+all-end : (Q : ℕ → Type 0) (s : ℕ) (l : List ℕ) → All Q l → Q s → All Q (l ++ (s ∷ []))
+all-end Q s [] a q = (q, tt)
+all-end Q s (x ∷ l) a q = (a .0, all-end Q s l (a .1) q)
+
+mem-without : (j s : ℕ) (l : List ℕ) → j ≢ s → Mem j l → Mem j (without s l)
+unfolding without
+mem-without j s [] n m = absurd m
+mem-without j s (x ∷ l) n m = go (eqb s x) refl m (mem-without j s l n)
+  where
+    go : (t : Bool) → eqb s x ≡ t → (j ≡ x) ⊎ Mem j l → (Mem j l → Mem j (without s l)) → Mem j (elim t [ true ↦ l | false ↦ x ∷ without s l ])
+    go true e (inl p) ih = absurd (n (p ∙ sym (eqb→eq s x (subst T (sym e) tt))))
+    go true e (inr m) ih = m
+    go false e (inl p) ih = inl p
+    go false e (inr m) ih = inr (ih m)
+
+all-without : (Q : ℕ → Type 0) (s : ℕ) (l : List ℕ) → All Q l → All Q (without s l)
+unfolding without
+all-without Q s [] a = tt
+all-without Q s (x ∷ l) a = go (eqb s x) (all-without Q s l (a .1))
+  where
+    go : (t : Bool) → All Q (without s l) → All Q (elim t [ true ↦ l | false ↦ x ∷ without s l ])
+    go true ih = a .1
+    go false ih = (a .0, ih)
+
+push-keep : (j s : ℕ) (l : List ℕ) → Mem j l → Mem j (push l s)
+unfolding push
+push-keep j s l m = go (eqb j s) refl
+  where
+    go : (t : Bool) → eqb j s ≡ t → Mem j (without s l ++ (s ∷ []))
+    go true e = subst (λ (x : ℕ). Mem x (without s l ++ (s ∷ []))) (sym (eqb→eq j s (subst T (sym e) tt))) (mem-end s (without s l))
+    go false e = mem-front j s (without s l) (mem-without j s l (λ p. subst T e (subst (λ (y : ℕ). T (eqb j y)) p (eqb-refl j))) m)
+
+-- ---- "a restricted row below 0 is pushed"
+pushed-keep : (bs : List Basic) (j : ℕ) (l : List ℕ) → Mem j l → Mem j (pushBelow bs l)
+unfolding pushBelow
+pushed-keep [] j l m = m
+pushed-keep (b ∷ bs) j l m = pushed-keep bs j (cond (isRestricted (b .symbol) && belowZero (b .row .constant)) (push l (b .symbol .id)) l) (go (isRestricted (b .symbol) && belowZero (b .row .constant)))
+  where
+    go : (t : Bool) → Mem j (cond t (push l (b .symbol .id)) l)
+    go true = push-keep j (b .symbol .id) l m
+    go false = m
+
+pushed-all : (Q : ℕ → Type 0) (bs : List Basic) (l : List ℕ) → All Q l → All (λ (b : Basic). isRestricted (b .symbol) ≡ true → Q (b .symbol .id)) bs → All Q (pushBelow bs l)
+unfolding pushBelow push
+pushed-all Q [] l a f = a
+pushed-all Q (b ∷ bs) l a f = pushed-all Q bs (cond (isRestricted (b .symbol) && belowZero (b .row .constant)) (push l (b .symbol .id)) l) (go (isRestricted (b .symbol)) refl (belowZero (b .row .constant))) (f .1)
+  where
+    go : (t : Bool) → isRestricted (b .symbol) ≡ t → (r : Bool) → All Q (cond (isRestricted (b .symbol) && r) (without (b .symbol .id) l ++ (b .symbol .id ∷ [])) l)
+    go true e true = subst (λ (t : Bool). All Q (cond (t && true) (without (b .symbol .id) l ++ (b .symbol .id ∷ [])) l)) (sym e) (all-end Q (b .symbol .id) (without (b .symbol .id) l) (all-without Q (b .symbol .id) l a) (f .0 e))
+    go true e false = subst (λ (t : Bool). All Q (cond (t && false) (without (b .symbol .id) l ++ (b .symbol .id ∷ [])) l)) (sym e) a
+    go false e r = subst (λ (t : Bool). All Q (cond (t && r) (without (b .symbol .id) l ++ (b .symbol .id ∷ [])) l)) (sym e) a
+
+pushed-found : (kind : ℕ → KindZ) (bs : List Basic) (j : ℕ) (r : Row) (l : List ℕ) → All (λ (b : Basic). kind (b .symbol .id) ≡ kindOf (b .symbol .kind)) bs → findRow j bs ≡ some r
+    → kind j ≡ slack → belowZero (r .constant) ≡ true → Mem j (pushBelow bs l)
+unfolding pushBelow push
+pushed-found kind [] j r l a f s c = absurd (none≢some (sym (find-none j) ∙ f))
+pushed-found kind (b ∷ bs) j r l a f s c = go (sym? j (b .symbol)) (λ q. pushed-found kind bs j r (cond (isRestricted (b .symbol) && belowZero (b .row .constant)) (push l (b .symbol .id)) l) (a .1) q s c)
+  where
+    go : Sym? j (b .symbol) → (findRow j bs ≡ some r → Mem j (pushBelow bs (cond (isRestricted (b .symbol) && belowZero (b .row .constant)) (push l (b .symbol .id)) l)))
+        → Mem j (pushBelow bs (cond (isRestricted (b .symbol) && belowZero (b .row .constant)) (push l (b .symbol .id)) l))
+    go (is e p d) ih =
+        let same : b .row ≡ r = some-injective (sym (find-hit j b bs e) ∙ f) in
+        let both : isRestricted (b .symbol) && belowZero (b .row .constant) ≡ true = ap₂ (λ (x y : Bool). x && y) (slack-restricted (b .symbol) (sym (a .0) ∙ ap kind (sym p) ∙ s)) (ap (λ (r : Row). belowZero (r .constant)) same ∙ c) in
+        pushed-keep bs j (cond (isRestricted (b .symbol) && belowZero (b .row .constant)) (push l (b .symbol .id)) l)
+        (subst (λ (t : Bool). Mem j (cond t (push l (b .symbol .id)) l)) (sym both) (subst (λ (x : ℕ). Mem x (without (b .symbol .id) l ++ (b .symbol .id ∷ []))) (sym p) (mem-end (b .symbol .id) (without (b .symbol .id) l))))
+    go (isnt e p d) ih = ih (sym (find-miss j b bs e) ∙ f)
+
+-- ---- what is popped
+pub data Pops (Q : ℕ → Type 0) (bs : List Basic) (l : List ℕ) : Popped → Type 0 where
+  through : All (λ s. isBelow s bs ≡ false) l → Pops Q bs l allPopped
+  stops : (s : ℕ) (rest : List ℕ) → isBelow s bs ≡ true → Q s → All Q rest → Pops Q bs l (popped s rest)
+
+pops : (Q : ℕ → Type 0) (bs : List Basic) (l : List ℕ) → All Q l → Pops Q bs l (popBelow bs l)
+unfolding popBelow
+pops Q bs [] a = through tt
+pops Q bs (s ∷ rest) a = go (isBelow s bs) refl (popBelow bs rest) (pops Q bs rest (a .1))
+  where
+    more : isBelow s bs ≡ false → (t : Popped) → Pops Q bs rest t → Pops Q bs (s ∷ rest) t
+    more e t (through b) = through (e, b)
+    more e t (stops x y b c d) = stops x y b c d
+
+    go : (t : Bool) → isBelow s bs ≡ t → (p : Popped) → Pops Q bs rest p → Pops Q bs (s ∷ rest) (elim (isBelow s bs) [ true ↦ popped s rest | false ↦ p ])
+    go true e p ih = rw e (stops s rest e (a .0) (a .1))
+    go false e p ih = rw e (more e p ih)
+
+below-row : (s : ℕ) (bs : List Basic) → isBelow s bs ≡ true → (r : Row) × (findRow s bs ≡ some r) × (belowZero (r .constant) ≡ true)
+unfolding isBelow
+below-row s bs e = go (findRow s bs) refl e
+  where
+    go : (t : Option Row) → findRow s bs ≡ t → (elim t as (λ x. Bool) [ none ↦ false | some r ↦ belowZero (r .constant) ]) ≡ true → (r : Row) × (findRow s bs ≡ some r) × (belowZero (r .constant) ≡ true)
+    go none q e = absurd (true≢false (sym e))
+    go (some r) q e = (r, q, e)
+
+is-below : (s : ℕ) (bs : List Basic) (r : Row) → findRow s bs ≡ some r → belowZero (r .constant) ≡ true → isBelow s bs ≡ true
+unfolding isBelow
+is-below s bs r q e = ap (λ (t : Option Row). elim t as (λ x. Bool) [ none ↦ false | some r ↦ belowZero (r .constant) ]) q ∙ e
+
+-- ---- a pivot's list and rows
+enter-list : (s : Symbol) (r : Row) (w : Work) → enterBasis s r w .tableau .infeasible ≡ pushBelow (rowsOf (substituteInRows (s .id) (w .tableau .symbols) r (w .tableau .rows))) (w .tableau .infeasible)
+unfolding enterBasis substitute note withTableau withChanges withArtificial marking withRows withObjective withInfeasible
+enter-list s r w = go (isExternal s && ne (r .constant) zero64)
+  where
+    go : (b : Bool) → (withRows (keepRow (record { symbol = s; row = r }) ((cond b (note (s .id) (substitute (s .id) r w)) (substitute (s .id) r w)) .tableau .rows)) (cond b (note (s .id) (substitute (s .id) r w)) (substitute (s .id) r w))) .tableau .infeasible
+        ≡ pushBelow (rowsOf (substituteInRows (s .id) (w .tableau .symbols) r (w .tableau .rows))) (w .tableau .infeasible)
+    go true = refl
+    go false = refl
+
+pivot-is : (l : ℕ) (e : Symbol) (w : Work) (row : Row) → findRow l (w .tableau .rows) ≡ some row
+    → pivot l e w ≡ enterBasis e (solveForSymbols l (e .id) (w .tableau .symbols) row .row) (marking (solveForSymbols l (e .id) (w .tableau .symbols) row .mark) (withRows (dropRow l (w .tableau .rows)) w))
+unfolding pivot
+pivot-is l e w row q = rw (q, pivot) refl
+
+pub record Lists (l : ℕ) (e : Symbol) (w : Work) (row : Row) : Type 0 where
+  pub list : pivot l e w .tableau .infeasible ≡ pushBelow (rowsOf (substituteInRows (e .id) (w .tableau .symbols) (solveForSymbols l (e .id) (w .tableau .symbols) row .row) (dropRow l (w .tableau .rows)))) (w .tableau .infeasible)
+  pub rows : pivot l e w .tableau .rows
+      ≡ keepRow (record { symbol = e; row = solveForSymbols l (e .id) (w .tableau .symbols) row .row }) (rowsOf (substituteInRows (e .id) (w .tableau .symbols) (solveForSymbols l (e .id) (w .tableau .symbols) row .row) (dropRow l (w .tableau .rows))))
+
+pivot-lists : (l : ℕ) (e : Symbol) (w : Work) (row : Row) → findRow l (w .tableau .rows) ≡ some row → Lists l e w row
+unfolding marking withRows withTableau
+pivot-lists l e w row q =
+    let s : Written = solveForSymbols l (e .id) (w .tableau .symbols) row in
+    let v : Work = marking (s .mark) (withRows (dropRow l (w .tableau .rows)) w) in
+    record { list = ap (λ (x : Work). x .tableau .infeasible) (pivot-is l e w row q) ∙ enter-list e (s .row) v; rows = ap (λ (x : Work). x .tableau .rows) (pivot-is l e w row q) ∙ enter-parts e (s .row) v .rows }
+
+all-map : {A : Type 0} (P Q : A → Type 0) → ((x : A) → P x → Q x) → (l : List A) → All P l → All Q l
+all-map P Q f [] a = tt
+all-map P Q f (x ∷ l) a = (f x (a .0), all-map P Q f l (a .1))
+
+dummy≢external : dummy ≢ external
+dummy≢external e = slack≢external (ap turn e)
+  where
+    turn : KindZ → KindZ
+    turn const = const
+    turn external = external
+    turn slack = slack
+    turn dummy = slack
+
+module _ (n : ℕ) (kind : ℕ → KindZ) (inside : (j : ℕ) → kind j ≡ slack → j < n) (cs : List Con) where
+  -- ---- what holds before and after every pivot of the dual pass
+  pub record Drag (w : Work) (S : State) (z : Vec) : Type 0 where
+    pub good : Good n kind S
+    pub reads : ReadsWork kind w (S .B) (S .R) (S .o) z
+    pub models : Models n kind (S .B) (S .R) (S .o) cs
+    pub no-var : (j : ℕ) → kind j ≡ external → S .o j ≡ 0ℤ
+    -- the list holds restricted symbols, and every slack's row below 0 is on it
+    pub listed : All (λ s. kind s ≢ external) (w .tableau .infeasible)
+    pub full : (j : ℕ) → S .B j ≡ true → kind j ≡ slack → S .R j 0 ≺ 0ℤ → Mem j (w .tableau .infeasible)
+
+  module _ (w : Work) (S : State) (z : Vec) (W : Drag w S z) (s : ℕ) (rest : List ℕ) (b : isBelow s (w .tableau .rows) ≡ true) (ks : kind s ≢ external) (ar : All (λ s. kind s ≢ external) rest) where
+    row : Row
+    row = below-row s (w .tableau .rows) b .0
+
+    hit : findRow s (w .tableau .rows) ≡ some row
+    unfolding row
+    hit = below-row s (w .tableau .rows) b .1
+
+    at-s : (S .B s ≡ true) × ReadsRow (w .tableau .symbols) row (S .R s)
+    at-s = subst (λ (t : Option Row). RowAt (w .tableau .symbols) t (S .B s) (S .R s)) hit (W .reads .rows s)
+
+    low : S .R s 0 ≺ 0ℤ
+    unfolding row
+    low = ltZ-yes (subst T (sym (sym (belowZero-z (at-s .1 .constant .isz)) ∙ below-row s (w .tableau .rows) b .2)) tt)
+
+    s-in : In s (w .tableau .symbols)
+    s-in = found-in (λ i. In i (w .tableau .symbols)) s (w .tableau .rows) row (all-map (λ (b : Basic). Live kind (w .tableau .symbols) (b .symbol)) (λ (b : Basic). In (b .symbol .id) (w .tableau .symbols)) (λ b h. h .0) (w .tableau .rows) (W .reads .rows-live)) hit
+
+    sl : kind s ≡ slack
+    sl = go (kind s) refl
+      where
+        go : (t : KindZ) → kind s ≡ t → kind s ≡ slack
+        go const e = absurd (in-nonzero s (w .tableau .symbols) (W .reads .up) s-in (W .good .consts s e))
+        go external e = absurd (ks e)
+        go slack e = e
+        go dummy e = absurd (clash low (≼-of-eq (sym (W .good .still-dummies s e))))
+
+    w′ : Work
+    w′ = withInfeasible (reverse rest) w
+
+    reads′ : ReadsWork kind w′ (S .B) (S .R) (S .o) z
+    unfolding w′ withInfeasible withTableau
+    reads′ = W .reads
+
+    hit′ : findRow s (w′ .tableau .rows) ≡ some row
+    unfolding w′ withInfeasible withTableau
+    hit′ = hit
+
+    pub found : Entering (S .R s) (S .o) (w .tableau .symbols) (getDualEnteringSymbol s w)
+    found = dual-entering n kind w S (W .good) z (W .reads) inside s (at-s .0) sl low row hit
+
+    module _ (e : Symbol) (E : Enters (S .R s) (S .o) (w .tableau .symbols) e) (m : pivot s e (withInfeasible (reverse rest) w) .mark ≡ allWhole) where
+      E′ : Enters (S .R s) (S .o) (w′ .tableau .symbols) e
+      unfolding w′ withInfeasible withTableau
+      E′ = E
+
+      moved : Moved n kind w′ S (W .good) z reads′ inside s (at-s .0) sl low row hit′ e E′
+      unfolding w′
+      moved = dual-pivot n kind w′ S (W .good) z reads′ inside s (at-s .0) sl low row hit′ e E′ m
+
+      -- the new row's constant is above 0
+      entered-up : 0ℤ ≺ pivotZ s (e .id) (S .R) (e .id) 0
+      entered-up = subst (λ (x : ℤ). 0ℤ ≺ x) (sym value) (neg-pos low)
+        where
+          s≢0 : s ≢ 0
+          s≢0 = in-nonzero s (w .tableau .symbols) (W .reads .up) s-in
+
+          e≢0 : e .id ≢ 0
+          e≢0 p = slack≢const′ (sym (moved .move .e-slack) ∙ ap kind p ∙ W .good .zero)
+            where
+              slack≢const′ : slack ≢ const
+              slack≢const′ = Rattle.simplex.specs.Opt.slack≢const
+
+          own : (i : ℕ) → S .R (e .id) i ≡ δ (e .id) i
+          own = W .good .shape .unit (e .id) (moved .move .e-free)
+
+          value : pivotZ s (e .id) (S .R) (e .id) 0 ≡ negℤ (S .R s 0)
+          value =
+              ap₂ (λ (x y : ℤ). x +ℤ negℤ (y *ℤ S .R s (e .id)) *ℤ (S .R s 0 +ℤ negsuc 0 *ℤ δ s 0)) (own 0 ∙ δ-other e≢0) (own (e .id) ∙ δ-same (e .id))
+              ∙ ap₂ (λ (x y : ℤ). 0ℤ +ℤ negℤ (1ℤ *ℤ x) *ℤ (S .R s 0 +ℤ negsuc 0 *ℤ y)) (moved .move .e-cell) (δ-other s≢0)
+              ∙ ring (S .R s 0 ∷ []) (κ 0ℤ ⊞ (⊟ (κ 1ℤ ⊠ κ 1ℤ)) ⊠ (v 0 ⊞ κ (negsuc 0) ⊠ κ 0ℤ)) (⊟ v 0) tt
+
+      lists : Lists s e w′ row
+      lists = pivot-lists s e w′ row hit′
+
+      live-rows : All (λ (b : Basic). Live kind (w′ .tableau .symbols) (b .symbol)) (rowsOf (substituteInRows (e .id) (w′ .tableau .symbols) (solveForSymbols s (e .id) (w′ .tableau .symbols) row .row) (dropRow s (w′ .tableau .rows))))
+      live-rows = sub-all (e .id) (w′ .tableau .symbols) (solveForSymbols s (e .id) (w′ .tableau .symbols) row .row) (Live kind (w′ .tableau .symbols)) (dropRow s (w′ .tableau .rows)) (drop-all (Live kind (w′ .tableau .symbols)) s (w′ .tableau .rows) (reads′ .rows-live))
+
+      pub next : Drag (pivot s e (withInfeasible (reverse rest) w)) (step s (e .id) S) (pivoted s (e .id) (S .R) z)
+      unfolding w′
+      next = record {
+        good = moved .good;
+        reads = moved .reads;
+        models = dual-models n kind cs S s (e .id) (W .good) (moved .move) (W .models);
+        no-var = λ j x. ap₂ (λ (y t : ℤ). y +ℤ negℤ (S .o (e .id) *ℤ S .R s (e .id)) *ℤ (t +ℤ negsuc 0 *ℤ δ s j)) (W .no-var j x) (W .good .no-vars s j (λ y. slack≢external (sym sl ∙ y)) x)
+            ∙ ap (λ (y : ℤ). 0ℤ +ℤ negℤ (S .o (e .id) *ℤ S .R s (e .id)) *ℤ (0ℤ +ℤ negsuc 0 *ℤ y)) (δ-other (λ p. slack≢external (sym sl ∙ ap kind p ∙ x)))
+            ∙ ring (S .o (e .id) ∷ S .R s (e .id) ∷ []) (κ 0ℤ ⊞ (⊟ (v 0 ⊠ v 1)) ⊠ (κ 0ℤ ⊞ κ (negsuc 0) ⊠ κ 0ℤ)) (κ 0ℤ) tt;
+        listed = subst (All (λ s. kind s ≢ external)) (sym (lists .list))
+            (pushed-all (λ s. kind s ≢ external) (rowsOf (substituteInRows (e .id) (w′ .tableau .symbols) (solveForSymbols s (e .id) (w′ .tableau .symbols) row .row) (dropRow s (w′ .tableau .rows)))) (w′ .tableau .infeasible) popped-all
+            (all-map (λ (b : Basic). Live kind (w′ .tableau .symbols) (b .symbol)) (λ (b : Basic). isRestricted (b .symbol) ≡ true → kind (b .symbol .id) ≢ external) not-external
+            (rowsOf (substituteInRows (e .id) (w′ .tableau .symbols) (solveForSymbols s (e .id) (w′ .tableau .symbols) row .row) (dropRow s (w′ .tableau .rows)))) live-rows));
+        full = full;
+      }
+        where
+          popped-all : All (λ s. kind s ≢ external) (w′ .tableau .infeasible)
+          popped-all = unfold w′ withInfeasible withTableau in all-rev (λ s. kind s ≢ external) rest [] ar tt
+
+          not-external : (b : Basic) → Live kind (w′ .tableau .symbols) (b .symbol) → isRestricted (b .symbol) ≡ true → kind (b .symbol .id) ≢ external
+          not-external b h r = go (restricted-is (b .symbol) r)
+            where
+              go : (kindOf (b .symbol .kind) ≡ slack) ⊎ (kindOf (b .symbol .kind) ≡ dummy) → kind (b .symbol .id) ≢ external
+              go (inl k) = λ p. slack≢external (sym (h .1 ∙ k) ∙ p)
+              go (inr k) = λ p. dummy≢external (sym (h .1 ∙ k) ∙ p)
+
+          full : (j : ℕ) → swap s (e .id) (S .B) j ≡ true → kind j ≡ slack → pivotZ s (e .id) (S .R) j 0 ≺ 0ℤ → Mem j (pivot s e w′ .tableau .infeasible)
+          full j h k c = go (findRow j (pivot s e w′ .tableau .rows)) refl (moved .reads .rows j)
+            where
+              not-e : j ≢ e .id
+              not-e p = clash (subst (λ (x : ℕ). pivotZ s (e .id) (S .R) x 0 ≺ 0ℤ) p c) (≺→≼ entered-up)
+
+              go : (t : Option Row) → findRow j (pivot s e w′ .tableau .rows) ≡ t → RowAt (pivot s e w′ .tableau .symbols) t (swap s (e .id) (S .B) j) (pivotZ s (e .id) (S .R) j) → Mem j (pivot s e w′ .tableau .infeasible)
+              go none q r = absurd (true≢false (sym h ∙ r))
+              go (some y) q r =
+                  subst (Mem j) (sym (lists .list))
+                  (pushed-found kind (rowsOf (substituteInRows (e .id) (w′ .tableau .symbols) (solveForSymbols s (e .id) (w′ .tableau .symbols) row .row) (dropRow s (w′ .tableau .rows)))) j y (w′ .tableau .infeasible)
+                  (all-map (λ (b : Basic). Live kind (w′ .tableau .symbols) (b .symbol)) (λ (b : Basic). kind (b .symbol .id) ≡ kindOf (b .symbol .kind)) (λ b h. h .1)
+                  (rowsOf (substituteInRows (e .id) (w′ .tableau .symbols) (solveForSymbols s (e .id) (w′ .tableau .symbols) row .row) (dropRow s (w′ .tableau .rows)))) live-rows)
+                  (sym (find-keep-other j (record { symbol = e; row = solveForSymbols s (e .id) (w′ .tableau .symbols) row .row }) (rowsOf (substituteInRows (e .id) (w′ .tableau .symbols) (solveForSymbols s (e .id) (w′ .tableau .symbols) row .row) (dropRow s (w′ .tableau .rows)))) not-e)
+                  ∙ ap (findRow j) (sym (lists .rows)) ∙ q) k (belowZero-z (r .1 .constant .isz) ∙ yes c))
+
+-- ---- the loop
+turned : (left : ℕ) (s : ℕ) (l : List ℕ) (e : Symbol) (w : Work) (Q : Outcome Work → Type 0) → (pivot s e (withInfeasible l w) .mark ≡ notFinite → Q (refused 13 (pivot s e (withInfeasible l w) .pivots) notFinite))
+    → Q (dualOptimise left (countPivot (pivot s e (withInfeasible l w)))) → Q (countedDualPivot s l e w >>= λ v. dualOptimise left v)
+unfolding countedDualPivot checkFinite refuse _>>=_
+turned left s l e w Q f h = go (pivot s e (withInfeasible l w) .mark) refl
+  where
+    go : (m : Mark) → pivot s e (withInfeasible l w) .mark ≡ m
+        → Q (((elim m [ allWhole ↦ going (pivot s e (withInfeasible l w)) | notWhole ↦ going (pivot s e (withInfeasible l w)) | notFinite ↦ refused 13 (pivot s e (withInfeasible l w) .pivots) (pivot s e (withInfeasible l w) .mark) ]) >>= λ v. going (countPivot v)) >>= λ v. dualOptimise left v)
+    go allWhole e′ = h
+    go notWhole e′ = h
+    go notFinite e′ = subst (λ (m : Mark). Q (refused 13 (pivot s e (withInfeasible l w) .pivots) m)) (sym e′) (f e′)
+
+same-mark : (l : List ℕ) (w : Work) → withInfeasible l w .mark ≡ w .mark
+unfolding withInfeasible withTableau
+same-mark l w = refl
+
+counted-mark : (w : Work) → countPivot w .mark ≡ allWhole → w .mark ≡ allWhole
+unfolding countPivot
+counted-mark w m = m
+
+pub dual-mark : (left : ℕ) (w : Work) → markOf (dualOptimise left w) ≡ allWhole → w .mark ≡ allWhole
+unfolding dualOptimise markOf refuse
+dual-mark zero w = go (chooseDualPivot w)
+  where
+    go : (c : DualChoice) → markOf (elim c [ feasible ↦ going (withInfeasible [] w) | noEntering ↦ refused 16 (w .pivots) (w .mark) | dualPivotOn s l e ↦ refused 14 (w .pivots) (w .mark) ]) ≡ allWhole → w .mark ≡ allWhole
+    go feasible m = sym (same-mark [] w) ∙ m
+    go noEntering m = m
+    go (dualPivotOn s l e) m = m
+dual-mark (suc left) w = go (chooseDualPivot w) (dual-mark left)
+  where
+    go : (c : DualChoice) → ((v : Work) → markOf (dualOptimise left v) ≡ allWhole → v .mark ≡ allWhole)
+        → markOf (elim c [ feasible ↦ going (withInfeasible [] w) | noEntering ↦ refused 16 (w .pivots) (w .mark) | dualPivotOn s l e ↦ countedDualPivot s l e w >>= λ v. dualOptimise left v ]) ≡ allWhole → w .mark ≡ allWhole
+    go feasible ih = λ m. sym (same-mark [] w) ∙ m
+    go noEntering ih = λ m. m
+    go (dualPivotOn s l e) ih =
+        turned left s l e w (λ (x : Outcome Work). markOf x ≡ allWhole → w .mark ≡ allWhole) (λ f m. absurd (finite≢ m))
+        (λ m. sym (same-mark l w) ∙ pivot-mark s e (withInfeasible l w) (counted-mark (pivot s e (withInfeasible l w)) (ih (countPivot (pivot s e (withInfeasible l w))) m)))
+
+module _ (n : ℕ) (kind : ℕ → KindZ) (inside : (j : ℕ) → kind j ≡ slack → j < n) (cs : List Con) where
+  -- a dual pass that is accepted ends in a state that reads as a good one of the theory, no slack's row below 0: so its values are the best
+  pub record Dragged (x : Work) : Type 0 where
+    pub state : State
+    pub other : Vec
+    pub good : Good n kind state
+    pub reads : ReadsWork kind x (state .B) (state .R) (state .o) other
+    pub models : Models n kind (state .B) (state .R) (state .o) cs
+    pub best : Best n cs (λ j. state .R j 0)
+
+  abbrev pub Ends : Outcome Work → Type 0
+  Ends (going x) = Dragged x
+  Ends (refused k p t) = (k ≡ 14) ⊎ (k ≡ 16)
+
+  counted : (x : Work) (S : State) (z : Vec) → Drag n kind inside cs x S z → Drag n kind inside cs (countPivot x) S z
+  unfolding countPivot
+  counted x S z W = record { good = W .good; reads = W .reads; models = W .models; no-var = W .no-var; listed = W .listed; full = W .full }
+
+  Whole-drag : Outcome Work → Type 0
+  Whole-drag x = markOf x ≡ allWhole → Ends x
+
+  -- all popped: nothing is below 0
+  rest : 0 < n → (w : Work) (S : State) (z : Vec) → Drag n kind inside cs w S z → All (λ s. isBelow s (w .tableau .rows) ≡ false) (reverse (w .tableau .infeasible)) → Dragged (withInfeasible [] w)
+  unfolding withInfeasible withTableau
+  rest in-n w S z W A = record { state = S; other = z; good = W .good; reads = W .reads; models = W .models; best = dragged n kind cs S in-n (W .good) (W .models) (W .no-var) (λ j b s. up j b s (≺-or-≼ (S .R j 0) 0ℤ)) }
+    where
+      up : (j : ℕ) → S .B j ≡ true → kind j ≡ slack → (S .R j 0 ≺ 0ℤ) ⊎ (0ℤ ≼ S .R j 0) → 0ℤ ≼ S .R j 0
+      up j b s (inr h) = h
+      up j b s (inl h) = go (findRow j (w .tableau .rows)) refl (W .reads .rows j)
+        where
+          go : (t : Option Row) → findRow j (w .tableau .rows) ≡ t → RowAt (w .tableau .symbols) t (S .B j) (S .R j) → 0ℤ ≼ S .R j 0
+          go none q r = absurd (true≢false (sym b ∙ r))
+          go (some y) q r =
+              absurd (true≢false (sym (is-below j (w .tableau .rows) y q (belowZero-z (r .1 .constant .isz) ∙ yes h))
+              ∙ at-mem (λ s. isBelow s (w .tableau .rows) ≡ false) (reverse (w .tableau .infeasible)) j A (mem-rev j (w .tableau .infeasible) [] (inl (W .full j b s h)))))
+
+  -- what is chosen
+  data Turn (w : Work) (S : State) (z : Vec) : DualChoice → Type 0 where
+    at-rest : All (λ s. isBelow s (w .tableau .rows) ≡ false) (reverse (w .tableau .infeasible)) → Turn w S z feasible
+    no-way : Turn w S z noEntering
+    pivots : (s : ℕ) (l : List ℕ) (e : Symbol) → (pivot s e (withInfeasible (reverse l) w) .mark ≡ allWhole → Drag n kind inside cs (pivot s e (withInfeasible (reverse l) w)) (step s (e .id) S) (pivoted s (e .id) (S .R) z))
+        → Turn w S z (dualPivotOn s (reverse l) e)
+
+  turn : (w : Work) (S : State) (z : Vec) → Drag n kind inside cs w S z → Turn w S z (chooseDualPivot w)
+  unfolding chooseDualPivot
+  turn w S z W = by-list (popBelow (w .tableau .rows) (reverse (w .tableau .infeasible))) (pops (λ s. kind s ≢ external) (w .tableau .rows) (reverse (w .tableau .infeasible)) (all-rev (λ s. kind s ≢ external) (w .tableau .infeasible) [] (W .listed) tt))
+    where
+      by-symbol : (s : ℕ) (l : List ℕ) (b : isBelow s (w .tableau .rows) ≡ true) (k : kind s ≢ external) (a : All (λ s. kind s ≢ external) l) (t : Option Symbol) → Entering (S .R s) (S .o) (w .tableau .symbols) t
+          → Turn w S z (elim t [ none ↦ noEntering | some e ↦ dualPivotOn s (reverse l) e ])
+      by-symbol s l b k a none f = no-way
+      by-symbol s l b k a (some e) E = pivots s l e (λ m. next n kind inside cs w S z W s l b k a e E m)
+
+      by-list : (p : Popped) → Pops (λ s. kind s ≢ external) (w .tableau .rows) (reverse (w .tableau .infeasible)) p
+          → Turn w S z (elim p [ allPopped ↦ feasible | popped s l ↦ elim (getDualEnteringSymbol s w) [ none ↦ noEntering | some e ↦ dualPivotOn s (reverse l) e ] ])
+      by-list p (through A) = at-rest A
+      by-list p (stops s l b k a) = by-symbol s l b k a (getDualEnteringSymbol s w) (found n kind inside cs w S z W s l b k a)
+
+  -- THE DUAL PASS
+  pub drag : 0 < n → (left : ℕ) (w : Work) (S : State) (z : Vec) → Drag n kind inside cs w S z → markOf (dualOptimise left w) ≡ allWhole → Ends (dualOptimise left w)
+  unfolding dualOptimise refuse markOf Whole-drag
+  drag in-n zero w S z W = go (chooseDualPivot w) (turn w S z W)
+    where
+      go : (c : DualChoice) → Turn w S z c → Whole-drag (elim c [ feasible ↦ going (withInfeasible [] w) | noEntering ↦ refused 16 (w .pivots) (w .mark) | dualPivotOn s l e ↦ refused 14 (w .pivots) (w .mark) ])
+      go c (at-rest A) = λ m. rest in-n w S z W A
+      go c no-way = λ m. inr refl
+      go c (pivots s l e f) = λ m. inl refl
+  drag in-n (suc left) w S z W = go (chooseDualPivot w) (turn w S z W) (drag in-n left)
+    where
+      go : (c : DualChoice) → Turn w S z c → ((w : Work) (S : State) (z : Vec) → Drag n kind inside cs w S z → markOf (dualOptimise left w) ≡ allWhole → Ends (dualOptimise left w))
+          → Whole-drag (elim c [ feasible ↦ going (withInfeasible [] w) | noEntering ↦ refused 16 (w .pivots) (w .mark) | dualPivotOn s l e ↦ countedDualPivot s l e w >>= λ v. dualOptimise left v ])
+      go c (at-rest A) ih = λ m. rest in-n w S z W A
+      go c no-way ih = λ m. inr refl
+      go c (pivots s l e f) ih =
+          turned left s (reverse l) e w Whole-drag (λ q m. absurd (finite≢ m))
+          (λ m. ih (countPivot (pivot s e (withInfeasible (reverse l) w))) (step s (e .id) S) (pivoted s (e .id) (S .R) z)
+          (counted (pivot s e (withInfeasible (reverse l) w)) (step s (e .id) S) (pivoted s (e .id) (S .R) z)
+          (f (counted-mark (pivot s e (withInfeasible (reverse l) w)) (dual-mark left (countPivot (pivot s e (withInfeasible (reverse l) w))) m)))) m)

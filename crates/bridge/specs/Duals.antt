@@ -1,0 +1,234 @@
+-- The dual pass: the steps' entering symbol has the least ratio of objective cell to cell, by cross multiplication, the lowest id on a tie; a pivot that keeps the mark is the theory's dual move. Assumes nothing.
+use mathlib.Core.Path.{_≡_, refl, sym, ap, ap₂, _∙_, subst}
+use mathlib.Core.Logic.{_⊎_, inl, inr, _≢_}
+use mathlib.Core.List.{List, [], _∷_}
+use mathlib.Core.Option.{Option, none, some}
+use Prim.Native.Nat.{ℕ, zero, suc, _*_, _^_, _≤_, _<_}
+use native.Mathlib.Nat.{suc-mul}
+use native.Mathlib.Omega.{arith}
+use mathlib.Core.Bool.{Bool, true, false, not, _&&_, true≢false}
+use lib.Dec.{T}
+use lib.IntN.{ℤ, pos, negsuc, natAbs, _*ℤ_}
+use lib.Signed.{ltZ, ltZ-yes}
+use lib.Ieee.{Float, lt}
+use Rattle.exact.specs.Whole.{IsZ, lt-z}
+use Rattle.laws.specs.Z.{_≼_, _≺_}
+use Rattle.laws.specs.Ring.{ring, v, k as κ, _⊠_}
+use Rattle.simplex.specs.Ord.{0ℤ, 1ℤ, ≼-of-eq, ≼-trans, clash, ≺-irrefl}
+use Rattle.simplex.specs.Lin.{Vec}
+use Rattle.simplex.specs.Choose.{All}
+use Rattle.simplex.specs.Tab.{pivoted}
+use Rattle.simplex.specs.Opt.{Kind as KindZ, external, slack, slack≢external, slack≢const}
+use Rattle.simplex.specs.Pass.{State, step}
+use Rattle.simplex.specs.Dual.{Good, Move, step-good}
+use Rattle.steps.specs.Number.{zero64, _/₆₄_, allWhole}
+use Rattle.steps.specs.Symbol.{Symbol, isDummy}
+use Rattle.steps.specs.Row.{Row}
+use Rattle.steps.specs.Work.{Work, findRow}
+use Rattle.steps.specs.Substitute.{pivot}
+use Rattle.steps.specs.Optimise.{Candidate, smallestRatio, dualRatios, getDualEnteringSymbol}
+use Rattle.bridge.specs.Quot.{Quotient, div-above, yes}
+use Rattle.bridge.specs.Walk.{Ranked, Beats, Rising, MemC, Smallest, smallest-is}
+use Rattle.bridge.specs.Nums.{zero64-z}
+use Rattle.bridge.specs.Rows.{Reads, NotIn, In, Up, ReadsRow}
+use Rattle.bridge.specs.Table.{kindOf, RowAt, Live, ReadsWork, pivot-z}
+use Rattle.bridge.specs.Chosen.{not-dummy, slack-not-dummy, MemS, cross}
+use Rattle.bridge.specs.Looks.{is-live, in-or-not, all-in}
+
+both : (a b : Bool) → a && b ≡ true → (a ≡ true) × (b ≡ true)
+both true b e = (refl, e)
+both false b e = absurd (true≢false (sym e))
+
+all-zip : {A : Type 0} (P Q C : A → Type 0) → ((x : A) → P x → Q x → C x) → (l : List A) → All P l → All Q l → All C l
+all-zip P Q C f [] a b = tt
+all-zip P Q C f (x ∷ l) a b = (f x (a .0) (b .0), all-zip P Q C f l (a .1) (b .1))
+
+all-map : {A : Type 0} (P Q : A → Type 0) → ((x : A) → P x → Q x) → (l : List A) → All P l → All Q l
+all-map P Q f [] a = tt
+all-map P Q f (x ∷ l) a = (f x (a .0), all-map P Q f l (a .1))
+
+all-mem : (Q : Candidate → Type 0) (cs : List Candidate) (w : Candidate) → All Q cs → MemC w cs → Q w
+all-mem Q [] w a m = absurd m
+all-mem Q (c ∷ cs) w a (inl e) = subst Q (sym e) (a .0)
+all-mem Q (c ∷ cs) w a (inr m) = all-mem Q cs w (a .1) m
+
+-- ---- the walk: f is the leaving row, o the objective
+module _ (f o : Vec) where
+  pub record From (c : Candidate) : Type 0 where
+    pub lively : not (isDummy (c .symbol)) ≡ true
+    pub cell : 0ℤ ≺ f (c .symbol .id)
+    pub small : natAbs (o (c .symbol .id)) ≤ 2 ^ 40
+    pub quotient : Quotient (c .ratio) (o (c .symbol .id)) (f (c .symbol .id))
+
+  test-is : {c : Float} {z : ℤ} → IsZ c z → lt zero64 c ≡ ltZ 0ℤ z
+  test-is h = lt-z zero64-z h
+
+  pub from-all : (xs : List Symbol) (cs os : List Float) → Reads 1024 xs cs f → Reads (2 ^ 40) xs os o → All From (dualRatios xs cs os)
+  unfolding dualRatios
+  from-all [] [] [] h g = tt
+  from-all [] (c ∷ cs) os h g = absurd h
+  from-all [] [] (d ∷ os) h g = absurd g
+  from-all (x ∷ xs) [] os h g = absurd h
+  from-all (x ∷ xs) (c ∷ cs) [] h g = absurd g
+  from-all (x ∷ xs) (c ∷ cs) (d ∷ os) h g = go (not (isDummy x) && lt zero64 c) refl (from-all xs cs os (h .1) (g .1))
+    where
+      go : (t : Bool) → not (isDummy x) && lt zero64 c ≡ t → All From (dualRatios xs cs os) → All From (elim t [ true ↦ record { symbol = x; ratio = d /₆₄ c } ∷ dualRatios xs cs os | false ↦ dualRatios xs cs os ])
+      go true q ih =
+          let t = both (not (isDummy x)) (lt zero64 c) q in
+          let l : 0ℤ ≺ f (x .id) = ltZ-yes (subst T (sym (sym (test-is (h .0 .isz)) ∙ t .1)) tt) in
+          (record { lively = t .0; cell = l; small = g .0 .small; quotient = div-above (g .0 .isz) (h .0 .isz) l (h .0 .small) (g .0 .small) }, ih)
+      go false q ih = ih
+
+  pub from-rising : (i : ℕ) (xs : List Symbol) (cs os : List Float) → Up i xs → All (λ (c : Candidate). i < c .symbol .id) (dualRatios xs cs os) × Rising (dualRatios xs cs os)
+  unfolding dualRatios
+  from-rising i [] cs os u = (tt, tt)
+  from-rising i (x ∷ xs) [] os u = (tt, tt)
+  from-rising i (x ∷ xs) (c ∷ cs) [] u = (tt, tt)
+  from-rising i (x ∷ xs) (c ∷ cs) (d ∷ os) u = go (not (isDummy x) && lt zero64 c) (from-rising (x .id) xs cs os (u .1))
+    where
+      weaken : (l : List Candidate) → All (λ (c : Candidate). x .id < c .symbol .id) l → All (λ (c : Candidate). i < c .symbol .id) l
+      weaken [] a = tt
+      weaken (c ∷ l) a = (omega (arith, u .0, a .0), weaken l (a .1))
+
+      go : (t : Bool) → All (λ (c : Candidate). x .id < c .symbol .id) (dualRatios xs cs os) × Rising (dualRatios xs cs os)
+          → All (λ (c : Candidate). i < c .symbol .id) (elim t [ true ↦ record { symbol = x; ratio = d /₆₄ c } ∷ dualRatios xs cs os | false ↦ dualRatios xs cs os ])
+          × Rising (elim t [ true ↦ record { symbol = x; ratio = d /₆₄ c } ∷ dualRatios xs cs os | false ↦ dualRatios xs cs os ])
+      go true ih = ((u .0, weaken (dualRatios xs cs os) (ih .0)), ih)
+      go false ih = (weaken (dualRatios xs cs os) (ih .0), ih .1)
+
+  pub to-symbols : (Q : ℕ → Type 0) (xs : List Symbol) (cs os : List Float) → Reads 1024 xs cs f → Reads (2 ^ 40) xs os o → All (λ (c : Candidate). Q (c .symbol .id)) (dualRatios xs cs os)
+      → All (λ (x : Symbol). not (isDummy x) ≡ true → 0ℤ ≺ f (x .id) → Q (x .id)) xs
+  unfolding dualRatios
+  to-symbols Q [] cs os h g a = tt
+  to-symbols Q (x ∷ xs) [] os h g a = absurd h
+  to-symbols Q (x ∷ xs) (c ∷ cs) [] h g a = absurd g
+  to-symbols Q (x ∷ xs) (c ∷ cs) (d ∷ os) h g a = go (not (isDummy x) && lt zero64 c) refl a (to-symbols Q xs cs os (h .1) (g .1))
+    where
+      go : (t : Bool) → not (isDummy x) && lt zero64 c ≡ t
+          → All (λ (c : Candidate). Q (c .symbol .id)) (elim t [ true ↦ record { symbol = x; ratio = d /₆₄ c } ∷ dualRatios xs cs os | false ↦ dualRatios xs cs os ])
+          → (All (λ (c : Candidate). Q (c .symbol .id)) (dualRatios xs cs os) → All (λ (x : Symbol). not (isDummy x) ≡ true → 0ℤ ≺ f (x .id) → Q (x .id)) xs)
+          → All (λ (x : Symbol). not (isDummy x) ≡ true → 0ℤ ≺ f (x .id) → Q (x .id)) (x ∷ xs)
+      go true q a ih = ((λ _ _. a .0), ih (a .1))
+      go false q a ih = ((λ n l. absurd (true≢false (sym (ap₂ (λ (x y : Bool). x && y) n (test-is (h .0 .isz) ∙ yes l)) ∙ q))), ih a)
+
+  -- w's symbol is among the symbols
+  pub from-mem : (xs : List Symbol) (cs os : List Float) → All (λ (c : Candidate). MemS (c .symbol) xs) (dualRatios xs cs os)
+  unfolding dualRatios
+  from-mem [] cs os = tt
+  from-mem (x ∷ xs) [] os = tt
+  from-mem (x ∷ xs) (c ∷ cs) [] = tt
+  from-mem (x ∷ xs) (c ∷ cs) (d ∷ os) = go (not (isDummy x) && lt zero64 c) (all-map (λ (c : Candidate). MemS (c .symbol) xs) (λ (c : Candidate). MemS (c .symbol) (x ∷ xs)) (λ c m. inr m) (dualRatios xs cs os) (from-mem xs cs os))
+    where
+      go : (t : Bool) → All (λ (c : Candidate). MemS (c .symbol) (x ∷ xs)) (dualRatios xs cs os)
+          → All (λ (c : Candidate). MemS (c .symbol) (x ∷ xs)) (elim t [ true ↦ record { symbol = x; ratio = d /₆₄ c } ∷ dualRatios xs cs os | false ↦ dualRatios xs cs os ])
+      go true ih = (inl refl, ih)
+      go false ih = ih
+
+  -- e's ratio is the least, and e the lowest on a tie
+  pub record Before (e i : ℕ) : Type 0 where
+    pub least : o e *ℤ f i ≼ o i *ℤ f e
+    pub ties : o e *ℤ f i ≡ o i *ℤ f e → e ≤ i
+
+  pub record Enters (xs : List Symbol) (e : Symbol) : Type 0 where
+    pub among : MemS e xs
+    pub lively : not (isDummy e) ≡ true
+    pub cell : 0ℤ ≺ f (e .id)
+    pub before : f (e .id) ≡ 1ℤ → All (λ (x : Symbol). not (isDummy x) ≡ true → 0ℤ ≺ f (x .id) → Before (e .id) (x .id)) xs
+
+  abbrev pub Entering : List Symbol → Option Symbol → Type 0
+  Entering xs none = All (λ (x : Symbol). not (isDummy x) ≡ true → 0ℤ ≺ f (x .id) → ⊥) xs
+  Entering xs (some e) = Enters xs e
+
+  pub entering-is : (xs : List Symbol) (cs os : List Float) → Up 0 xs → Reads 1024 xs cs f → Reads (2 ^ 40) xs os o → Entering xs (smallestRatio (dualRatios xs cs os))
+  entering-is xs cs os u h g = go (smallestRatio (dualRatios xs cs os)) (smallest-is (dualRatios xs cs os) ranked (from-rising 0 xs cs os u .1))
+    where
+      froms : All From (dualRatios xs cs os)
+      froms = from-all xs cs os h g
+
+      ranked : All Ranked (dualRatios xs cs os)
+      ranked = all-map From Ranked (λ c t. record { rank = t .quotient .rank; over = t .quotient .over }) (dualRatios xs cs os) froms
+
+      won : (w : Candidate) → From w → MemS (w .symbol) xs → All (Beats w) (dualRatios xs cs os) → Enters xs (w .symbol)
+      won w F m A = record {
+        among = m;
+        lively = F .lively;
+        cell = F .cell;
+        before = λ q. to-symbols (Before (w .symbol .id)) xs cs os h g (all-zip From (Beats w) (λ (c : Candidate). Before (w .symbol .id) (c .symbol .id)) (beats q) (dualRatios xs cs os) froms A);
+      }
+        where
+          beats : f (w .symbol .id) ≡ 1ℤ → (c : Candidate) → From c → Beats w c → Before (w .symbol .id) (c .symbol .id)
+          beats q c G W =
+              let t = cross (subst (λ (z : ℤ). Quotient (w .ratio) (o (w .symbol .id)) z) q (F .quotient)) (F .small) (G .quotient) in
+              let one : o (c .symbol .id) *ℤ f (w .symbol .id) ≡ o (c .symbol .id) = ap (λ (z : ℤ). o (c .symbol .id) *ℤ z) q ∙ ring (o (c .symbol .id) ∷ []) (v 0 ⊠ κ 1ℤ) (v 0) tt in
+              record { least = ≼-trans (t .0 (W .least)) (≼-of-eq (sym one)); ties = λ e. W .ties (t .1 (e ∙ one)) }
+
+      go : (t : Option Symbol) → Smallest (dualRatios xs cs os) t → Entering xs t
+      go t (Smallest.nobody q) = to-symbols (λ i. ⊥) xs cs os h g (subst (All (λ (c : Candidate). ⊥)) (sym q) tt)
+      go t (Smallest.winner w m r A) = won w (all-mem From (dualRatios xs cs os) w froms m) (all-mem (λ (c : Candidate). MemS (c .symbol) xs) (dualRatios xs cs os) w (from-mem xs cs os) m) A
+
+-- ---- one pivot of the dual pass
+one-of : (z : ℤ) → z *ℤ z ≡ 1ℤ → 0ℤ ≺ z → z ≡ 1ℤ
+one-of (pos zero) e l = absurd (≺-irrefl l)
+one-of (pos (suc zero)) e l = refl
+one-of (pos (suc (suc m))) e l = absurd (big m (ap natAbs e))
+  where
+    big : (m : ℕ) → suc (suc m) * suc (suc m) ≡ 1 → ⊥
+    big m e = omega (arith, suc-mul (suc m) (suc (suc m)), suc-mul m (suc (suc m)))
+one-of (negsuc m) e l = absurd (l .lt)
+
+module _ (n : ℕ) (kind : ℕ → KindZ) (w : Work) (S : State) (G : Good n kind S) (z : Vec) (H : ReadsWork kind w (S .B) (S .R) (S .o) z)
+    (inside : (j : ℕ) → kind j ≡ slack → j < n) (l : ℕ) (hl : S .B l ≡ true) (sl : kind l ≡ slack) (low : S .R l 0 ≺ 0ℤ) (row : Row) (hit : findRow l (w .tableau .rows) ≡ some row) where
+  row-l : ReadsRow (w .tableau .symbols) row (S .R l)
+  row-l = (subst (λ (t : Option Row). RowAt (w .tableau .symbols) t (S .B l) (S .R l)) hit (H .rows l)) .1
+
+  -- what getDualEnteringSymbol finds
+  pub dual-entering : Entering (S .R l) (S .o) (w .tableau .symbols) (getDualEnteringSymbol l w)
+  unfolding getDualEnteringSymbol
+  dual-entering = subst (λ (t : Option Row). Entering (S .R l) (S .o) (w .tableau .symbols) (elim t [ none ↦ none | some r ↦ smallestRatio (dualRatios (w .tableau .symbols) (r .cells) (w .tableau .objective)) ])) (sym hit)
+      (entering-is (S .R l) (S .o) (w .tableau .symbols) (row .cells) (w .tableau .objective) (H .up) (row-l .cells) (H .objective))
+
+  module _ (e : Symbol) (E : Enters (S .R l) (S .o) (w .tableau .symbols) e) where
+    live : Live kind (w .tableau .symbols) e
+    live = is-live kind e (w .tableau .symbols) (H .kinds) (E .among)
+
+    e-slack : kind (e .id) ≡ slack
+    e-slack = go (not-dummy e (E .lively))
+      where
+        go : (kindOf (e .kind) ≡ slack) ⊎ (kindOf (e .kind) ≡ external) → kind (e .id) ≡ slack
+        go (inl q) = live .1 ∙ q
+        go (inr q) = absurd (clash (E .cell) (≼-of-eq (G .no-vars l (e .id) (λ x. slack≢external (sym sl ∙ x)) (live .1 ∙ q))))
+
+    e-free : S .B (e .id) ≡ false
+    e-free = go (S .B (e .id)) refl
+      where
+        go : (b : Bool) → S .B (e .id) ≡ b → S .B (e .id) ≡ false
+        go false q = q
+        go true q = absurd (clash (E .cell) (≼-of-eq (G .shape .gone (e .id) q l)))
+
+    slack-in : (j : ℕ) → kind j ≡ slack → In j (w .tableau .symbols)
+    slack-in j s = go (in-or-not j (w .tableau .symbols))
+      where
+        go : In j (w .tableau .symbols) ⊎ NotIn j (w .tableau .symbols) → In j (w .tableau .symbols)
+        go (inl m) = m
+        go (inr m) = absurd (slack≢external (sym s ∙ H .unknown j (λ z. slack≢const (sym s ∙ ap kind z ∙ G .zero)) m))
+
+    before : S .R l (e .id) ≡ 1ℤ → (i : ℕ) → kind i ≡ slack → 0ℤ ≺ S .R l i → Before (S .R l) (S .o) (e .id) i
+    before q i s c =
+        all-in (λ i. kind i ≡ slack → 0ℤ ≺ S .R l i → Before (S .R l) (S .o) (e .id) i) i (w .tableau .symbols)
+        (all-zip (λ (x : Symbol). kind (x .id) ≡ kindOf (x .kind)) (λ (x : Symbol). not (isDummy x) ≡ true → 0ℤ ≺ S .R l (x .id) → Before (S .R l) (S .o) (e .id) (x .id))
+        (λ (x : Symbol). kind (x .id) ≡ slack → 0ℤ ≺ S .R l (x .id) → Before (S .R l) (S .o) (e .id) (x .id)) (λ x k g s. g (slack-not-dummy x (sym k ∙ s))) (w .tableau .symbols) (H .kinds) (E .before q))
+        (slack-in i s) s c
+
+    -- with the mark whole: a dual move on 1, the theory's step, a good state again, and the tie rule
+    pub record Moved : Type 0 where
+      pub move : Move n kind S l (e .id)
+      pub ties : (i : ℕ) → kind i ≡ slack → 0ℤ ≺ S .R l i → S .o (e .id) *ℤ S .R l i ≡ S .o i *ℤ S .R l (e .id) → e .id ≤ i
+      pub good : Good n kind (step l (e .id) S)
+      pub reads : ReadsWork kind (pivot l e w) (step l (e .id) S .B) (step l (e .id) S .R) (step l (e .id) S .o) (pivoted l (e .id) (S .R) z)
+
+    pub dual-pivot : pivot l e w .mark ≡ allWhole → Moved
+    dual-pivot m =
+        let t = pivot-z kind w (S .B) (S .R) (S .o) z H l e hl e-free live (G .shape .unit (e .id) e-free) m in
+        let q = one-of (S .R l (e .id)) (t .1) (E .cell) in
+        let mv : Move n kind S l (e .id) = record { l-basic = hl; l-slack = sl; l-const = low; in-n = inside (e .id) e-slack; e-free = e-free; e-slack = e-slack; e-cell = q; least = λ i s c. before q i s c .least } in
+        record { move = mv; ties = λ i s c. before q i s c .ties; good = step-good n kind S G l (e .id) mv; reads = t .2 }
