@@ -1,0 +1,4 @@
+-- What the contracts of `rows` cite, and the laws that its definitions read as the steps.
+pub mod Marks
+pub mod Table
+pub mod Integral
