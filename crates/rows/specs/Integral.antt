@@ -1,16 +1,16 @@
 -- The test that a number is whole: below 2^53 it is what its whole part is, and from there on every f64 is whole.
-use Prim.Native.Nat.{ℕ, zero, suc, _+_, _*_, _-_, _/_, _%_, _^_, _≤_, _<_, min}
+use Prim.Native.Nat.{ℕ, zero, suc, _+_, _*_, _-_, _/_, _%_, _^_, _≤_, _<_}
 use mathlib.Core.Path.{_≡_, refl, sym, ap, _∙_, subst}
 use mathlib.Core.Bool.{Bool, true, false, not, _&&_, _||_, Bool·beq}
-use native.Mathlib.Nat.{mul-one, mul-right-comm, eq-of-mul-eq-mul-right, lt-of-mul-lt-mul-right, mul-mod-left, div-add-mod', min-eq-left, mod-one, zero-mul, zero-mod}
+use native.Mathlib.Nat.{mul-one, mul-right-comm, eq-of-mul-eq-mul-right, lt-of-mul-lt-mul-right, mul-mod-left, div-add-mod', min-eq-left, mod-one, zero-mod}
 use native.Mathlib.Omega.{arith}
 use lib.Dec.{T, leb, ltb, eqb, ltb→lt, lt→ltb, eqb→eq}
 use lib.IntN.{ℤ, pos, negsuc, negℤ, natAbs}
 use lib.Ieee.{Float, nan, inf, fin, binary64, up, down, lt, le, eq, ofInt, toSigned, fits}
 use lib.Ieee.Fits.{down-pos, and-i, and-l, and-r, eq→eqb}
 use Rattle.steps.specs.Number.{isFinite, isWhole}
-use Rattle.laws.specs.Z.{eqZb, ≡→eqZb}
-use Rattle.exact.specs.Whole.{IsZ, sgn, val, int, int-z, eq-z, ofInt-z, bool-ext}
+use Rattle.laws.specs.Z.{≡→eqZb}
+use Rattle.exact.specs.Whole.{IsZ, val, int, int-z, eq-z, ofInt-z, bool-ext}
 
 -- between -2^53 and 2^53
 unfoldable pub small : Float → Bool

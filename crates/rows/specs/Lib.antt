@@ -2,3 +2,7 @@
 pub mod Marks
 pub mod Table
 pub mod Integral
+pub mod Place
+pub mod Cells
+pub mod Stays
+pub mod Reading

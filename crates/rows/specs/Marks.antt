@@ -36,6 +36,22 @@ mark-join v w = by-cases (v .finite) (v .whole) (w .finite) (w .whole)
     by-cases true true false d = refl
     by-cases true false false d = refl
 
+pub worse-unit : (m : Mark) → worse m allWhole ≡ m
+unfolding worse
+worse-unit allWhole = refl
+worse-unit notWhole = refl
+worse-unit notFinite = refl
+
+pub worse-assoc : (l m n : Mark) → worse (worse l m) n ≡ worse l (worse m n)
+unfolding worse
+worse-assoc allWhole m n = refl
+worse-assoc notFinite m n = refl
+worse-assoc notWhole allWhole n = refl
+worse-assoc notWhole notFinite n = refl
+worse-assoc notWhole notWhole allWhole = refl
+worse-assoc notWhole notWhole notWhole = refl
+worse-assoc notWhole notWhole notFinite = refl
+
 -- the flags of two writes, from the marks of each
 pub joined-mark : (v w : Wrote) {t : Wrote} {m n : Mark} → t ≡ join v w → markOf v ≡ m → markOf w ≡ n → markOf t ≡ worse m n
 joined-mark v w h p q = rw (h, mark-join, p, q)

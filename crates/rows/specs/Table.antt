@@ -1,7 +1,7 @@
 -- The operations on one row, place by place: place 0 the constant, places 1 to `width` the cells. A place past the width is left as it is.
 use Prim.Native.Nat.{ℕ, _+_}
 use mathlib.Core.Path.{_≡_}
-use mathlib.Core.Bool.{Bool, true, false, cond}
+use mathlib.Core.Bool.{Bool, false, cond}
 use mathlib.Core.List.{List}
 use lib.ListN.{getD, set}
 use lib.Ieee.{Float, nan, ne, neg}
