@@ -3,3 +3,9 @@ pub mod Kinds
 pub mod Back
 pub mod Choose
 pub mod Better
+pub mod Walk
+pub mod Reading
+pub mod Chosen
+pub mod Steps
+pub mod Own
+pub mod Subject
