@@ -5,3 +5,5 @@ pub mod Pivoting
 pub mod NotesRead
 pub mod SubstituteRead
 pub mod Working
+pub mod Pushed
+pub mod EnterRead
