@@ -7,7 +7,7 @@ use mathlib.Core.Option.{Option, none, some}
 use native.Mathlib.Omega.{arith}
 use lib.ListN.{length, getD}
 use lib.Ieee.{Float}
-use Rattle.laws.specs.Places.{Every, every-at, at-every, every-delete, every-insertAt}
+use Rattle.laws.specs.Places.{every-delete, every-insertAt}
 use Rattle.steps.specs.Number.{Mark, worse}
 use Rattle.steps.specs.Symbol.{Symbol}
 use Rattle.steps.specs.Row.{Row, Written, solveForSymbols}
@@ -32,19 +32,10 @@ use Rattle.tableau.specs.Notes.{noted}
 use Rattle.tableau.specs.Substituting.{Substitution, substituteOf}
 use Rattle.tableau.specs.Pivoting.{enterOf, solvedRow, solvedMark, withMark, pivotOf}
 use Rattle.tableau.specs.Working.{workOf, artificialIn, symbols-by, changes-by, length-symbols, Ready}
-use Rattle.tableau.specs.Pushed.{Room}
-use Rattle.tableau.specs.EnterRead.{workBy, work-is, enter-read}
+use Rattle.tableau.specs.Pushed.{wide-row, wide-every, every-wide, Room}
+use Rattle.tableau.specs.EnterRead.{workBy, work-is, enter-read, ready-entered}
 
 -- ---- a row taken out
-
-abbrev wide-row : List Float → Type 0
-wide-row r = length r ≡ 130
-
-wide-every : (w : List (List Float)) → Wide w → Every wide-row w
-wide-every w h = at-every wide-row w [] (h .wide)
-
-every-wide : (w : List (List Float)) → Every wide-row w → Wide w
-every-wide w h = record { wide = every-at wide-row w [] h }
 
 module _ (i : ℕ) (h : List ℕ) (n : List (List ℕ)) (w : List (List Float)) (ready : Ready h n w) (low : 1 ≤ i) (high : i ≤ getD h 2 0) where
   abbrev d : Board
@@ -162,3 +153,8 @@ module _ (l i t j : ℕ) (h : List ℕ) (n : List (List ℕ)) (reals w : List (L
         ∙ enter-read code j row (out .head) n reals (out .rows) (ready-dropped i h n w ready low high) row-long (rw out-symbols q) art room fit (worse a m) v
         ∙ rw one (ap (enterBasis (symbolOf code) (rowOf (getD h 1 0) row)) (drop-read i h n w ready low high l found art a m v reals))
         ∙ sym (pivot-found l (symbolOf code) (workOf art a v (tables h n reals w)) (rowOf (getD h 1 0) (getD w i [])) (writtenOf (rowOf (getD h 1 0) row) false m) (row-is a v) (solved-is a v))
+
+    pub ready-pivoted : Ready (pivotOf art i (1 + t) (1 + j) (noted h n) w .head) (pivotOf art i (1 + t) (1 + j) (noted h n) w .names) (pivotOf art i (1 + t) (1 + j) (noted h n) w .rows)
+    unfolding pivotOf withMark
+    ready-pivoted =
+        ready-entered code j row (out .head) n reals (out .rows) (ready-dropped i h n w ready low high) row-long (rw out-symbols q) art room (rw (dropped-count i h n w ready low high) (omega (arith, low, high, ready .few-rows)))
