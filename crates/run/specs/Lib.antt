@@ -1,0 +1,3 @@
+-- Whole runs: demands 2 and 3, stated of the calls and proved through the bridge.
+pub mod Demand
+pub mod Inv
