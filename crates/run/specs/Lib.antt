@@ -3,3 +3,5 @@ pub mod Demand
 pub mod Inv
 pub mod Steady
 pub mod Passes
+pub mod Inputs
+pub mod Build
