@@ -5,3 +5,6 @@ pub mod Steady
 pub mod Passes
 pub mod Inputs
 pub mod Build
+pub mod BuildVars
+pub mod BuildTerms
+pub mod BuildSum
