@@ -8,3 +8,7 @@ pub mod Build
 pub mod BuildVars
 pub mod BuildTerms
 pub mod BuildSum
+pub mod BuildTag
+pub mod BuildTags
+pub mod BuildCons
+pub mod BuildRow
