@@ -3,3 +3,5 @@ pub mod Demand
 pub mod Inv
 pub mod Words
 pub mod AtRest
+pub mod Vars
+pub mod Start
