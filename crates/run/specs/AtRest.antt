@@ -85,10 +85,11 @@ module _ (m : Moment) (I : Inv m) where
       go : (o : Option Variable) → findVariable v (m .state .changes .variables) ≡ o → VarAt (I .kind) (m .state .tableau .symbols) o (I .sym v)
           → (z : ℤ) × IsZ (elim o [ none ↦ zero64 | some r ↦ valueAt (r .symbol .id) (m .state .tableau .rows) ]) z × (findVariable v (m .state .changes .variables) ≢ none → z ≡ I .table .R (I .sym v) 0)
       go none e a = (pos 0, zero64-z, λ k. absurd (k e))
-      go (some r) e a =
-          (I .table .R (r .symbol .id) 0,
-          value-z (I .kind) (begin (m .state)) (I .table .B) (I .table .R) (I .table .o) (λ _. 0ℤ) (I .reads) (I .good .shape .unit) (r .symbol .id) (λ z. column-in v (λ q. absurd (nope (sym e ∙ q))) .1 (sym (a .0) ∙ z)),
-          λ k. ap (λ (j : ℕ). I .table .R j 0) (a .0))
+      go (some r) e a = (
+        I .table .R (r .symbol .id) 0,
+        value-z (I .kind) (begin (m .state)) (I .table .B) (I .table .R) (I .table .o) (λ _. 0ℤ) (I .reads) (I .good .shape .unit) (r .symbol .id) (λ z. column-in v (λ q. absurd (nope (sym e ∙ q))) .1 (sym (a .0) ∙ z)),
+        λ k. ap (λ (j : ℕ). I .table .R j 0) (a .0),
+      )
         where
           nope : some r ≡ none → ⊥
           nope p = Rattle.bridge.specs.Finds.none≢some (sym p)

@@ -5,3 +5,4 @@ pub mod Words
 pub mod AtRest
 pub mod Vars
 pub mod Start
+pub mod Shift
