@@ -6,3 +6,5 @@ pub mod AtRest
 pub mod Vars
 pub mod Start
 pub mod Shift
+pub mod Steady
+pub mod Passes
