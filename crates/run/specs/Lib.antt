@@ -1,3 +1,4 @@
 -- Whole runs: demands 2 and 3, stated of the calls and proved through the bridge.
 pub mod Demand
 pub mod Inv
+pub mod Perm
