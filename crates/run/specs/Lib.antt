@@ -8,3 +8,4 @@ pub mod Start
 pub mod Shift
 pub mod Steady
 pub mod Passes
+pub mod Perm
