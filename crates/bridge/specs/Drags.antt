@@ -257,6 +257,9 @@ module _ (n : ℕ) (kind : ℕ → KindZ) (inside : (j : ℕ) → kind j ≡ sla
     pub good : Good n kind state
     pub reads : ReadsWork kind x (state .B) (state .R) (state .o) other
     pub models : Models n kind (state .B) (state .R) (state .o) cs
+    pub no-var : (j : ℕ) → kind j ≡ external → state .o j ≡ 0ℤ
+    pub up : (j : ℕ) → state .B j ≡ true → kind j ≡ slack → 0ℤ ≼ state .R j 0
+    pub idle : x .tableau .infeasible ≡ []
     pub best : Best n cs (λ j. state .R j 0)
 
   abbrev pub Ends : Outcome Work → Type 0
@@ -273,11 +276,21 @@ module _ (n : ℕ) (kind : ℕ → KindZ) (inside : (j : ℕ) → kind j ≡ sla
   -- all popped: nothing is below 0
   rest : 0 < n → (w : Work) (S : State) (z : Vec) → Drag n kind inside cs w S z → All (λ s. isBelow s (w .tableau .rows) ≡ false) (reverse (w .tableau .infeasible)) → Dragged (withInfeasible [] w)
   unfolding withInfeasible withTableau
-  rest in-n w S z W A = record { state = S; other = z; good = W .good; reads = W .reads; models = W .models; best = dragged n kind cs S in-n (W .good) (W .models) (W .no-var) (λ j b s. up j b s (≺-or-≼ (S .R j 0) 0ℤ)) }
+  rest in-n w S z W A = record {
+    state = S;
+    other = z;
+    good = W .good;
+    reads = W .reads;
+    models = W .models;
+    no-var = W .no-var;
+    up = λ j b s. above j b s (≺-or-≼ (S .R j 0) 0ℤ);
+    idle = refl;
+    best = dragged n kind cs S in-n (W .good) (W .models) (W .no-var) (λ j b s. above j b s (≺-or-≼ (S .R j 0) 0ℤ));
+  }
     where
-      up : (j : ℕ) → S .B j ≡ true → kind j ≡ slack → (S .R j 0 ≺ 0ℤ) ⊎ (0ℤ ≼ S .R j 0) → 0ℤ ≼ S .R j 0
-      up j b s (inr h) = h
-      up j b s (inl h) = go (findRow j (w .tableau .rows)) refl (W .reads .rows j)
+      above : (j : ℕ) → S .B j ≡ true → kind j ≡ slack → (S .R j 0 ≺ 0ℤ) ⊎ (0ℤ ≼ S .R j 0) → 0ℤ ≼ S .R j 0
+      above j b s (inr h) = h
+      above j b s (inl h) = go (findRow j (w .tableau .rows)) refl (W .reads .rows j)
         where
           go : (t : Option Row) → findRow j (w .tableau .rows) ≡ t → RowAt (w .tableau .symbols) t (S .B j) (S .R j) → 0ℤ ≼ S .R j 0
           go none q r = absurd (true≢false (sym b ∙ r))

@@ -9,3 +9,4 @@ pub mod Shift
 pub mod Steady
 pub mod Passes
 pub mod Perm
+pub mod Aims
