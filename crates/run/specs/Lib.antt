@@ -10,3 +10,4 @@ pub mod Steady
 pub mod Passes
 pub mod Perm
 pub mod Aims
+pub mod Refit
