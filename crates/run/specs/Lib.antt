@@ -11,3 +11,5 @@ pub mod Passes
 pub mod Perm
 pub mod Aims
 pub mod Refit
+pub mod Inputs
+pub mod Build
