@@ -11,5 +11,6 @@ pub mod Passes
 pub mod Perm
 pub mod Aims
 pub mod Refit
+pub mod Drawn
 pub mod Inputs
 pub mod Build
