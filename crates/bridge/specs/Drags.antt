@@ -212,7 +212,7 @@ module _ (n : ℕ) (kind : ℕ → KindZ) (inside : (j : ℕ) → kind j ≡ sla
                   ∙ ap (findRow j) (sym (lists .rows)) ∙ q) k (belowZero-z (r .1 .constant .isz) ∙ yes c))
 
 -- ---- the loop
-turned : (left : ℕ) (s : ℕ) (l : List ℕ) (e : Symbol) (w : Work) (Q : Outcome Work → Type 0) → (pivot s e (withInfeasible l w) .mark ≡ notFinite → Q (refused 13 (pivot s e (withInfeasible l w) .pivots) notFinite))
+pub turned : (left : ℕ) (s : ℕ) (l : List ℕ) (e : Symbol) (w : Work) (Q : Outcome Work → Type 0) → (pivot s e (withInfeasible l w) .mark ≡ notFinite → Q (refused 13 (pivot s e (withInfeasible l w) .pivots) notFinite))
     → Q (dualOptimise left (countPivot (pivot s e (withInfeasible l w)))) → Q (countedDualPivot s l e w >>= λ v. dualOptimise left v)
 unfolding countedDualPivot checkFinite refuse _>>=_
 turned left s l e w Q f h = go (pivot s e (withInfeasible l w) .mark) refl

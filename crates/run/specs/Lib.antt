@@ -12,5 +12,6 @@ pub mod Perm
 pub mod Aims
 pub mod Refit
 pub mod Drawn
+pub mod Drag
 pub mod Inputs
 pub mod Build
