@@ -1,0 +1,4 @@
+-- The root of the specs of `keeps`.
+pub mod Lists
+pub mod Keys
+pub mod Along
