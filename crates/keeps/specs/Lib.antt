@@ -2,3 +2,5 @@
 pub mod Lists
 pub mod Keys
 pub mod Along
+pub mod Cells
+pub mod RowOps
