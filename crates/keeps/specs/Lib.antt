@@ -4,3 +4,4 @@ pub mod Keys
 pub mod Along
 pub mod Cells
 pub mod RowOps
+pub mod Fits
