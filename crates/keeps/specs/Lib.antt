@@ -5,3 +5,5 @@ pub mod Along
 pub mod Cells
 pub mod RowOps
 pub mod Fits
+pub mod Frame
+pub mod Pivots
