@@ -7,3 +7,4 @@ pub mod RowOps
 pub mod Fits
 pub mod Frame
 pub mod Pivots
+pub mod Passes

@@ -43,6 +43,10 @@ none≢some {A} {a} e = Option·none-ne-some a e
 pub some-injective : {A : Type 0} {a b : A} → some a ≡ some b → a ≡ b
 some-injective {A} {a} {b} e = Option·some-injective a b e
 
+pub none-of : (k : ℕ) → (1 ≤ k → ⊥) → k ≡ 0
+none-of zero f = refl
+none-of (suc k) f = absurd (f (omega arith))
+
 -- ---- 1 where two numbers are the same, else 0
 
 unfoldable pub same : ℕ → ℕ → ℕ
@@ -166,11 +170,7 @@ distinct-in (x ∷ xs) e n = go (same? n x) (member x xs) refl (left (not (membe
     go : Same? n x → (b : Bool) → member x xs ≡ b → not b ≡ true → times n xs ≤ 1 → same n x + times n xs ≤ 1
     go (isnt a b c) t q f ih = omega arith
     go (is a b c) true q f ih = absurd (true≢false (sym f))
-    go (is a b c) false q f ih = let z : times n xs ≡ 0 = zero-of (times n xs) (λ l. no-both (member-out x xs (subst (λ (y : ℕ). 1 ≤ times y xs) b l)) q) in omega arith
-      where
-        zero-of : (k : ℕ) → (1 ≤ k → ⊥) → k ≡ 0
-        zero-of zero f = refl
-        zero-of (suc k) f = absurd (f (omega arith))
+    go (is a b c) false q f ih = let z : times n xs ≡ 0 = none-of (times n xs) (λ l. no-both (member-out x xs (subst (λ (y : ℕ). 1 ≤ times y xs) b l)) q) in omega arith
 
 pub distinct-out : (xs : List ℕ) → ((n : ℕ) → times n xs ≤ 1) → distinct xs ≡ true
 unfolding distinct times
@@ -232,3 +232,13 @@ up-once i n (x ∷ xs) u = go (same? n x) (up-once (suc x) n xs (u .1))
     go : Same? n x → times n xs ≤ 1 → same n x + times n xs ≤ 1
     go (is a b c) ih = let z : times n xs ≡ 0 = up-none (suc x) n xs (omega arith) (u .1) in omega arith
     go (isnt a b c) ih = omega arith
+
+-- ---- reversed
+reverseAux-times : (n : ℕ) (xs ys : List ℕ) → times n (reverseAux xs ys) ≡ times n xs + times n ys
+unfolding times
+reverseAux-times n [] ys = omega arith
+reverseAux-times n (x ∷ xs) ys = omega (arith, reverseAux-times n xs (x ∷ ys))
+
+pub reverse-times : (n : ℕ) (xs : List ℕ) → times n (reverse xs) ≡ times n xs
+unfolding times
+reverse-times n xs = omega (arith, reverseAux-times n xs [])
