@@ -8,3 +8,5 @@ pub mod Fits
 pub mod Frame
 pub mod Pivots
 pub mod Passes
+pub mod Codes
+pub mod Uses
