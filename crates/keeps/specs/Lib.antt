@@ -10,3 +10,5 @@ pub mod Pivots
 pub mod Passes
 pub mod Codes
 pub mod Uses
+pub mod Places
+pub mod Reads
