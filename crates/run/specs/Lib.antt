@@ -3,6 +3,7 @@ pub mod Demand
 pub mod Inv
 pub mod Words
 pub mod AtRest
+pub mod Lookup
 pub mod Vars
 pub mod Start
 pub mod Shift
