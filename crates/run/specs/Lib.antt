@@ -14,5 +14,7 @@ pub mod Aims
 pub mod Refit
 pub mod Drawn
 pub mod Drag
+pub mod Suggest
+pub mod Suggested
 pub mod Inputs
 pub mod Build

@@ -46,6 +46,12 @@ alike-trans (some a) (some b) (some c) h g = record { number = h .number ∙ g .
 pub same-trans : (us vs ws : List Variable) → Same us vs → Same vs ws → Same us ws
 same-trans us vs ws h g v = alike-trans (findVariable v us) (findVariable v vs) (findVariable v ws) (h v) (g v)
 
+alike-sym : (a b : Option Variable) → AlikeAt a b → AlikeAt b a
+alike-sym none none h = tt
+alike-sym none (some b) h = absurd h
+alike-sym (some a) none h = absurd h
+alike-sym (some a) (some b) h = record { number = sym (h .number); symbol = sym (h .symbol); uses = sym (h .uses) }
+
 pub same-map : (f : Variable → Variable) → ((a : Variable) → Alike a (f a)) → (vs : List Variable) → Same vs (map f vs)
 unfolding findVariable
 same-map f h [] v = tt
@@ -69,6 +75,12 @@ flagged b a = record { number = refl; symbol = refl; uses = refl }
 pub same-clear : (vs : List Variable) → Same vs (clearChanged vs)
 unfolding clearChanged
 same-clear vs = same-map (withFlag false) (flagged false) vs
+
+-- flags apart, the same list
+pub same-kept : (vs ws : List Variable) → clearChanged ws ≡ clearChanged vs → Same vs ws
+same-kept vs ws e v =
+    alike-trans (findVariable v vs) (findVariable v (clearChanged vs)) (findVariable v ws) (same-clear vs v)
+    (alike-sym (findVariable v ws) (findVariable v (clearChanged vs)) (subst (λ (l : List Variable). AlikeAt (findVariable v ws) (findVariable v l)) e (same-clear ws v)))
 
 pub same-changed : (s : ℕ) (c : Changes) → Same (c .variables) (varChanged s c .variables)
 unfolding varChanged flagSymbol
