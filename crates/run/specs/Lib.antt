@@ -25,3 +25,4 @@ pub mod BuildTag
 pub mod BuildTags
 pub mod BuildCons
 pub mod BuildRow
+pub mod AddEnds
