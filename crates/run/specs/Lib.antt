@@ -26,3 +26,5 @@ pub mod BuildTags
 pub mod BuildCons
 pub mod BuildRow
 pub mod AddEnds
+pub mod Subject
+pub mod SubjectEnter
