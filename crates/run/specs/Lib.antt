@@ -16,5 +16,7 @@ pub mod Drawn
 pub mod Drag
 pub mod Suggest
 pub mod Suggested
-pub mod Inputs
 pub mod Build
+pub mod TempStart
+pub mod TempPass
+pub mod Inputs
