@@ -17,13 +17,13 @@ use Rattle.steps.specs.Edit.{editTerms, addEditSteps, suggestSteps}
 use Rattle.steps.specs.Tests.{member, firstRefusal, hasConstraint, hasEdit, addTests, addEditTests, findConstraint, findEdit}
 use Rattle.steps.specs.Calls.{Result, begin, finish, refusedBy, acceptedAs, conclude, concludeAdd, add, remove, addEdit, removeEdit, suggest}
 use Rattle.steps.specs.Changing.{Changing, adds, removes, addsEdit, removesEdit, suggests, made, budgetOf, tests, stepNumbers}
-use Rattle.steps.proofs.Ends.{Within, Ends, stops, goes, addSteps-ends, removeSteps-ends, suggestSteps-ends}
+use Rattle.steps.proofs.Ends.{Within, Stopped, Ends, stops, goes, addSteps-ends, removeSteps-ends, suggestSteps-ends}
 
 pub data Answered (c : Changing) (s : State) : Result → Type 0 where
   -- a test failed, and no step was taken
   byTest : (n : ℕ) → firstRefusal (tests c s) ≡ some n → Answered c s (refusedBy n 0 (s .whole) s)
   -- the steps met a refusal, with p pivots made and the mark m
-  bySteps : (n p : ℕ) (m : Mark) → firstRefusal (tests c s) ≡ none → T (member n (stepNumbers c)) → p ≤ budgetOf c → (n ≡ 14 → p ≡ budgetOf c) → (m ≡ allWhole → s .whole ≡ true)
+  bySteps : (n p : ℕ) (m : Mark) → firstRefusal (tests c s) ≡ none → Stopped (budgetOf c) (s .whole) (stepNumbers c) n p m
       → Answered c s (refusedBy n p (saysWhole m) s)
   -- accepted: what the steps came to is stored
   accepts : (w : Work) (cs : List Constraint) (es : List Edit) → firstRefusal (tests c s) ≡ none → Within (budgetOf c) (s .whole) w
@@ -41,7 +41,7 @@ begins budget s = record { spent = omega arith; mark = go (s .whole) }
 concluded : (c : Changing) (s : State) (o : Outcome Work) (cs : List Constraint) (es : List Edit) → firstRefusal (tests c s) ≡ none
     → Ends (budgetOf c) (s .whole) (stepNumbers c) (Within (budgetOf c) (s .whole)) o → Answered c s (conclude s o λ w. finish w cs es)
 unfolding conclude
-concluded c s o cs es e (stops {n = n} {p = p} {m = m} g b u h) = bySteps n p m e g b u h
+concluded c s o cs es e (stops {n = n} {p = p} {m = m} h) = bySteps n p m e h
 concluded c s o cs es e (goes {a = w} h) = accepts w cs es e h
 
 -- the same of Add's steps, where the tag decides what is stored
@@ -49,7 +49,7 @@ concludedAdd : (c : Changing) (s : State) (o : Outcome Added) (cs : Added → Li
     → Ends (budgetOf c) (s .whole) (stepNumbers c) (λ (a : Added). Within (budgetOf c) (s .whole) (a .work)) o
     → Answered c s (concludeAdd s o λ a. finish (a .work) (cs a) (es a))
 unfolding concludeAdd
-concludedAdd c s o cs es e (stops {n = n} {p = p} {m = m} g b u h) = bySteps n p m e g b u h
+concludedAdd c s o cs es e (stops {n = n} {p = p} {m = m} h) = bySteps n p m e h
 concludedAdd c s o cs es e (goes {a = a} h) = accepts (a .work) (cs a) (es a) e h
 
 -- a call that answers by its first test that fails, or else by its steps

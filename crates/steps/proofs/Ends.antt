@@ -28,10 +28,17 @@ pub record Within (budget : ℕ) (stored : Bool) (w : Work) : Type 0 where
   pub spent : w .pivots ≤ budget
   pub mark : w .mark ≡ allWhole → stored ≡ true
 
--- the steps refuse by one of the numbers, by 14 only if the budget is used, or go on with P
+-- a refusal of the steps: one of their numbers, no more pivots than the budget and all of it at 14, a mark that 13 has lost, and whole only if the stored one is
+pub record Stopped (budget : ℕ) (stored : Bool) (numbers : List ℕ) (n p : ℕ) (m : Mark) : Type 0 where
+  pub listed : T (member n numbers)
+  pub spent : p ≤ budget
+  pub used : n ≡ 14 → p ≡ budget
+  pub lost : n ≡ 13 → m ≡ notFinite
+  pub mark : m ≡ allWhole → stored ≡ true
+
+-- the steps refuse so, or go on with P
 pub data Ends {A : Type 0} (budget : ℕ) (stored : Bool) (numbers : List ℕ) (P : A → Type 0) : Outcome A → Type 0 where
-  stops : {n p : ℕ} {m : Mark} → T (member n numbers) → p ≤ budget → (n ≡ 14 → p ≡ budget) → (m ≡ allWhole → stored ≡ true)
-      → Ends budget stored numbers P (refused n p m)
+  stops : {n p : ℕ} {m : Mark} → Stopped budget stored numbers n p m → Ends budget stored numbers P (refused n p m)
   goes : {a : A} → P a → Ends budget stored numbers P (going a)
 
 module _ (budget : ℕ) (stored : Bool) (numbers : List ℕ) where
@@ -49,31 +56,35 @@ module _ (budget : ℕ) (stored : Bool) (numbers : List ℕ) where
 
   bind : {A B : Type 0} {P : A → Type 0} {Q : B → Type 0} {o : Outcome A} (f : A → Outcome B) → Runs P o → ((a : A) → P a → Runs Q (f a)) → Runs Q (o >>= f)
   unfolding _>>=_
-  bind f (stops g p u m) k = stops g p u m
+  bind f (stops h) k = stops h
   bind f (goes {a = a} h) k = k a h
 
   weaken : {A : Type 0} {P Q : A → Type 0} {o : Outcome A} → Runs P o → ((a : A) → P a → Q a) → Runs Q o
-  weaken (stops g p u m) k = stops g p u m
+  weaken (stops h) k = stops h
   weaken (goes {a = a} h) k = goes (k a h)
 
-  refuses : {A : Type 0} (P : A → Type 0) (n : ℕ) (w : Work) → T (not (eqb n 14)) → Gives n → Fine w → Runs P (refuse n w)
+  -- a number is not another one
+  other : (n k : ℕ) {X : Type 0} → T (not (eqb n k)) → n ≡ k → X
+  other n k d e = absurd (T-not (eqb n k) d (rw e (eqb-refl k)))
+
+  refuses : {A : Type 0} (P : A → Type 0) (n : ℕ) (w : Work) → T (not (eqb n 13)) → T (not (eqb n 14)) → Gives n → Fine w → Runs P (refuse n w)
   unfolding refuse
-  refuses P n w d g h = stops g (h .spent) (λ e. absurd (T-not (eqb n 14) d (rw e (eqb-refl 14)))) (h .mark)
+  refuses P n w d d′ g h = stops (record { listed = g; spent = h .spent; used = other n 14 d′; lost = other n 13 d; mark = h .mark })
 
   -- 14, where nothing is left of the budget
   used-up : (w : Work) → Gives 14 → w .pivots + 0 ≡ budget → Fine w → Runs Fine (refuse 14 w)
   unfolding refuse
-  used-up w g b h = stops g (h .spent) (λ e. omega (arith, b)) (h .mark)
+  used-up w g b h = stops (record { listed = g; spent = h .spent; used = λ e. omega (arith, b); lost = other 14 13 tt; mark = h .mark })
 
   -- 13, or the work that came
   checks : (w : Work) → Gives 13 → Fine w → Runs (λ v. v ≡ w) (checkFinite w)
-  unfolding checkFinite
-  checks w g h = go (w .mark)
+  unfolding checkFinite refuse
+  checks w g h = go (w .mark) refl
     where
-      go : (m : Mark) → Runs (λ v. v ≡ w) (elim m [ allWhole ↦ going w | notWhole ↦ going w | notFinite ↦ refuse 13 w ])
-      go allWhole = goes refl
-      go notWhole = goes refl
-      go notFinite = refuses (λ v. v ≡ w) 13 w tt g h
+      go : (m : Mark) → w .mark ≡ m → Runs (λ v. v ≡ w) (elim m [ allWhole ↦ going w | notWhole ↦ going w | notFinite ↦ refuse 13 w ])
+      go allWhole e = goes refl
+      go notWhole e = goes refl
+      go notFinite e = stops (record { listed = g; spent = h .spent; used = other 13 14 tt; lost = λ _. e; mark = h .mark })
 
   -- 13, or a work that is fine
   checked : (w : Work) → Gives 13 → Fine w → Runs Fine (checkFinite w)
@@ -98,14 +109,14 @@ module _ (budget : ℕ) (stored : Bool) (numbers : List ℕ) where
     where
       go : (c : Choice) → Runs Fine (elim c [ ended ↦ going w | stuck ↦ refuse 15 w | pivotOn l e ↦ refuse 14 w ])
       go ended = goes h
-      go stuck = refuses Fine 15 w tt g15 h
+      go stuck = refuses Fine 15 w tt tt g15 h
       go (pivotOn l e) = used-up w g14 b h
   optimises g13 g14 g15 (suc left) goal w b h = go (choosePivot goal w) λ v p f. optimises g13 g14 g15 left goal v p f
     where
       go : (c : Choice) → ((v : Work) → v .pivots + left ≡ budget → Fine v → Runs Fine (optimise left goal v))
           → Runs Fine (elim c [ ended ↦ going w | stuck ↦ refuse 15 w | pivotOn l e ↦ countedPivot l e w >>= λ v. optimise left goal v ])
       go ended on = goes h
-      go stuck on = refuses Fine 15 w tt g15 h
+      go stuck on = refuses Fine 15 w tt tt g15 h
       go (pivotOn l e) on =
           bind (λ v. optimise left goal v) (pivots-once w (pivot (l .id) e w) (pivot-after (l .id) e w) g13 (omega (arith, b)) h)
           (λ v f. on v (omega (arith, b, f .1)) (f .0))
@@ -116,14 +127,14 @@ module _ (budget : ℕ) (stored : Bool) (numbers : List ℕ) where
     where
       go : (c : DualChoice) → Runs Fine (elim c [ feasible ↦ going (withInfeasible [] w) | noEntering ↦ refuse 16 w | dualPivotOn s l e ↦ refuse 14 w ])
       go feasible = goes (fine-after (infeasible-after [] w) h)
-      go noEntering = refuses Fine 16 w tt g16 h
+      go noEntering = refuses Fine 16 w tt tt g16 h
       go (dualPivotOn s l e) = used-up w g14 b h
   dualOptimises g13 g14 g16 (suc left) w b h = go (chooseDualPivot w) λ v p f. dualOptimises g13 g14 g16 left v p f
     where
       go : (c : DualChoice) → ((v : Work) → v .pivots + left ≡ budget → Fine v → Runs Fine (dualOptimise left v))
           → Runs Fine (elim c [ feasible ↦ going (withInfeasible [] w) | noEntering ↦ refuse 16 w | dualPivotOn s l e ↦ countedDualPivot s l e w >>= λ v. dualOptimise left v ])
       go feasible on = goes (fine-after (infeasible-after [] w) h)
-      go noEntering on = refuses Fine 16 w tt g16 h
+      go noEntering on = refuses Fine 16 w tt tt g16 h
       go (dualPivotOn s l e) on =
           bind (λ v. dualOptimise left v) (pivots-once w _ (after-trans (infeasible-after l w) (pivot-after s e _)) g13 (omega (arith, b)) h)
           (λ v f. on v (omega (arith, b, f .1)) (f .0))
@@ -142,7 +153,7 @@ module _ (budget : ℕ) (stored : Bool) (numbers : List ℕ) where
       purged v f = goes (fine-after (purge-after (t .id) v) f)
 
       pivoted : (o : Option Symbol) → Runs Fine (elim o [ none ↦ refuse 12 w | some e ↦ checkFinite (pivot (t .id) e w) >>= λ v. going (purge (t .id) v) ])
-      pivoted none = refuses Fine 12 w tt g12 h
+      pivoted none = refuses Fine 12 w tt tt g12 h
       pivoted (some e) =
           let f : Fine (pivot (t .id) e w) = fine-after (pivot-after (t .id) e w) h in
           checks-then (pivot (t .id) e w) (λ v. going (purge (t .id) v)) g13 f (purged (pivot (t .id) e w) f)
@@ -171,7 +182,7 @@ module _ (budget : ℕ) (stored : Bool) (numbers : List ℕ) where
       t = newSymbol Slack (c .work)
 
       go : (w : Work) (b : Bool) → Fine w → Runs Fine (elim b [ false ↦ refuse 12 w | true ↦ removeTemporary t (withArtificial none w) ])
-      go w false f = refuses Fine 12 w tt g12 f
+      go w false f = refuses Fine 12 w tt tt g12 f
       go w true f = removesTemporary g12 g13 t (withArtificial none w) (fine-after (artificial-after none w) f)
 
   addsSubject : Gives 13 → (s : Symbol) (c : Created) → Fine (c .work) → Runs Fine (addWithSubject s c)
@@ -183,7 +194,7 @@ module _ (budget : ℕ) (stored : Bool) (numbers : List ℕ) where
   addsCreated g12 g13 g14 g15 c h = go (chooseSubject c)
     where
       zeroed : (b : Bool) → Runs Fine (elim b [ false ↦ refuse 12 (c .work) | true ↦ addWithSubject (c .tag .marker) c ])
-      zeroed false = refuses Fine 12 (c .work) tt g12 h
+      zeroed false = refuses Fine 12 (c .work) tt tt g12 h
       zeroed true = addsSubject g13 (c .tag .marker) c h
 
       without : (b : Bool)
@@ -219,7 +230,7 @@ module _ (budget : ℕ) (stored : Bool) (numbers : List ℕ) where
     where
       leaves : (o : Option Symbol)
           → Runs Fine (elim o [ none ↦ refuse 17 w | some l ↦ checkFinite (pivot (l .id) m (noteLeaving l w)) >>= λ v. going (withRows (dropRow (m .id) (v .tableau .rows)) v) ])
-      leaves none = refuses Fine 17 w tt g17 h
+      leaves none = refuses Fine 17 w tt tt g17 h
       leaves (some l) =
           let v : Work = pivot (l .id) m (noteLeaving l w) in
           let f : Fine v = fine-after (after-trans (noteLeaving-after l w) (pivot-after (l .id) m _)) h in
