@@ -1,8 +1,7 @@
 -- The pivots of an answer against the budget. Assumes nothing.
-use Prim.Native.Nat.{ℕ, _≤_}
+use Prim.Native.Nat.{_≤_}
 use native.Mathlib.Omega.{arith}
-use mathlib.Core.Path.{_≡_, refl, sym, _∙_, subst}
-use lib.Dec.{T}
+use mathlib.Core.Path.{_≡_}
 use Rattle.steps.specs.State.{State}
 use Rattle.steps.specs.Calls.{Result, refusedBy, acceptedAs}
 use Rattle.steps.specs.Changing.{Changing, made, budgetOf}
