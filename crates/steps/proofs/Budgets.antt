@@ -16,7 +16,7 @@ within-budget c s = go (answered c s)
     go : {r : Result} → Answered c s r → r .answer .pivots ≤ budgetOf c
     go (byTest n e) = omega arith
     go (bySteps n p m e x) = x .spent
-    go (accepts v cs es e w) = w .spent
+    go (accepts v cs es e w k) = w .spent
 
 -- 14: "a pass needs a pivot and the budget is used": every pivot of the budget was made.
 pub budget-used : (c : Changing) (s : State) → made c s .answer .number ≡ 14 → made c s .answer .pivots ≡ budgetOf c
@@ -26,4 +26,4 @@ budget-used c s = go (answered c s)
     go : {r : Result} → Answered c s r → r .answer .number ≡ 14 → r .answer .pivots ≡ budgetOf c
     go (byTest n e) h = absurd (omega (arith, h, test-number c s n e .1))
     go (bySteps n p m e x) h = x .used h
-    go (accepts v cs es e w) h = absurd (omega (arith, h))
+    go (accepts v cs es e w k) h = absurd (omega (arith, h))

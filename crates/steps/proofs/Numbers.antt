@@ -114,7 +114,7 @@ refused-by-test c s n t = go (answered c s)
     go : {r : Result} → Answered c s r → r ≡ refusedBy n 0 (s .whole) s
     go (byTest k e) = ap (λ (i : ℕ). refusedBy i 0 (s .whole) s) (Option·some-injective k n (sym e ∙ t))
     go (bySteps k p m e x) = absurd (Option·none-ne-some n (sym e ∙ t))
-    go (accepts v cs es e w) = absurd (Option·none-ne-some n (sym e ∙ t))
+    go (accepts v cs es e w k) = absurd (Option·none-ne-some n (sym e ∙ t))
 
 -- "given exactly if": 1 to 11 are given only by a test that is the first to fail.
 pub given-by-test : (c : Changing) (s : State) → made c s .answer .number ≢ 0 → made c s .answer .number ≤ 11 → firstRefusal (tests c s) ≡ some (made c s .answer .number)
@@ -124,7 +124,7 @@ given-by-test c s = go (answered c s)
     go : {r : Result} → Answered c s r → r .answer .number ≢ 0 → r .answer .number ≤ 11 → firstRefusal (tests c s) ≡ some (r .answer .number)
     go (byTest n e) h b = e
     go (bySteps n p m e x) h b = absurd (omega (arith, b, step-number c n (x .listed) .0))
-    go (accepts v cs es e w) h b = absurd (h refl)
+    go (accepts v cs es e w k) h b = absurd (h refl)
 
 -- "Then steps; 12 to 17 come from the first step that meets one.": if no test fails, the call is accepted, or refused by a number of its steps.
 pub past-the-tests : (c : Changing) (s : State) → firstRefusal (tests c s) ≡ none → T (member (made c s .answer .number) (0 ∷ stepNumbers c))
@@ -134,7 +134,7 @@ past-the-tests c s t = go (answered c s)
     go : {r : Result} → Answered c s r → T (member (r .answer .number) (0 ∷ stepNumbers c))
     go (byTest k e) = absurd (Option·none-ne-some k (sym t ∙ e))
     go (bySteps k p m e x) = or-either k (0 ∷ []) (stepNumbers c) (x .listed)
-    go (accepts v cs es e w) = tt
+    go (accepts v cs es e w k) = tt
 
 -- a call's number is 0, one of its tests' or one of its steps'
 pub number-listed : (c : Changing) (s : State) → T (member (made c s .answer .number) (0 ∷ testNumbers c ++ stepNumbers c))
@@ -144,7 +144,7 @@ number-listed c s = go (answered c s)
     go : {r : Result} → Answered c s r → T (member (r .answer .number) (0 ∷ testNumbers c ++ stepNumbers c))
     go (byTest n e) = or-either n (0 ∷ []) (testNumbers c ++ stepNumbers c) (either n (testNumbers c) (stepNumbers c) (test-listed c s n e))
     go (bySteps n p m e x) = or-either n (0 ∷ []) (testNumbers c ++ stepNumbers c) (or-either n (testNumbers c) (stepNumbers c) (x .listed))
-    go (accepts v cs es e w) = tt
+    go (accepts v cs es e w k) = tt
 
 -- so it is at most 17
 pub number-at-most-17 : (c : Changing) (s : State) → made c s .answer .number ≤ 17
@@ -154,4 +154,4 @@ number-at-most-17 c s = go (answered c s)
     go : {r : Result} → Answered c s r → r .answer .number ≤ 17
     go (byTest n e) = omega (arith, test-number c s n e .1)
     go (bySteps n p m e x) = step-number c n (x .listed) .1
-    go (accepts v cs es e w) = omega arith
+    go (accepts v cs es e w k) = omega arith
