@@ -20,3 +20,11 @@ pub mod Build
 pub mod TempStart
 pub mod TempPass
 pub mod Inputs
+pub mod BuildVars
+pub mod BuildTerms
+pub mod BuildSum
+pub mod BuildTag
+pub mod BuildTags
+pub mod BuildCons
+pub mod BuildRow
+pub mod AddEnds
