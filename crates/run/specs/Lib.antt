@@ -16,8 +16,10 @@ pub mod Drawn
 pub mod Drag
 pub mod Suggest
 pub mod Suggested
-pub mod Inputs
 pub mod Build
+pub mod TempStart
+pub mod TempPass
+pub mod Inputs
 pub mod BuildVars
 pub mod BuildTerms
 pub mod BuildSum
