@@ -19,6 +19,8 @@ pub mod Suggested
 pub mod Build
 pub mod TempStart
 pub mod TempPass
+pub mod TempEnd
+pub mod TempGone
 pub mod Inputs
 pub mod BuildVars
 pub mod BuildTerms
