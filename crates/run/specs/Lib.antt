@@ -21,6 +21,8 @@ pub mod TempStart
 pub mod TempPass
 pub mod TempEnd
 pub mod TempGone
+pub mod TempLeaves
+pub mod Artificial
 pub mod Inputs
 pub mod BuildVars
 pub mod BuildTerms

@@ -118,7 +118,6 @@ module _ (n : ℕ) (old : ℕ → KindZ) (S : StateZ) (held : List Held) (d : De
       apart : external ≢ const
       apart e = let z : _≡_ {A = ℕ} 0 1 = cc in omega arith
 
-
   pub last-models : Models n (Q .kind) (T .B) (killed t (T .R)) (at t 0ℤ (T .o)) cs
   last-models = record {
     shape = last-good .shape;
