@@ -2,3 +2,5 @@
 pub mod Demand
 pub mod Inv
 pub mod Perm
+pub mod RemoveFrame
+pub mod Effects
