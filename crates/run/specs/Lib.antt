@@ -4,3 +4,7 @@ pub mod Inv
 pub mod Perm
 pub mod RemoveFrame
 pub mod Effects
+pub mod Steady
+pub mod Passes
+pub mod Inputs
+pub mod Build
