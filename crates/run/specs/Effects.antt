@@ -23,7 +23,7 @@ use Rattle.simplex.specs.Pass.{Good}
 use Rattle.simplex.specs.Gone.{Halfway, tag-kind}
 use Rattle.steps.specs.Number.{objectiveBound, allWhole}
 use Rattle.steps.specs.Symbol.{Kind, External, Slack, Error, Dummy, Symbol, isError}
-use Rattle.steps.specs.Row.{Row, cellMarks, insertSymbol, insertCells}
+use Rattle.steps.specs.Row.{Row, Cell, cellValues, cellMarks, insertSymbol, insertCells}
 use Rattle.steps.specs.State.{Tag}
 use Rattle.steps.specs.Work.{Work, marking, withObjective, withTableau, findRow}
 use Rattle.steps.specs.CreateRow.{insertInObjective}
@@ -33,7 +33,8 @@ use Rattle.bridge.specs.Rows.{In, ReadsRow, reads-to, written, insertCells-z}
 use Rattle.bridge.specs.Table.{RowAt, ReadsWork}
 use Rattle.bridge.specs.Columns.{objective-z}
 use Rattle.run.specs.Inv.{otherId, Shaped}
-use Rattle.run.specs.RemoveFrame.{Kept, kept-refl, kept-trans, kept-marking, kept-objective}
+use Rattle.run.specs.Steady.{Kept, kept-refl, kept-trans}
+use Rattle.run.specs.RemoveFrame.{kept-marking, kept-objective}
 
 -- ---- in numbers: q is the strength, the rows are the marker's and the other's
 abbrev pub less : Form → ℤ → Vec → Vec → Vec → Vec
@@ -196,9 +197,12 @@ symbols-same : (s : Symbol) (k : Float) (w : Work) → Kept w (removeMarkerEffec
 unfolding removeMarkerEffects insertInObjective insertRowInObjective
 symbols-same s k w = go (isError s)
   where
+    cells : (cs : List Cell) → Kept w (marking (cellMarks objectiveBound cs) (withObjective (cellValues cs) w))
+    cells cs = kept-trans w (withObjective (cellValues cs) w) (marking (cellMarks objectiveBound cs) (withObjective (cellValues cs) w)) (kept-objective (cellValues cs) w) (kept-marking (cellMarks objectiveBound cs) (withObjective (cellValues cs) w))
+
     by : (t : Option Row) → Kept w (elim t as (λ x. Work) [ none ↦ insertInObjective (s .id) (neg k) w | some r ↦ insertRowInObjective r (neg k) w ])
-    by none = kept-trans (kept-objective _ w) (kept-marking _ (withObjective _ w))
-    by (some r) = kept-trans (kept-objective _ w) (kept-marking _ (withObjective _ w))
+    by none = cells (insertSymbol (s .id) (neg k) (w .tableau .symbols) (w .tableau .objective))
+    by (some r) = cells (insertCells (neg k) (r .cells) (w .tableau .objective))
 
     go : (b : Bool) → Kept w (elim b as (λ x. Work) [ false ↦ w | true ↦ elim (findRow (s .id) (w .tableau .rows)) as (λ x. Work) [ none ↦ insertInObjective (s .id) (neg k) w | some r ↦ insertRowInObjective r (neg k) w ] ])
     go true = by (findRow (s .id) (w .tableau .rows))
@@ -221,7 +225,7 @@ kept-effects tag k w = go (tag .other) refl
   where
     go : (t : Option Symbol) → tag .other ≡ t → Kept w (removeConstraintEffects tag k w)
     go none e = subst (Kept w) (sym (one-symbol tag k w e)) (symbols-same (tag .marker) k w)
-    go (some o) e = subst (Kept w) (sym (two-symbols tag k w o e)) (kept-trans (symbols-same (tag .marker) k w) (symbols-same o k (removeMarkerEffects (tag .marker) k w)))
+    go (some o) e = subst (Kept w) (sym (two-symbols tag k w o e)) (kept-trans w (removeMarkerEffects (tag .marker) k w) (removeMarkerEffects o k (removeMarkerEffects (tag .marker) k w)) (symbols-same (tag .marker) k w) (symbols-same o k (removeMarkerEffects (tag .marker) k w)))
 
 module _ (kind : ℕ → KindZ) (w : Work) (B : Mask) (R : ℕ → Vec) (o a : Vec) (H : ReadsWork kind w B R o a) (unit : (j : ℕ) → B j ≡ false → (i : ℕ) → R j i ≡ δ j i)
     (tag : Tag) (k : Float) (q : ℤ) (marker-in : In (tag .marker .id) (w .tableau .symbols)) (other-in : (s : Symbol) → tag .other ≡ some s → In (s .id) (w .tableau .symbols)) where

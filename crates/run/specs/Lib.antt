@@ -2,9 +2,10 @@
 pub mod Demand
 pub mod Inv
 pub mod Perm
-pub mod RemoveFrame
-pub mod Effects
 pub mod Steady
 pub mod Passes
 pub mod Inputs
 pub mod Build
+pub mod RemoveFrame
+pub mod Effects
+pub mod RanksIs
