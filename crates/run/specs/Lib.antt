@@ -9,3 +9,4 @@ pub mod Build
 pub mod RemoveFrame
 pub mod Effects
 pub mod RanksIs
+pub mod RemoveDrop
