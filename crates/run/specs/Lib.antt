@@ -10,3 +10,4 @@ pub mod RemoveFrame
 pub mod Effects
 pub mod RanksIs
 pub mod RemoveDrop
+pub mod RemovePurge
