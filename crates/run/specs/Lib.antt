@@ -11,3 +11,5 @@ pub mod Effects
 pub mod RanksIs
 pub mod RemoveDrop
 pub mod RemovePurge
+pub mod Uses
+pub mod RemoveUses
