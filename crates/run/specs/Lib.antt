@@ -25,3 +25,5 @@ pub mod RemoveDrop
 pub mod RemovePurge
 pub mod Uses
 pub mod RemoveUses
+pub mod RemoveMarks
+pub mod RemoveSteps
