@@ -27,3 +27,4 @@ pub mod Uses
 pub mod RemoveUses
 pub mod RemoveMarks
 pub mod RemoveSteps
+pub mod RemoveEnds

@@ -65,7 +65,7 @@ module _ (m : Moment) (I : Inv m) (k : Key) (h : Held) (found : findHeld k (I .h
   in-front : Models columns (I .kind) (S₀ .B) (S₀ .R) (S₀ .o) (c ∷ cs)
   in-front = models-first (conOf (I .sym)) k columns (I .kind) (S₀ .B) (S₀ .R) (S₀ .o) (I .held) h found (I .models)
 
-  sounds : Sounds columns (I .kind) (c ∷ cs)
+  pub sounds : Sounds columns (I .kind) (c ∷ cs)
   sounds = in-front .sounds
 
   shaped : Shaped (formOf (h .demand .relation)) (h .tag)
@@ -99,7 +99,7 @@ module _ (m : Moment) (I : Inv m) (k : Key) (h : Held) (found : findHeld k (I .h
   marker-tag = inl refl
 
   -- ---- the effects
-  first : Work
+  unfoldable pub first : Work
   first = removeConstraintEffects (h .tag) strength s₀
 
   weighs : soft (formOf (h .demand .relation)) ≡ true → Zb (2 ^ 30) strength (val strength)
@@ -132,7 +132,7 @@ module _ (m : Moment) (I : Inv m) (k : Key) (h : Held) (found : findHeld k (I .h
     sounds .0 .marker-kind ∙ marker-of (formOf (h .demand .relation)) (h .tag) shaped,
   )
 
-  drops : first .mark ≡ allWhole → markOf (dropMarker (h .tag .marker) first) ≡ allWhole → Goes (Dropped columns (I .kind) cs first) (dropMarker (h .tag .marker) first)
+  pub drops : first .mark ≡ allWhole → markOf (dropMarker (h .tag .marker) first) ≡ allWhole → Goes (Dropped columns (I .kind) cs first) (dropMarker (h .tag .marker) first)
   unfolding conOf S₁
   drops e =
       drop-marker columns (I .kind) first S₁ c cs (effects-good columns (I .kind) (S₀ .B) (S₀ .R) (S₀ .o) c cs (sounds .0) (I .good)) (effects-half columns (I .kind) (S₀ .B) (S₀ .R) (S₀ .o) c cs in-front)
@@ -150,7 +150,7 @@ module _ (m : Moment) (I : Inv m) (k : Key) (h : Held) (found : findHeld k (I .h
   unfolding first begin
   still = let a = effects-still (h .tag) strength s₀ in (a .0 ∙ I .idle, a .1)
 
-  begun : (v : Work) → Dropped columns (I .kind) cs first v → Begun v
+  pub begun : (v : Work) → Dropped columns (I .kind) cs first v → Begun v
   unfolding conOf
   begun v d = record {
     table = d .table;
@@ -168,7 +168,7 @@ module _ (m : Moment) (I : Inv m) (k : Key) (h : Held) (found : findHeld k (I .h
     abbrev kind′ : ℕ → KindZ
     kind′ = B .cleared .kind′
 
-    old-symbol : (j : ℕ) → In j (y .tableau .symbols) → In j (m .state .tableau .symbols)
+    pub old-symbol : (j : ℕ) → In j (y .tableau .symbols) → In j (m .state .tableau .symbols)
     unfolding begin
     old-symbol j i = subst (In j) (B .kept .symbols) (B .cleared .cuts .old j i)
 
@@ -178,6 +178,6 @@ module _ (m : Moment) (I : Inv m) (k : Key) (h : Held) (found : findHeld k (I .h
     calm : All (λ j. kind′ j ≢ external) (y .tableau .infeasible)
     calm = subst (All (λ j. kind′ j ≢ external)) (back (B .cleared .cuts .list ∙ B .list)) tt
 
-    passed : (left : ℕ) → markOf (optimise left theObjective y) ≡ allWhole → Optimised columns kind′ cs left (waysOf (y .tableau .symbols) (B .table .B)) y (optimise left theObjective y)
+    pub passed : (left : ℕ) → markOf (optimise left theObjective y) ≡ allWhole → Optimised columns kind′ cs left (waysOf (y .tableau .symbols) (B .table .B)) y (optimise left theObjective y)
     passed left e =
         optimised columns kind′ y (B .table) (λ _. 0ℤ) cs (omega arith) inside (B .cleared .read .good) (B .cleared .read .models) (B .cleared .read .reads) (B .cleared .read .bare) calm left e

@@ -1,14 +1,19 @@
--- "Use counts fall; a variable at zero goes": no demand names it then, so it goes from the tableau without a trace. Assumes nothing.
+-- "Use counts fall; a variable at zero goes": the variables' side. Assumes nothing.
 use mathlib.Core.Path.{_≡_, refl, sym, ap, _∙_, subst}
 use mathlib.Core.Logic.{_≢_}
-use mathlib.Core.List.{List, [], _∷_}
+use mathlib.Core.List.{List, [], _∷_, map}
 use mathlib.Core.Option.{Option, none, some}
-use Prim.Native.Nat.{ℕ, _-_}
+use Prim.Native.Nat.{ℕ, suc, _-_, _<_}
+use native.Mathlib.Omega.{arith}
 use mathlib.Core.Bool.{Bool, true, false, true≢false}
 use lib.Dec.{T, eqb, eqb→eq, eqb-refl}
 use Rattle.steps.specs.State.{Variable}
-use Rattle.steps.specs.Changes.{findVariable}
+use Rattle.steps.specs.Changes.{findVariable, clearChanged, withFlag}
 use Rattle.steps.specs.Remove.{Fallen, useLess}
+use Rattle.keeps.specs.Lists.{Up}
+use Rattle.keeps.specs.Uses.{varNumber, usesOf, uses-hit, uses-miss}
+use Rattle.bridge.specs.Finds.{none≢some, some-injective}
+use Rattle.run.specs.Vars.{AlikeAt, same-clear}
 
 -- ---- variables by number
 pub data Num? (n : ℕ) (v : Variable) : Type 0 where
@@ -104,3 +109,59 @@ use-less n (v ∷ vs) s = go (eqb n (v .number)) refl (num? n v) (use-less n vs 
     go true q (isnt e p) ih = absurd (true≢false (sym q ∙ e))
     go false q (is e p) ih = absurd (true≢false (sym e ∙ q))
     go false q (isnt e p) ih = later e p (useLess n vs) ih
+
+-- ---- with ascending numbers no number stands twice, and a count is that of its number
+find-below : (i n : ℕ) (vs : List Variable) → n < i → Up i (map varNumber vs) → findVariable n vs ≡ none
+find-below i n [] l u = var-none n
+find-below i n (v ∷ vs) l u = go (num? n v) (find-below (suc (v .number)) n vs (omega (arith, u .0)) (u .1))
+  where
+    go : Num? n v → findVariable n vs ≡ none → findVariable n (v ∷ vs) ≡ none
+    go (is e p) ih = absurd (omega (arith, u .0))
+    go (isnt e p) ih = var-miss n v vs e ∙ ih
+
+pub single-up : (i : ℕ) (vs : List Variable) → Up i (map varNumber vs) → Single vs
+single-up i [] u = tt
+single-up i (v ∷ vs) u = (find-below (suc (v .number)) (v .number) vs (omega arith) (u .1), single-up (suc (v .number)) vs (u .1))
+
+uses-absent : (n : ℕ) (vs : List Variable) → findVariable n vs ≡ none → usesOf n vs ≡ 0
+unfolding usesOf
+uses-absent n [] e = refl
+uses-absent n (v ∷ vs) e = go (num? n v) (uses-absent n vs)
+  where
+    go : Num? n v → (findVariable n vs ≡ none → usesOf n vs ≡ 0) → usesOf n (v ∷ vs) ≡ 0
+    go (is q p) ih = absurd (none≢some (sym e ∙ var-hit n v vs q))
+    go (isnt q p) ih = uses-miss n v vs q ∙ ih (sym (var-miss n v vs q) ∙ e)
+
+pub uses-found : (n : ℕ) (vs : List Variable) → Single vs → (u : Variable) → findVariable n vs ≡ some u → u .uses ≡ usesOf n vs
+uses-found n [] s u e = absurd (none≢some (sym (var-none n) ∙ e))
+uses-found n (v ∷ vs) s u e = go (num? n v) (uses-found n vs (s .1) u)
+  where
+    go : Num? n v → (findVariable n vs ≡ some u → u .uses ≡ usesOf n vs) → u .uses ≡ usesOf n (v ∷ vs)
+    go (is q p) ih =
+        let w : v ≡ u = some-injective (sym (var-hit n v vs q) ∙ e) in
+        sym (uses-hit n v vs q ∙ omega (arith, ap (λ (x : Variable). x .uses) w, uses-absent n vs (ap (λ (k : ℕ). findVariable k vs) p ∙ s .0)))
+    go (isnt q p) ih = ih (sym (var-miss n v vs q) ∙ e) ∙ sym (uses-miss n v vs q)
+
+-- ---- flags do not count
+alike-none : (a b : Option Variable) → AlikeAt a b → a ≡ none → b ≡ none
+alike-none none none h e = refl
+alike-none none (some b) h e = absurd h
+alike-none (some a) b h e = absurd (none≢some (sym e))
+
+none-alike : (a b : Option Variable) → AlikeAt a b → b ≡ none → a ≡ none
+none-alike none b h e = refl
+none-alike (some a) none h e = absurd h
+none-alike (some a) (some b) h e = absurd (none≢some (sym e))
+
+single-to : (vs : List Variable) → Single vs → Single (clearChanged vs)
+unfolding clearChanged withFlag
+single-to [] s = tt
+single-to (v ∷ vs) s = (alike-none (findVariable (v .number) vs) (findVariable (v .number) (clearChanged vs)) (same-clear vs (v .number)) (s .0), single-to vs (s .1))
+
+single-from : (vs : List Variable) → Single (clearChanged vs) → Single vs
+unfolding clearChanged withFlag
+single-from [] s = tt
+single-from (v ∷ vs) s = (none-alike (findVariable (v .number) vs) (findVariable (v .number) (clearChanged vs)) (same-clear vs (v .number)) (s .0), single-from vs (s .1))
+
+pub single-kept : (vs ws : List Variable) → clearChanged ws ≡ clearChanged vs → Single vs → Single ws
+single-kept vs ws e s = single-from ws (subst Single (sym e) (single-to vs s))
