@@ -28,3 +28,4 @@ pub mod RemoveUses
 pub mod RemoveMarks
 pub mod RemoveSteps
 pub mod RemoveEnds
+pub mod RemoveStored
