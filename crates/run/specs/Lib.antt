@@ -29,3 +29,4 @@ pub mod RemoveMarks
 pub mod RemoveSteps
 pub mod RemoveEnds
 pub mod RemoveStored
+pub mod Remove
