@@ -16,7 +16,6 @@ pub mod Drawn
 pub mod Drag
 pub mod Suggest
 pub mod Suggested
-pub mod Inputs
 pub mod Build
 pub mod RemoveFrame
 pub mod Effects
@@ -30,3 +29,16 @@ pub mod RemoveSteps
 pub mod RemoveEnds
 pub mod RemoveStored
 pub mod Remove
+pub mod TempStart
+pub mod TempPass
+pub mod Inputs
+pub mod BuildVars
+pub mod BuildTerms
+pub mod BuildSum
+pub mod BuildTag
+pub mod BuildTags
+pub mod BuildCons
+pub mod BuildRow
+pub mod AddEnds
+pub mod Subject
+pub mod SubjectEnter

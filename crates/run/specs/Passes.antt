@@ -153,7 +153,7 @@ abbrev pub Optimised : (n : ℕ) → (ℕ → KindZ) → List Con → ℕ → �
 Optimised n kind cs left ways w (going x) = Rested n kind cs left ways w x
 Optimised n kind cs left ways w (refused k p t) = (k ≡ 14) × (left < ways)
 
-resting : (kind : ℕ → KindZ) (ids : List ℕ) (S : StateZ) → Looked kind ids S done → (j : ℕ) → kind j ≡ slack → 0ℤ ≼ S .o j
+pub resting : (kind : ℕ → KindZ) (ids : List ℕ) (S : StateZ) → Looked kind ids S done → (j : ℕ) → kind j ≡ slack → 0ℤ ≼ S .o j
 resting kind ids S (at-rest h) = h
 
 -- where no artificial objective stands, any row will do for it
@@ -170,6 +170,40 @@ other-artificial kind w B R o a b e H = record {
   artificial = subst (λ (t : Option Row). ArtAt (w .tableau .symbols) t b) (sym e) tt;
 }
 
+-- ---- the columns of a tableau that a pass moves among
+module _ (n : ℕ) (kind : ℕ → KindZ) (w : Work) (B : Mask) (R : ℕ → Vec) (o a : Vec) (zero : kind 0 ≡ const) (H : ReadsWork kind w B R o a) (inside : (j : ℕ) → In j (w .tableau .symbols) → j < n) where
+  pub slack-in : (j : ℕ) → kind j ≡ slack → In j (w .tableau .symbols)
+  slack-in j s = go (in-or-not j (w .tableau .symbols))
+    where
+      go : In j (w .tableau .symbols) ⊎ NotIn j (w .tableau .symbols) → In j (w .tableau .symbols)
+      go (inl m) = m
+      go (inr m) = absurd (slack≢external (sym s ∙ H .unknown j (differ slack≢const kind j 0 s zero) m))
+
+  pub basic-in : (j : ℕ) → B j ≡ true → In j (w .tableau .symbols)
+  basic-in j b = go (findRow j (w .tableau .rows)) refl (H .rows j)
+    where
+      go : (t : Option Row) → findRow j (w .tableau .rows) ≡ t → RowAt (w .tableau .symbols) t (B j) (R j) → In j (w .tableau .symbols)
+      go none q h = absurd (true≢false (sym b ∙ h))
+      go (some r) q h = found-in (λ i. In i (w .tableau .symbols)) j (w .tableau .rows) r (all-map (λ (b : Basic) h. h .0) (w .tableau .rows) (H .rows-live)) q
+
+  pub live-asc : Asc (idsOf (w .tableau .symbols))
+  live-asc = ids-up 0 (w .tableau .symbols) (H .up) .1
+
+  pub live-cover : (j : ℕ) → kind j ≡ slack → Mem j (idsOf (w .tableau .symbols))
+  live-cover j s = in-mem j (w .tableau .symbols) (slack-in j s)
+
+  pub live-inside : (j : ℕ) → Mem j (idsOf (w .tableau .symbols)) → j < n
+  live-inside j m = inside j (mem-in j (w .tableau .symbols) m)
+
+  pub live-once : Distinct (restrictedIds (w .tableau .symbols))
+  live-once = asc-distinct (restrictedIds (w .tableau .symbols)) (rest-up 0 (w .tableau .symbols) (H .up) .1)
+
+  pub live-basics : (j : ℕ) → B j ≡ true → kind j ≢ external → Mem j (restrictedIds (w .tableau .symbols))
+  live-basics j b ne = in-restricted kind j (w .tableau .symbols) (H .kinds) (basic-in j b) ne
+
+  pub live-slacks : (j : ℕ) → kind j ≡ slack → Mem j (restrictedIds (w .tableau .symbols))
+  live-slacks j s = in-restricted kind j (w .tableau .symbols) (H .kinds) (slack-in j s) (λ e. slack≢external (sym s ∙ e))
+
 module _ (n : ℕ) (kind : ℕ → KindZ) (w : Work) (S : StateZ) (z : Vec) (cs : List Con) (in-n : 0 < n) (inside : (j : ℕ) → In j (w .tableau .symbols) → j < n) (G : Good n kind S)
     (D : Models n kind (S .B) (S .R) (S .o) cs) (H : ReadsWork kind w (S .B) (S .R) (S .o) z) (no-art : w .artificial ≡ none) (L : All (λ j. kind j ≢ external) (w .tableau .infeasible)) where
   abbrev ids : List ℕ
@@ -178,37 +212,23 @@ module _ (n : ℕ) (kind : ℕ → KindZ) (w : Work) (S : StateZ) (z : Vec) (cs 
   abbrev rs : List ℕ
   rs = restrictedIds (w .tableau .symbols)
 
-  slack-in : (j : ℕ) → kind j ≡ slack → In j (w .tableau .symbols)
-  slack-in j s = go (in-or-not j (w .tableau .symbols))
-    where
-      go : In j (w .tableau .symbols) ⊎ NotIn j (w .tableau .symbols) → In j (w .tableau .symbols)
-      go (inl m) = m
-      go (inr m) = absurd (slack≢external (sym s ∙ H .unknown j (differ slack≢const kind j 0 s (G .zero)) m))
-
-  basic-in : (j : ℕ) → S .B j ≡ true → In j (w .tableau .symbols)
-  basic-in j b = go (findRow j (w .tableau .rows)) refl (H .rows j)
-    where
-      go : (t : Option Row) → findRow j (w .tableau .rows) ≡ t → RowAt (w .tableau .symbols) t (S .B j) (S .R j) → In j (w .tableau .symbols)
-      go none q h = absurd (true≢false (sym b ∙ h))
-      go (some r) q h = found-in (λ i. In i (w .tableau .symbols)) j (w .tableau .rows) r (all-map (λ (b : Basic) h. h .0) (w .tableau .rows) (H .rows-live)) q
-
   asc : Asc ids
-  asc = ids-up 0 (w .tableau .symbols) (H .up) .1
+  asc = live-asc n kind w (S .B) (S .R) (S .o) z (G .zero) H inside
 
   cover : (j : ℕ) → kind j ≡ slack → Mem j ids
-  cover j s = in-mem j (w .tableau .symbols) (slack-in j s)
+  cover = live-cover n kind w (S .B) (S .R) (S .o) z (G .zero) H inside
 
   in-ids : (j : ℕ) → Mem j ids → j < n
-  in-ids j m = inside j (mem-in j (w .tableau .symbols) m)
+  in-ids = live-inside n kind w (S .B) (S .R) (S .o) z (G .zero) H inside
 
   once : Distinct rs
-  once = asc-distinct rs (rest-up 0 (w .tableau .symbols) (H .up) .1)
+  once = live-once n kind w (S .B) (S .R) (S .o) z (G .zero) H inside
 
   basics : (j : ℕ) → S .B j ≡ true → kind j ≢ external → Mem j rs
-  basics j b ne = in-restricted kind j (w .tableau .symbols) (H .kinds) (basic-in j b) ne
+  basics = live-basics n kind w (S .B) (S .R) (S .o) z (G .zero) H inside
 
   slacks : (j : ℕ) → kind j ≡ slack → Mem j rs
-  slacks j s = in-restricted kind j (w .tableau .symbols) (H .kinds) (slack-in j s) (λ e. slack≢external (sym s ∙ e))
+  slacks = live-slacks n kind w (S .B) (S .R) (S .o) z (G .zero) H inside
 
   calm : Calm kind w
   calm = record { listed = L; kinds = H .kinds; basics = all-map (λ (b : Basic) h. h .1) (w .tableau .rows) (H .rows-live) }

@@ -1,8 +1,7 @@
 -- The pivots of an answer against the budget. Assumes nothing.
-use Prim.Native.Nat.{ℕ, _≤_}
+use Prim.Native.Nat.{_≤_}
 use native.Mathlib.Omega.{arith}
-use mathlib.Core.Path.{_≡_, refl, sym, _∙_, subst}
-use lib.Dec.{T}
+use mathlib.Core.Path.{_≡_}
 use Rattle.steps.specs.State.{State}
 use Rattle.steps.specs.Calls.{Result, refusedBy, acceptedAs}
 use Rattle.steps.specs.Changing.{Changing, made, budgetOf}
@@ -16,8 +15,8 @@ within-budget c s = go (answered c s)
   where
     go : {r : Result} → Answered c s r → r .answer .pivots ≤ budgetOf c
     go (byTest n e) = omega arith
-    go (bySteps n p m e g b u w) = b
-    go (accepts v cs es e w) = w .spent
+    go (bySteps n p m e x) = x .spent
+    go (accepts v cs es e w k) = w .spent
 
 -- 14: "a pass needs a pivot and the budget is used": every pivot of the budget was made.
 pub budget-used : (c : Changing) (s : State) → made c s .answer .number ≡ 14 → made c s .answer .pivots ≡ budgetOf c
@@ -26,5 +25,5 @@ budget-used c s = go (answered c s)
   where
     go : {r : Result} → Answered c s r → r .answer .number ≡ 14 → r .answer .pivots ≡ budgetOf c
     go (byTest n e) h = absurd (omega (arith, h, test-number c s n e .1))
-    go (bySteps n p m e g b u w) h = u h
-    go (accepts v cs es e w) h = absurd (omega (arith, h))
+    go (bySteps n p m e x) h = x .used h
+    go (accepts v cs es e w k) h = absurd (omega (arith, h))

@@ -1,18 +1,18 @@
 -- What queries, fetch and reset leave as it was. Assumes nothing.
 use Prim.Native.Nat.{ℕ}
 use mathlib.Core.Path.{_≡_, refl, sym, ap, _∙_, subst}
-use mathlib.Core.Bool.{Bool, true, false, _&&_, cond}
+use mathlib.Core.Bool.{Bool, true, false, cond}
 use mathlib.Core.List.{List, [], _∷_, map}
 use mathlib.Core.Option.{Option, none, some}
 use lib.Dec.{eqb}
-use lib.Ieee.{Float, ne}
+use lib.Ieee.{Float}
 use Rattle.steps.specs.Number.{zero64}
 use Rattle.steps.specs.Symbol.{Symbol}
 use Rattle.steps.specs.State.{Basic, Variable, State}
 use Rattle.steps.specs.Changes.{withFlag, clearChanged, findVariable, valueOf, value, isNews, newsOf, reported, fetchChanges}
 use Rattle.steps.specs.Tests.{findConstraint, findEdit, hasConstraint, hasEdit}
 use Rattle.steps.specs.Calls.{empty, reset}
-use Rattle.steps.specs.Session.{Call, valueOf as asks, hasConstraints, hasEdits, creates, clips, turn}
+use Rattle.steps.specs.Session.{valueOf as asks, hasConstraints, hasEdits, turn}
 
 -- ---- queries
 

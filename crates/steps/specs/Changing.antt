@@ -1,12 +1,14 @@
 -- The five changing calls as one type: a law of all of them is said once.
 use Prim.Native.Nat.{ℕ}
+use mathlib.Core.Path.{_≡_}
 use mathlib.Core.Bool.{not}
 use mathlib.Core.List.{List, [], _∷_}
+use mathlib.Core.Option.{some}
 use lib.Ieee.{Float}
-use Rattle.steps.specs.Number.{isFinite}
+use Rattle.steps.specs.Number.{zero64, isFinite}
 use Rattle.steps.specs.Strength.{clip}
-use Rattle.steps.specs.State.{Term, Relation, State}
-use Rattle.steps.specs.Tests.{Test, _if_, hasConstraint, hasEdit, addTests, addEditTests}
+use Rattle.steps.specs.State.{Term, Relation, strengthOf, Tag, Constraint, Edit, State}
+use Rattle.steps.specs.Tests.{Test, _if_, findEdit, keepConstraint, dropConstraint, keepEdit, dropEdit, keptTerms, hasConstraint, hasEdit, addTests, addEditTests}
 use Rattle.steps.specs.Calls.{Result, add, remove, addEdit, removeEdit, suggest}
 
 -- a changing call with its inputs, the budget last
@@ -61,3 +63,17 @@ stepNumbers (removes n budget) = 13 ∷ 14 ∷ 15 ∷ 17 ∷ []
 stepNumbers (addsEdit n strength budget) = 12 ∷ 13 ∷ 14 ∷ 15 ∷ []
 stepNumbers (removesEdit n budget) = 13 ∷ 14 ∷ 15 ∷ 17 ∷ []
 stepNumbers (suggests n new budget) = 13 ∷ 14 ∷ 16 ∷ []
+
+-- the constraints and edits that it stores if it is accepted: added in their place with the tag that the steps gave, dropped, or with the new suggestion
+abbrev pub Stores : Changing → State → List Constraint → List Edit → Type 0
+Stores (adds n terms constant relation budget) s cs es =
+    (tag : Tag) × (cs ≡ keepConstraint (record { number = n; strength = strengthOf relation; terms = keptTerms terms; tag = tag }) (s .constraints)) × (es ≡ s .edits)
+Stores (removes n budget) s cs es = (cs ≡ dropConstraint n (s .constraints)) × (es ≡ s .edits)
+Stores (addsEdit n strength budget) s cs es =
+    (tag : Tag) × (cs ≡ s .constraints) × (es ≡ keepEdit (record { variable = n; strength = clip strength; tag = tag; suggestion = zero64 }) (s .edits))
+Stores (removesEdit n budget) s cs es = (cs ≡ s .constraints) × (es ≡ dropEdit n (s .edits))
+Stores (suggests n new budget) s cs es =
+    (e : Edit)
+    × (findEdit n (s .edits) ≡ some e)
+    × (cs ≡ s .constraints)
+    × (es ≡ keepEdit (record { variable = n; strength = e .strength; tag = e .tag; suggestion = new }) (dropEdit n (s .edits)))
