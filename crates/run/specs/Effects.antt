@@ -14,13 +14,13 @@ use Rattle.laws.specs.Ring.{ring, v, k as κ, _⊞_, _⊠_, ⊟_}
 use Rattle.simplex.specs.Ord.{0ℤ}
 use Rattle.simplex.specs.Lin.{Vec, δ, dot, plus}
 use Rattle.simplex.specs.Basis.{Mask}
-use Rattle.simplex.specs.Opt.{Kind as KindZ, external, slack, dummy, slack≢external}
+use Rattle.simplex.specs.Opt.{Kind as KindZ}
 use Rattle.simplex.specs.Form.{Form, le!, eq!, ge!, le, eq, ge, soft, cost}
 use Rattle.simplex.specs.Problem.{Con, total, Sound, Models}
 use Rattle.simplex.specs.Tab.{Solves}
 use Rattle.simplex.specs.Change.{insert-term}
 use Rattle.simplex.specs.Pass.{Good}
-use Rattle.simplex.specs.Gone.{Halfway, tag-kind}
+use Rattle.simplex.specs.Gone.{Halfway, tag-kind, not-variable}
 use Rattle.steps.specs.Number.{objectiveBound, allWhole}
 use Rattle.steps.specs.Symbol.{Kind, External, Slack, Error, Dummy, Symbol, isError}
 use Rattle.steps.specs.Row.{Row, Cell, cellValues, cellMarks, insertSymbol, insertCells}
@@ -91,19 +91,12 @@ module _ (n : ℕ) (kind : ℕ → KindZ) (B : Mask) (R : ℕ → Vec) (o : Vec)
     shape = G .shape;
     clear = λ b u. less-0 (c .form) (c .weight) (R (c .marker)) (R (c .other)) o b (G .clear b u) (G .shape .gone b u (c .marker)) (λ _. G .shape .gone b u (c .other));
     feasible = G .feasible;
-    no-var = λ i x. less-0 (c .form) (c .weight) (R (c .marker)) (R (c .other)) o i (G .no-var i x) (G .no-vars (c .marker) i (not-var (c .marker) (tag-kind n kind c S (c .marker) (inl refl))) x)
-        (λ b. G .no-vars (c .other) i (not-var (c .other) (tag-kind n kind c S (c .other) (inr (b, refl)))) x);
+    no-var = λ i x. less-0 (c .form) (c .weight) (R (c .marker)) (R (c .other)) o i (G .no-var i x) (G .no-vars (c .marker) i (not-variable kind (c .marker) (tag-kind n kind c S (c .marker) (inl refl))) x)
+        (λ b. G .no-vars (c .other) i (not-variable kind (c .other) (tag-kind n kind c S (c .other) (inr (b, refl)))) x);
     no-vars = G .no-vars;
     dummies = G .dummies;
     still-dummies = G .still-dummies;
   }
-    where
-      dummy≢external : dummy ≢ external
-      dummy≢external e = let z : _≡_ {A = ℕ} 0 1 = cc in omega arith
-
-      not-var : (j : ℕ) → (kind j ≡ slack) ⊎ (kind j ≡ dummy) → kind j ≢ external
-      not-var j (inl e) x = slack≢external (sym e ∙ x)
-      not-var j (inr e) x = dummy≢external (sym e ∙ x)
 
 -- ---- the steps
 pub record Freed (kind : ℕ → KindZ) (B : Mask) (R : ℕ → Vec) (o a : Vec) (w x : Work) : Type 0 where

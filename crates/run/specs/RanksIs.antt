@@ -15,6 +15,8 @@ use Rattle.simplex.specs.Choose.{All}
 use Rattle.simplex.specs.Basis.{Mask}
 use Rattle.simplex.specs.Opt.{Kind as KindZ, const, external, slack, dummy, slack≢external, slack≢dummy}
 use Rattle.simplex.specs.Pass.{State as StateZ, Good}
+use Rattle.simplex.specs.Problem.{all-zip}
+use Rattle.simplex.specs.Gone.{dummy≢external, const≢external}
 use Rattle.simplex.specs.Remove.{Rank, keep-dummy, keep-negative, keep-positive, keep-external}
 use Rattle.steps.specs.Symbol.{Kind, External, Slack, Error, Dummy, Symbol, isExternal, isDummy, absent, holds, coefficientFor}
 use Rattle.steps.specs.State.{Basic}
@@ -39,12 +41,6 @@ plus-one (pos (suc (suc m))) e l = absurd (big m (ap natAbs e))
     big : (m : ℕ) → suc (suc m) * suc (suc m) ≡ 1 → ⊥
     big m e = omega (arith, suc-mul (suc m) (suc (suc m)), suc-mul m (suc (suc m)))
 plus-one (negsuc m) e l = absurd (l .lt)
-
-dummy≢external : dummy ≢ external
-dummy≢external p = let z : _≡_ {A = ℕ} 0 1 = cc in omega arith
-
-const≢external : const ≢ external
-const≢external p = let z : _≡_ {A = ℕ} 0 1 = cc in omega arith
 
 is-dummy : (x : Symbol) → kindOf (x .kind) ≡ dummy → isDummy x ≡ true
 unfolding isDummy
@@ -85,10 +81,6 @@ external-is x e = go (x .kind) e
     go Slack e = absurd (true≢false (sym e))
     go Error e = absurd (true≢false (sym e))
     go Dummy e = absurd (true≢false (sym e))
-
-all-zip : {A : Type 0} (P Q C : A → Type 0) → ((x : A) → P x → Q x → C x) → (l : List A) → All P l → All Q l → All C l
-all-zip P Q C f [] a b = tt
-all-zip P Q C f (x ∷ l) a b = (f x (a .0) (b .0), all-zip P Q C f l (a .1) (b .1))
 
 module _ (kind : ℕ → KindZ) (xs : List Symbol) (B : Mask) (R : ℕ → Vec) (e : ℕ) (e≢0 : e ≢ 0) where
   abbrev Known : Basic → Type 0
@@ -177,8 +169,7 @@ module _ (n : ℕ) (kind : ℕ → KindZ) (w : Work) (S : StateZ) (a : Vec) (G :
 
   known : All (λ (b : Basic). Live kind xs (b .symbol) × ((S .B (b .symbol .id) ≡ true) × ReadsRow xs (b .row) (S .R (b .symbol .id)))) bs
   known =
-      all-zip (λ (b : Basic). Live kind xs (b .symbol)) (λ (b : Basic). (S .B (b .symbol .id) ≡ true) × ReadsRow xs (b .row) (S .R (b .symbol .id)))
-      (λ (b : Basic). Live kind xs (b .symbol) × ((S .B (b .symbol .id) ≡ true) × ReadsRow xs (b .row) (S .R (b .symbol .id)))) (λ b x y. (x, y)) bs (H .rows-live) (listed xs (S .B) (S .R) 0 bs (H .rows-up) (λ j _. H .rows j))
+      all-zip {Q = λ (b : Basic). Live kind xs (b .symbol)} {W = λ (b : Basic). (S .B (b .symbol .id) ≡ true) × ReadsRow xs (b .row) (S .R (b .symbol .id))} (λ b x y. (x, y)) bs (H .rows-live) (listed xs (S .B) (S .R) 0 bs (H .rows-up) (λ j _. H .rows j))
 
   -- a fact of the rows of a kind, by column
   empty : (t : KindZ) → All (λ (b : Basic). kind (b .symbol .id) ≡ t → S .R (b .symbol .id) e ≡ 0ℤ) bs → (j : ℕ) → kind j ≡ t → j ≢ e → S .R j e ≡ 0ℤ

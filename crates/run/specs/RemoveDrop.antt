@@ -1,10 +1,9 @@
 -- A removal's second step: the marker's row is dropped, after a pivot where the marker is not basic. 13 and 17 are not given. Assumes nothing.
 use mathlib.Core.Path.{_≡_, refl, sym, ap, _∙_, subst}
-use mathlib.Core.Logic.{_⊎_, inl, inr, _≢_}
+use mathlib.Core.Logic.{inl, inr, _≢_}
 use mathlib.Core.List.{List, [], _∷_}
 use mathlib.Core.Option.{Option, none, some}
 use Prim.Native.Nat.{ℕ, _<_}
-use native.Mathlib.Omega.{arith}
 use mathlib.Core.Bool.{Bool, true, false, _&&_, cond, true≢false}
 use lib.Dec.{T, ltb}
 use lib.IntN.{ℤ}
@@ -18,12 +17,12 @@ use Rattle.simplex.specs.Choose.{All}
 use Rattle.simplex.specs.Basis.{swap, Swapped, enters, leaves, stays, swapped}
 use Rattle.simplex.specs.Opt.{Kind as KindZ, const, external, slack, dummy}
 use Rattle.simplex.specs.Form.{soft}
-use Rattle.simplex.specs.Problem.{Con, Sound, Apart, Sounds, Models, all-zip}
+use Rattle.simplex.specs.Problem.{Con, Sound, Apart, Models, all-zip}
 use Rattle.simplex.specs.Tab.{pivoted, pivot as pivotZ}
 use Rattle.simplex.specs.Change.{dropped}
 use Rattle.simplex.specs.Pass.{State as StateZ, Good}
 use Rattle.simplex.specs.Remove.{Rank, drop-good, remove-good, free-of-marker}
-use Rattle.simplex.specs.Gone.{Halfway, half-pivot, half-drop, marker-held, tag-kind}
+use Rattle.simplex.specs.Gone.{Halfway, half-pivot, half-drop, marker-held, tag-kind, not-variable, sounds-each}
 use Rattle.steps.specs.Number.{zero64, belowZero, Mark, allWhole, notWhole, notFinite}
 use Rattle.steps.specs.Symbol.{Symbol, isSymbol, isExternal, isRestricted}
 use Rattle.steps.specs.Row.{Row, solveForSymbols}
@@ -156,20 +155,12 @@ module _ (n : ℕ) (kind : ℕ → KindZ) (w : Work) (S : StateZ) (c : Con) (cs 
   cost : ((j : ℕ) → kind j ≢ external → j ≢ m .id → S .R j (m .id) ≡ 0ℤ) → S .B (m .id) ≡ false → S .o (m .id) ≡ 0ℤ
   cost empty free =
       free-of-marker n (S .B) (S .R) (S .o) (m .id) cs (D .shape) (D .clear) free in-n (D .worth)
-      (all-zip {Q = Apart c} {W = Sound n kind} one cs (D .sounds .1) (each cs (D .sounds .2)))
+      (all-zip {Q = Apart c} {W = Sound n kind} one cs (D .sounds .1) (sounds-each n kind cs (D .sounds .2)))
     where
-      each : (ds : List Con) → Sounds n kind ds → All (Sound n kind) ds
-      each [] h = tt
-      each (d ∷ ds) h = (h .0, each ds (h .2))
-
-      not-var : (j : ℕ) → (kind j ≡ slack) ⊎ (kind j ≡ dummy) → kind j ≢ external
-      not-var j (inl e) x = let z : _≡_ {A = ℕ} 0 1 = cc in omega arith
-      not-var j (inr e) x = let z : _≡_ {A = ℕ} 0 1 = cc in omega arith
-
       one : (d : Con) → Apart c d → Sound n kind d → (S .R (d .marker) (m .id) ≡ 0ℤ) × (soft (d .form) ≡ true → S .R (d .other) (m .id) ≡ 0ℤ)
       one d a s = (
-        empty (d .marker) (not-var (d .marker) (tag-kind n kind d s (d .marker) (inl refl))) (λ q. a (d .marker) (inl (q ∙ sym own)) (inl refl)),
-        λ b. empty (d .other) (not-var (d .other) (tag-kind n kind d s (d .other) (inr (b, refl)))) (λ q. a (d .other) (inl (q ∙ sym own)) (inr (b, refl))),
+        empty (d .marker) (not-variable kind (d .marker) (tag-kind n kind d s (d .marker) (inl refl))) (λ q. a (d .marker) (inl (q ∙ sym own)) (inl refl)),
+        λ b. empty (d .other) (not-variable kind (d .other) (tag-kind n kind d s (d .other) (inr (b, refl)))) (λ q. a (d .other) (inl (q ∙ sym own)) (inr (b, refl))),
       )
 
   module _ (free : S .B (m .id) ≡ false) (l : Symbol) (L : Ranked n kind w S (λ _. 0ℤ) G H (m .id) in-n m≢0 free (λ h. cost h free) l) where

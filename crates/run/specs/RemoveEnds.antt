@@ -1,15 +1,15 @@
 -- What a removal's steps end in, in a whole run: the other demands' tableau at rest, or refusal 14 after fewer pivots than there are bases. 13, 15 and 17 are not given. Assumes nothing.
 use mathlib.Core.Path.{_≡_, refl, sym as back, ap, _∙_, subst}
-use mathlib.Core.Logic.{_⊎_, inl, inr, _≢_}
+use mathlib.Core.Logic.{_≢_}
 use mathlib.Core.List.{List, [], map}
 use mathlib.Core.Option.{Option, none, some}
 use Prim.Native.Nat.{ℕ, _+_, _-_, _≤_, _<_}
 use native.Mathlib.Omega.{arith}
 use Rattle.simplex.specs.Choose.{All}
-use Rattle.simplex.specs.Opt.{Kind as KindZ, external, slack, dummy, slack≢external}
+use Rattle.simplex.specs.Opt.{Kind as KindZ, external}
 use Rattle.simplex.specs.Problem.{Tag as TagOf}
 use Rattle.simplex.specs.Pass.{State as StateZ}
-use Rattle.simplex.specs.Gone.{tag-kind}
+use Rattle.simplex.specs.Gone.{tag-kind, not-variable}
 use Rattle.steps.specs.Number.{allWhole, notWhole, notFinite, Mark}
 use Rattle.steps.specs.State.{Term, strengthOf, Variable, Changes}
 use Rattle.steps.specs.Work.{Work, Outcome, refused, going, _>>=_, refuse, checkFinite}
@@ -67,11 +67,7 @@ module _ (m : Moment) (I : Inv m) (k : Key) (h : Held) (found : findHeld k (I .h
 
     -- a variable's column is no symbol of the demand that goes
     no-tag : (j : ℕ) → I .kind j ≡ external → TagOf j (conOf (I .sym) h) → ⊥
-    no-tag j e t = go (tag-kind columns (I .kind) (conOf (I .sym) h) (sounds m I k h found .0) j t)
-      where
-        go : (I .kind j ≡ slack) ⊎ (I .kind j ≡ dummy) → ⊥
-        go (inl q) = slack≢external (back q ∙ e)
-        go (inr q) = let z : _≡_ {A = ℕ} 0 1 = cc in omega arith
+    no-tag j e t = not-variable (I .kind) j (tag-kind columns (I .kind) (conOf (I .sym) h) (sounds m I k h found .0) j t) e
 
     at-column : (o : Option Variable) (c : ℕ) → VarAt (I .kind) (m .state .tableau .symbols) o c → VarAt kind′ (x .tableau .symbols) o c
     unfolding begin

@@ -10,15 +10,15 @@ use lib.Ieee.{Float}
 use Rattle.exact.specs.Whole.{Zb, val}
 use Rattle.simplex.specs.Ord.{0ℤ}
 use Rattle.simplex.specs.Choose.{All}
-use Rattle.simplex.specs.Opt.{Kind as KindZ, const, external, slack, dummy, slack≢external}
+use Rattle.simplex.specs.Opt.{Kind as KindZ, const, external, slack, dummy}
 use Rattle.simplex.specs.Form.{Form, le!, eq!, ge!, le, eq, ge, soft}
 use Rattle.simplex.specs.Problem.{Con, markerKind, Tag as TagOf, Sounds, Models}
 use Rattle.simplex.specs.Pass.{State as StateZ}
-use Rattle.simplex.specs.Gone.{tag-kind}
+use Rattle.simplex.specs.Gone.{tag-kind, not-variable}
 use Rattle.steps.specs.Number.{allWhole}
 use Rattle.steps.specs.Symbol.{Symbol}
 use Rattle.steps.specs.State.{strengthOf, Tag}
-use Rattle.steps.specs.Work.{Work}
+use Rattle.steps.specs.Work.{Work, going}
 use Rattle.steps.specs.Optimise.{theObjective, optimise}
 use Rattle.steps.specs.Remove.{removeConstraintEffects, dropMarker, purgeTag}
 use Rattle.steps.specs.Calls.{begin}
@@ -36,7 +36,7 @@ use Rattle.run.specs.Perm.{withoutHeld, all-found, models-first}
 use Rattle.run.specs.Effects.{freed, effects-half, effects-good, Freed, effects-z, kept-effects, effects-still}
 use Rattle.run.specs.RemoveDrop.{Dropped, drop-marker}
 use Rattle.run.specs.RemovePurge.{Untagged, untagged}
-use Rattle.run.specs.RemoveMarks.{soft-below, soft-strength, paired}
+use Rattle.run.specs.RemoveMarks.{drop-mark, soft-below, soft-strength, paired}
 
 marker-of : (f : Form) (tag : Tag) → Shaped f tag → markerKind f ≡ kindOf (tag .marker .kind)
 marker-of le! tag h = ap kindOf (back (h .0))
@@ -79,13 +79,9 @@ module _ (m : Moment) (I : Inv m) (k : Key) (h : Held) (found : findHeld k (I .h
       not-zero (inl e) z = let a : I .kind 0 ≡ const = I .good .zero in let b : I .kind j ≡ I .kind 0 = ap (I .kind) z in let y : _≡_ {A = ℕ} 0 1 = cc in omega arith
       not-zero (inr e) z = let a : I .kind 0 ≡ const = I .good .zero in let b : I .kind j ≡ I .kind 0 = ap (I .kind) z in let y : _≡_ {A = ℕ} 0 1 = cc in omega arith
 
-      clash : (I .kind j ≡ slack) ⊎ (I .kind j ≡ dummy) → I .kind j ≡ external → ⊥
-      clash (inl e) x = slack≢external (back e ∙ x)
-      clash (inr e) x = let y : _≡_ {A = ℕ} 0 1 = cc in omega arith
-
       go : In j (m .state .tableau .symbols) ⊎ NotIn j (m .state .tableau .symbols) → In j (m .state .tableau .symbols)
       go (inl i) = i
-      go (inr n) = absurd (clash r (I .reads .unknown j (not-zero r) n))
+      go (inr n) = absurd (not-variable (I .kind) j r (I .reads .unknown j (not-zero r) n))
 
   tag-in : (j : ℕ) → TagOf j c → In j (m .state .tableau .symbols)
   tag-in j t = restricted-in j (tag-kind columns (I .kind) c (sounds .0) j t)
@@ -160,6 +156,14 @@ module _ (m : Moment) (I : Inv m) (k : Key) (h : Held) (found : findHeld k (I .h
     pivots = d .pivots ∙ still .1;
   }
 
+  -- where the steps get as far as the pass with their mark whole, it begins so
+  pub begins : (v : Work) → dropMarker (h .tag .marker) first ≡ going v → v .mark ≡ allWhole → Begun v
+  unfolding markOf
+  begins v e q = begun v (subst (Goes (Dropped columns (I .kind) cs first)) e (drops (drop-mark (h .tag .marker) first w) w))
+    where
+      w : markOf (dropMarker (h .tag .marker) first) ≡ allWhole
+      w = ap markOf e ∙ q
+
   -- ---- the pass
   module _ (v : Work) (B : Begun v) where
     abbrev y : Work
@@ -172,10 +176,10 @@ module _ (m : Moment) (I : Inv m) (k : Key) (h : Held) (found : findHeld k (I .h
     unfolding begin
     old-symbol j i = subst (In j) (B .kept .symbols) (B .cleared .cuts .old j i)
 
-    inside : (j : ℕ) → In j (y .tableau .symbols) → j < columns
+    pub inside : (j : ℕ) → In j (purgeTag (h .tag) v .tableau .symbols) → j < columns
     inside j i = omega (arith, I .ids j (old-symbol j i), I .room)
 
-    calm : All (λ j. kind′ j ≢ external) (y .tableau .infeasible)
+    pub calm : All (λ j. B .cleared .kind′ j ≢ external) (purgeTag (h .tag) v .tableau .infeasible)
     calm = subst (All (λ j. kind′ j ≢ external)) (back (B .cleared .cuts .list ∙ B .list)) tt
 
     pub passed : (left : ℕ) → markOf (optimise left theObjective y) ≡ allWhole → Optimised columns kind′ cs left (waysOf (y .tableau .symbols) (B .table .B)) y (optimise left theObjective y)

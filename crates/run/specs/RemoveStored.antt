@@ -6,7 +6,7 @@ use mathlib.Core.Option.{Option, none, some}
 use Prim.Native.Nat.{ℕ, _+_}
 use native.Mathlib.Omega.{arith}
 use mathlib.Core.Bool.{Bool, true, false, cond}
-use lib.Dec.{T, eqb, eqb→eq, eqb-refl}
+use lib.Dec.{T, eqb, eqb-refl}
 use Rattle.simplex.specs.Choose.{All}
 use Rattle.simplex.specs.Problem.{all-map}
 use Rattle.steps.specs.Number.{one64}
@@ -22,6 +22,7 @@ use Rattle.run.specs.Demand.{Key, ofConstraint, ofEdit, sameKey}
 use Rattle.run.specs.Inv.{Held, findHeld, Once, ConstraintAt, EditAt}
 use Rattle.run.specs.Lookup.{find-drop-same, find-drop-other}
 use Rattle.run.specs.Perm.{withoutHeld, out-same, out-other, each-found}
+use Rattle.run.specs.Uses.{by-number, eq-no}
 use Rattle.run.specs.RemoveUses.{Unnamed}
 
 -- ---- an edit's term counts
@@ -79,20 +80,13 @@ unnamed cs es held once con edi x z = all-map (λ (h : Held) f. one h (h .demand
     one h (ofEdit u) f = of-edit u h (findEdit u es) refl (subst (EditAt u (findEdit u es)) f (edi u))
 
 -- ---- what is found once one is dropped
-by-number : {X : Type 0} (x n : ℕ) → (x ≡ n → X) → (eqb x n ≡ false → x ≢ n → X) → X
-by-number {X} x n f g = go (eqb x n) refl
-  where
-    go : (b : Bool) → eqb x n ≡ b → X
-    go true e = f (eqb→eq x n (subst T (sym e) tt))
-    go false e = g e (λ q. subst T e (subst (λ (y : ℕ). T (eqb x y)) q (eqb-refl x)))
-
 module _ (cs : List Constraint) (es : List Edit) (held : List Held) (once : Once held) (con : (n : ℕ) → ConstraintAt (findConstraint n cs) (findHeld (ofConstraint n) held)) (edi : (u : ℕ) → EditAt u (findEdit u es) (findHeld (ofEdit u) held)) where
   pub constraints-less : (n : ℕ) → Up 0 (map conNumber cs) → (i : ℕ) → ConstraintAt (findConstraint i (dropConstraint n cs)) (findHeld (ofConstraint i) (withoutHeld (ofConstraint n) held))
   unfolding sameKey
   constraints-less n up i = by-number i n
       (λ p. subst (λ (j : ℕ). ConstraintAt (findConstraint j (dropConstraint n cs)) (findHeld (ofConstraint j) (withoutHeld (ofConstraint n) held))) (sym p)
       (subst (ConstraintAt (findConstraint n (dropConstraint n cs))) (sym (out-same (ofConstraint n) held once)) (subst (λ (o : Option Constraint). ConstraintAt o none) (sym gone) tt)))
-      (λ e p. subst (ConstraintAt (findConstraint i (dropConstraint n cs))) (sym (out-other (ofConstraint i) (ofConstraint n) held e))
+      (λ p. subst (ConstraintAt (findConstraint i (dropConstraint n cs))) (sym (out-other (ofConstraint i) (ofConstraint n) held (eq-no i n p)))
       (subst (λ (o : Option Constraint). ConstraintAt o (findHeld (ofConstraint i) held)) (sym (stays p)) (con i)))
     where
       gone : findConstraint n (dropConstraint n cs) ≡ none
@@ -110,7 +104,7 @@ module _ (cs : List Constraint) (es : List Edit) (held : List Held) (once : Once
   edits-less n up i = by-number i n
       (λ p. subst (λ (j : ℕ). EditAt j (findEdit j (dropEdit n es)) (findHeld (ofEdit j) (withoutHeld (ofEdit n) held))) (sym p)
       (subst (EditAt n (findEdit n (dropEdit n es))) (sym (out-same (ofEdit n) held once)) (subst (λ (o : Option Edit). EditAt n o none) (sym gone) tt)))
-      (λ e p. subst (EditAt i (findEdit i (dropEdit n es))) (sym (out-other (ofEdit i) (ofEdit n) held e))
+      (λ p. subst (EditAt i (findEdit i (dropEdit n es))) (sym (out-other (ofEdit i) (ofEdit n) held (eq-no i n p)))
       (subst (λ (o : Option Edit). EditAt i o (findHeld (ofEdit i) held)) (sym (stays p)) (edi i)))
     where
       gone : findEdit n (dropEdit n es) ≡ none

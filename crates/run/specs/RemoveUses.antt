@@ -1,6 +1,6 @@
 -- A removal's last step: the use counts of its terms fall, and a variable that no demand names any more goes. Assumes nothing.
 use mathlib.Core.Path.{_≡_, refl, sym as back, ap, ap₂, _∙_, subst}
-use mathlib.Core.Logic.{_⊎_, inl, inr, _≢_}
+use mathlib.Core.Logic.{_≢_}
 use mathlib.Core.List.{List, [], _∷_, map}
 use mathlib.Core.Option.{Option, none, some}
 use Prim.Native.Nat.{ℕ, _+_, _-_, _≤_, _<_}
@@ -15,11 +15,11 @@ use Rattle.simplex.specs.Ord.{0ℤ}
 use Rattle.simplex.specs.Lin.{δ-other}
 use Rattle.simplex.specs.At.{at, At, here, there, at?, at-there}
 use Rattle.simplex.specs.Choose.{All}
-use Rattle.simplex.specs.Opt.{Kind as KindZ, external, slack, dummy, slack≢external}
+use Rattle.simplex.specs.Opt.{Kind as KindZ, external, slack}
 use Rattle.simplex.specs.Problem.{Sounds, all-zip, all-map}
 use Rattle.simplex.specs.Pass.{State as StateZ}
 use Rattle.simplex.specs.Run.{Foreign}
-use Rattle.simplex.specs.Gone.{tag-kind}
+use Rattle.simplex.specs.Gone.{tag-kind, not-variable}
 use Rattle.steps.specs.Symbol.{Symbol}
 use Rattle.steps.specs.State.{Term, Variable, Changes}
 use Rattle.steps.specs.Work.{Work, withChanges, purge}
@@ -33,7 +33,7 @@ use Rattle.bridge.specs.Finds.{none≢some}
 use Rattle.bridge.specs.Table.{in-nonzero}
 use Rattle.run.specs.Inv.{columns, Held, exprOf, conOf, VarAt}
 use Rattle.run.specs.RemovePurge.{Cut, cut, Read, purged, was-slack}
-use Rattle.run.specs.Uses.{Single, lessUse, Looks, Fell, absent, last, fewer, use-less}
+use Rattle.run.specs.Uses.{by-number, Single, lessUse, Looks, Fell, absent, last, fewer, use-less}
 
 -- the terms of what is still live do not name x
 abbrev pub Unnamed : ℕ → List Held → Type 0
@@ -62,13 +62,6 @@ unfolding exprOf
 expr-0 sym c n [] k a = ap (λ (z : ℤ). 0ℤ +ℤ k *ℤ z) (δ-other (λ q. n (back q))) ∙ ring (k ∷ []) (κ 0ℤ ⊞ v 0 ⊠ κ 0ℤ) (κ 0ℤ) tt
 expr-0 sym c n (t ∷ ts) k a =
     ap₂ (λ (x y : ℤ). x +ℤ val (t .coefficient) *ℤ y) (expr-0 sym c n ts k (a .1)) (δ-other (a .0)) ∙ ring (val (t .coefficient) ∷ []) (κ 0ℤ ⊞ v 0 ⊠ κ 0ℤ) (κ 0ℤ) tt
-
-by-number : {X : Type 0} (x n : ℕ) → (x ≡ n → X) → (x ≢ n → X) → X
-by-number {X} x n f g = go (eqb x n) refl
-  where
-    go : (b : Bool) → eqb x n ≡ b → X
-    go true e = f (eqb→eq x n (subst T (back e) tt))
-    go false e = g (λ q. subst T e (subst (λ (y : ℕ). T (eqb x y)) q (eqb-refl x)))
 
 uses-own : (t : Term) (ts : List Term) (x : ℕ) → x ≡ t .variable → usesIn x (t ∷ ts) ≡ 1 + usesIn x ts
 unfolding usesIn
@@ -188,13 +181,9 @@ module _ (sym name : ℕ → ℕ) (held : List Held) (K : ℕ → ℕ) (S : Stat
     unfolding conOf
     all-foreign e n b [] s k a = tt
     all-foreign e n b (h ∷ hs) s k a = (
-      (λ g. no-tag (tag-kind columns kind (conOf sym h) (s .0) (sym x) g), expr-0 sym (sym x) n (keptTerms (h .demand .terms)) (val (h .demand .constant)) (terms-foreign b (keptTerms (h .demand .terms)) (k .0) (a .0))),
+      (λ g. not-variable kind (sym x) (tag-kind columns kind (conOf sym h) (s .0) (sym x) g) e, expr-0 sym (sym x) n (keptTerms (h .demand .terms)) (val (h .demand .constant)) (terms-foreign b (keptTerms (h .demand .terms)) (k .0) (a .0))),
       all-foreign e n b hs (s .2) (k .1) (a .1),
     )
-      where
-        no-tag : (kind (sym x) ≡ slack) ⊎ (kind (sym x) ≡ dummy) → ⊥
-        no-tag (inl q) = slack≢external (back q ∙ e)
-        no-tag (inr q) = let z : _≡_ {A = ℕ} 0 1 = cc in omega arith
 
     known-all : (ws : List Variable) → ((y : ℕ) → findVariable y us ≢ none → findVariable y ws ≢ none)
         → All (λ (h : Held). All (λ (t : Term). findVariable (t .variable) ws ≢ none) (keptTerms (h .demand .terms))) held

@@ -15,6 +15,21 @@ use Rattle.keeps.specs.Uses.{varNumber, usesOf, uses-hit, uses-miss}
 use Rattle.bridge.specs.Finds.{none≢some, some-injective}
 use Rattle.run.specs.Vars.{AlikeAt, same-clear}
 
+-- ---- numbers
+pub eq-no : (x n : ℕ) → x ≢ n → eqb x n ≡ false
+eq-no x n h = go (eqb x n) refl
+  where
+    go : (b : Bool) → eqb x n ≡ b → eqb x n ≡ false
+    go true e = absurd (h (eqb→eq x n (subst T (sym e) tt)))
+    go false e = e
+
+pub by-number : {X : Type 0} (x n : ℕ) → (x ≡ n → X) → (x ≢ n → X) → X
+by-number {X} x n f g = go (eqb x n) refl
+  where
+    go : (b : Bool) → eqb x n ≡ b → X
+    go true e = f (eqb→eq x n (subst T (sym e) tt))
+    go false e = g (λ q. subst T e (subst (λ (y : ℕ). T (eqb x y)) q (eqb-refl x)))
+
 -- ---- variables by number
 pub data Num? (n : ℕ) (v : Variable) : Type 0 where
   is : eqb n (v .number) ≡ true → n ≡ v .number → Num? n v
