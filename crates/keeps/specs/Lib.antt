@@ -12,3 +12,5 @@ pub mod Codes
 pub mod Uses
 pub mod Places
 pub mod Reads
+pub mod Good
+pub mod Suggest

@@ -72,7 +72,7 @@ and3 a b c e = (left a b (left (a && b) c e), right a b (left (a && b) c e), rig
 and4 : (a b c d : Bool) → (a && b && c && d) ≡ true → (a ≡ true) × (b ≡ true) × (c ≡ true) × (d ≡ true)
 and4 a b c d e = let h = left (a && b && c) d e in (left a b (left (a && b) c h), right a b (left (a && b) c h), right (a && b) c h, right (a && b && c) d e)
 
-unmap : {A B : Type 0} (g : A → B) (P : B → Type 0) (xs : List A) → All P (map g xs) → All (λ (x : A). P (g x)) xs
+pub unmap : {A B : Type 0} (g : A → B) (P : B → Type 0) (xs : List A) → All P (map g xs) → All (λ (x : A). P (g x)) xs
 unmap g P [] h = tt
 unmap g P (x ∷ xs) h = (h .0, unmap g P xs (h .1))
 
