@@ -14,3 +14,5 @@ pub mod Places
 pub mod Reads
 pub mod Good
 pub mod Suggest
+pub mod Fallen
+pub mod Removal

@@ -1,0 +1,1 @@
+-- A removal, on a state that reads. Assumes nothing.
