@@ -16,3 +16,4 @@ pub mod Good
 pub mod Suggest
 pub mod Fallen
 pub mod Removal
+pub mod Leaving
