@@ -40,16 +40,16 @@ pub record Vars (C U : ℕ → ℕ) (vs : List Variable) : Type 0 where
   pub externals : All (λ (v : Variable). isExternal (v .symbol) ≡ true) vs
 
 -- ---- each variable changed in what isn't its number, symbol or use count
+pub numbers-map : (g : Variable → Variable) → ((v : Variable) → g v .number ≡ v .number) → (vs : List Variable) → map varNumber (map g vs) ≡ map varNumber vs
+numbers-map g number [] = refl
+numbers-map g number (v ∷ vs) = ap₂ (λ (n : ℕ) (ns : List ℕ). n ∷ ns) (number v) (numbers-map g number vs)
+
+pub symbols-map : (g : Variable → Variable) → ((v : Variable) → g v .symbol ≡ v .symbol) → (n : ℕ) (vs : List Variable) → total (varCode n) (map g vs) ≡ total (varCode n) vs
+unfolding total
+symbols-map g symbol n [] = refl
+symbols-map g symbol n (v ∷ vs) = ap₂ (λ (a b : ℕ). a + b) (ap (λ (s : Symbol). same n (code s)) (symbol v)) (symbols-map g symbol n vs)
+
 module _ (g : Variable → Variable) (number : (v : Variable) → g v .number ≡ v .number) (symbol : (v : Variable) → g v .symbol ≡ v .symbol) (uses : (v : Variable) → g v .uses ≡ v .uses) where
-  numbers-map : (vs : List Variable) → map varNumber (map g vs) ≡ map varNumber vs
-  numbers-map [] = refl
-  numbers-map (v ∷ vs) = ap₂ (λ (n : ℕ) (ns : List ℕ). n ∷ ns) (number v) (numbers-map vs)
-
-  symbols-map : (n : ℕ) (vs : List Variable) → total (varCode n) (map g vs) ≡ total (varCode n) vs
-  unfolding total
-  symbols-map n [] = refl
-  symbols-map n (v ∷ vs) = ap₂ (λ (a b : ℕ). a + b) (ap (λ (s : Symbol). same n (code s)) (symbol v)) (symbols-map n vs)
-
   uses-map : (n : ℕ) (vs : List Variable) → usesOf n (map g vs) ≡ usesOf n vs
   unfolding usesOf
   uses-map n [] = refl
@@ -58,8 +58,8 @@ module _ (g : Variable → Variable) (number : (v : Variable) → g v .number �
   pub vars-map : (C U : ℕ → ℕ) (vs : List Variable) → ((v : Variable) → OldOk v → OldOk (g v)) → Vars C U vs → Vars C U (map g vs)
   vars-map C U vs old h =
       record {
-        up = rw numbers-map (h .up);
-        symbols = λ n. symbols-map n vs ∙ h .symbols n;
+        up = rw (numbers-map g number) (h .up);
+        symbols = λ n. symbols-map g symbol n vs ∙ h .symbols n;
         uses = λ n. uses-map n vs ∙ h .uses n;
         olds = all-map g OldOk vs (all-to OldOk (λ v. OldOk (g v)) old vs (h .olds));
         externals = all-map g _ vs (all-to _ _ (λ v e. ap isExternal (symbol v) ∙ e) vs (h .externals));
@@ -68,8 +68,8 @@ module _ (g : Variable → Variable) (number : (v : Variable) → g v .number �
   pub vars-unmap : (C U : ℕ → ℕ) (vs : List Variable) → ((v : Variable) → OldOk (g v) → OldOk v) → Vars C U (map g vs) → Vars C U vs
   vars-unmap C U vs old h =
       record {
-        up = rw numbers-map at (h .up);
-        symbols = λ n. sym (symbols-map n vs) ∙ h .symbols n;
+        up = rw (numbers-map g number) at (h .up);
+        symbols = λ n. sym (symbols-map g symbol n vs) ∙ h .symbols n;
         uses = λ n. sym (uses-map n vs) ∙ h .uses n;
         olds = all-to (λ v. OldOk (g v)) OldOk old vs (unmap g OldOk vs (h .olds));
         externals = all-to _ _ (λ v e. ap isExternal (sym (symbol v)) ∙ e) vs (unmap g _ vs (h .externals));

@@ -17,3 +17,4 @@ pub mod Suggest
 pub mod Fallen
 pub mod Removal
 pub mod Leaving
+pub mod Building
