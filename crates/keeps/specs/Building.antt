@@ -150,7 +150,7 @@ new-vars n s C U vs x z h =
     none-used m true = omega arith
     none-used m false = omega arith
 
-addVariable-built : (K U : ℕ → ℕ) (N n : ℕ) (b : Building) → times n (map varNumber (b .work .changes .variables)) ≡ 0 → Built K U N b → Built K U N (addVariable n b)
+pub addVariable-built : (K U : ℕ → ℕ) (N n : ℕ) (b : Building) → times n (map varNumber (b .work .changes .variables)) ≡ 0 → Built K U N b → Built K U N (addVariable n b)
 unfolding addVariable appendTo newSymbol withVariables withChanges newVariable
 addVariable-built K U N n b z h =
     record {
@@ -191,7 +191,7 @@ once-miss m n d (v ∷ vs) = go (same? m (v .number)) (same? n (v .number)) (onc
     go (is a b c) (isnt p q r) ih = uses-hit m (useOnce n v) (map (useOnce n) vs) a ∙ rw p (omega (arith, uses-hit m v vs a))
     go (isnt a b c) w ih = uses-miss m (useOnce n v) (map (useOnce n) vs) a ∙ ih ∙ sym (uses-miss m v vs a)
 
-once-vars : (n : ℕ) (C U : ℕ → ℕ) (vs : List Variable) → 1 ≤ times n (map varNumber vs) → Vars C U vs → Vars C (λ m. same m n + U m) (map (useOnce n) vs)
+pub once-vars : (n : ℕ) (C U : ℕ → ℕ) (vs : List Variable) → 1 ≤ times n (map varNumber vs) → Vars C U vs → Vars C (λ m. same m n + U m) (map (useOnce n) vs)
 unfolding useOnce
 once-vars n C U vs l h =
     record {

@@ -18,3 +18,4 @@ pub mod Fallen
 pub mod Removal
 pub mod Leaving
 pub mod Building
+pub mod Terms
