@@ -19,3 +19,4 @@ pub mod Removal
 pub mod Leaving
 pub mod Building
 pub mod Terms
+pub mod Creating
