@@ -20,3 +20,4 @@ pub mod Leaving
 pub mod Building
 pub mod Terms
 pub mod Creating
+pub mod Adding
