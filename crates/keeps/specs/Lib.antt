@@ -21,3 +21,5 @@ pub mod Building
 pub mod Terms
 pub mod Creating
 pub mod Adding
+pub mod Addition
+pub mod Keeps
