@@ -1,7 +1,7 @@
 -- Add's steps 5 to 7, with a subject or with the temporary slack: the tableau reads on, with at most one row more. Assumes nothing.
-use mathlib.Core.Path.{_≡_, refl, sym, ap, _∙_, subst}
+use mathlib.Core.Path.{_≡_, refl, sym, ap, _∙_}
 use mathlib.Core.Logic.{_≢_}
-use mathlib.Core.List.{List, [], _∷_, _++_, map}
+use mathlib.Core.List.{List, [], _∷_, _++_}
 use mathlib.Core.Option.{Option, none, some}
 use mathlib.Core.Bool.{Bool, true, false}
 use Prim.Native.Nat.{ℕ, suc, _+_, _-_, _≤_, _<_}
@@ -9,30 +9,30 @@ use native.Mathlib.Omega.{arith}
 use lib.ListN.{length, length-map}
 use lib.Ieee.{Float}
 use Rattle.steps.specs.Number.{zero64, nearZero, isFinite, Mark, worse, wholeIf}
-use Rattle.steps.specs.Symbol.{Slack, Symbol, isPivotable, holds, firstSymbol}
+use Rattle.steps.specs.Symbol.{Slack, Symbol, isPivotable, holds}
 use Rattle.steps.specs.Row.{Row, Written, solveForSymbol, appendCell}
 use Rattle.steps.specs.State.{Term, Relation, Basic}
 use Rattle.steps.specs.Work.{Work, Outcome, refused, going, _>>=_, refuse, checkFinite, withTableau, withRows, withArtificial, marking, findRow, keepRow, newSymbol, appendSymbol, purge}
-use Rattle.steps.specs.CreateRow.{Building, Created, appendTo, createRow, chooseSubject, allDummies}
+use Rattle.steps.specs.CreateRow.{Created, appendTo, createRow, chooseSubject, allDummies}
 use Rattle.steps.specs.Substitute.{enterBasis, pivot}
 use Rattle.steps.specs.Optimise.{optimise, theObjective, theArtificial}
 use Rattle.steps.specs.Artificial.{anyPivotableSymbol, isEmptyRow, standTemporary, removeTemporary, artificialConstantNearZero, addWithArtificialVariable}
 use Rattle.steps.specs.Add.{wholeInputs, addWithSubject, addCreated, Added, addSteps}
 use Rattle.steps.specs.Tests.{keptTerms, newVariables}
 use Rattle.steps.specs.Readable.{code, usesIn}
-use Rattle.keeps.specs.Lists.{All, all-to, Same?, is, isnt, same, same?, times, Up}
+use Rattle.keeps.specs.Lists.{All, all-to, Same?, is, isnt, same, same?, times}
 use Rattle.keeps.specs.Keys.{rowId, find-all, keep-length, keepRow-is, Row?, no-row, a-row, row?}
-use Rattle.keeps.specs.Along.{Along, ids, Mem, along-append, first-chosen}
+use Rattle.keeps.specs.Along.{Along, along-append, first-chosen}
 use Rattle.keeps.specs.Cells.{Ok, Fine, fine-l, fine-r, ok-zero, holds-held}
 use Rattle.keeps.specs.RowOps.{RowOk, solveForSymbol-ok}
 use Rattle.keeps.specs.Fits.{bids, IsBasic, Fits, FitsW, fits-worse, fits-plain, fits-append, fits-keep, bids-rerow, rerow, all-map, mem-last, fresh-row}
 use Rattle.keeps.specs.Frame.{Frame, frame-trans, mark-frame, enter-frame, enter-count}
 use Rattle.keeps.specs.Pivots.{enter-fits}
-use Rattle.keeps.specs.Codes.{codes, codes-append}
+use Rattle.keeps.specs.Codes.{codes-append}
 use Rattle.keeps.specs.Passes.{Ends, ends-bind, ends-to, check-ends, After, Free, held-free, pivot-ends, optimise-ends}
 use Rattle.keeps.specs.Reads.{tagCode}
 use Rattle.keeps.specs.Good.{Good, good-frame, clear-length}
-use Rattle.keeps.specs.Fallen.{Shrunk, purge-shrunk, purge-good}
+use Rattle.keeps.specs.Fallen.{purge-shrunk, purge-good}
 use Rattle.keeps.specs.Creating.{Tagged, createRow-tagged, subject-free}
 
 -- at most R rows, L variables, no artificial objective

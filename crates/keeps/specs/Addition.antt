@@ -5,29 +5,29 @@ use mathlib.Core.Option.{Option, none, some}
 use mathlib.Core.Bool.{Bool, true, false, not, cond, _&&_, true≢false}
 use Prim.Native.Nat.{ℕ, suc, _+_, _≤_, _<_}
 use native.Mathlib.Omega.{arith}
-use lib.Dec.{leb, ltb, nltb→le, nleb→lt}
+use lib.Dec.{ltb, nltb→le, nleb→lt}
 use lib.ListN.{length}
 use lib.Ieee.{Float, nan, inf, fin, lt, le, eq, ofBits}
-use Rattle.steps.specs.Number.{zero64, one64, nearZero, belowZero, magnitude, cutoff, isFinite, wholeIf}
+use Rattle.steps.specs.Number.{zero64, one64, nearZero, belowZero, magnitude, cutoff, isFinite}
 use Rattle.steps.specs.Strength.{required, clip}
-use Rattle.steps.specs.Symbol.{Symbol, isError}
+use Rattle.steps.specs.Symbol.{isError}
 use Rattle.steps.specs.Row.{reverseSign}
-use Rattle.steps.specs.State.{Term, Relation, equal, strengthOf, Tag, Variable, Constraint, Edit, State}
-use Rattle.steps.specs.Work.{Work, Outcome, refused, going, marking, newSymbol}
+use Rattle.steps.specs.State.{Term, Relation, equal, strengthOf, Tag, Constraint, Edit, State}
+use Rattle.steps.specs.Work.{Work, Outcome, refused, going, newSymbol}
 use Rattle.steps.specs.CreateRow.{Building, Created, tagged, insertTerms, softEquality, requiredEquality, addTag, createRow}
-use Rattle.steps.specs.Add.{wholeInputs, Added, addSteps}
+use Rattle.steps.specs.Add.{Added, addSteps}
 use Rattle.steps.specs.Edit.{editTerms, addEditSteps}
-use Rattle.steps.specs.Tests.{Test, firstRefusal, addTests, addEditTests, finiteTerms, keptTerms, newVariables, constraintsFull, variablesFull, idsUsed, hasConstraint, hasEdit, findConstraint, keepConstraint, findEdit, keepEdit}
-use Rattle.steps.specs.Calls.{Result, begin, finish, refusedBy, acceptedAs, concludeAdd, add, addEdit}
-use Rattle.steps.specs.Readable.{all, usesIn, constraintFinite, editFinite, tagKinds, editKinds}
-use Rattle.keeps.specs.Lists.{All, all-out, total, times, Up, so-not, both, left, right, no-both, none≢some}
-use Rattle.keeps.specs.Keys.{find-none, keepBy, keep-total, keep-length, keep-all, keep-up, findConstraint-is, keepConstraint-is, findEdit-is, keepEdit-is}
+use Rattle.steps.specs.Tests.{Test, firstRefusal, addTests, addEditTests, finiteTerms, keptTerms, newVariables, constraintsFull, variablesFull, hasConstraint, hasEdit, findConstraint, keepConstraint, findEdit, keepEdit}
+use Rattle.steps.specs.Calls.{begin, finish, refusedBy, acceptedAs, concludeAdd, add, addEdit}
+use Rattle.steps.specs.Readable.{usesIn, constraintFinite, editFinite, tagKinds, editKinds}
+use Rattle.keeps.specs.Lists.{All, all-out, total, times, so-not, both, left, right, none≢some}
+use Rattle.keeps.specs.Keys.{find-none, keep-total, keep-length, keep-all, keep-up, findConstraint-is, keepConstraint-is, findEdit-is, keepEdit-is}
 use Rattle.keeps.specs.Cells.{zero-finite}
 use Rattle.keeps.specs.Passes.{Ends, ends-to}
 use Rattle.keeps.specs.Reads.{Reads, conNumber, editNumber, tagCode, usedBy}
-use Rattle.keeps.specs.Good.{Good, good-to, tagsBy, begin-good, Stored, stored-in, finish-reads}
+use Rattle.keeps.specs.Good.{good-to, tagsBy, begin-good, Stored, stored-in, finish-reads}
 use Rattle.keeps.specs.Creating.{createRow-kinds}
-use Rattle.keeps.specs.Adding.{Stands, AddedOk, add-ends}
+use Rattle.keeps.specs.Adding.{AddedOk, add-ends}
 
 -- ---- tests that pass
 

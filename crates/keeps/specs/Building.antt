@@ -1,34 +1,31 @@
 -- Add's first step: the terms go into a row that is being built, beside a tableau that reads. Assumes nothing.
-use mathlib.Core.Path.{_≡_, refl, sym, ap, ap₂, _∙_, subst}
-use mathlib.Core.Logic.{inl, inr, _≢_}
-use mathlib.Core.List.{List, [], _∷_, _++_, map}
+use mathlib.Core.Path.{_≡_, refl, sym, ap, _∙_, subst}
+use mathlib.Core.Logic.{_≢_}
+use mathlib.Core.List.{List, [], _∷_, map}
 use mathlib.Core.Option.{Option, none, some}
-use mathlib.Core.Bool.{Bool, true, false, cond, _||_, true≢false}
-use Prim.Native.Nat.{ℕ, zero, suc, _+_, _≤_, _<_}
+use mathlib.Core.Bool.{Bool, true, false, cond}
+use Prim.Native.Nat.{ℕ, _+_, _≤_}
 use native.Mathlib.Omega.{arith}
 use lib.Dec.{eqb}
 use lib.ListN.{length, length-map}
 use lib.Ieee.{Float, nan, isNan}
-use Rattle.steps.specs.Number.{zero64, nearZero, isFinite, Mark, worse}
-use Rattle.steps.specs.Symbol.{External, Kind, Symbol, isExternal}
-use Rattle.steps.specs.Row.{Row, Written, insertSymbolInRow, insertRow, appendCell}
-use Rattle.steps.specs.State.{Term, Basic, Variable}
+use Rattle.steps.specs.Number.{isFinite, Mark, worse}
+use Rattle.steps.specs.Symbol.{External, Symbol, isExternal}
+use Rattle.steps.specs.Row.{Row, insertSymbolInRow, insertRow, appendCell}
+use Rattle.steps.specs.State.{Basic, Variable}
 use Rattle.steps.specs.Work.{Work, withTableau, withChanges, marking, findRow, newSymbol, appendSymbol}
-use Rattle.steps.specs.Changes.{findVariable}
-use Rattle.steps.specs.CreateRow.{Building, written, appendTo, insertInto, keepVariable, withVariables, addVariable, useOnce, countUse, insertVariable, insertTerm, insertTerms}
-use Rattle.steps.specs.Tests.{keptTerms, member, newVariables}
-use Rattle.steps.specs.Readable.{code, usesIn}
-use Rattle.keeps.specs.Lists.{All, all-to, Same?, is, isnt, same, same?, total, times, Up, up-once, member-in, member-out, none≢some, none-of}
-use Rattle.keeps.specs.Keys.{rowId, findBy, keepBy, find-all, find-none, find-times, times-find, keep-total, keep-all, keep-up, keep-length, keep-times, keepVariable-is, findVariable-is, Row?, no-row, a-row, row?}
-use Rattle.keeps.specs.Along.{ids, Mem}
+use Rattle.steps.specs.CreateRow.{Building, written, appendTo, insertInto, keepVariable, withVariables, addVariable, useOnce, insertVariable}
+use Rattle.steps.specs.Readable.{code}
+use Rattle.keeps.specs.Lists.{Same?, is, isnt, same, same?, total, times, up-once}
+use Rattle.keeps.specs.Keys.{rowId, keepBy, find-all, find-none, keep-total, keep-all, keep-up, keepVariable-is, Row?, no-row, a-row, row?}
 use Rattle.keeps.specs.Cells.{Fine, fine-l, fine-r}
 use Rattle.keeps.specs.RowOps.{RowOk, row-to, insertSymbolInRow-ok, insertRow-ok, append-ok}
-use Rattle.keeps.specs.Fits.{bids, IsBasic, Fits, FitsW, fits-worse, fits-plain, fits-append, bids-rerow, fresh-row, mem-append, mem-last, all-map}
-use Rattle.keeps.specs.Frame.{Frame, mark-frame}
-use Rattle.keeps.specs.Codes.{codes, codes-append}
-use Rattle.keeps.specs.Uses.{varNumber, usesOf, uses-hit, uses-miss, uses-none}
+use Rattle.keeps.specs.Fits.{bids, IsBasic, FitsW, fits-worse, fits-plain, fits-append, bids-rerow, fresh-row, mem-append, mem-last, all-map}
+use Rattle.keeps.specs.Frame.{mark-frame}
+use Rattle.keeps.specs.Codes.{codes-append}
+use Rattle.keeps.specs.Uses.{varNumber, usesOf, uses-hit, uses-miss}
 use Rattle.keeps.specs.Reads.{varCode}
-use Rattle.keeps.specs.Good.{OldOk, Vars, numbers-map, symbols-map, Good, good-frame, good-to}
+use Rattle.keeps.specs.Good.{OldOk, Vars, numbers-map, symbols-map, Good, good-frame}
 use Rattle.keeps.specs.Passes.{Free}
 
 -- a row that is being built, and the tableau; N is the number of rows

@@ -1,16 +1,16 @@
 -- A cell that reads: absent if its symbol is basic, finite while no write has been other. What each write leaves of that. Assumes nothing.
 use mathlib.Core.Path.{_≡_, refl, sym, ap, _∙_, subst}
 use mathlib.Core.List.{List, [], _∷_}
-use mathlib.Core.Bool.{Bool, true, false, not, _&&_, _||_, cond, true≢false}
+use mathlib.Core.Bool.{Bool, true, false, not, _&&_, cond, true≢false}
 use Prim.Native.Nat.{ℕ, _+_, _*_}
 use native.Mathlib.Omega.{arith}
-use lib.Dec.{T, eqb, ltb, eqb→eq, ltb→lt}
+use lib.Dec.{eqb, eqb→eq, ltb→lt}
 use lib.IntN.{ℤ}
 use lib.Ieee.{Float, nan, inf, fin, lt, eq, neg, ofBits, level, below, up, down}
 use Rattle.steps.specs.Number.{zero64, belowZero, nearZero, isFinite, Mark, allWhole, notWhole, notFinite, worse, markWrite, wholeIf, within, _+₆₄_, _*₆₄_}
 use Rattle.steps.specs.Symbol.{Symbol, absent, holds}
 use Rattle.steps.specs.Row.{Cell, kept, wrote, stored, cellValue, cellValues, cellMark, cellMarks, goesIfNearZero, insertCell, insertTimes, scaleCell}
-use Rattle.keeps.specs.Lists.{so, truly, left, right, no-both}
+use Rattle.keeps.specs.Lists.{so, left, right, no-both}
 use Rattle.keeps.specs.Along.{Along, along-to}
 
 -- ---- floats

@@ -1,28 +1,27 @@
 -- Add's steps 2 to 4: the tag's symbols, the signs, and the subject, beside a tableau that reads. Assumes nothing.
-use mathlib.Core.Path.{_≡_, refl, sym, ap, _∙_, subst}
-use mathlib.Core.List.{List, [], _∷_, map}
+use mathlib.Core.Path.{_≡_, refl, ap, _∙_, subst}
+use mathlib.Core.List.{List, [], map}
 use mathlib.Core.Option.{Option, none, some}
-use mathlib.Core.Bool.{Bool, true, false, not, _&&_}
-use Prim.Native.Nat.{ℕ, suc, _+_, _≤_}
+use mathlib.Core.Bool.{Bool, true, false, not}
+use Prim.Native.Nat.{ℕ, _+_}
 use native.Mathlib.Omega.{arith}
 use lib.ListN.{length}
 use lib.Ieee.{Float, lt, neg}
-use Rattle.steps.specs.Number.{zero64, one64, minusOne64, objectiveBound, belowZero, isFinite, Mark, worse}
+use Rattle.steps.specs.Number.{zero64, one64, minusOne64, belowZero, isFinite}
 use Rattle.steps.specs.Strength.{required}
-use Rattle.steps.specs.Symbol.{External, Slack, Error, Dummy, Symbol, isExternal, isError, isDummy, isPivotable, holds, coefficientFor, firstSymbol}
-use Rattle.steps.specs.Row.{Row, cellMarks, insertSymbol, reverseSign}
-use Rattle.steps.specs.State.{Term, Relation, atMost, equal, atLeast, strengthOf, Tag, Basic, Variable}
+use Rattle.steps.specs.Symbol.{Slack, Error, Dummy, Symbol, isExternal, isError, holds, firstSymbol}
+use Rattle.steps.specs.Row.{reverseSign}
+use Rattle.steps.specs.State.{Term, Relation, atMost, equal, atLeast, strengthOf}
 use Rattle.steps.specs.Work.{Work, withTableau, withObjective, marking, newSymbol, appendSymbol}
 use Rattle.steps.specs.CreateRow.{Building, written, appendTo, insertInto, insertTerms, Created, tagged, addSymbol, insertInObjective, addError, inequality, softEquality, requiredEquality, addTag, createRow, negativeTag, chooseSubject}
 use Rattle.steps.specs.Tests.{keptTerms, newVariables}
 use Rattle.steps.specs.Readable.{code, usesIn, tagSymbols, tagKinds}
 use Rattle.keeps.specs.Lists.{same, times, both, none≢some, some-injective}
-use Rattle.keeps.specs.Along.{Along, first-chosen}
+use Rattle.keeps.specs.Along.{first-chosen}
 use Rattle.keeps.specs.Cells.{Fine, fine-l, holds-held}
 use Rattle.keeps.specs.RowOps.{RowOk, row-to, reverse-ok, bare-ok}
-use Rattle.keeps.specs.Fits.{bids, IsBasic, FitsW}
+use Rattle.keeps.specs.Fits.{IsBasic}
 use Rattle.keeps.specs.Frame.{Frame}
-use Rattle.keeps.specs.Codes.{codes}
 use Rattle.keeps.specs.Reads.{tagCode}
 use Rattle.keeps.specs.Good.{Good, good-frame, good-to}
 use Rattle.keeps.specs.Passes.{Free, held-free}

@@ -1,28 +1,24 @@
 -- "Use counts fall; a variable at zero goes with its row and cells": what is left reads with one use less. Assumes nothing.
-use mathlib.Core.Path.{_≡_, refl, sym, ap, ap₂, _∙_, subst}
-use mathlib.Core.Logic.{_≢_}
+use mathlib.Core.Path.{_≡_, refl, sym, _∙_}
 use mathlib.Core.List.{List, [], _∷_, map}
 use mathlib.Core.Option.{Option, none, some}
-use mathlib.Core.Bool.{Bool, true, false, cond}
+use mathlib.Core.Bool.{Bool, true, false}
 use Prim.Native.Nat.{ℕ, suc, _+_, _-_, _≤_}
 use native.Mathlib.Omega.{arith}
 use lib.Dec.{eqb}
 use lib.ListN.{length, length-map}
-use Rattle.steps.specs.Number.{Mark}
-use Rattle.steps.specs.Symbol.{Symbol, isSymbol, isExternal, deleteSymbol, deleteCell}
+use Rattle.steps.specs.Symbol.{Symbol, isSymbol, deleteSymbol, deleteCell}
 use Rattle.steps.specs.Row.{Row}
-use Rattle.steps.specs.State.{Term, Basic, Variable, Changes}
+use Rattle.steps.specs.State.{Term, Basic, Variable}
 use Rattle.steps.specs.Work.{Work, withTableau, withChanges, dropRow, purge}
 use Rattle.steps.specs.CreateRow.{withVariables}
 use Rattle.steps.specs.Remove.{Fallen, useLess, dropUse, dropUses}
 use Rattle.steps.specs.Readable.{code, usesIn}
 use Rattle.keeps.specs.Lists.{All, Same?, is, isnt, same, same?, total, times, Up, up-from, up-none}
-use Rattle.keeps.specs.Keys.{rowId, dropBy, dropRow-is}
-use Rattle.keeps.specs.Along.{ids, Mem}
-use Rattle.keeps.specs.Cells.{Fine}
-use Rattle.keeps.specs.Fits.{Fits, FitsW, fits-plain, fits-purge}
+use Rattle.keeps.specs.Along.{ids}
+use Rattle.keeps.specs.Fits.{FitsW, fits-plain, fits-purge}
 use Rattle.keeps.specs.Codes.{codes, codes-mem, codes-delete}
-use Rattle.keeps.specs.Uses.{varNumber, usesOf, uses-hit, uses-miss, uses-none, uses-live}
+use Rattle.keeps.specs.Uses.{varNumber, usesOf, uses-hit, uses-miss, uses-none}
 use Rattle.keeps.specs.Reads.{varCode}
 use Rattle.keeps.specs.Places.{eqb-in}
 use Rattle.keeps.specs.Good.{OldOk, Vars, Good, good-to}

@@ -1,9 +1,9 @@
 -- The shape of a tableau that reads: live symbols ascend below the next id, rows are of live symbols and ascend, no row holds a basic symbol, numbers are finite while every write was. Small changes keep it. Assumes nothing.
 use mathlib.Core.Path.{_≡_, refl, sym, ap, _∙_, subst}
-use mathlib.Core.Logic.{_⊎_, inl, inr, _≢_}
+use mathlib.Core.Logic.{inl, inr, _≢_}
 use mathlib.Core.List.{List, [], _∷_, _++_, map}
 use mathlib.Core.Option.{Option, none, some}
-use mathlib.Core.Bool.{Bool, true, false, cond}
+use mathlib.Core.Bool.{Bool, true, false}
 use Prim.Native.Nat.{ℕ, suc, _+_, _≤_, _<_}
 use native.Mathlib.Omega.{arith}
 use lib.Dec.{eqb}
@@ -12,7 +12,7 @@ use Rattle.steps.specs.Number.{zero64, Mark, worse}
 use Rattle.steps.specs.Symbol.{Symbol, isSymbol, deleteCell, deleteSymbol}
 use Rattle.steps.specs.Row.{Row, appendCell}
 use Rattle.steps.specs.State.{Basic}
-use Rattle.steps.specs.Work.{Work, findRow, dropRow, keepRow, withTableau, appendSymbol, purge}
+use Rattle.steps.specs.Work.{Work, dropRow, keepRow}
 use Rattle.keeps.specs.Lists.{All, all-to, all-zip, all-append, Same?, is, isnt, same, same?, times, Up, up-from}
 use Rattle.keeps.specs.Keys.{rowId, dropBy, drop-all, drop-up, drop-times, drop-gone, dropRow-is, keepBy, keep-all, keep-up, keep-times, keepRow-is, none-has}
 use Rattle.keeps.specs.Along.{Along, ids, Mem, along-append, along-delete}

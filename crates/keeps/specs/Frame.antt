@@ -1,6 +1,6 @@
 -- What a pivot and its like leave alone: symbols, next id, variables but for their flags, the absence of an artificial objective; and the infeasible list stays distinct. Assumes nothing.
 use mathlib.Core.Path.{_≡_, refl, sym, ap, _∙_}
-use mathlib.Core.List.{List, [], _∷_, _++_, map, reverse, reverseAux}
+use mathlib.Core.List.{List, [], _∷_}
 use mathlib.Core.Option.{Option, none, some}
 use mathlib.Core.Bool.{Bool, true, false, cond, _&&_}
 use Prim.Native.Nat.{ℕ, suc, _+_, _≤_}
@@ -14,7 +14,7 @@ use Rattle.steps.specs.Row.{Row, Written, solveForSymbols}
 use Rattle.steps.specs.State.{Basic, Variable, Changes}
 use Rattle.steps.specs.Work.{Work, withTableau, withRows, withObjective, withInfeasible, withChanges, withArtificial, marking, findRow, dropRow, keepRow}
 use Rattle.steps.specs.Changes.{withFlag, clearChanged, flagSymbol, varChanged, allChanged, note}
-use Rattle.steps.specs.Substitute.{Substituted, substituteInRows, rowsOf, notedOf, without, push, pushBelow, substitute, enterBasis, pivot}
+use Rattle.steps.specs.Substitute.{substituteInRows, rowsOf, notedOf, without, push, pushBelow, substitute, enterBasis, pivot}
 use Rattle.keeps.specs.Lists.{Same?, is, isnt, same, same?, times, times-append}
 use Rattle.keeps.specs.Keys.{rowId, keepRow-is, keep-length, dropRow-is, drop-length, Row?, no-row, a-row, row?}
 

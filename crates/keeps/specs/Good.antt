@@ -1,32 +1,31 @@
 -- The work of a call on a state that reads: the tableau's shape, and the variables, whose symbols with K's are the live ones and whose uses are U. Assumes nothing.
-use mathlib.Core.Path.{_≡_, refl, sym, ap, ap₂, _∙_, subst}
+use mathlib.Core.Path.{_≡_, refl, sym, ap, ap₂, _∙_}
 use mathlib.Core.List.{List, [], _∷_, map}
 use mathlib.Core.Option.{Option, none, some}
 use mathlib.Core.Bool.{Bool, true, false, cond, _||_, true≢false}
-use Prim.Native.Nat.{ℕ, suc, _+_, _≤_}
+use Prim.Native.Nat.{ℕ, _+_, _≤_}
 use native.Mathlib.Omega.{arith}
 use lib.Dec.{eqb}
 use lib.ListN.{length, length-map}
-use lib.Ieee.{Float, isNan}
-use Rattle.steps.specs.Number.{isFinite, belowZero, Mark, allWhole, notWhole, notFinite, saysWhole}
+use lib.Ieee.{isNan}
+use Rattle.steps.specs.Number.{isFinite, belowZero, allWhole}
 use Rattle.steps.specs.Symbol.{Symbol, isExternal}
 use Rattle.steps.specs.Row.{Row}
 use Rattle.steps.specs.State.{Basic, Variable, Constraint, Edit, State}
-use Rattle.steps.specs.Edit.{editTerms}
-use Rattle.steps.specs.Work.{Work, Outcome, findRow, marking}
+use Rattle.steps.specs.Work.{Work, findRow}
 use Rattle.steps.specs.Changes.{withFlag, clearChanged}
 use Rattle.steps.specs.Optimise.{isBelow}
 use Rattle.steps.specs.Calls.{begin, stillBelow, finish}
-use Rattle.steps.specs.Readable.{usesIn, code, tagSymbols, constraintFinite, editFinite, tagKinds, editKinds}
+use Rattle.steps.specs.Readable.{code, constraintFinite, editFinite, tagKinds, editKinds}
 use Rattle.keeps.specs.Lists.{All, all-to, Same?, is, isnt, same, same?, total, times, Up}
 use Rattle.keeps.specs.Keys.{rowId, find-all, find-some, Row?, no-row, a-row, row?}
 use Rattle.keeps.specs.Along.{ids, Mem}
 use Rattle.keeps.specs.Cells.{Fine}
-use Rattle.keeps.specs.Fits.{Fits, FitsW, fits-mark, fits-plain, fits-worse, all-map}
+use Rattle.keeps.specs.Fits.{FitsW, fits-mark, fits-plain, all-map}
 use Rattle.keeps.specs.Frame.{Once, Frame}
 use Rattle.keeps.specs.Codes.{codes, mem-ids}
 use Rattle.keeps.specs.Uses.{varNumber, usesOf}
-use Rattle.keeps.specs.Reads.{Reads, unmap, conNumber, editNumber, varCode, tagCode, ownedBy, usedBy}
+use Rattle.keeps.specs.Reads.{Reads, unmap, conNumber, editNumber, varCode, tagCode, usedBy}
 
 abbrev pub OldOk : Variable → Type 0
 OldOk v = (isFinite (v .old) || isNan (v .old)) ≡ true
@@ -135,14 +134,6 @@ begin-good s r =
       vars = record { up = r .variables-up; symbols = λ n. refl; uses = r .uses; olds = r .olds; externals = r .externals };
       owns = r .owns;
     }
-
-pub begin-fine : (s : State) → Fine (begin s .mark)
-unfolding begin
-begin-fine s = go (s .whole)
-  where
-    go : (b : Bool) → Fine (cond b allWhole notWhole)
-    go true = tt
-    go false = tt
 
 -- ---- the end: "list entries whose row is absent or not below 0 go"
 

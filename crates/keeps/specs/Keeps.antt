@@ -8,7 +8,7 @@ use Rattle.steps.specs.State.{Term, Relation, State}
 use Rattle.steps.specs.Changes.{fetchChanges}
 use Rattle.steps.specs.Calls.{empty, reset, add, remove, addEdit, removeEdit, suggest}
 use Rattle.steps.specs.Readable.{readable, openReadable}
-use Rattle.keeps.specs.Reads.{reads-in, reads-out}
+use Rattle.keeps.specs.Tested.{reads-in, reads-out}
 use Rattle.keeps.specs.Suggest.{suggest-kept, fetch-kept}
 use Rattle.keeps.specs.Removal.{remove-kept, removeEdit-kept}
 use Rattle.keeps.specs.Addition.{add-kept, addEdit-kept}

@@ -4,7 +4,7 @@ use mathlib.Core.Logic.{inl, inr, _≢_}
 use mathlib.Core.List.{List, [], _∷_, map}
 use mathlib.Core.Option.{Option, none, some}
 use mathlib.Core.Bool.{Bool, true, false, not}
-use Prim.Native.Nat.{ℕ, zero, suc, _+_, _≤_, _<_}
+use Prim.Native.Nat.{ℕ, suc, _+_, _≤_, _<_}
 use native.Mathlib.Omega.{arith}
 use native.Mathlib.Nat.{eq-or-lt-of-le}
 use lib.Dec.{T, eqb, ltb, ltb→lt, nltb→le}
@@ -16,7 +16,7 @@ use Rattle.steps.specs.Work.{findRow, dropRow, keepRow}
 use Rattle.steps.specs.Changes.{findVariable}
 use Rattle.steps.specs.CreateRow.{keepVariable}
 use Rattle.steps.specs.Tests.{findConstraint, keepConstraint, dropConstraint, findEdit, keepEdit, dropEdit}
-use Rattle.keeps.specs.Lists.{All, Same?, is, isnt, same, same?, total, times, Up, up-from, up-none, so, so-not, none≢some, some-injective}
+use Rattle.keeps.specs.Lists.{All, Same?, is, isnt, same, same?, total, times, Up, up-from, up-none, none≢some, some-injective}
 
 module _ {A : Type 0} (key : A → ℕ) where
   unfoldable pub keepBy : A → List A → List A
@@ -107,9 +107,6 @@ module _ {A : Type 0} (key : A → ℕ) where
       go : Same? n (key x) → (findBy n xs ≡ some y → 1 ≤ times n (map key xs)) → 1 ≤ same n (key x) + times n (map key xs)
       go (is a b c) ih = omega arith
       go (isnt a b c) ih = omega (arith, ih (rw (a, findBy) at e))
-
-  pub times-find : (n : ℕ) (xs : List A) → 1 ≤ times n (map key xs) → findBy n xs ≡ none → ⊥
-  times-find n xs l e = omega (arith, find-none n xs e)
 
   -- ---- dropping one
   pub drop-total : (f : A → ℕ) (n : ℕ) (xs : List A) (x : A) → findBy n xs ≡ some x → total f xs ≡ f x + total f (dropBy n xs)

@@ -1,6 +1,6 @@
 -- Removal's start: the errors leave the objective, and the marker its row. Assumes nothing.
 use mathlib.Core.Path.{_≡_, refl, sym, ap, _∙_, subst}
-use mathlib.Core.List.{List, [], _∷_, map}
+use mathlib.Core.List.{List, [], _∷_}
 use mathlib.Core.Option.{Option, none, some}
 use mathlib.Core.Bool.{Bool, true, false, cond, _&&_}
 use Prim.Native.Nat.{ℕ, suc, _+_, _≤_}
@@ -14,7 +14,7 @@ use Rattle.steps.specs.State.{Basic, Tag}
 use Rattle.steps.specs.Work.{Work, Outcome, refused, going, _>>=_, refuse, checkFinite, withTableau, withRows, withObjective, withInfeasible, withChanges, withArtificial, marking, findRow, dropRow, keepRow}
 use Rattle.steps.specs.Changes.{note}
 use Rattle.steps.specs.CreateRow.{insertInObjective}
-use Rattle.steps.specs.Substitute.{rowsOf, substituteInRows, substitute, enterBasis, pivot}
+use Rattle.steps.specs.Substitute.{substitute, enterBasis, pivot}
 use Rattle.steps.specs.Optimise.{Candidate, smallestRatio, negativeRatios}
 use Rattle.steps.specs.Remove.{insertRowInObjective, removeMarkerEffects, removeConstraintEffects, cellIn, firstDummyRow, positiveRatios, lastExternalRow, getMarkerLeavingRow, noteLeaving, dropMarker}
 use Rattle.keeps.specs.Lists.{All, Same?, is, isnt, same, same?, times, none≢some, some-injective}
@@ -25,7 +25,7 @@ use Rattle.keeps.specs.RowOps.{RowOk, cells-inserted, symbol-inserted}
 use Rattle.keeps.specs.Fits.{bids, IsBasic, Fits, FitsW, fits-worse, fits-drop}
 use Rattle.keeps.specs.Frame.{Frame, frame-refl, frame-trans, rows-frame, note-frame, pivot-frame, pivot-count}
 use Rattle.keeps.specs.Pivots.{pivot-fits}
-use Rattle.keeps.specs.Passes.{Ends, ends-bind, check-ends, After, after-refl, after-trans, Free, pivot-ends, smallest-all}
+use Rattle.keeps.specs.Passes.{Ends, ends-bind, check-ends, After, after-refl, after-trans, smallest-all}
 use Rattle.keeps.specs.Reads.{unmap}
 use Rattle.keeps.specs.Places.{times-all}
 

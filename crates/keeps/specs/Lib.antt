@@ -11,7 +11,9 @@ pub mod Passes
 pub mod Codes
 pub mod Uses
 pub mod Places
+pub mod Clauses
 pub mod Reads
+pub mod Tested
 pub mod Good
 pub mod Suggest
 pub mod Fallen

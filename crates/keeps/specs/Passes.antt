@@ -1,6 +1,6 @@
 -- The two passes: from a tableau that reads to one that does, with the same symbols, variables and number of rows. Assumes nothing.
-use mathlib.Core.Path.{_≡_, refl, sym, ap, _∙_, subst}
-use mathlib.Core.Logic.{inl, inr, _≢_}
+use mathlib.Core.Path.{_≡_, refl, _∙_, subst}
+use mathlib.Core.Logic.{inl, inr}
 use mathlib.Core.List.{List, [], _∷_, reverse}
 use mathlib.Core.Option.{Option, none, some}
 use mathlib.Core.Bool.{Bool, true, false, not, cond, _&&_}
@@ -15,13 +15,13 @@ use Rattle.steps.specs.State.{Basic}
 use Rattle.steps.specs.Work.{Work, Outcome, refused, going, _>>=_, refuse, checkFinite, withTableau, withInfeasible, countPivot, findRow}
 use Rattle.steps.specs.Substitute.{pivot}
 use Rattle.steps.specs.Optimise.{Candidate, better, smallestFrom, smallestRatio, Goal, theObjective, theArtificial, goalCells, getEnteringSymbol, getLeavingRow, Choice, ended, stuck, pivotOn, choosePivot, countedPivot, optimise, isBelow, Popped, allPopped, popped, popBelow, dualRatios, getDualEnteringSymbol, DualChoice, feasible, noEntering, dualPivotOn, chooseDualPivot, countedDualPivot, dualOptimise}
-use Rattle.keeps.specs.Lists.{All, all-to, same, times, none-of, left, right, none≢some, some-injective, reverse-times}
+use Rattle.keeps.specs.Lists.{All, same, times, none-of, left, right, none≢some, some-injective, reverse-times}
 use Rattle.keeps.specs.Keys.{rowId, find-all, Row?, no-row, a-row, row?}
 use Rattle.keeps.specs.Along.{Along, Mem, Chosen, first-chosen}
 use Rattle.keeps.specs.Cells.{Ok, Fine, below-held, above-held}
 use Rattle.keeps.specs.RowOps.{RowOk}
 use Rattle.keeps.specs.Fits.{bids, IsBasic, ArtOk, FitsW}
-use Rattle.keeps.specs.Frame.{Once, Frame, frame-refl, frame-trans, pivot-frame, pivot-count}
+use Rattle.keeps.specs.Frame.{Frame, frame-refl, frame-trans, pivot-frame, pivot-count}
 use Rattle.keeps.specs.Pivots.{pivot-fits}
 
 -- ---- a step that goes on

@@ -1,15 +1,15 @@
 -- A symbol enters the basis, and a pivot: the tableau keeps its shape. Assumes nothing.
-use mathlib.Core.Path.{_≡_, refl, sym, ap, _∙_, subst}
+use mathlib.Core.Path.{_≡_, refl, sym, ap}
 use mathlib.Core.Logic.{_≢_}
-use mathlib.Core.List.{List, [], _∷_, map}
+use mathlib.Core.List.{List, [], _∷_}
 use mathlib.Core.Option.{Option, none, some}
 use mathlib.Core.Bool.{Bool, true, false, cond, _&&_}
 use Prim.Native.Nat.{ℕ, _+_, _≤_}
 use native.Mathlib.Omega.{arith}
-use lib.Ieee.{Float, ne}
+use lib.Ieee.{ne}
 use Rattle.steps.specs.Number.{zero64, objectiveBound, Mark, allWhole, worse}
 use Rattle.steps.specs.Symbol.{Symbol, isExternal}
-use Rattle.steps.specs.Row.{Row, cellValues, cellMarks, Written, solveForSymbols}
+use Rattle.steps.specs.Row.{Row, cellMarks, Written, solveForSymbols}
 use Rattle.steps.specs.State.{Basic}
 use Rattle.steps.specs.Work.{Work, withTableau, withRows, withObjective, withInfeasible, withChanges, withArtificial, marking, findRow, dropRow, keepRow}
 use Rattle.steps.specs.Changes.{note}
@@ -17,7 +17,7 @@ use Rattle.steps.specs.Substitute.{Substituted, substituteInRow, substituteInCe
 use Rattle.keeps.specs.Lists.{All, Same?, is, isnt, same, same?, times, Up}
 use Rattle.keeps.specs.Keys.{rowId, dropRow-is, drop-times, drop-gone, find-all, Row?, no-row, a-row, row?}
 use Rattle.keeps.specs.Along.{ids, Mem}
-use Rattle.keeps.specs.Cells.{Ok, Fine, fine-l, fine-r}
+use Rattle.keeps.specs.Cells.{Fine, fine-l, fine-r}
 use Rattle.keeps.specs.RowOps.{RowOk, row-to, substituteInRow-ok, substituteInCells-ok, solveForSymbols-ok}
 use Rattle.keeps.specs.Fits.{bids, IsBasic, ArtOk, Fits, FitsW, fits-worse, fits-drop, fits-keep}
 

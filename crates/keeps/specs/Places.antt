@@ -1,15 +1,15 @@
 -- The test on one row's cells, and the cells along the symbols: each says the other. Assumes nothing.
-use mathlib.Core.Path.{_≡_, refl, sym, ap, _∙_, subst}
-use mathlib.Core.List.{List, [], _∷_, map}
-use mathlib.Core.Bool.{Bool, true, false, _&&_, true≢false}
-use Prim.Native.Nat.{ℕ, zero, suc, _+_, _≤_, _<_}
+use mathlib.Core.Path.{_≡_, refl, sym, subst}
+use mathlib.Core.List.{List, [], _∷_}
+use mathlib.Core.Bool.{Bool, true, false}
+use Prim.Native.Nat.{ℕ, suc, _+_, _≤_, _<_}
 use native.Mathlib.Omega.{arith}
-use lib.Dec.{T, eqb, eqb→eq, eqb-refl}
+use lib.Dec.{eqb, eqb→eq, eqb-refl}
 use lib.ListN.{length}
 use lib.Ieee.{Float}
 use Rattle.steps.specs.Number.{zero64, isFinite}
 use Rattle.steps.specs.Symbol.{Symbol, isSymbol, absent, coefficientFor}
-use Rattle.steps.specs.State.{State, Basic}
+use Rattle.steps.specs.State.{State}
 use Rattle.steps.specs.Readable.{all, holdsNoBasic, basicIds}
 use Rattle.keeps.specs.Lists.{All, all-in, all-out, Same?, is, isnt, same, same?, times, Up, so, truly, both, left, right}
 use Rattle.keeps.specs.Along.{Along, ids, along-length, at-coefficient}

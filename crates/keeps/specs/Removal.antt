@@ -1,31 +1,29 @@
 -- A removal of a constraint or an edit, on a state that reads: so does what it leaves. Assumes nothing.
-use mathlib.Core.Path.{_≡_, refl, sym, ap, _∙_, subst}
-use mathlib.Core.List.{List, [], _∷_, map}
+use mathlib.Core.Path.{_≡_, refl, sym, ap, _∙_}
+use mathlib.Core.List.{List, [], _∷_}
 use mathlib.Core.Option.{Option, none, some}
-use mathlib.Core.Bool.{Bool, true, false}
 use Prim.Native.Nat.{ℕ, suc, _+_, _-_, _≤_}
 use native.Mathlib.Omega.{arith}
 use lib.ListN.{length}
 use lib.Ieee.{Float}
 use Rattle.steps.specs.Symbol.{Symbol}
 use Rattle.steps.specs.State.{Term, Tag, Constraint, Edit, State}
-use Rattle.steps.specs.Work.{Work, Outcome, going, _>>=_, checkFinite, purge}
+use Rattle.steps.specs.Work.{Work, going, _>>=_, checkFinite, purge}
 use Rattle.steps.specs.Optimise.{optimise, theObjective}
 use Rattle.steps.specs.Remove.{removeConstraintEffects, dropMarker, purgeTag, dropUses, removeSteps}
 use Rattle.steps.specs.Edit.{editTerms}
 use Rattle.steps.specs.Tests.{findConstraint, dropConstraint, findEdit, dropEdit}
 use Rattle.steps.specs.Calls.{begin, finish, refusedBy, remove, removeEdit}
 use Rattle.steps.specs.Readable.{code, usesIn, tagSymbols}
-use Rattle.keeps.specs.Lists.{All, Same?, is, isnt, same, same?, total, times, Up}
-use Rattle.keeps.specs.Keys.{findBy, dropBy, find-some, drop-total, drop-length, drop-all, drop-up, findConstraint-is, dropConstraint-is, findEdit-is, dropEdit-is}
+use Rattle.keeps.specs.Lists.{All, Same?, is, isnt, same, same?, total, times}
+use Rattle.keeps.specs.Keys.{findBy, find-some, drop-total, drop-length, drop-all, drop-up, findConstraint-is, dropConstraint-is, findEdit-is, dropEdit-is}
 use Rattle.keeps.specs.Along.{Mem}
 use Rattle.keeps.specs.Cells.{Fine}
-use Rattle.keeps.specs.Fits.{FitsW}
 use Rattle.keeps.specs.Frame.{Frame, frame-trans}
 use Rattle.keeps.specs.Codes.{codes, codes-mem}
 use Rattle.keeps.specs.Passes.{Ends, ends-bind, ends-to, check-ends, After, optimise-ends}
 use Rattle.keeps.specs.Reads.{Reads, conNumber, editNumber, tagCode, usedBy}
-use Rattle.keeps.specs.Good.{Good, good-frame, good-to, clear-length, tagsBy, begin-good, begin-fine, Stored, stored-in, finish-reads}
+use Rattle.keeps.specs.Good.{Good, good-frame, clear-length, tagsBy, begin-good, Stored, stored-in, finish-reads}
 use Rattle.keeps.specs.Suggest.{conclude-reads}
 use Rattle.keeps.specs.Fallen.{Shrunk, shrunk-trans, purge-shrunk, purge-good, dropUses-good}
 use Rattle.keeps.specs.Leaving.{OnlyGoal, effects, Dropped, dropMarker-ends}

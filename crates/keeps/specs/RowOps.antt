@@ -1,16 +1,16 @@
 -- The row operations on rows that read: along the live symbols, no basic symbol held, finite while no write has been other. Assumes nothing.
-use mathlib.Core.Path.{_≡_, refl, sym, ap, _∙_, subst}
+use mathlib.Core.Path.{_≡_, refl}
 use mathlib.Core.Logic.{_≢_}
 use mathlib.Core.List.{List, [], _∷_, _++_, map}
 use mathlib.Core.Bool.{Bool, true, false}
 use Prim.Native.Nat.{ℕ}
 use lib.Ieee.{Float, neg}
-use Rattle.steps.specs.Number.{zero64, minusOne64, cellBound, constantBound, objectiveBound, _+₆₄_, _*₆₄_, _/₆₄_, isFinite, worse, markWrite}
-use Rattle.steps.specs.Symbol.{Symbol, absent, coefficientFor, clearCell, deleteCell, deleteSymbol}
+use Rattle.steps.specs.Number.{zero64, minusOne64, cellBound, constantBound, objectiveBound, _+₆₄_, _*₆₄_, _/₆₄_, isFinite, markWrite}
+use Rattle.steps.specs.Symbol.{Symbol, absent, coefficientFor, clearCell}
 use Rattle.steps.specs.Row.{Row, Cell, kept, stored, cellValue, cellValues, cellMarks, insertSymbol, insertCells, scaleCells, factorMark, Written, untouched, insertSymbolInRow, insertRow, solveForSymbol, solveForSymbols, reverseSign, appendCell}
 use Rattle.steps.specs.Substitute.{substituteInRow, substituteInCells}
 use Rattle.keeps.specs.Lists.{Up}
-use Rattle.keeps.specs.Along.{Along, ids, along-map, along-append, along-zero, along-insertCells, along-insertSymbol, along-scale, along-clear, along-at, along-delete, along-values}
+use Rattle.keeps.specs.Along.{Along, ids, along-map, along-append, along-zero, along-insertCells, along-insertSymbol, along-scale, along-clear, along-at, along-values}
 use Rattle.keeps.specs.Cells.{Ok, OkCell, Fine, fine-l, fine-r, write-finite, ok-zero, kept-ok, insert-ok, times-ok, scale-ok, values-ok, ok-to, neg-absent, neg-finite, stored-absent, stored-finite}
 
 abbrev pub RowOk : (ℕ → Type 0) → Type 0 → List Symbol → Row → Type 0

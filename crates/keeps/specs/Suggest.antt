@@ -1,35 +1,35 @@
 -- A suggestion and a fetch, on a state that reads: so does what they leave. Assumes nothing.
-use mathlib.Core.Path.{_≡_, refl, sym, ap, ap₂, _∙_, subst}
+use mathlib.Core.Path.{_≡_, refl, sym, ap, _∙_}
 use mathlib.Core.List.{List, [], _∷_, map}
 use mathlib.Core.Option.{Option, none, some}
-use mathlib.Core.Bool.{Bool, true, false, cond, not, _||_}
+use mathlib.Core.Bool.{Bool, true, false, cond, _||_}
 use Prim.Native.Nat.{ℕ, suc, _+_, _≤_}
 use native.Mathlib.Omega.{arith}
 use lib.ListN.{length, length-map}
-use lib.Ieee.{Float, ne, isNan}
-use Rattle.steps.specs.Number.{zero64, constantBound, _+₆₄_, _-₆₄_, isFinite, Mark, worse, wholeIf, markWrite, allWhole}
+use lib.Ieee.{Float, isNan}
+use Rattle.steps.specs.Number.{zero64, constantBound, _+₆₄_, _-₆₄_, isFinite, Mark, worse, wholeIf}
 use Rattle.steps.specs.Symbol.{Symbol}
-use Rattle.steps.specs.Row.{Row, Written, untouched}
+use Rattle.steps.specs.Row.{Row, untouched}
 use Rattle.steps.specs.State.{Tag, Basic, Variable, Constraint, Edit, State}
-use Rattle.steps.specs.Work.{Work, Outcome, refused, going, _>>=_, checkFinite, withTableau, withRows, withInfeasible, withChanges, marking, findRow}
-use Rattle.steps.specs.Changes.{withFlag, clearChanged, allChanged, valueOf, isNews, reported, Fetched, fetchChanges}
-use Rattle.steps.specs.Substitute.{Substituted, rowsOf, marksOf, notedOf, pushBelow}
+use Rattle.steps.specs.Work.{Work, Outcome, refused, going, checkFinite, withTableau, withRows, withInfeasible, withChanges, marking, findRow}
+use Rattle.steps.specs.Changes.{withFlag, clearChanged, valueOf, isNews, reported, fetchChanges}
+use Rattle.steps.specs.Substitute.{rowsOf, marksOf, notedOf}
 use Rattle.steps.specs.Optimise.{dualOptimise}
 use Rattle.steps.specs.Add.{wholeWithin}
-use Rattle.steps.specs.Edit.{editTerms, shiftOf, shiftRow, shiftRows, shifted, shiftConstants, suggestSteps}
+use Rattle.steps.specs.Edit.{editTerms, shiftOf, shiftRow, shiftRows, shiftConstants, suggestSteps}
 use Rattle.steps.specs.Tests.{findEdit, keepEdit, dropEdit}
-use Rattle.steps.specs.Calls.{Result, begin, finish, refusedBy, acceptedAs, conclude, suggest}
+use Rattle.steps.specs.Calls.{begin, finish, refusedBy, acceptedAs, conclude, suggest}
 use Rattle.steps.specs.Readable.{usesIn, editFinite, editKinds}
-use Rattle.keeps.specs.Lists.{All, all-to, total, times, Up, both, left, none≢some}
+use Rattle.keeps.specs.Lists.{All, all-to, total, Up, both, left}
 use Rattle.keeps.specs.Keys.{rowId, findBy, keepBy, dropBy, find-all, find-some, drop-total, drop-length, drop-all, drop-up, drop-gone, keep-total, keep-length, keep-all, keep-up, findEdit-is, keepEdit-is, dropEdit-is, Row?, no-row, a-row, row?}
 use Rattle.keeps.specs.Cells.{Fine, ok-to, fine-l, fine-r, write-finite, zero-finite}
 use Rattle.keeps.specs.RowOps.{RowOk, row-to}
 use Rattle.keeps.specs.Along.{Mem}
-use Rattle.keeps.specs.Fits.{bids, IsBasic, art-to, Fits, FitsW, fits-worse, fits-mark}
+use Rattle.keeps.specs.Fits.{bids, IsBasic, art-to, FitsW, fits-worse}
 use Rattle.keeps.specs.Frame.{Frame, frame-trans, mark-frame, clear-all, pushBelow-once}
 use Rattle.keeps.specs.Passes.{Ends, ends-bind, ends-to, check-ends, After, after-trans, dual-ends}
 use Rattle.keeps.specs.Reads.{Reads, editNumber, varCode, tagCode, usedBy}
-use Rattle.keeps.specs.Good.{Vars, OldOk, vars-map, vars-clear, Good, good-frame, good-to, tagsBy, begin-good, begin-fine, Stored, stored-in, finish-reads, clear-length}
+use Rattle.keeps.specs.Good.{Vars, OldOk, vars-map, vars-clear, good-frame, good-to, tagsBy, begin-good, Stored, stored-in, finish-reads, clear-length}
 
 -- ---- shifted rows
 

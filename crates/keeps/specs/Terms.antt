@@ -11,15 +11,15 @@ use Rattle.steps.specs.Number.{nearZero}
 use Rattle.steps.specs.Symbol.{Symbol}
 use Rattle.steps.specs.Row.{Row, insertRow}
 use Rattle.steps.specs.State.{Term, Variable}
-use Rattle.steps.specs.Work.{Work, withTableau, withChanges, marking, findRow, newSymbol, appendSymbol}
+use Rattle.steps.specs.Work.{withTableau, withChanges, marking, findRow, newSymbol, appendSymbol}
 use Rattle.steps.specs.Changes.{findVariable}
-use Rattle.steps.specs.CreateRow.{Building, written, appendTo, insertInto, keepVariable, withVariables, addVariable, useOnce, countUse, insertVariable, insertTerm, insertTerms}
+use Rattle.steps.specs.CreateRow.{Building, written, appendTo, insertInto, withVariables, addVariable, useOnce, countUse, insertVariable, insertTerm, insertTerms}
 use Rattle.steps.specs.Tests.{keptTerms, member, newVariables}
 use Rattle.steps.specs.Readable.{usesIn}
-use Rattle.keeps.specs.Lists.{Same?, is, isnt, same, same?, times, none-of, none≢some, member-in, member-out, no-both}
-use Rattle.keeps.specs.Keys.{findBy, find-none, find-times, keep-length, keep-times, keepVariable-is, findVariable-is}
+use Rattle.keeps.specs.Lists.{Same?, is, isnt, same, same?, times, member-in, member-out, no-both}
+use Rattle.keeps.specs.Keys.{find-none, find-times, keep-length, keep-times, keepVariable-is, findVariable-is}
 use Rattle.keeps.specs.Uses.{varNumber}
-use Rattle.keeps.specs.Good.{numbers-map, Good, good-to}
+use Rattle.keeps.specs.Good.{numbers-map, good-to}
 use Rattle.keeps.specs.Building.{Built, insertVariable-built, addVariable-built, once-vars}
 
 -- ---- is the variable n live
