@@ -45,7 +45,13 @@ pub record Stands (K U : ℕ → ℕ) (R L : ℕ) (v : Work) : Type 0 where
 
 stands-after : (K U : ℕ → ℕ) (R L : ℕ) (w v : Work) → Stands K U R L w → After w v → Stands K U R L v
 stands-after K U R L w v s a =
-    record { good = good-frame K U w v (s .good) (a .fits) (a .frame); fine = a .fine; plain = a .frame .plain (s .plain); rows = omega (arith, a .count, s .rows); size = clear-length (w .changes .variables) (v .changes .variables) (a .frame .variables) ∙ s .size }
+    record {
+      good = good-frame K U w v (s .good) (a .fits) (a .frame);
+      fine = a .fine;
+      plain = a .frame .plain (s .plain);
+      rows = omega (arith, a .count, s .rows);
+      size = clear-length (w .changes .variables) (v .changes .variables) (a .frame .variables) ∙ s .size;
+    }
 
 -- ---- step 5
 
@@ -90,22 +96,26 @@ module _ (K U : ℕ → ℕ) (N L : ℕ) (c : Created) (h : Tagged K U N L c) wh
       fits =
           unfold marking in
           enter-fits s (solved .row) w (fits-worse (h .good .fits) (solved .mark)) (f .free) (f .live) C old (λ i p. p)
-          (solveForSymbol-ok (IsBasic bs) C (Fine (c .work .mark)) (Fine (worse (c .work .mark) (solved .mark))) (fine-l (c .work .mark) (solved .mark)) 1 (c .work .tableau .symbols) (h .good .fits .up) (s .id) old (c .row) (h .row) (fine-r (c .work .mark) (solved .mark)))
+          (solveForSymbol-ok (IsBasic bs) C (Fine (c .work .mark)) (Fine (worse (c .work .mark) (solved .mark))) (fine-l (c .work .mark) (solved .mark)) 1
+          (c .work .tableau .symbols) (h .good .fits .up) (s .id) old (c .row) (h .row) (fine-r (c .work .mark) (solved .mark)))
 
 -- ---- step 6: the temporary comes
 
 -- all places are of symbols below t
-below-ok : (B C : ℕ → Type 0) (G : Type 0) (t : ℕ) → ((i : ℕ) → i < t → C i → B i) → (xs : List Symbol) (cs : List Float) → All (λ (x : Symbol). x .id < t) xs → Along (Ok B G) xs cs → Along (Ok C G) xs cs
+below-ok : (B C : ℕ → Type 0) (G : Type 0) (t : ℕ) → ((i : ℕ) → i < t → C i → B i) → (xs : List Symbol) (cs : List Float) → All (λ (x : Symbol). x .id < t) xs
+    → Along (Ok B G) xs cs → Along (Ok C G) xs cs
 below-ok B C G t f [] [] u h = tt
 below-ok B C G t f [] (c ∷ cs) u h = absurd h
 below-ok B C G t f (x ∷ xs) [] u h = absurd h
 below-ok B C G t f (x ∷ xs) (c ∷ cs) u h = (((λ p. h .0 .0 (f (x .id) (u .0) p)), h .0 .1), below-ok B C G t f xs cs (u .1) (h .1))
 
-stand-fits : (t : Symbol) (r : Row) (xs : List Symbol) (next : ℕ) (bs : List Basic) (os : List Float) (m : Mark) → t .id ≡ next → Fits xs next bs os none m → RowOk (IsBasic bs) (Fine m) xs r
+stand-fits : (t : Symbol) (r : Row) (xs : List Symbol) (next : ℕ) (bs : List Basic) (os : List Float) (m : Mark) → t .id ≡ next → Fits xs next bs os none m
+    → RowOk (IsBasic bs) (Fine m) xs r
     → Fits (xs ++ (t ∷ [])) (suc next) (keepRow (record { symbol = t; row = appendCell r }) (rerow appendCell bs)) (os ++ (zero64 ∷ [])) (some (appendCell r)) m
 unfolding appendCell
 stand-fits t r xs next bs os m e f h =
-    fits-keep t (appendCell r) (xs ++ (t ∷ [])) (suc next) (rerow appendCell bs) (os ++ (zero64 ∷ [])) (some (appendCell r)) m (mem-last t xs) (rw bids-rerow (rw e (fresh-row xs next (f .under) bs (f .live)))) (g .up) (g .pos) (g .under) (g .rows-up) (g .live) C (λ i p. rw (bids-rerow appendCell) at p)
+    fits-keep t (appendCell r) (xs ++ (t ∷ [])) (suc next) (rerow appendCell bs) (os ++ (zero64 ∷ [])) (some (appendCell r)) m (mem-last t xs)
+    (rw bids-rerow (rw e (fresh-row xs next (f .under) bs (f .live)))) (g .up) (g .pos) (g .under) (g .rows-up) (g .live) C (λ i p. rw (bids-rerow appendCell) at p)
     (row r h) (all-map _ _ bs (all-to _ _ (λ b k. row (b .row) k) bs (f .rows))) (place os (f .objective)) (row r h)
   where
     g : Fits (xs ++ (t ∷ [])) (suc next) (rerow appendCell bs) (os ++ (zero64 ∷ [])) none m
@@ -137,7 +147,14 @@ removeTemporary-ends K U R L t w s = go (findRow (t .id) bs) (row? (t .id) bs)
     bs = w .tableau .rows
 
     gone : (v : Work) → Stands (λ n. same n (code t) + K n) U R L v → Stands K U R L (purge (t .id) v)
-    gone v s = record { good = purge-good t (λ n. same n (code t) + K n) K U v (s .good) (s .plain) (λ n. refl); fine = rw (purge-shrunk (t .id) v .mark) (s .fine); plain = purge-shrunk (t .id) v .plain ∙ s .plain; rows = omega (arith, purge-shrunk (t .id) v .rows, s .rows); size = unfold purge withTableau in s .size }
+    gone v s =
+        record {
+          good = purge-good t (λ n. same n (code t) + K n) K U v (s .good) (s .plain) (λ n. refl);
+          fine = rw (purge-shrunk (t .id) v .mark) (s .fine);
+          plain = purge-shrunk (t .id) v .plain ∙ s .plain;
+          rows = omega (arith, purge-shrunk (t .id) v .rows, s .rows);
+          size = unfold purge withTableau in s .size;
+        }
 
     pivoted : Symbol → Outcome Work
     pivoted e = checkFinite (pivot (t .id) e w) >>= λ v. going (purge (t .id) v)
@@ -147,17 +164,29 @@ removeTemporary-ends K U R L t w s = go (findRow (t .id) bs) (row? (t .id) bs)
     by r k true o q = gone w s
     by r k false none q = tt
     by r k false (some e) q =
-        ends-bind (After w) (Stands K U R L) (checkFinite (pivot (t .id) e w)) (λ v. going (purge (t .id) v)) (pivot-ends (t .id) e w (s .good .fits) free) (λ v a. gone v (stands-after (λ n. same n (code t) + K n) U R L w v s a))
+        ends-bind (After w) (Stands K U R L) (checkFinite (pivot (t .id) e w)) (λ v. going (purge (t .id) v)) (pivot-ends (t .id) e w (s .good .fits) free)
+        (λ v a. gone v (stands-after (λ n. same n (code t) + K n) U R L w v s a))
       where
         free : Free w e
-        free = held-free w (Fine (w .mark)) holds holds-held e (first-chosen _ isPivotable holds (w .tableau .symbols) (r .cells) e (k .1) (unfold anyPivotableSymbol in q))
+        free =
+            held-free w (Fine (w .mark)) holds holds-held e
+            (first-chosen _ isPivotable holds (w .tableau .symbols) (r .cells) e (k .1) (unfold anyPivotableSymbol in q))
 
     next : Option Row → Outcome Work
-    next o = elim o [ none ↦ going (purge (t .id) w) | some r ↦ elim (isEmptyRow r w) [ true ↦ going (purge (t .id) w) | false ↦ elim (anyPivotableSymbol r w) [ none ↦ refused 12 (w .pivots) (w .mark) | some e ↦ pivoted e ] ] ]
+    next o =
+        elim o [
+          | none ↦ going (purge (t .id) w)
+          | some r ↦ elim (isEmptyRow r w) [
+            | true ↦ going (purge (t .id) w)
+            | false ↦ elim (anyPivotableSymbol r w) [ none ↦ refused 12 (w .pivots) (w .mark) | some e ↦ pivoted e ]
+          ]
+        ]
 
     go : (o : Option Row) → Row? (t .id) bs o → Ends (Stands K U R L) (next o)
     go o (no-row q) = gone w s
-    go o (a-row b q) = by (b .row) (find-all rowId (λ (b : Basic). RowOk (IsBasic bs) (Fine (w .mark)) (w .tableau .symbols) (b .row)) (t .id) bs b q (s .good .fits .rows)) (isEmptyRow (b .row) w) (anyPivotableSymbol (b .row) w) refl
+    go o (a-row b q) =
+        by (b .row) (find-all rowId (λ (b : Basic). RowOk (IsBasic bs) (Fine (w .mark)) (w .tableau .symbols) (b .row)) (t .id) bs b q (s .good .fits .rows))
+        (isEmptyRow (b .row) w) (anyPivotableSymbol (b .row) w) refl
 
 -- ---- steps 5 and 6
 
@@ -174,21 +203,32 @@ module _ (K U : ℕ → ℕ) (N L : ℕ) (c : Created) (h : Tagged K U N L c) (f
 
   standing-fits : FitsW standing
   unfolding standing temporary standTemporary appendTo newSymbol appendSymbol withArtificial withRows withTableau
-  standing-fits = stand-fits temporary (c .row) (c .work .tableau .symbols) (c .work .tableau .nextId) (c .work .tableau .rows) (c .work .tableau .objective) (c .work .mark) refl (fits-plain (h .good .fits)) (h .row)
+  standing-fits =
+      stand-fits temporary (c .row) (c .work .tableau .symbols) (c .work .tableau .nextId) (c .work .tableau .rows) (c .work .tableau .objective)
+      (c .work .mark) refl (fits-plain (h .good .fits)) (h .row)
 
   standing-good : Good (λ n. same n (code temporary) + Tags n) U standing
   unfolding standing standTemporary appendTo appendSymbol withArtificial withRows withTableau
   standing-good =
-      record { fits = standing-fits; once = h .good .once; C = h .good .C; vars = h .good .vars; owns = λ n. omega (arith, codes-append n (c .work .tableau .symbols) temporary, h .good .owns n) }
+      record {
+        fits = standing-fits;
+        once = h .good .once;
+        C = h .good .C;
+        vars = h .good .vars;
+        owns = λ n. omega (arith, codes-append n (c .work .tableau .symbols) temporary, h .good .owns n);
+      }
 
   standing-count : length (standing .tableau .rows) ≡ suc N
   unfolding standing standTemporary appendTo appendSymbol withArtificial withRows withTableau
-  standing-count = ap length (keepRow-is _ (rerow appendCell (c .work .tableau .rows))) ∙ keep-length rowId _ (rerow appendCell (c .work .tableau .rows)) ∙ ap suc (length-map {B = Basic} (c .work .tableau .rows) (λ (b : Basic). record { symbol = b .symbol; row = appendCell (b .row) }) ∙ h .count)
+  standing-count =
+      ap length (keepRow-is _ (rerow appendCell (c .work .tableau .rows))) ∙ keep-length rowId _ (rerow appendCell (c .work .tableau .rows)) ∙ ap suc
+      (length-map {B = Basic} (c .work .tableau .rows) (λ (b : Basic). record { symbol = b .symbol; row = appendCell (b .row) }) ∙ h .count)
 
   artificial-ends : (budget : ℕ) → Ends (Stands Tags U (suc N) L) (addWithArtificialVariable budget c)
   unfolding addWithArtificialVariable refuse temporary standing
   artificial-ends budget =
-      ends-bind (After standing) (Stands Tags U (suc N) L) (optimise (budget - standing .pivots) theArtificial standing) (λ w. elim (artificialConstantNearZero w) [ false ↦ refused 12 (w .pivots) (w .mark) | true ↦ removeTemporary temporary (withArtificial none w) ])
+      ends-bind (After standing) (Stands Tags U (suc N) L) (optimise (budget - standing .pivots) theArtificial standing)
+      (λ w. elim (artificialConstantNearZero w) [ false ↦ refused 12 (w .pivots) (w .mark) | true ↦ removeTemporary temporary (withArtificial none w) ])
       (optimise-ends (budget - standing .pivots) theArtificial standing standing-fits still) (λ w a. by w a (artificialConstantNearZero w))
     where
       still : Fine (standing .mark)
@@ -201,9 +241,22 @@ module _ (K U : ℕ → ℕ) (N L : ℕ) (c : Created) (h : Tagged K U N L c) (f
       plain w a =
           let g : Good (λ n. same n (code temporary) + Tags n) U w = good-frame _ U standing w standing-good (a .fits) (a .frame) in
           unfold withArtificial in
-          record { good = record { fits = fits-plain (g .fits); once = g .once; C = g .C; vars = g .vars; owns = g .owns }; fine = a .fine; plain = refl; rows = omega (arith, a .count, standing-count); size = clear-length (standing .changes .variables) (w .changes .variables) (a .frame .variables) ∙ sized }
+          record {
+            good = record {
+              fits = fits-plain (g .fits);
+              once = g .once;
+              C = g .C;
+              vars = g .vars;
+              owns = g .owns;
+            };
+            fine = a .fine;
+            plain = refl;
+            rows = omega (arith, a .count, standing-count);
+            size = clear-length (standing .changes .variables) (w .changes .variables) (a .frame .variables) ∙ sized;
+          }
 
-      by : (w : Work) → After standing w → (b : Bool) → Ends (Stands Tags U (suc N) L) (elim b [ false ↦ refused 12 (w .pivots) (w .mark) | true ↦ removeTemporary temporary (withArtificial none w) ])
+      by : (w : Work) → After standing w → (b : Bool)
+          → Ends (Stands Tags U (suc N) L) (elim b [ false ↦ refused 12 (w .pivots) (w .mark) | true ↦ removeTemporary temporary (withArtificial none w) ])
       by w a false = tt
       by w a true = removeTemporary-ends Tags U (suc N) L temporary (withArtificial none w) (plain w a)
 
@@ -212,9 +265,14 @@ module _ (K U : ℕ → ℕ) (N L : ℕ) (c : Created) (h : Tagged K U N L c) (f
   created-ends budget = go (chooseSubject c) refl
     where
       rest : Outcome Work
-      rest = elim (allDummies c) [ false ↦ addWithArtificialVariable budget c | true ↦ elim (nearZero (c .row .constant)) [ false ↦ refused 12 (c .work .pivots) (c .work .mark) | true ↦ addWithSubject (c .tag .marker) c ] ]
+      rest =
+          elim (allDummies c) [
+            | false ↦ addWithArtificialVariable budget c
+            | true ↦ elim (nearZero (c .row .constant)) [ false ↦ refused 12 (c .work .pivots) (c .work .mark) | true ↦ addWithSubject (c .tag .marker) c ]
+          ]
 
-      by : (d z : Bool) → Ends (Stands Tags U (suc N) L) (elim d [ false ↦ addWithArtificialVariable budget c | true ↦ elim z [ false ↦ refused 12 (c .work .pivots) (c .work .mark) | true ↦ addWithSubject (c .tag .marker) c ] ])
+      by : (d z : Bool)
+          → Ends (Stands Tags U (suc N) L) (elim d [ false ↦ addWithArtificialVariable budget c | true ↦ elim z [ false ↦ refused 12 (c .work .pivots) (c .work .mark) | true ↦ addWithSubject (c .tag .marker) c ] ])
       by false z = artificial-ends budget
       by true false = tt
       by true true = subject-ends K U N L c h (c .tag .marker) (h .marker)
@@ -231,14 +289,19 @@ pub record AddedOk (K U : ℕ → ℕ) (R L : ℕ) (c : Created) (a : Added) : T
   pub tag : a .tag ≡ c .tag
 
 pub add-ends : (budget : ℕ) (terms : List Term) (constant : Float) (r : Relation) (K U : ℕ → ℕ) (w : Work) → Good K U w → w .artificial ≡ none → isFinite constant ≡ true
-    → Ends (AddedOk K (λ m. usesIn m (keptTerms terms) + U m) (suc (length (w .tableau .rows))) (length (w .changes .variables) + length (newVariables (w .changes .variables) [] (keptTerms terms))) (createRow terms constant r (marking (wholeIf (wholeInputs terms constant r)) w)))
+    → Ends (AddedOk K (λ m. usesIn m (keptTerms terms) + U m) (suc (length (w .tableau .rows)))
+    (length (w .changes .variables) + length (newVariables (w .changes .variables) [] (keptTerms terms)))
+    (createRow terms constant r (marking (wholeIf (wholeInputs terms constant r)) w)))
     (addSteps budget terms constant r w)
 unfolding addSteps
 add-ends budget terms constant r K U w g plain fin =
-    ends-bind S (AddedOk K W R L c) (checkFinite (c .work) >>= (λ _. addCreated budget c) >>= (λ v. optimise (budget - v .pivots) theObjective v)) (λ v. going (record { work = v; tag = c .tag }))
+    ends-bind S (AddedOk K W R L c) (checkFinite (c .work) >>= (λ _. addCreated budget c) >>= (λ v. optimise (budget - v .pivots) theObjective v))
+    (λ v. going (record { work = v; tag = c .tag }))
     (ends-bind S S (checkFinite (c .work) >>= (λ _. addCreated budget c)) (λ v. optimise (budget - v .pivots) theObjective v)
-    (ends-bind (λ _. Fine (c .work .mark)) S (checkFinite (c .work)) (λ _. addCreated budget c) (check-ends _ (c .work) (λ m. m)) (λ v m. created-ends K W (length (w .tableau .rows)) L c made m budget))
-    (λ v s. ends-to (After v) S (optimise (budget - v .pivots) theObjective v) (optimise-ends (budget - v .pivots) theObjective v (s .good .fits) (s .fine)) (λ u a. stands-after _ W R L v u s a)))
+    (ends-bind (λ _. Fine (c .work .mark)) S (checkFinite (c .work)) (λ _. addCreated budget c) (check-ends _ (c .work) (λ m. m))
+    (λ v m. created-ends K W (length (w .tableau .rows)) L c made m budget))
+    (λ v s. ends-to (After v) S (optimise (budget - v .pivots) theObjective v) (optimise-ends (budget - v .pivots) theObjective v (s .good .fits) (s .fine))
+    (λ u a. stands-after _ W R L v u s a)))
     (λ v s. record { stands = s; tag = refl })
   where
     mark : Mark
@@ -260,4 +323,6 @@ add-ends budget terms constant r K U w g plain fin =
     S = Stands (λ n. tagCode n (c .tag) + K n) W R L
 
     made : Tagged K W (length (w .tableau .rows)) L c
-    made = unfold marking in createRow-tagged K U terms constant r (marking mark w) (good-frame K U w (marking mark w) g (fits-worse (g .fits) mark) (mark-frame mark w)) plain fin
+    made =
+        unfold marking in createRow-tagged K U terms constant r (marking mark w)
+        (good-frame K U w (marking mark w) g (fits-worse (g .fits) mark) (mark-frame mark w)) plain fin

@@ -73,7 +73,8 @@ unfolding keptTerms finiteTerms
 kept-finite [] e = tt
 kept-finite (t ∷ ts) e = go (nearZero (t .coefficient)) (kept-finite ts (right (isFinite (t .coefficient)) (finiteTerms ts) e))
   where
-    go : (z : Bool) → All (λ (t : Term). isFinite (t .coefficient) ≡ true) (keptTerms ts) → All (λ (t : Term). isFinite (t .coefficient) ≡ true) (elim z [ true ↦ keptTerms ts | false ↦ t ∷ keptTerms ts ])
+    go : (z : Bool) → All (λ (t : Term). isFinite (t .coefficient) ≡ true) (keptTerms ts)
+        → All (λ (t : Term). isFinite (t .coefficient) ≡ true) (elim z [ true ↦ keptTerms ts | false ↦ t ∷ keptTerms ts ])
     go true ih = ih
     go false ih = (left (isFinite (t .coefficient)) (finiteTerms ts) e, ih)
 
@@ -174,14 +175,18 @@ module _ (n : ℕ) (terms : List Term) (constant : Float) (r : Relation) (s : St
   unfolding hasConstraint
   unused = go (findConstraint n (s .constraints)) refl (tests .2)
     where
-      go : (o : Option Constraint) → findConstraint n (s .constraints) ≡ o → elim o [ none ↦ false | some c ↦ true ] ≡ false → times n (map conNumber (s .constraints)) ≡ 0
+      go : (o : Option Constraint) → findConstraint n (s .constraints) ≡ o → elim o [ none ↦ false | some c ↦ true ] ≡ false
+          → times n (map conNumber (s .constraints)) ≡ 0
       go none e q = find-none conNumber n (s .constraints) (sym (findConstraint-is n (s .constraints)) ∙ e)
       go (some c) e q = absurd (true≢false q)
 
   added-reads : (c : Created) (a : Added) → tagKinds (strengthOf r) (c .tag) ≡ true
-      → AddedOk (λ m. tagsBy m (s .constraints) (s .edits)) (λ m. usesIn m (keptTerms terms) + usedBy m (s .constraints) (s .edits)) (suc (length (s .tableau .rows))) (length (s .changes .variables) + length (newVariables (s .changes .variables) [] (keptTerms terms))) c a
+      → AddedOk (λ m. tagsBy m (s .constraints) (s .edits)) (λ m. usesIn m (keptTerms terms) + usedBy m (s .constraints) (s .edits))
+      (suc (length (s .tableau .rows))) (length (s .changes .variables) + length (newVariables (s .changes .variables) [] (keptTerms terms))) c a
       → Reads (finish (a .work) (keepConstraint (record { number = n; strength = strengthOf r; terms = keptTerms terms; tag = a .tag }) (s .constraints)) (s .edits))
-  added-reads c a kinds h = finish-reads (a .work) cs (s .edits) (good-to _ _ _ _ (a .work) tags uses (h .stands .good)) (h .stands .fine) stored (omega (arith, h .stands .size, few-vars)) (omega (arith, h .stands .rows, reads .few-rows, size))
+  added-reads c a kinds h =
+      finish-reads (a .work) cs (s .edits) (good-to _ _ _ _ (a .work) tags uses (h .stands .good)) (h .stands .fine) stored
+      (omega (arith, h .stands .size, few-vars)) (omega (arith, h .stands .rows, reads .few-rows, size))
     where
       con : Constraint
       con = record { number = n; strength = strengthOf r; terms = keptTerms terms; tag = a .tag }
@@ -214,8 +219,13 @@ module _ (n : ℕ) (terms : List Term) (constant : Float) (r : Relation) (s : St
             few-terms = more _ (omega (arith, kept-length terms, at-most 16 (length terms) (tests .1))) (old .few-terms);
             constraints-up = rw keepConstraint-is (keep-up conNumber 0 con (s .constraints) (omega arith) unused (old .constraints-up));
             edits-up = old .edits-up;
-            constraints-finite = more (λ (c : Constraint). constraintFinite c ≡ true) (unfold constraintFinite in both (right (finiteTerms terms && isFinite constant) (isFinite (strengthOf r)) finite) (all-out _ (keptTerms terms) (kept-finite terms terms-finite))) (old .constraints-finite);
-            constraint-kinds = more (λ (c : Constraint). tagKinds (c .strength) (c .tag) ≡ true) (subst (λ (t : Tag). tagKinds (strengthOf r) t ≡ true) (sym (h .tag)) kinds) (old .constraint-kinds);
+            constraints-finite =
+                more (λ (c : Constraint). constraintFinite c ≡ true)
+                (unfold constraintFinite in both (right (finiteTerms terms && isFinite constant) (isFinite (strengthOf r)) finite)
+                (all-out _ (keptTerms terms) (kept-finite terms terms-finite))) (old .constraints-finite);
+            constraint-kinds =
+                more (λ (c : Constraint). tagKinds (c .strength) (c .tag) ≡ true) (subst (λ (t : Tag). tagKinds (strengthOf r) t ≡ true) (sym (h .tag)) kinds)
+                (old .constraint-kinds);
             edits-finite = old .edits-finite;
             edit-kinds = old .edit-kinds;
           }
@@ -227,8 +237,11 @@ add-kept n terms constant r budget s reads = go (firstRefusal (addTests n terms 
     go : (o : Option ℕ) → firstRefusal (addTests n terms constant r s) ≡ o → Reads (add n terms constant r budget s .state)
     go (some k) e = rw (e, add) reads
     go none e =
-        rw (e, add) (concludeAdd-reads s (addSteps budget terms constant r (begin s)) (λ a. finish (a .work) (keepConstraint (record { number = n; strength = strengthOf r; terms = keptTerms terms; tag = a .tag }) (s .constraints)) (s .edits)) reads
-        (ends-to _ _ (addSteps budget terms constant r (begin s)) (add-ends budget terms constant r _ _ (begin s) (begin-good s reads) (plain s) (constant-finite n terms constant r s reads e))
+        rw (e, add) (concludeAdd-reads s (addSteps budget terms constant r (begin s))
+        (λ a. finish (a .work) (keepConstraint (record { number = n; strength = strengthOf r; terms = keptTerms terms; tag = a .tag }) (s .constraints))
+        (s .edits)) reads
+        (ends-to _ _ (addSteps budget terms constant r (begin s))
+        (add-ends budget terms constant r _ _ (begin s) (begin-good s reads) (plain s) (constant-finite n terms constant r s reads e))
         (λ a h. unfold begin in added-reads n terms constant r s reads e _ a (createRow-kinds terms constant r _) h)))
 
 module _ (n : ℕ) (strength : Float) (s : State) (reads : Reads s) (pass : firstRefusal (addEditTests n strength s) ≡ none) where
@@ -250,9 +263,12 @@ module _ (n : ℕ) (strength : Float) (s : State) (reads : Reads s) (pass : firs
       go (some c) e q = absurd (true≢false q)
 
   edit-reads : isFinite strength ≡ true → (c : Created) (a : Added) → isError (c .tag .marker) ≡ true → tagKinds strength (c .tag) ≡ true
-      → AddedOk (λ m. tagsBy m (s .constraints) (s .edits)) (λ m. usesIn m (keptTerms (editTerms n)) + usedBy m (s .constraints) (s .edits)) (suc (length (s .tableau .rows))) (length (s .changes .variables) + length (newVariables (s .changes .variables) [] (keptTerms (editTerms n)))) c a
+      → AddedOk (λ m. tagsBy m (s .constraints) (s .edits)) (λ m. usesIn m (keptTerms (editTerms n)) + usedBy m (s .constraints) (s .edits))
+      (suc (length (s .tableau .rows))) (length (s .changes .variables) + length (newVariables (s .changes .variables) [] (keptTerms (editTerms n)))) c a
       → Reads (finish (a .work) (s .constraints) (keepEdit (record { variable = n; strength = strength; tag = a .tag; suggestion = zero64 }) (s .edits)))
-  edit-reads held c a marker kinds h = finish-reads (a .work) (s .constraints) es (good-to _ _ _ _ (a .work) tags uses (h .stands .good)) (h .stands .fine) stored (omega (arith, h .stands .size, places (editTerms n) s (edit-tests .3))) (omega (arith, h .stands .rows, reads .few-rows, size))
+  edit-reads held c a marker kinds h =
+      finish-reads (a .work) (s .constraints) es (good-to _ _ _ _ (a .work) tags uses (h .stands .good)) (h .stands .fine) stored
+      (omega (arith, h .stands .size, places (editTerms n) s (edit-tests .3))) (omega (arith, h .stands .rows, reads .few-rows, size))
     where
       edit : Edit
       edit = record { variable = n; strength = strength; tag = a .tag; suggestion = zero64 }
@@ -288,7 +304,9 @@ module _ (n : ℕ) (strength : Float) (s : State) (reads : Reads s) (pass : firs
             constraints-finite = old .constraints-finite;
             constraint-kinds = old .constraint-kinds;
             edits-finite = more (λ (e : Edit). editFinite e ≡ true) (unfold editFinite in both held zero-finite) (old .edits-finite);
-            edit-kinds = more (λ (e : Edit). editKinds e ≡ true) (unfold editKinds in both (ap (λ (t : Tag). isError (t .marker)) (h .tag) ∙ marker) (ap (tagKinds strength) (h .tag) ∙ kinds)) (old .edit-kinds);
+            edit-kinds =
+                more (λ (e : Edit). editKinds e ≡ true)
+                (unfold editKinds in both (ap (λ (t : Tag). isError (t .marker)) (h .tag) ∙ marker) (ap (tagKinds strength) (h .tag) ∙ kinds)) (old .edit-kinds);
           }
 
 pub addEdit-kept : (n : ℕ) (strength : Float) (budget : ℕ) (s : State) → Reads s → Reads (addEdit n strength budget s .state)
@@ -298,6 +316,10 @@ addEdit-kept n strength budget s reads = go (firstRefusal (addEditTests n (clip 
     go : (o : Option ℕ) → firstRefusal (addEditTests n (clip strength) s) ≡ o → Reads (addEdit n strength budget s .state)
     go (some k) e = rw (e, addEdit) reads
     go none e =
-        rw (e, addEdit) (concludeAdd-reads s (addSteps budget (editTerms n) zero64 (equal (clip strength)) (begin s)) (λ a. finish (a .work) (s .constraints) (keepEdit (record { variable = n; strength = clip strength; tag = a .tag; suggestion = zero64 }) (s .edits))) reads
-        (ends-to _ _ (addSteps budget (editTerms n) zero64 (equal (clip strength)) (begin s)) (add-ends budget (editTerms n) zero64 (equal (clip strength)) _ _ (begin s) (begin-good s reads) (plain s) zero-finite)
-        (λ a h. unfold begin strengthOf in edit-reads n (clip strength) s reads e (clip-finite strength) _ a (edit-marker (editTerms n) zero64 (clip strength) _ (clip-below strength (edit-tests n (clip strength) s reads e .1))) (createRow-kinds (editTerms n) zero64 (equal (clip strength)) _) h)))
+        rw (e, addEdit) (concludeAdd-reads s (addSteps budget (editTerms n) zero64 (equal (clip strength)) (begin s))
+        (λ a. finish (a .work) (s .constraints) (keepEdit (record { variable = n; strength = clip strength; tag = a .tag; suggestion = zero64 }) (s .edits))) reads
+        (ends-to _ _ (addSteps budget (editTerms n) zero64 (equal (clip strength)) (begin s))
+        (add-ends budget (editTerms n) zero64 (equal (clip strength)) _ _ (begin s) (begin-good s reads) (plain s) zero-finite)
+        (λ a h. unfold begin strengthOf in edit-reads n (clip strength) s reads e (clip-finite strength) _ a
+        (edit-marker (editTerms n) zero64 (clip strength) _ (clip-below strength (edit-tests n (clip strength) s reads e .1)))
+        (createRow-kinds (editTerms n) zero64 (equal (clip strength)) _) h)))

@@ -46,7 +46,9 @@ module _ (K U : ℕ → ℕ) (N : ℕ) (b : Building) (h : Built K U N b) where
   insertInto-built s k z =
       record {
         good = marked m;
-        row = unfold marking in insertSymbolInRow-ok (IsBasic (b .work .tableau .rows)) (Fine (b .work .mark)) (Fine (worse (b .work .mark) m)) (fine-l (b .work .mark) m) (b .work .tableau .symbols) s k (b .row) (λ q. omega arith) (h .row) (fine-r (b .work .mark) m);
+        row =
+            unfold marking in insertSymbolInRow-ok (IsBasic (b .work .tableau .rows)) (Fine (b .work .mark)) (Fine (worse (b .work .mark) m))
+            (fine-l (b .work .mark) m) (b .work .tableau .symbols) s k (b .row) (λ q. omega arith) (h .row) (fine-r (b .work .mark) m);
         plain = unfold marking in h .plain;
         count = unfold marking in h .count;
       }
@@ -54,12 +56,15 @@ module _ (K U : ℕ → ℕ) (N : ℕ) (b : Building) (h : Built K U N b) where
       m : Mark
       m = insertSymbolInRow s k (b .work .tableau .symbols) (b .row) .mark
 
-  insertRow-built : (r : Row) (k : Float) → RowOk (IsBasic (b .work .tableau .rows)) (Fine (b .work .mark)) (b .work .tableau .symbols) r → Built K U N (written (insertRow r k (b .row)) (b .work))
+  insertRow-built : (r : Row) (k : Float) → RowOk (IsBasic (b .work .tableau .rows)) (Fine (b .work .mark)) (b .work .tableau .symbols) r
+      → Built K U N (written (insertRow r k (b .row)) (b .work))
   unfolding written
   insertRow-built r k o =
       record {
         good = marked m;
-        row = unfold marking in insertRow-ok (IsBasic (b .work .tableau .rows)) (Fine (b .work .mark)) (Fine (worse (b .work .mark) m)) (fine-l (b .work .mark) m) (b .work .tableau .symbols) k r (b .row) o (h .row) (fine-r (b .work .mark) m);
+        row =
+            unfold marking in insertRow-ok (IsBasic (b .work .tableau .rows)) (Fine (b .work .mark)) (Fine (worse (b .work .mark) m)) (fine-l (b .work .mark) m)
+            (b .work .tableau .symbols) k r (b .row) o (h .row) (fine-r (b .work .mark) m);
         plain = unfold marking in h .plain;
         count = unfold marking in h .count;
       }
@@ -76,7 +81,10 @@ module _ (K U : ℕ → ℕ) (N : ℕ) (b : Building) (h : Built K U N b) where
 
       go : (o : Option Row) → Row? (s .id) (b .work .tableau .rows) o → Built K U N (next o)
       go o (no-row q) = insertInto-built (s .id) k (find-none rowId (s .id) (b .work .tableau .rows) q)
-      go o (a-row c q) = insertRow-built (c .row) k (find-all rowId (λ (c : Basic). RowOk (IsBasic (b .work .tableau .rows)) (Fine (b .work .mark)) (b .work .tableau .symbols) (c .row)) (s .id) (b .work .tableau .rows) c q (h .good .fits .rows))
+      go o (a-row c q) =
+          insertRow-built (c .row) k
+          (find-all rowId (λ (c : Basic). RowOk (IsBasic (b .work .tableau .rows)) (Fine (b .work .mark)) (b .work .tableau .symbols) (c .row)) (s .id)
+          (b .work .tableau .rows) c q (h .good .fits .rows))
 
 -- ---- a symbol more
 
@@ -92,20 +100,27 @@ pub append-count : (s : Symbol) (w : Work) → length (appendSymbol s w .tableau
 unfolding appendSymbol withTableau
 append-count s w = length-map {B = Basic} (w .tableau .rows) (λ (b : Basic). record { symbol = b .symbol; row = appendCell (b .row) })
 
-pub append-row : (s : Symbol) (w : Work) (r : Row) → RowOk (IsBasic (w .tableau .rows)) (Fine (w .mark)) (w .tableau .symbols) r → RowOk (IsBasic (appendSymbol s w .tableau .rows)) (Fine (appendSymbol s w .mark)) (appendSymbol s w .tableau .symbols) (appendCell r)
+pub append-row : (s : Symbol) (w : Work) (r : Row) → RowOk (IsBasic (w .tableau .rows)) (Fine (w .mark)) (w .tableau .symbols) r
+    → RowOk (IsBasic (appendSymbol s w .tableau .rows)) (Fine (appendSymbol s w .mark)) (appendSymbol s w .tableau .symbols) (appendCell r)
 unfolding appendSymbol withTableau
-append-row s w r h = append-ok _ (Fine (w .mark)) (w .tableau .symbols) s r (row-to (IsBasic (w .tableau .rows)) _ (Fine (w .mark)) (Fine (w .mark)) (λ i p. rw (bids-rerow appendCell) at p) (λ p. p) (w .tableau .symbols) r h)
+append-row s w r h =
+    append-ok _ (Fine (w .mark)) (w .tableau .symbols) s r
+    (row-to (IsBasic (w .tableau .rows)) _ (Fine (w .mark)) (Fine (w .mark)) (λ i p. rw (bids-rerow appendCell) at p) (λ p. p) (w .tableau .symbols) r h)
 
 -- the new symbol is live and not basic, and the others stay so
 pub append-new : (s : Symbol) (w : Work) → FitsW w → s .id ≡ w .tableau .nextId → Free (appendSymbol s w) s
 append-new s w f e =
-    record { live = unfold appendSymbol withTableau in mem-last s (w .tableau .symbols); free = rw append-bids (rw e (fresh-row (w .tableau .symbols) (w .tableau .nextId) (f .under) (w .tableau .rows) (f .live))) }
+    record {
+      live = unfold appendSymbol withTableau in mem-last s (w .tableau .symbols);
+      free = rw append-bids (rw e (fresh-row (w .tableau .symbols) (w .tableau .nextId) (f .under) (w .tableau .rows) (f .live)));
+    }
 
 pub append-free : (s x : Symbol) (w : Work) → Free w x → Free (appendSymbol s w) x
 append-free s x w f = record { live = unfold appendSymbol withTableau in mem-append x (w .tableau .symbols) (s ∷ []) (f .live); free = rw append-bids (f .free) }
 
 -- a symbol that K counts
-pub append-built : (K U : ℕ → ℕ) (N : ℕ) (b : Building) (s : Symbol) → s .id ≡ b .work .tableau .nextId → Built K U N b → Built (λ n. same n (code s) + K n) U N (appendTo s b)
+pub append-built : (K U : ℕ → ℕ) (N : ℕ) (b : Building) (s : Symbol) → s .id ≡ b .work .tableau .nextId → Built K U N b
+    → Built (λ n. same n (code s) + K n) U N (appendTo s b)
 unfolding appendTo
 append-built K U N b s e h =
     record {
@@ -132,18 +147,22 @@ uses-total m (v ∷ vs) = ap (λ (k : ℕ). cond (eqb m (v .number)) (v .uses) 0
 newVariable : ℕ → Symbol → Variable
 newVariable n s = record { number = n; symbol = s; old = nan; uses = 0; changed = false }
 
-new-vars : (n : ℕ) (s : Symbol) (C U : ℕ → ℕ) (vs : List Variable) → isExternal s ≡ true → times n (map varNumber vs) ≡ 0 → Vars C U vs → Vars (λ m. same m (code s) + C m) U (keepVariable (newVariable n s) vs)
+new-vars : (n : ℕ) (s : Symbol) (C U : ℕ → ℕ) (vs : List Variable) → isExternal s ≡ true → times n (map varNumber vs) ≡ 0 → Vars C U vs
+    → Vars (λ m. same m (code s) + C m) U (keepVariable (newVariable n s) vs)
 unfolding newVariable
 new-vars n s C U vs x z h =
     rw keepVariable-is (record {
       up = keep-up varNumber 0 (newVariable n s) vs (omega arith) z (h .up);
       symbols = λ m. keep-total varNumber (varCode m) (newVariable n s) vs ∙ ap (λ (k : ℕ). same m (code s) + k) (h .symbols m);
-      uses = λ m. uses-total m (keepBy varNumber (newVariable n s) vs) ∙ keep-total varNumber (λ (v : Variable). cond (eqb m (v .number)) (v .uses) 0) (newVariable n s) vs ∙ none-used m (eqb m n) ∙ sym (uses-total m vs) ∙ h .uses m;
+      uses =
+          λ m. uses-total m (keepBy varNumber (newVariable n s) vs) ∙ keep-total varNumber (λ (v : Variable). cond (eqb m (v .number)) (v .uses) 0)
+          (newVariable n s) vs ∙ none-used m (eqb m n) ∙ sym (uses-total m vs) ∙ h .uses m;
       olds = keep-all varNumber OldOk (newVariable n s) vs (unfold isFinite isNan in refl) (h .olds);
       externals = keep-all varNumber (λ (v : Variable). isExternal (v .symbol) ≡ true) (newVariable n s) vs x (h .externals);
     })
   where
-    none-used : (m : ℕ) (t : Bool) → cond t 0 0 + total (λ (v : Variable). cond (eqb m (v .number)) (v .uses) 0) vs ≡ total (λ (v : Variable). cond (eqb m (v .number)) (v .uses) 0) vs
+    none-used : (m : ℕ) (t : Bool)
+        → cond t 0 0 + total (λ (v : Variable). cond (eqb m (v .number)) (v .uses) 0) vs ≡ total (λ (v : Variable). cond (eqb m (v .number)) (v .uses) 0) vs
     none-used m true = omega arith
     none-used m false = omega arith
 
@@ -174,7 +193,8 @@ unfolding useOnce usesOf times
 once-hit n [] = refl
 once-hit n (v ∷ vs) = go (same? n (v .number)) (once-hit n vs)
   where
-    go : Same? n (v .number) → usesOf n (map (useOnce n) vs) ≡ times n (map varNumber vs) + usesOf n vs → usesOf n (useOnce n v ∷ map (useOnce n) vs) ≡ same n (v .number) + times n (map varNumber vs) + usesOf n (v ∷ vs)
+    go : Same? n (v .number) → usesOf n (map (useOnce n) vs) ≡ times n (map varNumber vs) + usesOf n vs
+        → usesOf n (useOnce n v ∷ map (useOnce n) vs) ≡ same n (v .number) + times n (map varNumber vs) + usesOf n (v ∷ vs)
     go (is a b c) ih = uses-hit n (useOnce n v) (map (useOnce n) vs) a ∙ rw a (omega (arith, uses-hit n v vs a))
     go (isnt a b c) ih = uses-miss n (useOnce n v) (map (useOnce n) vs) a ∙ omega (arith, uses-miss n v vs a)
 
@@ -200,5 +220,14 @@ once-vars n C U vs l h =
     }
   where
     by : (m : ℕ) → Same? m n → usesOf m (map (useOnce n) vs) ≡ same m n + U m
-    by m (is a b c) = omega (arith, c, h .uses m, subst (λ (k : ℕ). usesOf k (map (useOnce n) vs) ≡ times k (map varNumber vs) + usesOf k vs) (sym b) (once-hit n vs), subst (λ (k : ℕ). 1 ≤ times k (map varNumber vs)) (sym b) l, up-once 0 m (map varNumber vs) (h .up))
+    by m (is a b c) =
+        omega (
+          arith,
+          c,
+          h .uses m,
+          subst (λ (k : ℕ). usesOf k (map (useOnce n) vs) ≡ times k (map varNumber vs) + usesOf k vs) (sym b) (once-hit n vs),
+          subst
+              (λ (k : ℕ). 1 ≤ times k (map varNumber vs)) (sym b) l,
+          up-once 0 m (map varNumber vs) (h .up),
+        )
     by m (isnt a b c) = omega (arith, c, h .uses m, once-miss m n b vs)

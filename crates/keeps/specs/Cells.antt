@@ -186,7 +186,8 @@ module _ (B : ℕ → Type 0) (G : Type 0) (bound : Float) (i : ℕ) where
       go true e = kept-ok c h
       go false e = wrote-ok (c *₆₄ k) (λ b. absurd (no-both (h .0 b) e))
 
-pub values-ok : (B : ℕ → Type 0) (G H : Type 0) (bound : Float) → (H → G) → (xs : List Symbol) (cs : List Cell) → (H → Fine (cellMarks bound cs)) → Along (OkCell B G bound) xs cs → Along (Ok B H) xs (cellValues cs)
+pub values-ok : (B : ℕ → Type 0) (G H : Type 0) (bound : Float) → (H → G) → (xs : List Symbol) (cs : List Cell) → (H → Fine (cellMarks bound cs))
+    → Along (OkCell B G bound) xs cs → Along (Ok B H) xs (cellValues cs)
 unfolding cellValues cellMarks
 values-ok B G H bound g [] [] m h = tt
 values-ok B G H bound g [] (c ∷ cs) m h = absurd h

@@ -96,7 +96,8 @@ unfolding times deleteSymbol isSymbol
 codes-delete n i s [] u m = absurd m
 codes-delete n i s (x ∷ xs) u (inl e) = go (same? (s .id) (x .id))
   where
-    go : Same? (s .id) (x .id) → same n (code s) + times n (codes (elim (eqb (s .id) (x .id)) [ true ↦ xs | false ↦ x ∷ deleteSymbol (s .id) xs ])) ≡ same n (code x) + times n (codes xs)
+    go : Same? (s .id) (x .id)
+        → same n (code s) + times n (codes (elim (eqb (s .id) (x .id)) [ true ↦ xs | false ↦ x ∷ deleteSymbol (s .id) xs ])) ≡ same n (code x) + times n (codes xs)
     go (is a b c) = rw (a, e)
     go (isnt a b c) = absurd (b (ap (λ (z : Symbol). z .id) e))
 codes-delete n i s (x ∷ xs) u (inr m) = go (same? (s .id) (x .id)) (codes-delete n (suc (x .id)) s xs (u .1) m)

@@ -41,20 +41,31 @@ addSymbol-step : (K U : ℕ → ℕ) (N : ℕ) (b : Building) (s : Symbol) (k : 
 unfolding addSymbol
 addSymbol-step K U N b s k e h =
     record {
-      built = insertInto-built (λ n. same n (code s) + K n) U N (appendTo s b) (append-built K U N b s e h) (s .id) k (unfold appendTo in append-new s (b .work) (h .good .fits) e .free);
-      new = unfold insertInto written marking appendTo in record { live = append-new s (b .work) (h .good .fits) e .live; free = append-new s (b .work) (h .good .fits) e .free };
+      built =
+          insertInto-built (λ n. same n (code s) + K n) U N (appendTo s b) (append-built K U N b s e h) (s .id) k
+          (unfold appendTo in append-new s (b .work) (h .good .fits) e .free);
+      new =
+          unfold insertInto written marking appendTo in record {
+            live = append-new s (b .work) (h .good .fits) e .live;
+            free = append-new s (b .work) (h .good .fits) e .free;
+          };
       old = λ x f. unfold insertInto written marking appendTo in record { live = append-free s x (b .work) f .live; free = append-free s x (b .work) f .free };
       vars = unfold insertInto written marking appendTo appendSymbol withTableau in refl;
     }
 
-addError-step : (K U : ℕ → ℕ) (N : ℕ) (b : Building) (s : Symbol) (k strength : Float) → s .id ≡ b .work .tableau .nextId → Built K U N b → Step K U N b (addError s k strength b) s
+addError-step : (K U : ℕ → ℕ) (N : ℕ) (b : Building) (s : Symbol) (k strength : Float) → s .id ≡ b .work .tableau .nextId → Built K U N b
+    → Step K U N b (addError s k strength b) s
 unfolding addError
 addError-step K U N b s k strength e h =
     record {
       built =
           record {
-            good = good-frame (λ n. same n (code s) + K n) U (added .work) goal (one .built .good) (symbol-objective (s .id) strength (added .work) (one .built .good .fits) (one .new .free)) only;
-            row = unfold insertInObjective marking withObjective withTableau in row-to (IsBasic (added .work .tableau .rows)) (IsBasic (added .work .tableau .rows)) (Fine (added .work .mark)) _ (λ i p. p) (fine-l (added .work .mark) _) (added .work .tableau .symbols) (added .row) (one .built .row);
+            good =
+                good-frame (λ n. same n (code s) + K n) U (added .work) goal (one .built .good)
+                (symbol-objective (s .id) strength (added .work) (one .built .good .fits) (one .new .free)) only;
+            row =
+                unfold insertInObjective marking withObjective withTableau in row-to (IsBasic (added .work .tableau .rows)) (IsBasic (added .work .tableau .rows))
+                (Fine (added .work .mark)) _ (λ i p. p) (fine-l (added .work .mark) _) (added .work .tableau .symbols) (added .row) (one .built .row);
             plain = unfold insertInObjective marking withObjective withTableau in one .built .plain;
             count = unfold insertInObjective marking withObjective withTableau in one .built .count;
           };
@@ -100,7 +111,8 @@ module _ (K U : ℕ → ℕ) (N : ℕ) (b : Building) where
         other = λ o e. absurd (none≢some e);
       }
 
-  two-symbols : (s o : Symbol) (c d : Building) → Step K U N b c s → Step (λ n. same n (code s) + K n) U N c d o → Tagged K U N (length (b .work .changes .variables)) (tagged s (some o) d)
+  two-symbols : (s o : Symbol) (c d : Building) → Step K U N b c s → Step (λ n. same n (code s) + K n) U N c d o
+      → Tagged K U N (length (b .work .changes .variables)) (tagged s (some o) d)
   unfolding tagged tagSymbols times
   two-symbols s o c d h k =
       record {
@@ -129,13 +141,17 @@ module _ (K U : ℕ → ℕ) (N : ℕ) (b : Building) where
       one : Step K U N b b₁ slack
       one = addSymbol-step K U N b slack sign refl h
 
-      go : (t : Bool) → Tagged K U N (length (b .work .changes .variables)) (elim t [ true ↦ tagged slack (some error) (addError error (neg sign) strength b₁) | false ↦ tagged slack none b₁ ])
-      go true = two-symbols slack error b₁ (addError error (neg sign) strength b₁) one (addError-step (λ n. same n (code slack) + K n) U N b₁ error (neg sign) strength refl (one .built))
+      go : (t : Bool)
+          → Tagged K U N (length (b .work .changes .variables)) (elim t [ true ↦ tagged slack (some error) (addError error (neg sign) strength b₁) | false ↦ tagged slack none b₁ ])
+      go true =
+          two-symbols slack error b₁ (addError error (neg sign) strength b₁) one
+          (addError-step (λ n. same n (code slack) + K n) U N b₁ error (neg sign) strength refl (one .built))
       go false = one-symbol slack b₁ one
 
   equality-tagged : (strength : Float) → Built K U N b → Tagged K U N (length (b .work .changes .variables)) (softEquality strength b)
   unfolding softEquality newSymbol
-  equality-tagged strength h = two-symbols plus minus b₁ (addError minus one64 strength b₁) one (addError-step (λ n. same n (code plus) + K n) U N b₁ minus one64 strength refl (one .built))
+  equality-tagged strength h =
+      two-symbols plus minus b₁ (addError minus one64 strength b₁) one (addError-step (λ n. same n (code plus) + K n) U N b₁ minus one64 strength refl (one .built))
     where
       plus : Symbol
       plus = newSymbol Error (b .work)
@@ -151,7 +167,8 @@ module _ (K U : ℕ → ℕ) (N : ℕ) (b : Building) where
 
   required-tagged : Built K U N b → Tagged K U N (length (b .work .changes .variables)) (requiredEquality b)
   unfolding requiredEquality newSymbol
-  required-tagged h = one-symbol (newSymbol Dummy (b .work)) (addSymbol (newSymbol Dummy (b .work)) one64 b) (addSymbol-step K U N b (newSymbol Dummy (b .work)) one64 refl h)
+  required-tagged h =
+      one-symbol (newSymbol Dummy (b .work)) (addSymbol (newSymbol Dummy (b .work)) one64 b) (addSymbol-step K U N b (newSymbol Dummy (b .work)) one64 refl h)
 
   addTag-tagged : (r : Relation) → Built K U N b → Tagged K U N (length (b .work .changes .variables)) (addTag r b)
   unfolding addTag
@@ -170,7 +187,13 @@ unfolding inequality tagged newSymbol tagKinds isError
 inequality-kinds sign s b = go (lt s required) refl
   where
     made : Bool → Created
-    made t = elim t [ true ↦ tagged (newSymbol Slack (b .work)) (some (newSymbol Error (addSymbol (newSymbol Slack (b .work)) sign b .work))) (addError (newSymbol Error (addSymbol (newSymbol Slack (b .work)) sign b .work)) (neg sign) s (addSymbol (newSymbol Slack (b .work)) sign b)) | false ↦ tagged (newSymbol Slack (b .work)) none (addSymbol (newSymbol Slack (b .work)) sign b) ]
+    made t =
+        elim t [
+          | true ↦ tagged (newSymbol Slack (b .work)) (some (newSymbol Error (addSymbol (newSymbol Slack (b .work)) sign b .work)))
+              (addError (newSymbol Error (addSymbol (newSymbol Slack (b .work)) sign b .work)) (neg sign) s
+              (addSymbol (newSymbol Slack (b .work)) sign b))
+          | false ↦ tagged (newSymbol Slack (b .work)) none (addSymbol (newSymbol Slack (b .work)) sign b)
+        ]
 
     go : (t : Bool) → lt s required ≡ t → tagKinds s (made t .tag) ≡ true
     go true e = both e refl
@@ -192,7 +215,8 @@ addTag-kinds (equal s) b = go (lt s required) refl
 -- ---- steps 1 to 3
 
 pub createRow-tagged : (K U : ℕ → ℕ) (terms : List Term) (constant : Float) (r : Relation) (w : Work) → Good K U w → w .artificial ≡ none → isFinite constant ≡ true
-    → Tagged K (λ m. usesIn m (keptTerms terms) + U m) (length (w .tableau .rows)) (length (w .changes .variables) + length (newVariables (w .changes .variables) [] (keptTerms terms))) (createRow terms constant r w)
+    → Tagged K (λ m. usesIn m (keptTerms terms) + U m) (length (w .tableau .rows))
+    (length (w .changes .variables) + length (newVariables (w .changes .variables) [] (keptTerms terms))) (createRow terms constant r w)
 unfolding createRow
 createRow-tagged K U terms constant r w g plain fin = go (belowZero (c .row .constant))
   where
@@ -208,9 +232,11 @@ createRow-tagged K U terms constant r w g plain fin = go (belowZero (c .row .con
     built : Tagged K (λ m. usesIn m (keptTerms terms) + U m) (length (w .tableau .rows)) L c
     built = subst (λ (l : ℕ). Tagged K (λ m. usesIn m (keptTerms terms) + U m) (length (w .tableau .rows)) l c) (insertTerms-length terms start)
         (addTag-tagged K (λ m. usesIn m (keptTerms terms) + U m) (length (w .tableau .rows)) (insertTerms terms start) r
-        (insertTerms-built K U (length (w .tableau .rows)) terms start (record { good = g; row = bare-ok (IsBasic (w .tableau .rows)) (Fine (w .mark)) (w .tableau .symbols) constant fin; plain = plain; count = refl })))
+        (insertTerms-built K U (length (w .tableau .rows)) terms start
+        (record { good = g; row = bare-ok (IsBasic (w .tableau .rows)) (Fine (w .mark)) (w .tableau .symbols) constant fin; plain = plain; count = refl })))
 
-    go : (t : Bool) → Tagged K (λ m. usesIn m (keptTerms terms) + U m) (length (w .tableau .rows)) L (elim t [ false ↦ c | true ↦ record { work = c .work; row = reverseSign (c .row); tag = c .tag } ])
+    go : (t : Bool)
+        → Tagged K (λ m. usesIn m (keptTerms terms) + U m) (length (w .tableau .rows)) L (elim t [ false ↦ c | true ↦ record { work = c .work; row = reverseSign (c .row); tag = c .tag } ])
     go false = built
     go true =
         record {
@@ -259,6 +285,9 @@ subject-free K U N L c h s e = first (firstSymbol isExternal holds (c .work .tab
     second false e = other (c .tag .other) refl e
 
     first : (o : Option Symbol) → firstSymbol isExternal holds (c .work .tableau .symbols) (c .row .cells) ≡ o
-        → elim o [ some x ↦ some x | none ↦ elim (negativeTag c (c .tag .marker)) [ true ↦ some (c .tag .marker) | false ↦ third (c .tag .other) ] ] ≡ some s → Free (c .work) s
-    first (some x) q e = held-free (c .work) (Fine (c .work .mark)) holds holds-held s (first-chosen _ isExternal holds (c .work .tableau .symbols) (c .row .cells) s (h .row .1) (q ∙ e))
+        → elim o [ some x ↦ some x | none ↦ elim (negativeTag c (c .tag .marker)) [ true ↦ some (c .tag .marker) | false ↦ third (c .tag .other) ] ] ≡ some s → Free
+        (c .work) s
+    first (some x) q e =
+        held-free (c .work) (Fine (c .work .mark)) holds holds-held s
+        (first-chosen _ isExternal holds (c .work .tableau .symbols) (c .row .cells) s (h .row .1) (q ∙ e))
     first none q e = second (negativeTag c (c .tag .marker)) e

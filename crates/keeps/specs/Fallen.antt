@@ -42,7 +42,8 @@ less-up n i [] u = tt
 less-up n i (v ∷ vs) u = go (eqb n (v .number)) (eqb (v .uses) 1) (less-up n (suc (v .number)) vs (u .1))
   where
     go : (t r : Bool) → Up (suc (v .number)) (map varNumber (useLess n vs .variables))
-        → Up i (map varNumber ((elim t as (λ _. Fallen) [ false ↦ record { variables = v ∷ useLess n vs .variables; gone = useLess n vs .gone } | true ↦ hit r v vs ]) .variables))
+        → Up i (map varNumber
+        ((elim t as (λ _. Fallen) [ false ↦ record { variables = v ∷ useLess n vs .variables; gone = useLess n vs .gone } | true ↦ hit r v vs ]) .variables))
     go false r ih = (u .0, ih)
     go true true ih = up-from i (suc (v .number)) (map varNumber vs) (omega (arith, u .0)) (u .1)
     go true false ih = u
@@ -93,21 +94,32 @@ less-uses n m i (v ∷ vs) u l = go (same? n (v .number)) (same? m (v .number)) 
     after : Bool → Bool → Fallen
     after t r = elim t [ false ↦ record { variables = v ∷ useLess n vs .variables; gone = useLess n vs .gone } | true ↦ hit r v vs ]
 
-    go : Same? n (v .number) → Same? m (v .number) → Same? m n → (r : Bool) → eqb (v .uses) 1 ≡ r → (1 ≤ usesOf n vs → usesOf m vs ≡ same m n + usesOf m (useLess n vs .variables))
+    go : Same? n (v .number) → Same? m (v .number) → Same? m n → (r : Bool) → eqb (v .uses) 1 ≡ r
+        → (1 ≤ usesOf n vs → usesOf m vs ≡ same m n + usesOf m (useLess n vs .variables))
         → usesOf m (v ∷ vs) ≡ same m n + usesOf m (after (eqb n (v .number)) r .variables)
     go (isnt a b c) (is d e f) (is p q s) r w ih = absurd (b (sym q ∙ e))
-    go (isnt a b c) (is d e f) (isnt p q s) r w ih = rw a (omega (arith, uses-hit m v vs d, uses-hit m v (useLess n vs .variables) d, ih (omega (arith, uses-miss n v vs a))))
+    go (isnt a b c) (is d e f) (isnt p q s) r w ih =
+        rw a (omega (arith, uses-hit m v vs d, uses-hit m v (useLess n vs .variables) d, ih (omega (arith, uses-miss n v vs a))))
     go (isnt a b c) (isnt d e f) k r w ih = rw a (omega (arith, uses-miss m v vs d, uses-miss m v (useLess n vs .variables) d, ih (omega (arith, uses-miss n v vs a))))
     go (is a b c) (is d e f) (isnt p q s) r w ih = absurd (q (e ∙ sym b))
     go (is a b c) (isnt d e f) (is p q s) r w ih = absurd (e (q ∙ b))
     go (is a b c) (is d e f) (is p q s) true w ih = rw a (omega (arith, uses-hit m v vs d, eqb-in (v .uses) 1 w))
-    go (is a b c) (is d e f) (is p q s) false w ih = rw a (omega (arith, uses-hit m v vs d, uses-hit m (fewer v) vs d, uses-hit n v vs a, uses-none n vs (up-none (suc (v .number)) n (map varNumber vs) (omega arith) (u .1))))
+    go (is a b c) (is d e f) (is p q s) false w ih =
+        rw a (omega (
+          arith,
+          uses-hit m v vs d,
+          uses-hit m (fewer v) vs d,
+          uses-hit n v vs a,
+          uses-none n vs
+              (up-none (suc (v .number)) n (map varNumber vs) (omega arith) (u .1)),
+        ))
     go (is a b c) (isnt d e f) (isnt p q s) true w ih = rw a (omega (arith, uses-miss m v vs d))
     go (is a b c) (isnt d e f) (isnt p q s) false w ih = rw a (omega (arith, uses-miss m v vs d, uses-miss m (fewer v) vs d))
 
 -- ---- a symbol goes, and its row, place and cells
 
-pub purge-owns : (s : Symbol) (E : ℕ → ℕ) (xs : List Symbol) → Up 1 (ids xs) → ((n : ℕ) → same n (code s) + E n ≡ times n (codes xs)) → (n : ℕ) → E n ≡ times n (codes (deleteSymbol (s .id) xs))
+pub purge-owns : (s : Symbol) (E : ℕ → ℕ) (xs : List Symbol) → Up 1 (ids xs) → ((n : ℕ) → same n (code s) + E n ≡ times n (codes xs)) → (n : ℕ)
+    → E n ≡ times n (codes (deleteSymbol (s .id) xs))
 purge-owns s E xs u h n = omega (arith, h n, codes-delete n 1 s xs u (codes-mem s xs (here (same? (code s) (code s)))))
   where
     here : Same? (code s) (code s) → 1 ≤ times (code s) (codes xs)
@@ -139,7 +151,17 @@ dropRow-length n (b ∷ bs) = go (isSymbol n (b .symbol)) (dropRow-length n bs)
 pub purge-shrunk : (s : ℕ) (w : Work) → Shrunk w (purge s w)
 unfolding purge withTableau
 purge-shrunk s w =
-    record { rows = omega (arith, length-map {B = Basic} (dropRow s (w .tableau .rows)) (λ (b : Basic). record { symbol = b .symbol; row = cut (b .row) }), dropRow-length s (w .tableau .rows)); variables = omega arith; mark = refl; plain = refl }
+    record {
+      rows = omega (
+        arith,
+        length-map {B = Basic} (dropRow s (w .tableau .rows)) (λ (b : Basic). record { symbol = b .symbol; row = cut (b .row) }),
+        dropRow-length s
+            (w .tableau .rows),
+      );
+      variables = omega arith;
+      mark = refl;
+      plain = refl;
+    }
   where
     cut : Row → Row
     cut r = record { constant = r .constant; cells = deleteCell s (w .tableau .symbols) (r .cells) }
@@ -160,7 +182,8 @@ purge-good s K L U w g plain h =
 
 -- ---- a term's use falls
 
-pub dropUse-good : (t : Term) (K U W : ℕ → ℕ) (w : Work) → Good K U w → w .artificial ≡ none → ((n : ℕ) → U n ≡ same n (t .variable) + W n) → Good K W (dropUse t w) × Shrunk w (dropUse t w)
+pub dropUse-good : (t : Term) (K U W : ℕ → ℕ) (w : Work) → Good K U w → w .artificial ≡ none → ((n : ℕ) → U n ≡ same n (t .variable) + W n)
+    → Good K W (dropUse t w) × Shrunk w (dropUse t w)
 unfolding dropUse withVariables withChanges
 dropUse-good t K U W w g plain h = go (fallen .gone) refl
   where
@@ -200,7 +223,8 @@ dropUse-good t K U W w g plain h = go (fallen .gone) refl
     after o = elim o [ none ↦ v | some s ↦ purge (s .id) v ]
 
     go : (o : Option Symbol) → fallen .gone ≡ o → Good K W (after o) × Shrunk w (after o)
-    go none e = (record { fits = g .fits; once = g .once; C = λ n. total (varCode n) (fallen .variables); vars = vars; owns = λ n. omega (arith, rw e at (left n)) }, shrunk)
+    go none e =
+        (record { fits = g .fits; once = g .once; C = λ n. total (varCode n) (fallen .variables); vars = vars; owns = λ n. omega (arith, rw e at (left n)) }, shrunk)
     go (some s) e = (
       record {
         fits = purge-fits (s .id) v (g .fits) plain;
@@ -212,7 +236,8 @@ dropUse-good t K U W w g plain h = go (fallen .gone) refl
       shrunk-trans shrunk (purge-shrunk (s .id) v),
     )
 
-pub dropUses-good : (ts : List Term) (K U W : ℕ → ℕ) (w : Work) → Good K U w → w .artificial ≡ none → ((n : ℕ) → U n ≡ usesIn n ts + W n) → Good K W (dropUses ts w) × Shrunk w (dropUses ts w)
+pub dropUses-good : (ts : List Term) (K U W : ℕ → ℕ) (w : Work) → Good K U w → w .artificial ≡ none → ((n : ℕ) → U n ≡ usesIn n ts + W n)
+    → Good K W (dropUses ts w) × Shrunk w (dropUses ts w)
 unfolding dropUses usesIn
 dropUses-good [] K U W w g plain h = (good-to K K U W w (λ n. refl) (λ n. omega (arith, h n)) g, shrunk-refl w)
 dropUses-good (t ∷ ts) K U W w g plain h =

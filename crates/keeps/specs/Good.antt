@@ -43,7 +43,8 @@ pub numbers-map : (g : Variable → Variable) → ((v : Variable) → g v .numbe
 numbers-map g number [] = refl
 numbers-map g number (v ∷ vs) = ap₂ (λ (n : ℕ) (ns : List ℕ). n ∷ ns) (number v) (numbers-map g number vs)
 
-pub symbols-map : (g : Variable → Variable) → ((v : Variable) → g v .symbol ≡ v .symbol) → (n : ℕ) (vs : List Variable) → total (varCode n) (map g vs) ≡ total (varCode n) vs
+pub symbols-map : (g : Variable → Variable) → ((v : Variable) → g v .symbol ≡ v .symbol) → (n : ℕ) (vs : List Variable)
+    → total (varCode n) (map g vs) ≡ total (varCode n) vs
 unfolding total
 symbols-map g symbol n [] = refl
 symbols-map g symbol n (v ∷ vs) = ap₂ (λ (a b : ℕ). a + b) (ap (λ (s : Symbol). same n (code s)) (symbol v)) (symbols-map g symbol n vs)
@@ -157,12 +158,14 @@ below-row xs bs h n e = go (findRow n bs) (row? n bs) e
     go o (no-row q) e = absurd (true≢false (sym e))
     go o (a-row b q) e = rw (find-some rowId n bs b q) (mem-ids (b .symbol) xs (find-all rowId (λ (b : Basic). Mem (b .symbol) xs) n bs b q h))
 
-still-listed : (xs : List Symbol) (bs : List Basic) → All (λ (b : Basic). Mem (b .symbol) xs) bs → (l : List ℕ) (n : ℕ) → 1 ≤ times n (stillBelow bs l) → 1 ≤ times n (ids xs)
+still-listed : (xs : List Symbol) (bs : List Basic) → All (λ (b : Basic). Mem (b .symbol) xs) bs → (l : List ℕ) (n : ℕ) → 1 ≤ times n (stillBelow bs l)
+    → 1 ≤ times n (ids xs)
 unfolding stillBelow times
 still-listed xs bs h [] n k = absurd (omega arith)
 still-listed xs bs h (x ∷ l) n k = go (isBelow x bs) refl k (still-listed xs bs h l n)
   where
-    go : (t : Bool) → isBelow x bs ≡ t → 1 ≤ times n (elim t [ true ↦ x ∷ stillBelow bs l | false ↦ stillBelow bs l ]) → (1 ≤ times n (stillBelow bs l) → 1 ≤ times n (ids xs)) → 1 ≤ times n (ids xs)
+    go : (t : Bool) → isBelow x bs ≡ t → 1 ≤ times n (elim t [ true ↦ x ∷ stillBelow bs l | false ↦ stillBelow bs l ])
+        → (1 ≤ times n (stillBelow bs l) → 1 ≤ times n (ids xs)) → 1 ≤ times n (ids xs)
     go false e k ih = ih k
     go true e k ih = by (same? n x)
       where

@@ -38,3 +38,23 @@ suggest-reads n x b s e = reads-out (suggest n x b s .state) (suggest-kept n x b
 
 pub fetch-reads : (s : State) → readable s ≡ true → readable (fetchChanges s .state) ≡ true
 fetch-reads s e = reads-out (fetchChanges s .state) (fetch-kept s (reads-in s e))
+
+-- "A "run" starts at a reset and goes on by these calls."
+pub data Run : State → Type 0 where
+  starts : Run empty
+  adds : {s : State} (n : ℕ) (ts : List Term) (k : Float) (r : Relation) (b : ℕ) → Run s → Run (add n ts k r b s .state)
+  removes : {s : State} (n b : ℕ) → Run s → Run (remove n b s .state)
+  addsEdit : {s : State} (n : ℕ) (k : Float) (b : ℕ) → Run s → Run (addEdit n k b s .state)
+  removesEdit : {s : State} (n b : ℕ) → Run s → Run (removeEdit n b s .state)
+  suggests : {s : State} (n : ℕ) (x : Float) (b : ℕ) → Run s → Run (suggest n x b s .state)
+  fetches : {s : State} → Run s → Run (fetchChanges s .state)
+
+-- every state of a run reads as one
+pub run-reads : {s : State} → Run s → readable s ≡ true
+run-reads starts = empty-reads
+run-reads (adds {s} n ts k r b h) = add-reads n ts k r b s (run-reads h)
+run-reads (removes {s} n b h) = remove-reads n b s (run-reads h)
+run-reads (addsEdit {s} n k b h) = addEdit-reads n k b s (run-reads h)
+run-reads (removesEdit {s} n b h) = removeEdit-reads n b s (run-reads h)
+run-reads (suggests {s} n x b h) = suggest-reads n x b s (run-reads h)
+run-reads (fetches {s} h) = fetch-reads s (run-reads h)

@@ -30,7 +30,8 @@ use Rattle.keeps.specs.Reads.{unmap}
 use Rattle.keeps.specs.Places.{times-all}
 
 -- ---- another objective
-pub fits-objective : {xs : List Symbol} {next : ℕ} {bs : List Basic} {os : List Float} {a : Option Row} {m : Mark} → Fits xs next bs os a m → (ps : List Float) (n : Mark) → Along (Ok (IsBasic bs) (Fine (worse m n))) xs ps → Fits xs next bs ps a (worse m n)
+pub fits-objective : {xs : List Symbol} {next : ℕ} {bs : List Basic} {os : List Float} {a : Option Row} {m : Mark} → Fits xs next bs os a m
+    → (ps : List Float) (n : Mark) → Along (Ok (IsBasic bs) (Fine (worse m n))) xs ps → Fits xs next bs ps a (worse m n)
 fits-objective f ps n h =
     let g = fits-worse f n in
     record { up = g .up; pos = g .pos; under = g .under; rows-up = g .rows-up; live = g .live; rows = g .rows; objective = h; artificial = g .artificial }
@@ -39,16 +40,19 @@ pub symbol-objective : (s : ℕ) (k : Float) (w : Work) → FitsW w → times s 
 unfolding insertInObjective marking withObjective withTableau
 symbol-objective s k w f z =
     fits-objective f (cellValues cells) (cellMarks objectiveBound cells)
-    (symbol-inserted (IsBasic (w .tableau .rows)) (Fine (w .mark)) (Fine (worse (w .mark) (cellMarks objectiveBound cells))) (fine-l (w .mark) _) (w .tableau .symbols) objectiveBound s k (w .tableau .objective) (λ b. omega arith) (f .objective) (fine-r (w .mark) _))
+    (symbol-inserted (IsBasic (w .tableau .rows)) (Fine (w .mark)) (Fine (worse (w .mark) (cellMarks objectiveBound cells))) (fine-l (w .mark) _)
+    (w .tableau .symbols) objectiveBound s k (w .tableau .objective) (λ b. omega arith) (f .objective) (fine-r (w .mark) _))
   where
     cells : List Cell
     cells = insertSymbol s k (w .tableau .symbols) (w .tableau .objective)
 
-row-objective : (r : Row) (k : Float) (w : Work) → FitsW w → RowOk (IsBasic (w .tableau .rows)) (Fine (w .mark)) (w .tableau .symbols) r → FitsW (insertRowInObjective r k w)
+row-objective : (r : Row) (k : Float) (w : Work) → FitsW w → RowOk (IsBasic (w .tableau .rows)) (Fine (w .mark)) (w .tableau .symbols) r
+    → FitsW (insertRowInObjective r k w)
 unfolding insertRowInObjective marking withObjective withTableau
 row-objective r k w f h =
     fits-objective f (cellValues cells) (cellMarks objectiveBound cells)
-    (cells-inserted (IsBasic (w .tableau .rows)) (Fine (w .mark)) (Fine (worse (w .mark) (cellMarks objectiveBound cells))) (fine-l (w .mark) _) (w .tableau .symbols) objectiveBound k (r .cells) (w .tableau .objective) (h .1) (f .objective) (fine-r (w .mark) _))
+    (cells-inserted (IsBasic (w .tableau .rows)) (Fine (w .mark)) (Fine (worse (w .mark) (cellMarks objectiveBound cells))) (fine-l (w .mark) _)
+    (w .tableau .symbols) objectiveBound k (r .cells) (w .tableau .objective) (h .1) (f .objective) (fine-r (w .mark) _))
   where
     cells : List Cell
     cells = insertCells k (r .cells) (w .tableau .objective)
@@ -75,8 +79,12 @@ effect s strength w f = go (isError s)
         }
     by o (a-row b q) =
         record {
-          fits = row-objective (b .row) (neg strength) w f (find-all rowId (λ (b : Basic). RowOk (IsBasic (w .tableau .rows)) (Fine (w .mark)) (w .tableau .symbols) (b .row)) (s .id) (w .tableau .rows) b q (f .rows));
-          frame = unfold insertRowInObjective marking withObjective withTableau in record { symbols = refl; next = refl; variables = refl; list = λ h. h; plain = λ e. e };
+          fits =
+              row-objective (b .row) (neg strength) w f
+              (find-all rowId (λ (b : Basic). RowOk (IsBasic (w .tableau .rows)) (Fine (w .mark)) (w .tableau .symbols) (b .row)) (s .id) (w .tableau .rows) b q
+              (f .rows));
+          frame =
+              unfold insertRowInObjective marking withObjective withTableau in record { symbols = refl; next = refl; variables = refl; list = λ h. h; plain = λ e. e };
           rows = unfold insertRowInObjective marking withObjective withTableau in refl;
         }
 
@@ -117,7 +125,14 @@ module _ (P : Symbol → Type 0) (s : ℕ) (xs : List Symbol) where
   negative-all (b ∷ bs) h = go (isRestricted (b .symbol) && belowZero (coefficientFor s xs (b .row .cells))) (negative-all bs (h .1))
     where
       go : (t : Bool) → All (λ (c : Candidate). P (c .symbol)) (negativeRatios s xs bs)
-          → All (λ (c : Candidate). P (c .symbol)) (elim t [ true ↦ record { symbol = b .symbol; ratio = neg (b .row .constant) /₆₄ coefficientFor s xs (b .row .cells) } ∷ negativeRatios s xs bs | false ↦ negativeRatios s xs bs ])
+          → All (λ (c : Candidate). P (c .symbol))
+          (elim t [
+            | true ↦ record {
+              symbol = b .symbol;
+              ratio = neg (b .row .constant) /₆₄ coefficientFor s xs (b .row .cells);
+            } ∷ negativeRatios s xs bs
+            | false ↦ negativeRatios s xs bs
+          ])
       go true ih = (h .0, ih)
       go false ih = ih
 
@@ -127,14 +142,18 @@ module _ (P : Symbol → Type 0) (s : ℕ) (xs : List Symbol) where
   positive-all (b ∷ bs) h = go (isRestricted (b .symbol) && lt zero64 (cellIn s xs b)) (positive-all bs (h .1))
     where
       go : (t : Bool) → All (λ (c : Candidate). P (c .symbol)) (positiveRatios s xs bs)
-          → All (λ (c : Candidate). P (c .symbol)) (elim t [ true ↦ record { symbol = b .symbol; ratio = b .row .constant /₆₄ cellIn s xs b } ∷ positiveRatios s xs bs | false ↦ positiveRatios s xs bs ])
+          → All (λ (c : Candidate). P (c .symbol))
+          (elim t [ true ↦ record { symbol = b .symbol; ratio = b .row .constant /₆₄ cellIn s xs b } ∷ positiveRatios s xs bs | false ↦ positiveRatios s xs bs ])
       go true ih = (h .0, ih)
       go false ih = ih
 
-  external-all : (last : Option Symbol) (bs : List Basic) → ((l : Symbol) → last ≡ some l → P l) → All (λ (b : Basic). P (b .symbol)) bs → (l : Symbol) → lastExternalRow s xs last bs ≡ some l → P l
+  external-all : (last : Option Symbol) (bs : List Basic) → ((l : Symbol) → last ≡ some l → P l) → All (λ (b : Basic). P (b .symbol)) bs → (l : Symbol)
+      → lastExternalRow s xs last bs ≡ some l → P l
   unfolding lastExternalRow
   external-all last [] k h l e = k l e
-  external-all last (b ∷ bs) k h l e = external-all (cond (isExternal (b .symbol) && holds (cellIn s xs b)) (some (b .symbol)) last) bs (go (isExternal (b .symbol) && holds (cellIn s xs b))) (h .1) l e
+  external-all last (b ∷ bs) k h l e =
+      external-all (cond (isExternal (b .symbol) && holds (cellIn s xs b)) (some (b .symbol)) last) bs (go (isExternal (b .symbol) && holds (cellIn s xs b)))
+      (h .1) l e
     where
       go : (t : Bool) (l : Symbol) → cond t (some (b .symbol)) last ≡ some l → P l
       go true l e = subst P (some-injective e) (h .0)
@@ -142,7 +161,9 @@ module _ (P : Symbol → Type 0) (s : ℕ) (xs : List Symbol) where
 
 pub leaving-all : (P : Symbol → Type 0) (s : ℕ) (w : Work) → All (λ (b : Basic). P (b .symbol)) (w .tableau .rows) → (l : Symbol) → getMarkerLeavingRow s w ≡ some l → P l
 unfolding getMarkerLeavingRow
-leaving-all P s w h l e = rank1 (firstDummyRow s xs bs) (smallestRatio (negativeRatios s xs bs)) (smallestRatio (positiveRatios s xs bs)) (dummy-all P s xs bs h l) (smallest-all P (negativeRatios s xs bs) (negative-all P s xs bs h) l) (smallest-all P (positiveRatios s xs bs) (positive-all P s xs bs h) l) e
+leaving-all P s w h l e =
+    rank1 (firstDummyRow s xs bs) (smallestRatio (negativeRatios s xs bs)) (smallestRatio (positiveRatios s xs bs)) (dummy-all P s xs bs h l)
+    (smallest-all P (negativeRatios s xs bs) (negative-all P s xs bs h) l) (smallest-all P (positiveRatios s xs bs) (positive-all P s xs bs h) l) e
   where
     xs : List Symbol
     xs = w .tableau .symbols
@@ -204,20 +225,27 @@ pub record Dropped (w v : Work) : Type 0 where
 dropped-row : (m : ℕ) (w v : Work) → After w v → 1 ≤ times m (bids (v .tableau .rows)) → Dropped w (withRows (dropRow m (v .tableau .rows)) v)
 unfolding withRows withTableau
 dropped-row m w v a h =
-    record { fits = fits-drop (a .fits) m; fine = a .fine; frame = frame-trans (a .frame) (rows-frame (dropRow m (v .tableau .rows)) v); count = go (findRow m (v .tableau .rows)) (row? m (v .tableau .rows)) ∙ a .count }
+    record {
+      fits = fits-drop (a .fits) m;
+      fine = a .fine;
+      frame = frame-trans (a .frame) (rows-frame (dropRow m (v .tableau .rows)) v);
+      count = go (findRow m (v .tableau .rows)) (row? m (v .tableau .rows)) ∙ a .count;
+    }
   where
     go : (o : Option Row) → Row? m (v .tableau .rows) o → suc (length (dropRow m (v .tableau .rows))) ≡ length (v .tableau .rows)
     go o (no-row q) = absurd (omega (arith, find-none rowId m (v .tableau .rows) q))
     go o (a-row b q) = ap suc (ap length (dropRow-is m (v .tableau .rows))) ∙ sym (drop-length rowId m (v .tableau .rows) b q)
 
-noted : (s : Symbol) (w : Work) → FitsW w → Fine (w .mark) → After w (noteLeaving s w) × (noteLeaving s w .tableau .rows ≡ w .tableau .rows) × (noteLeaving s w .tableau .symbols ≡ w .tableau .symbols)
+noted : (s : Symbol) (w : Work) → FitsW w → Fine (w .mark)
+    → After w (noteLeaving s w) × (noteLeaving s w .tableau .rows ≡ w .tableau .rows) × (noteLeaving s w .tableau .symbols ≡ w .tableau .symbols)
 unfolding noteLeaving
 noted s w f m = go (findRow (s .id) (w .tableau .rows))
   where
     next : Option Row → Work
     next o = elim o [ none ↦ w | some r ↦ cond (isExternal s && ne (r .constant) zero64) (note (s .id) w) w ]
 
-    by : (t : Bool) → After w (cond t (note (s .id) w) w) × ((cond t (note (s .id) w) w) .tableau .rows ≡ w .tableau .rows) × ((cond t (note (s .id) w) w) .tableau .symbols ≡ w .tableau .symbols)
+    by : (t : Bool)
+        → After w (cond t (note (s .id) w) w) × ((cond t (note (s .id) w) w) .tableau .rows ≡ w .tableau .rows) × ((cond t (note (s .id) w) w) .tableau .symbols ≡ w .tableau .symbols)
     by true = unfold note withChanges in (record { fits = f; fine = m; frame = note-frame (s .id) w; count = refl }, refl, refl)
     by false = (after-refl w f m, refl, refl)
 
@@ -235,23 +263,31 @@ dropMarker-ends m w f fine live = go (findRow (m .id) bs) (row? (m .id) bs)
     step : Symbol → Outcome Work
     step leaving = checkFinite (pivot (leaving .id) m (noteLeaving leaving w)) >>= λ v. going (withRows (dropRow (m .id) (v .tableau .rows)) v)
 
-    by : times (m .id) (bids bs) ≡ 0 → (o : Option Symbol) → getMarkerLeavingRow (m .id) w ≡ o → Ends (Dropped w) (elim o [ none ↦ refused 17 (w .pivots) (w .mark) | some leaving ↦ step leaving ])
+    by : times (m .id) (bids bs) ≡ 0 → (o : Option Symbol) → getMarkerLeavingRow (m .id) w ≡ o
+        → Ends (Dropped w) (elim o [ none ↦ refused 17 (w .pivots) (w .mark) | some leaving ↦ step leaving ])
     by z none e = tt
     by z (some l) e =
         let n : After w (noteLeaving l w) × (noteLeaving l w .tableau .rows ≡ bs) × (noteLeaving l w .tableau .symbols ≡ w .tableau .symbols) = noted l w f fine in
         let x : Work = noteLeaving l w in
-        ends-bind (λ v. After w v × (1 ≤ times (m .id) (bids (v .tableau .rows)))) (Dropped w) (checkFinite (pivot (l .id) m x)) (λ v. going (withRows (dropRow (m .id) (v .tableau .rows)) v))
+        ends-bind (λ v. After w v × (1 ≤ times (m .id) (bids (v .tableau .rows)))) (Dropped w) (checkFinite (pivot (l .id) m x))
+        (λ v. going (withRows (dropRow (m .id) (v .tableau .rows)) v))
         (check-ends _ (pivot (l .id) m x) (λ p. (after-trans (n .0) (pivoted x (n .0) (n .1) (n .2) p), pivot-basic (l .id) m x (rw (n .1) here))))
         (λ v a. dropped-row (m .id) w v (a .0) (a .1))
       where
         here : 1 ≤ times (l .id) (bids bs)
         here = leaving-all (λ s. 1 ≤ times (s .id) (bids bs)) (m .id) w (unmap rowId _ bs (times-all (λ n. 1 ≤ times n (bids bs)) (bids bs) (λ n h. h))) l e
 
-        pivoted : (x : Work) → After w x → x .tableau .rows ≡ bs → x .tableau .symbols ≡ w .tableau .symbols → Fine (pivot (l .id) m x .mark) → After x (pivot (l .id) m x)
-        pivoted x a r s p = record { fits = pivot-fits (l .id) m x (a .fits) (rw r z) (rw s live); fine = p; frame = pivot-frame (l .id) m x; count = pivot-count (l .id) m x }
+        pivoted : (x : Work) → After w x → x .tableau .rows ≡ bs → x .tableau .symbols ≡ w .tableau .symbols → Fine (pivot (l .id) m x .mark)
+            → After x (pivot (l .id) m x)
+        pivoted x a r s p =
+            record { fits = pivot-fits (l .id) m x (a .fits) (rw r z) (rw s live); fine = p; frame = pivot-frame (l .id) m x; count = pivot-count (l .id) m x }
 
     next : Option Row → Outcome Work
-    next o = elim o [ some r ↦ going (withRows (dropRow (m .id) bs) w) | none ↦ elim (getMarkerLeavingRow (m .id) w) [ none ↦ refused 17 (w .pivots) (w .mark) | some leaving ↦ step leaving ] ]
+    next o =
+        elim o [
+          | some r ↦ going (withRows (dropRow (m .id) bs) w)
+          | none ↦ elim (getMarkerLeavingRow (m .id) w) [ none ↦ refused 17 (w .pivots) (w .mark) | some leaving ↦ step leaving ]
+        ]
 
     go : (o : Option Row) → Row? (m .id) bs o → Ends (Dropped w) (next o)
     go o (no-row q) = by (find-none rowId (m .id) bs q) (getMarkerLeavingRow (m .id) w) refl

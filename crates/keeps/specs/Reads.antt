@@ -66,7 +66,9 @@ unmap g P (x ∷ xs) h = (h .0, unmap g P xs (h .1))
 
 pub tags-length : (s : State) → length (tags s) ≡ length (s .constraints) + length (s .edits)
 unfolding tags
-tags-length s = length-append (map (λ (c : Constraint). c .tag) (s .constraints)) (map (λ (e : Edit). e .tag) (s .edits)) ∙ ap₂ (λ (a b : ℕ). a + b) (length-map (s .constraints) (λ (c : Constraint). c .tag)) (length-map (s .edits) (λ (e : Edit). e .tag))
+tags-length s =
+    length-append (map (λ (c : Constraint). c .tag) (s .constraints)) (map (λ (e : Edit). e .tag) (s .edits)) ∙ ap₂ (λ (a b : ℕ). a + b)
+    (length-map (s .constraints) (λ (c : Constraint). c .tag)) (length-map (s .edits) (λ (e : Edit). e .tag))
 
 total-append : {A : Type 0} (f : A → ℕ) (xs ys : List A) → total f (xs ++ ys) ≡ total f xs + total f ys
 unfolding total

@@ -33,7 +33,8 @@ live-of : (K U : ℕ → ℕ) (w : Work) (s : Symbol) → Good K U w → 1 ≤ K
 live-of K U w s g h = codes-mem s (w .tableau .symbols) (omega (arith, g .owns (code s)))
 
 -- ---- the tag's symbols go
-purgeTag-good : (tag : Tag) (K L U : ℕ → ℕ) (w : Work) → Good K U w → w .artificial ≡ none → ((n : ℕ) → K n ≡ tagCode n tag + L n) → Good L U (purgeTag tag w) × Shrunk w (purgeTag tag w)
+purgeTag-good : (tag : Tag) (K L U : ℕ → ℕ) (w : Work) → Good K U w → w .artificial ≡ none → ((n : ℕ) → K n ≡ tagCode n tag + L n)
+    → Good L U (purgeTag tag w) × Shrunk w (purgeTag tag w)
 unfolding purgeTag tagSymbols times
 purgeTag-good tag K L U w g plain h = go (tag .other) h
   where
@@ -71,7 +72,8 @@ module _ (budget : ℕ) (tag : Tag) (strength : Float) (terms : List Term) (w : 
   unfolding Started
   started =
       let o : OnlyGoal w (removeConstraintEffects tag strength w) = effects tag strength w (g .fits) in
-      check-ends Started (removeConstraintEffects tag strength w) (λ m. (good-frame K U w (removeConstraintEffects tag strength w) g (o .fits) (o .frame), m, o .frame, ap length (o .rows)))
+      check-ends Started (removeConstraintEffects tag strength w)
+      (λ m. (good-frame K U w (removeConstraintEffects tag strength w) g (o .fits) (o .frame), m, o .frame, ap length (o .rows)))
 
   marker : (v : Work) → Good K U v → Mem (tag .marker) (v .tableau .symbols)
   unfolding tagSymbols times
@@ -92,12 +94,29 @@ module _ (budget : ℕ) (tag : Tag) (strength : Float) (terms : List Term) (w : 
       (λ u d. (good-frame K U v u (h .0) (d .fits) (d .frame), d .fine, frame-trans (h .2) (d .frame), d .count ∙ h .3)))
 
   Passed : Work → Type 0
-  Passed v = (Good L U v) × (Fine (v .mark)) × (v .artificial ≡ none) × (suc (length (v .tableau .rows)) ≤ length (w .tableau .rows)) × (length (v .changes .variables) ≤ length (w .changes .variables))
+  Passed v =
+      (Good L U v) × (Fine (v .mark)) × (v .artificial ≡ none) × (suc (length (v .tableau .rows)) ≤ length (w .tableau .rows)) × (length
+      (v .changes .variables) ≤ length (w .changes .variables))
 
   passed : (v : Work) → Less v → Ends Passed (optimise (budget - v .pivots) theObjective (purgeTag tag v))
   unfolding Less Passed
-  passed v h = ends-to (After x) Passed (optimise (budget - v .pivots) theObjective x) (optimise-ends (budget - v .pivots) theObjective x (purged .0 .fits) (rw (purged .1 .mark) (h .1)))
-      (λ u a. (good-frame L U x u (purged .0) (a .fits) (a .frame), a .fine, a .frame .plain (purged .1 .plain ∙ bare), omega (arith, a .count, purged .1 .rows, h .3), omega (arith, purged .1 .variables, clear-length (x .changes .variables) (u .changes .variables) (a .frame .variables), clear-length (w .changes .variables) (v .changes .variables) (h .2 .variables))))
+  passed v h =
+      ends-to (After x) Passed (optimise (budget - v .pivots) theObjective x)
+      (optimise-ends (budget - v .pivots) theObjective x (purged .0 .fits) (rw (purged .1 .mark) (h .1)))
+      (λ u a. (
+        good-frame L U x u (purged .0) (a .fits) (a .frame),
+        a .fine,
+        a .frame .plain (purged .1 .plain ∙ bare),
+        omega
+            (arith, a .count, purged .1 .rows, h .3),
+        omega (
+          arith,
+          purged .1 .variables,
+          clear-length (x .changes .variables) (u .changes .variables) (a .frame .variables),
+          clear-length (w .changes .variables)
+              (v .changes .variables) (h .2 .variables),
+        ),
+      ))
     where
       x : Work
       x = purgeTag tag v
@@ -111,8 +130,11 @@ module _ (budget : ℕ) (tag : Tag) (strength : Float) (terms : List Term) (w : 
   pub remove-ends : Ends (Removed L W w) (removeSteps budget tag strength terms w)
   unfolding removeSteps Less Passed
   remove-ends =
-      ends-bind Passed (Removed L W w) (checkFinite (removeConstraintEffects tag strength w) >>= dropMarker (tag .marker) >>= (λ v. optimise (budget - v .pivots) theObjective (purgeTag tag v))) (λ v. going (dropUses terms v))
-      (ends-bind Less Passed (checkFinite (removeConstraintEffects tag strength w) >>= dropMarker (tag .marker)) (λ v. optimise (budget - v .pivots) theObjective (purgeTag tag v)) less passed)
+      ends-bind Passed (Removed L W w)
+      (checkFinite (removeConstraintEffects tag strength w) >>= dropMarker (tag .marker) >>= (λ v. optimise (budget - v .pivots) theObjective (purgeTag tag v)))
+      (λ v. going (dropUses terms v))
+      (ends-bind Less Passed (checkFinite (removeConstraintEffects tag strength w) >>= dropMarker (tag .marker))
+      (λ v. optimise (budget - v .pivots) theObjective (purgeTag tag v)) less passed)
       (λ v h. last v h (dropUses-good terms L U W v (h .0) (h .2) used))
     where
       last : (v : Work) → Passed v → Good L W (dropUses terms v) × Shrunk v (dropUses terms v) → Removed L W w (dropUses terms v)
@@ -120,7 +142,9 @@ module _ (budget : ℕ) (tag : Tag) (strength : Float) (terms : List Term) (w : 
 
 -- ---- the calls
 
-removed-reads : (s : State) (cs : List Constraint) (es : List Edit) → Reads s → Stored cs es → suc (length cs + length es) ≡ length (s .constraints) + length (s .edits) → (w : Work) → Removed (λ n. tagsBy n cs es) (λ n. usedBy n cs es) (begin s) w → Reads (finish w cs es)
+removed-reads : (s : State) (cs : List Constraint) (es : List Edit) → Reads s → Stored cs es
+    → suc (length cs + length es) ≡ length (s .constraints) + length (s .edits) → (w : Work) → Removed (λ n. tagsBy n cs es) (λ n. usedBy n cs es) (begin s) w
+    → Reads (finish w cs es)
 unfolding begin
 removed-reads s cs es r t count w h = finish-reads w cs es (h .good) (h .fine) t (omega (arith, h .variables, r .few-variables)) (omega (arith, h .rows, r .few-rows))
 
@@ -188,7 +212,8 @@ removeEdit-kept n budget s r = go (findEdit n (s .edits)) refl
     go (some c) e =
         rw (e, removeEdit) (conclude-reads s (removeSteps budget (c .tag) (c .strength) (editTerms n) (begin s)) (λ w. finish w (s .constraints) es) r
         (ends-to _ _ (removeSteps budget (c .tag) (c .strength) (editTerms n) (begin s))
-        (remove-ends budget (c .tag) (c .strength) (editTerms n) (begin s) _ (λ n. tagsBy n (s .constraints) es) _ (λ n. usedBy n (s .constraints) es) (begin-good s r) plain tags terms)
+        (remove-ends budget (c .tag) (c .strength) (editTerms n) (begin s) _ (λ n. tagsBy n (s .constraints) es) _ (λ n. usedBy n (s .constraints) es)
+        (begin-good s r) plain tags terms)
         (removed-reads s (s .constraints) es r stored (omega (arith, size)))))
       where
         by : findBy editNumber n (s .edits) ≡ some c

@@ -49,12 +49,14 @@ module _ (shift : Basic → Option Float) where
   shift-live P [] h = tt
   shift-live P (b ∷ bs) h = (h .0, shift-live P bs (h .1))
 
-  shift-row : (B : ℕ → Type 0) (G H : Type 0) (xs : List Symbol) → (H → G) → (r : Row) (d : Option Float) → (H → Fine (shiftRow r d .mark)) → RowOk B G xs r → RowOk B H xs (shiftRow r d .row)
+  shift-row : (B : ℕ → Type 0) (G H : Type 0) (xs : List Symbol) → (H → G) → (r : Row) (d : Option Float) → (H → Fine (shiftRow r d .mark)) → RowOk B G xs r
+      → RowOk B H xs (shiftRow r d .row)
   unfolding shiftRow untouched
   shift-row B G H xs g r none m h = row-to B B G H (λ i b. b) g xs r h
   shift-row B G H xs g r (some d) m h = ((λ p. write-finite constantBound (r .constant +₆₄ d) (m p)), row-to B B G H (λ i b. b) g xs r h .1)
 
-  shift-rows : (B : ℕ → Type 0) (G H : Type 0) (xs : List Symbol) → (H → G) → (bs : List Basic) → (H → Fine (marksOf (shiftRows shift bs))) → All (λ (b : Basic). RowOk B G xs (b .row)) bs → All (λ (b : Basic). RowOk B H xs (b .row)) (rowsOf (shiftRows shift bs))
+  shift-rows : (B : ℕ → Type 0) (G H : Type 0) (xs : List Symbol) → (H → G) → (bs : List Basic) → (H → Fine (marksOf (shiftRows shift bs)))
+      → All (λ (b : Basic). RowOk B G xs (b .row)) bs → All (λ (b : Basic). RowOk B H xs (b .row)) (rowsOf (shiftRows shift bs))
   unfolding rowsOf shiftRows marksOf
   shift-rows B G H xs g [] m h = tt
   shift-rows B G H xs g (b ∷ bs) m h = (
@@ -71,7 +73,9 @@ shift-fits tag delta w f =
       under = f .under;
       rows-up = rw (shift-bids shift) (f .rows-up);
       live = shift-live shift (λ x. Mem x xs) bs (f .live);
-      rows = all-to _ _ (λ b h. row-to (IsBasic bs) now G G before (λ p. p) xs (b .row) h) (rowsOf (shiftRows shift bs)) (shift-rows shift (IsBasic bs) (Fine (w .mark)) G xs g bs (λ p. fine-r (w .mark) (marksOf (shiftRows shift bs)) p) (f .rows));
+      rows =
+          all-to _ _ (λ b h. row-to (IsBasic bs) now G G before (λ p. p) xs (b .row) h) (rowsOf (shiftRows shift bs))
+          (shift-rows shift (IsBasic bs) (Fine (w .mark)) G xs g bs (λ p. fine-r (w .mark) (marksOf (shiftRows shift bs)) p) (f .rows));
       objective = ok-to (IsBasic bs) now (Fine (w .mark)) G before g xs (w .tableau .objective) (f .objective);
       artificial = art-to (IsBasic bs) now (Fine (w .mark)) G before g xs (w .artificial) (f .artificial);
     }
@@ -100,7 +104,13 @@ shift-fits tag delta w f =
 shift-frame : (tag : Tag) (delta : Float) (w : Work) → Frame w (shiftConstants tag delta w)
 unfolding shiftConstants marking withChanges withInfeasible withRows withTableau
 shift-frame tag delta w =
-    record { symbols = refl; next = refl; variables = clear-all (notedOf (shiftRows (shiftOf tag delta w) (w .tableau .rows))) (w .changes); list = λ h. pushBelow-once _ (w .tableau .infeasible) h; plain = λ e. e }
+    record {
+      symbols = refl;
+      next = refl;
+      variables = clear-all (notedOf (shiftRows (shiftOf tag delta w) (w .tableau .rows))) (w .changes);
+      list = λ h. pushBelow-once _ (w .tableau .infeasible) h;
+      plain = λ e. e;
+    }
 
 shift-count : (tag : Tag) (delta : Float) (w : Work) → length (shiftConstants tag delta w .tableau .rows) ≡ length (w .tableau .rows)
 unfolding shiftConstants marking withChanges withInfeasible withRows withTableau
@@ -112,7 +122,13 @@ pub suggest-ends : (budget : ℕ) (e : Edit) (new : Float) (w : Work) → FitsW 
 unfolding suggestSteps marking
 suggest-ends budget e new w f =
     ends-bind (After w) (After w) (checkFinite v) (dualOptimise budget)
-    (check-ends (After w) v (λ m. record { fits = shift-fits (e .tag) delta marked (fits-worse f mark); fine = m; frame = frame-trans (mark-frame mark w) (shift-frame (e .tag) delta marked); count = shift-count (e .tag) delta marked }))
+    (check-ends (After w) v
+    (λ m. record {
+      fits = shift-fits (e .tag) delta marked (fits-worse f mark);
+      fine = m;
+      frame = frame-trans (mark-frame mark w) (shift-frame (e .tag) delta marked);
+      count = shift-count (e .tag) delta marked;
+    }))
     (λ u a. ends-to (After u) (After w) (dualOptimise budget u) (dual-ends budget u (a .fits) (a .fine)) (λ x b. after-trans a b))
   where
     delta : Float
@@ -150,7 +166,9 @@ module _ (n : ℕ) (new : Float) (e : Edit) (es : List Edit) (found : findEdit n
   edits-is = keepEdit-is again (dropEdit n es) ∙ ap (λ (l : List Edit). keepBy editNumber again l) (dropEdit-is n es)
 
   again-total : (f : Edit → ℕ) → f again ≡ f e → total f edits ≡ total f es
-  again-total f h = rw edits-is (keep-total editNumber f again (dropBy editNumber n es) ∙ ap (λ (k : ℕ). k + total f (dropBy editNumber n es)) h ∙ sym (drop-total editNumber f n es e found-by))
+  again-total f h =
+      rw edits-is (keep-total editNumber f again (dropBy editNumber n es) ∙ ap (λ (k : ℕ). k + total f (dropBy editNumber n es)) h ∙ sym
+      (drop-total editNumber f n es e found-by))
 
   again-length : length edits ≡ length es
   again-length = rw edits-is (keep-length editNumber again (dropBy editNumber n es) ∙ sym (drop-length editNumber n es e found-by))
@@ -172,8 +190,12 @@ module _ (n : ℕ) (new : Float) (e : Edit) (es : List Edit) (found : findEdit n
         edits-up = again-up (t .edits-up);
         constraints-finite = t .constraints-finite;
         constraint-kinds = t .constraint-kinds;
-        edits-finite = again-all (λ (e : Edit). editFinite e ≡ true) (both (left (isFinite (e .strength)) (isFinite (e .suggestion)) (find-all editNumber (λ (e : Edit). editFinite e ≡ true) n es e found-by (t .edits-finite))) fin) (t .edits-finite);
-        edit-kinds = again-all (λ (e : Edit). editKinds e ≡ true) (find-all editNumber (λ (e : Edit). editKinds e ≡ true) n es e found-by (t .edit-kinds)) (t .edit-kinds);
+        edits-finite =
+            again-all (λ (e : Edit). editFinite e ≡ true)
+            (both (left (isFinite (e .strength)) (isFinite (e .suggestion))
+            (find-all editNumber (λ (e : Edit). editFinite e ≡ true) n es e found-by (t .edits-finite))) fin) (t .edits-finite);
+        edit-kinds =
+            again-all (λ (e : Edit). editKinds e ≡ true) (find-all editNumber (λ (e : Edit). editKinds e ≡ true) n es e found-by (t .edit-kinds)) (t .edit-kinds);
       }
 
   again-tags : (cs : List Constraint) (m : ℕ) → tagsBy m cs es ≡ tagsBy m cs edits
@@ -182,7 +204,9 @@ module _ (n : ℕ) (new : Float) (e : Edit) (es : List Edit) (found : findEdit n
 
   again-uses : (cs : List Constraint) (m : ℕ) → usedBy m cs es ≡ usedBy m cs edits
   unfolding again
-  again-uses cs m = ap (λ (k : ℕ). total (λ (c : Constraint). usesIn m (c .terms)) cs + k) (sym (again-total (λ (e : Edit). usesIn m (editTerms (e .variable))) (ap (λ (k : ℕ). usesIn m (editTerms k)) (find-some editNumber n es e found-by))))
+  again-uses cs m =
+      ap (λ (k : ℕ). total (λ (c : Constraint). usesIn m (c .terms)) cs + k)
+      (sym (again-total (λ (e : Edit). usesIn m (editTerms (e .variable))) (ap (λ (k : ℕ). usesIn m (editTerms k)) (find-some editNumber n es e found-by))))
 
 pub suggest-kept : (n : ℕ) (new : Float) (budget : ℕ) (s : State) → Reads s → Reads (suggest n new budget s .state)
 unfolding suggest refusedBy again edits
@@ -193,12 +217,14 @@ suggest-kept n new budget s r = go (isFinite new) refl (findEdit n (s .edits)) r
     go true p none e = rw (p, e, suggest) r
     go true p (some c) e =
         rw (p, e, suggest) (conclude-reads s (suggestSteps budget c new (begin s)) (λ w. finish w (s .constraints) (edits n new c (s .edits) e)) r
-        (ends-to (After (begin s)) (λ w. Reads (finish w (s .constraints) (edits n new c (s .edits) e))) (suggestSteps budget c new (begin s)) (suggest-ends budget c new (begin s) (begin-good s r .fits)) done))
+        (ends-to (After (begin s)) (λ w. Reads (finish w (s .constraints) (edits n new c (s .edits) e))) (suggestSteps budget c new (begin s))
+        (suggest-ends budget c new (begin s) (begin-good s r .fits)) done))
       where
         done : (w : Work) → After (begin s) w → Reads (finish w (s .constraints) (edits n new c (s .edits) e))
         done w a =
             finish-reads w (s .constraints) (edits n new c (s .edits) e)
-            (good-to _ _ _ _ w (again-tags n new c (s .edits) e (s .constraints)) (again-uses n new c (s .edits) e (s .constraints)) (good-frame _ _ (begin s) w (begin-good s r) (a .fits) (a .frame)))
+            (good-to _ _ _ _ w (again-tags n new c (s .edits) e (s .constraints)) (again-uses n new c (s .edits) e (s .constraints))
+            (good-frame _ _ (begin s) w (begin-good s r) (a .fits) (a .frame)))
             (a .fine) (again-stored n new c (s .edits) e (s .constraints) p (stored-in s r)) few (omega (arith, a .count, again-length n new c (s .edits) e, rows))
           where
             few : length (w .changes .variables) ≤ 32

@@ -185,7 +185,8 @@ module _ (s : State) where
     unfolding idsBelowNext liveIds
     below-out =
         both (truly (ltb 0 (s .tableau .nextId)) (lt→ltb 0 _ (r .fits .pos)))
-        (all-out _ (liveIds s) (all-map (λ (x : Symbol). x .id) _ xs (all-to _ _ (λ x h. truly (ltb (x .id) (s .tableau .nextId)) (lt→ltb (x .id) _ h)) xs (r .fits .under))))
+        (all-out _ (liveIds s)
+        (all-map (λ (x : Symbol). x .id) _ xs (all-to _ _ (λ x h. truly (ltb (x .id) (s .tableau .nextId)) (lt→ltb (x .id) _ h)) xs (r .fits .under))))
 
     rows-out : rowsInRange s ≡ true
     unfolding rowsInRange
@@ -194,7 +195,8 @@ module _ (s : State) where
     no-basic-out : noBasicCell s ≡ true
     unfolding noBasicCell basicIds
     no-basic-out =
-        both (cells-out s Unit (s .tableau .objective) (r .fits .objective)) (all-out _ bs (all-to _ _ (λ b h. cells-out s Unit (b .row .cells) (h .1)) bs (r .fits .rows)))
+        both (cells-out s Unit (s .tableau .objective) (r .fits .objective))
+        (all-out _ bs (all-to _ _ (λ b h. cells-out s Unit (b .row .cells) (h .1)) bs (r .fits .rows)))
 
     live-out : allIn (basics s) (live s) ≡ true
     unfolding basics live allIn
@@ -213,7 +215,8 @@ module _ (s : State) where
     unfolding usesCounted numbers
     counted-out =
         both
-        (all-out _ vs (all-to _ _ (λ v h. eqb-out (v .uses) (usesIn (v .number) (storedTerms s)) h) vs (uses-out (λ n. usesIn n (storedTerms s)) 0 vs (r .variables-up) (λ n l. used n))))
+        (all-out _ vs (all-to _ _ (λ v h. eqb-out (v .uses) (usesIn (v .number) (storedTerms s)) h) vs
+        (uses-out (λ n. usesIn n (storedTerms s)) 0 vs (r .variables-up) (λ n l. used n))))
         (allIn-out (map (λ (t : Term). t .variable) (storedTerms s)) (numbers s) (λ n l. uses-live n vs (omega (arith, used n, uses-times n (storedTerms s)))))
       where
         used : (n : ℕ) → usesOf n vs ≡ usesIn n (storedTerms s)
