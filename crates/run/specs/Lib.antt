@@ -30,3 +30,5 @@ pub mod BuildRow
 pub mod AddEnds
 pub mod Subject
 pub mod SubjectEnter
+pub mod AddMarks
+pub mod AddSteps
