@@ -32,3 +32,4 @@ pub mod Subject
 pub mod SubjectEnter
 pub mod AddMarks
 pub mod AddSteps
+pub mod AddInv
