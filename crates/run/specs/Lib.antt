@@ -46,3 +46,6 @@ pub mod BuildRow
 pub mod AddEnds
 pub mod Subject
 pub mod SubjectEnter
+pub mod AddMarks
+pub mod AddSteps
+pub mod AddInv

@@ -218,7 +218,7 @@ module _ (n : ℕ) (old : ℕ → KindZ) (S : StateZ) (held : List Held) (d : De
   constant-zero b e = ((λ t. nearZero-yes (B .line .constant .isz) (e ∙ t)), λ t z. subst T (sym (nearZero-z (B .line .constant .isz)) ∙ e ∙ t) (≡→eqZb z))
 
   module _ (in-n : 0 < n) (room : c .work .tableau .nextId ≤ n) (budget : ℕ) where
-    chosen : (s : Symbol) → Subjected n old S held d w c B (some s) → markOf (addWithSubject s c) ≡ allWhole → Ends n (B .kind) cs 1 budget (c .work) (addWithSubject s c)
+    pub chosen : (s : Symbol) → Subjected n old S held d w c B (some s) → markOf (addWithSubject s c) ≡ allWhole → Ends n (B .kind) cs 1 budget (c .work) (addWithSubject s c)
     chosen s view = by (some s) view s refl
       where
         by : (t : Option Symbol) → Subjected n old S held d w c B t → (s : Symbol) → t ≡ some s → markOf (addWithSubject s c) ≡ allWhole → Ends n (B .kind) cs 1 budget (c .work) (addWithSubject s c)
@@ -233,7 +233,7 @@ module _ (n : ℕ) (old : ℕ → KindZ) (S : StateZ) (held : List Held) (d : De
             (subject-ends budget o (B .other o q .live) (B .other o q .dead .free) (tag-subject o (B .other o q) (unfold NoExternal in f) k z))
         by t (nothing f) s e = absurd (none≢some e)
 
-    flat : Dummies n old S held d w c B true → (b : Bool) → nearZero (c .row .constant) ≡ b
+    pub flat : Dummies n old S held d w c B true → (b : Bool) → nearZero (c .row .constant) ≡ b
         → markOf (elim b as (λ _. Outcome Work) [ false ↦ refuse 12 (c .work) | true ↦ addWithSubject (c .tag .marker) c ]) ≡ allWhole
         → Ends n (B .kind) cs 1 budget (c .work) (elim b [ false ↦ refuse 12 (c .work) | true ↦ addWithSubject (c .tag .marker) c ])
     unfolding refuse
