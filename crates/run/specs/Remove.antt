@@ -18,7 +18,8 @@ use Rattle.steps.specs.Calls.{Result, begin, finish, refusedBy, acceptedAs, con
 use Rattle.steps.specs.Readable.{readable, usesIn}
 use Rattle.keeps.specs.Lists.{Up}
 use Rattle.keeps.specs.Uses.{varNumber, usesOf}
-use Rattle.keeps.specs.Reads.{Reads, reads-in, usedBy}
+use Rattle.keeps.specs.Reads.{Reads, usedBy}
+use Rattle.keeps.specs.Tested.{reads-in}
 use Rattle.bridge.specs.Runs.{markOf}
 use Rattle.run.specs.Demand.{Key, ofConstraint, ofEdit, Demand, Call, removes, removesEdit, make, accepted, without, Moment, next}
 use Rattle.run.specs.Inv.{columns, Held, formOf, Shaped, findHeld, ConstraintAt, EditAt, WholeDemand, Inv}
