@@ -163,6 +163,7 @@ def compare(sessions):
         total += t
         differ += sorted(int(b[1:]) for b in bad)
         outof += sorted(int(b[1:]) for b in steps)
+        print('%d of %d sessions, %.0f s' % (min(i + batch, len(sessions)), len(sessions), total), file=sys.stderr)
     calls = sum(len(s) for s in sessions)
     dumps = sum(1 for s in sessions for line, _ in s if line == 'dump')
     print('definitions: %d sessions, %d calls (%d dumps of the whole state), %.0f s, %.0f calls a second' % (len(sessions), calls, dumps, total, calls / max(total, 0.001)))

@@ -179,6 +179,45 @@ fn refusals(calls: u64, r: &mut Random) -> Vec<String> {
     lines
 }
 
+/// Required equalities that agree with each other, many of them redundant, added and removed beside weaker ones: rows of
+/// dummies, and removals by the first rank.
+fn redundant(calls: u64, r: &mut Random) -> Vec<String> {
+    let values: Vec<i64> = (0..5).map(|_| r.below(21) as i64 - 10).collect();
+    let mut lines = Vec::new();
+    let mut added = [false; 10]; // a guess
+    for _ in 0..calls {
+        let (c, v) = (r.from(1, 9), r.below(5));
+        // an add of one that stands or a removal of one that doesn't is seldom kept
+        let place = match (r.below(20), added[c as usize]) {
+            (n @ 0..=9, true) if !r.one_in(20) => 10 + n % 6,
+            (n @ 10..=15, false) if !r.one_in(20) => n - 10,
+            (n, _) => n,
+        };
+        lines.push(match place {
+            0..=9 => {
+                added[c as usize] = true;
+                let count = r.from(1, 3);
+                let terms: Vec<(u64, i64)> = (0..count).map(|_| (r.below(5), random::small_coefficient(r) as i64)).collect();
+                let sum: i64 = terms.iter().map(|&(v, k)| k * values[v as usize]).sum();
+                let text: String = terms.iter().map(|&(v, k)| format!(" {} {}", v + 1, k)).collect();
+                let required = !r.one_in(4);
+                let (relation, strength) = if required { ("eq", 1_001_001_000.0) } else { (ALL_RELATIONS[r.below(3) as usize], random::usual_strength(r)) };
+                let off = if required { 0 } else { r.below(9) as i64 - 4 };
+                format!("add {} 30 {} {} {} {}{}", c, relation, number(strength), off - sum, count, text)
+            }
+            10..=15 => {
+                added[c as usize] = false;
+                format!("remove {} 30", c)
+            }
+            16 => format!("addedit {} 1 30", v + 1),
+            17 => format!("suggest {} {} 30", v + 1, r.below(31) as i64 - 15),
+            18 => format!("value {}", v + 1),
+            _ => "fetch".to_string(),
+        });
+    }
+    lines
+}
+
 /// Up to and over 32 variables, 48 constraints and 16 terms.
 fn limits(calls: u64, r: &mut Random) -> Vec<String> {
     let mut lines = Vec::new();
@@ -248,6 +287,39 @@ fn trolley(calls: u64, r: &mut Random) -> Vec<String> {
     lines
 }
 
+/// Layouts at the limits, with budget to spare: up to 32 edges in order, least and wished distances between near ones, bounds,
+/// edits, up to 48 constraints; then removals and new ones in turn, and drags.
+fn layouts(calls: u64, r: &mut Random) -> Vec<String> {
+    let mut lines = Vec::new();
+    let mut added = [false; 44];
+    let edges = [10, 16, 24, 32][r.below(4) as usize];
+    let edits = r.from(0, 5);
+    for edit in 0..edits {
+        lines.push(format!("addedit {} {} 65535", 1 + edit * 2, [1, 1000, 1_000_000][r.below(3) as usize]));
+    }
+    for i in 0..calls + 43 {
+        let c = if i < 43 { i + 1 } else { r.from(1, 43) };
+        if edits > 0 && i >= 43 && r.one_in(4) {
+            lines.push(format!("suggest {} {} 65535", 1 + 2 * r.below(edits), r.below(900)));
+        } else if added[c as usize] {
+            added[c as usize] = false;
+            lines.push(format!("remove {} 65535", c));
+        } else {
+            added[c as usize] = true;
+            let (a, apart) = (r.from(1, edges - 1), r.from(1, 6));
+            let b = (a + apart).min(edges);
+            let strength = [1_001_001_000, 1, 1, 10, 1000, 1_000_000][r.below(6) as usize];
+            lines.push(match r.below(5) {
+                0 => format!("add {} 65535 ge req -{} 2 {} 1 {} -1", c, r.below(30), b, a),
+                1 | 2 => format!("add {} 65535 eq {} -{} 2 {} 1 {} -1", c, strength.min(1_000_000), r.below(90), b, a),
+                3 => format!("add {} 65535 ge {} -{} 1 {} 1", c, strength, r.below(40), a),
+                _ => format!("add {} 65535 le {} -{} 1 {} 1", c, strength, r.from(300, 900), b),
+            });
+        }
+    }
+    lines
+}
+
 /// The next id near 4,294,900,000, which needs the bench's own call.
 fn ids(calls: u64, r: &mut Random) -> Vec<String> {
     let mut lines = mixed(&KINDS[0], calls / 2, r);
@@ -282,14 +354,16 @@ fn malformed(calls: u64, r: &mut Random) -> Vec<String> {
     lines
 }
 
-const OTHERS: &[&str] = &["refusals", "limits", "trolley", "ids", "malformed"];
+const OTHERS: &[&str] = &["redundant", "refusals", "limits", "trolley", "ids", "malformed", "layouts"];
 
 fn session(name: &str, calls: u64, r: &mut Random) -> Vec<String> {
     match name {
+        "redundant" => redundant(calls, r),
         "refusals" => refusals(calls, r),
         "limits" => limits(calls, r),
         "trolley" => trolley(calls, r),
         "ids" => ids(calls, r),
+        "layouts" => layouts(calls, r),
         "malformed" => malformed(calls, r),
         _ => match KINDS.iter().find(|k| k.name == name) {
             Some(kind) => mixed(kind, calls, r),
@@ -315,8 +389,11 @@ fn main() {
         _ => usage(),
     };
     let kinds: Vec<&str> = match args[0].as_str() {
-        // the definitions have no answer to a line that is no call, and a plain program no setnext
-        "all" => KINDS.iter().map(|k| k.name).chain(OTHERS.iter().cloned()).filter(|k| *k != if plain { "ids" } else { "malformed" }).collect(),
+        // the definitions have no answer to a line that is no call and are slow on large layouts, and a plain program has no setnext
+        "all" => {
+            let left_out: &[&str] = if plain { &["ids"] } else { &["malformed", "layouts"] };
+            KINDS.iter().map(|k| k.name).chain(OTHERS.iter().cloned()).filter(|k| !left_out.contains(k)).collect()
+        }
         names => names.split(',').collect(),
     };
     let mut out = String::new();
