@@ -33,3 +33,4 @@ pub mod SubjectEnter
 pub mod AddMarks
 pub mod AddSteps
 pub mod AddInv
+pub mod Add
