@@ -34,3 +34,4 @@ pub mod AddMarks
 pub mod AddSteps
 pub mod AddInv
 pub mod Add
+pub mod AddEdit
