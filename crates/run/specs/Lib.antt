@@ -49,3 +49,5 @@ pub mod SubjectEnter
 pub mod AddMarks
 pub mod AddSteps
 pub mod AddInv
+pub mod Add
+pub mod AddEdit
