@@ -3,3 +3,4 @@ pub mod Notes
 pub mod Substituting
 pub mod NotesRead
 pub mod SubstituteRead
+pub mod Working

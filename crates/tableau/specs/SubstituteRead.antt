@@ -133,13 +133,14 @@ module _ (s : ℕ) (symbols : List Symbol) (j n : ℕ) (p : PlaceOf s symbols j)
   heads-from : (i k : ℕ) (t : Noted) → Heads t → i + k ≤ count
       → Heads (run (noteRow (1 + j) pivot rows) (1 + i) (1 + i + k) t)
       × ((q : ℕ) → (q ≡ 7 → ⊥) → getD (run (noteRow (1 + j) pivot rows) (1 + i) (1 + i + k) t .head) q 0 ≡ getD (t .head) q 0)
+      × (length (run (noteRow (1 + j) pivot rows) (1 + i) (1 + i + k) t .head) ≡ length (t .head))
   heads-from i zero t h q =
       let e = run-last (noteRow (1 + j) pivot rows) (1 + i) (1 + i + 0) t (omega arith) refl in
-      rw (← e) (h, λ q c. refl)
+      rw (← e) (h, (λ q c. refl), refl)
   heads-from i (suc k) t h q =
       let b : Bool = isExternal (symbolOf (code i)) && substituted i .written .constantChanged in
       let r = heads-from (suc i) k (next i t) (next-heads t b (code i / 4) h) (omega (arith, q)) in
-      rw (run-on i k t h q) (r .0, λ q c. r .1 q c ∙ changed-if-head b (code i / 4) t q c)
+      rw (run-on i k t h q) (r .0, (λ q c. r .1 q c ∙ changed-if-head b (code i / 4) t q c), r .2 ∙ changed-if-length b (code i / 4) t)
 
   module _ (t : Noted) (h : Heads t) where
     one : 1 + 0 ≡ 1
@@ -156,3 +157,7 @@ module _ (s : ℕ) (symbols : List Symbol) (j n : ℕ) (p : PlaceOf s symbols j)
     pub notes-head : (q : ℕ) → (q ≡ 7 → ⊥) → getD (noteRows (1 + j) count pivot rows t .head) q 0 ≡ getD (t .head) q 0
     unfolding noteRows
     notes-head = rw one at (heads-from 0 count t h (omega arith) .1)
+
+    pub notes-length : length (noteRows (1 + j) count pivot rows t .head) ≡ length (t .head)
+    unfolding noteRows
+    notes-length = rw one at (heads-from 0 count t h (omega arith) .2)
