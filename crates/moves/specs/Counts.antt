@@ -25,7 +25,7 @@ Fits h k r q = (getD h 1 0 ≤ k) × (getD h 2 0 ≤ r) × (getD h 3 0 ≤ q)
 
 -- ---- the first place that passes, or the end
 
-seek-between : (p : ℕ → Bool) (e n i : ℕ) → i + n ≡ e → (i ≤ seek p (λ j. j) e n i) × (seek p (λ j. j) e n i ≤ e)
+pub seek-between : (p : ℕ → Bool) (e n i : ℕ) → i + n ≡ e → (i ≤ seek p (λ j. j) e n i) × (seek p (λ j. j) e n i ≤ e)
 unfolding seek
 seek-between p e zero i h = (omega arith, omega arith)
 seek-between p e (suc n) i h =
@@ -53,7 +53,7 @@ module _ (b : Board) (len : length (b .head) ≡ 326) where
   -- ---- rows
 
   module _ (i : ℕ) (fit : r ≤ 49) (low : 1 ≤ i) (high : i ≤ r) where
-    abbrev shut : List ℕ
+    abbrev pub shut : List ℕ
     shut = closed 0 (145 + i) (145 + r) (b .head)
 
     shut-length : length shut ≡ 326
@@ -86,7 +86,7 @@ module _ (b : Board) (len : length (b .head) ≡ 326) where
 
   -- the row of this id, if there is one
   module _ (id : ℕ) (fit : r ≤ 49) where
-    row-by : (P : Board → Type 0) → P b → ((i : ℕ) → 1 ≤ i → i ≤ r → P (droppedRow i b)) → P (dropRowOf id b)
+    pub row-by : (P : Board → Type 0) → P b → ((i : ℕ) → 1 ≤ i → i ≤ r → P (droppedRow i b)) → P (dropRowOf id b)
     unfolding dropRowOf idAt
     row-by P x y = go (rowOf id (b .head)) (first-within _ r)
       where
@@ -111,7 +111,7 @@ module _ (b : Board) (len : length (b .head) ≡ 326) where
     abbrev p : ℕ
     p = rowPlace (code / 4) (b .head)
 
-    abbrev wide : List ℕ
+    abbrev pub wide : List ℕ
     wide = opened (145 + p) (146 + r) code (b .head)
 
     wide-length : length wide ≡ 326
@@ -199,7 +199,7 @@ module _ (b : Board) (len : length (b .head) ≡ 326) where
         (omega arith, omega arith, omega arith)
 
   module _ (p : ℕ) (fit : k ≤ 129) (low : 1 ≤ p) (high : p ≤ k) where
-    abbrev less : List ℕ
+    abbrev pub less : List ℕ
     less = closed 0 (15 + p) (15 + k) (b .head)
 
     less-length : length less ≡ 326

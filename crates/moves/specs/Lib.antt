@@ -4,3 +4,7 @@ pub mod Moved
 pub mod Moves
 pub mod Counts
 pub mod Turns
+pub mod Walk
+pub mod Rows
+pub mod Columns
+pub mod Purge
