@@ -50,7 +50,7 @@ enter-list s r w = go (isExternal s && ne (r .constant) zero64)
     go true = refl
     go false = refl
 
-pivot-is : (l : ℕ) (e : Symbol) (w : Work) (row : Row) → findRow l (w .tableau .rows) ≡ some row
+pub pivot-is : (l : ℕ) (e : Symbol) (w : Work) (row : Row) → findRow l (w .tableau .rows) ≡ some row
     → pivot l e w ≡ enterBasis e (solveForSymbols l (e .id) (w .tableau .symbols) row .row) (marking (solveForSymbols l (e .id) (w .tableau .symbols) row .mark) (withRows (dropRow l (w .tableau .rows)) w))
 unfolding pivot
 pivot-is l e w row q = rw (q, pivot) refl

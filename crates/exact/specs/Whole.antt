@@ -191,7 +191,7 @@ sum-pos i j c cp = ap (ltb 0) (sym (e i j c)) ∙ ap (λ (x : ℕ). ltb x ((i + 
     e : (i j c : ℕ) → (i + j) * c ≡ i * c + j * c
     e i j c = omega arith
 
-below-z : (s t : Bool) (i j c : ℕ) → 0 < c → below s (i * c) t (j * c) ≡ ltZ (sgn s i) (sgn t j)
+pub below-z : (s t : Bool) (i j c : ℕ) → 0 < c → below s (i * c) t (j * c) ≡ ltZ (sgn s i) (sgn t j)
 below-z false false i j c cp = below-scaled i j c cp
 below-z false true i zero c cp = sym (leb·suc-zero i)
 below-z false true i (suc j) c cp = refl
@@ -395,27 +395,6 @@ unfolding ofInt
 ofInt-z (pos k) l = mk false k 1 k (pos k) (lit< tt) (sym (mul-one k)) refl l
 ofInt-z (negsuc k) l = mk true (suc k) 1 (suc k) (negsuc k) (lit< tt) (sym (mul-one (suc k))) refl l
 
--- x is a whole number of magnitude at most b, perhaps -0
-pub record Whole (b : ℕ) (x : Float) : Type 0 where
-  pub whole : IsZ x (val x)
-  pub small : natAbs (val x) ≤ b
-
-pub one-bits : IsZ (ofBits binary64 0x3ff0_0000_0000_0000) (pos 1)
-unfolding ofBits int val
-one-bits = lit-z tt tt
-
-pub minus-one-bits : IsZ (ofBits binary64 0xbff0_0000_0000_0000) (negsuc 0)
-unfolding ofBits int val
-minus-one-bits = lit-z tt tt
-
-pub zero-bits : IsZ (ofBits binary64 0) (pos 0)
-unfolding ofBits int val
-zero-bits = lit-z tt tt
-
-pub minus-zero-bits : IsZ (ofBits binary64 0x8000_0000_0000_0000) (pos 0)
-unfolding ofBits int val
-minus-zero-bits = lit-z tt tt
-
 -- -1.0 / c for c = 1 and c = -1
 pub minus-one-over : {x y : Float} {c : ℤ} → IsZ x (negsuc 0) → IsZ y c → c *ℤ c ≡ pos 1 → IsZ (div binary64 x y) (negℤ c)
 minus-one-over {c} h g e =
@@ -453,18 +432,3 @@ mul-b {b} {c} {x} {y} {a} {d} h g l = record { isz = mul-z (h .isz) (g .isz) (om
   where
     s : natAbs (a *ℤ d) ≤ b * c
     s = omega (arith, abs-mul a d, mul-le-mul (h .small) (g .small))
-
--- ---- the same by `val`
-pub whole-of : {b : ℕ} {x : Float} {z : ℤ} → Zb b x z → Whole b x × (val x ≡ z)
-whole-of {b} {x} {z} h =
-    let e = isz-val (h .isz) in
-    (record { whole = isz-to (h .isz) (sym e); small = subst (λ (y : ℤ). natAbs y ≤ b) (sym e) (h .small) }, e)
-
-pub of-whole : {b : ℕ} {x : Float} → Whole b x → Zb b x (val x)
-of-whole h = record { isz = h .whole; small = h .small }
-
-pub add-whole : {x y : Float} → Whole (2 ^ 52) x → Whole (2 ^ 52) y → Whole (2 ^ 53) (add binary64 x y) × (val (add binary64 x y) ≡ val x +ℤ val y)
-add-whole h g = whole-of (add-b (of-whole h) (of-whole g) (lit≤ tt))
-
-pub sub-whole : {x y : Float} → Whole (2 ^ 52) x → Whole (2 ^ 52) y → Whole (2 ^ 53) (sub binary64 x y) × (val (sub binary64 x y) ≡ val x -ℤ val y)
-sub-whole h g = whole-of (sub-b (of-whole h) (of-whole g) (lit≤ tt))
