@@ -3,3 +3,6 @@ pub mod Turns
 pub mod Rows
 pub mod Moments
 pub mod Pass
+pub mod Quiet
+pub mod Accounts
+pub mod Calls
