@@ -41,7 +41,7 @@ use Rattle.bridge.specs.Infeasible.{mem-rev, all-rev, at-mem, pushed-kee
 use Rattle.bridge.specs.Duals.{Enters, Entering, dual-entering, dual-pivot, Moved}
 
 -- ---- a pivot's list and rows
-enter-list : (s : Symbol) (r : Row) (w : Work) → enterBasis s r w .tableau .infeasible ≡ pushBelow (rowsOf (substituteInRows (s .id) (w .tableau .symbols) r (w .tableau .rows))) (w .tableau .infeasible)
+pub enter-list : (s : Symbol) (r : Row) (w : Work) → enterBasis s r w .tableau .infeasible ≡ pushBelow (rowsOf (substituteInRows (s .id) (w .tableau .symbols) r (w .tableau .rows))) (w .tableau .infeasible)
 unfolding enterBasis substitute note withTableau withChanges withArtificial marking withRows withObjective withInfeasible
 enter-list s r w = go (isExternal s && ne (r .constant) zero64)
   where
@@ -60,7 +60,7 @@ pub record Lists (l : ℕ) (e : Symbol) (w : Work) (row : Row) : Type 0 where
   pub rows : pivot l e w .tableau .rows
       ≡ keepRow (record { symbol = e; row = solveForSymbols l (e .id) (w .tableau .symbols) row .row }) (rowsOf (substituteInRows (e .id) (w .tableau .symbols) (solveForSymbols l (e .id) (w .tableau .symbols) row .row) (dropRow l (w .tableau .rows))))
 
-pivot-lists : (l : ℕ) (e : Symbol) (w : Work) (row : Row) → findRow l (w .tableau .rows) ≡ some row → Lists l e w row
+pub pivot-lists : (l : ℕ) (e : Symbol) (w : Work) (row : Row) → findRow l (w .tableau .rows) ≡ some row → Lists l e w row
 unfolding marking withRows withTableau
 pivot-lists l e w row q =
     let s : Written = solveForSymbols l (e .id) (w .tableau .symbols) row in

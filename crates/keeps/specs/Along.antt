@@ -1,10 +1,10 @@
 -- Cells along the live symbols: what each operation on cells does place by place, for any property of a place. Assumes nothing.
-use mathlib.Core.Path.{_≡_, refl, sym, ap, _∙_, subst}
+use mathlib.Core.Path.{_≡_, refl, sym, ap, subst}
 use mathlib.Core.Logic.{_⊎_, inl, inr, _≢_}
 use mathlib.Core.List.{List, [], _∷_, _++_, map}
-use mathlib.Core.Option.{Option, none, some}
+use mathlib.Core.Option.{some}
 use mathlib.Core.Bool.{Bool, true, false}
-use Prim.Native.Nat.{ℕ, suc, _≤_, _<_}
+use Prim.Native.Nat.{ℕ, suc, _<_}
 use native.Mathlib.Omega.{arith}
 use lib.Dec.{eqb}
 use lib.ListN.{length}
@@ -46,13 +46,15 @@ module _ {A : Type 0} where
   along-append Q (x ∷ xs) [] s c h q = absurd h
   along-append Q (x ∷ xs) (d ∷ cs) s c h q = (h .0, along-append Q xs cs s c (h .1) q)
 
-  pub along-map : {B : Type 0} (f : A → B) (Q : ℕ → A → Type 0) (R : ℕ → B → Type 0) → ((i : ℕ) (c : A) → Q i c → R i (f c)) → (xs : List Symbol) (cs : List A) → Along Q xs cs → Along R xs (map f cs)
+  pub along-map : {B : Type 0} (f : A → B) (Q : ℕ → A → Type 0) (R : ℕ → B → Type 0) → ((i : ℕ) (c : A) → Q i c → R i (f c)) → (xs : List Symbol) (cs : List A)
+      → Along Q xs cs → Along R xs (map f cs)
   along-map f Q R g [] [] h = tt
   along-map f Q R g [] (c ∷ cs) h = absurd h
   along-map f Q R g (x ∷ xs) [] h = absurd h
   along-map f Q R g (x ∷ xs) (c ∷ cs) h = (g (x .id) c (h .0), along-map f Q R g xs cs (h .1))
 
-pub along-values : (Q : ℕ → Cell → Type 0) (R : ℕ → Float → Type 0) → ((i : ℕ) (c : Cell) → Q i c → R i (cellValue c)) → (xs : List Symbol) (cs : List Cell) → Along Q xs cs → Along R xs (cellValues cs)
+pub along-values : (Q : ℕ → Cell → Type 0) (R : ℕ → Float → Type 0) → ((i : ℕ) (c : Cell) → Q i c → R i (cellValue c)) → (xs : List Symbol) (cs : List Cell)
+    → Along Q xs cs → Along R xs (cellValues cs)
 unfolding cellValues
 along-values Q R f [] [] h = tt
 along-values Q R f [] (c ∷ cs) h = absurd h
@@ -87,7 +89,8 @@ module _ (Q : ℕ → Float → Type 0) (R : ℕ → Cell → Type 0) (s : ℕ) 
       go (is a b d) q = rw a (subst (λ (i : ℕ). R i (insertCell c k)) b (here c (subst (λ (i : ℕ). Q i c) (sym b) q)))
       go (isnt a b d) q = rw a (there (x .id) c b q)
 
-pub along-scale : (Q : ℕ → Float → Type 0) (R : ℕ → Cell → Type 0) (k : Float) → ((i : ℕ) (c : Float) → Q i c → R i (scaleCell k c)) → (xs : List Symbol) (cs : List Float) → Along Q xs cs → Along R xs (scaleCells k cs)
+pub along-scale : (Q : ℕ → Float → Type 0) (R : ℕ → Cell → Type 0) (k : Float) → ((i : ℕ) (c : Float) → Q i c → R i (scaleCell k c))
+    → (xs : List Symbol) (cs : List Float) → Along Q xs cs → Along R xs (scaleCells k cs)
 unfolding scaleCells
 along-scale Q R k f [] [] h = tt
 along-scale Q R k f [] (c ∷ cs) h = absurd h
@@ -121,7 +124,8 @@ module _ (Q R : ℕ → Float → Type 0) (s : ℕ) (there : (i : ℕ) (c : Floa
   beyond′ i (x ∷ xs) [] l u h = absurd h
   beyond′ i (x ∷ xs) (c ∷ cs) l u h = (there (x .id) c (λ e. omega (arith, u .0)) (h .0), beyond′ (suc (x .id)) xs cs (omega (arith, u .0)) (u .1) (h .1))
 
-  pub along-at : (i : ℕ) (xs : List Symbol) (cs : List Float) → Up i (ids xs) → Along Q xs cs → (Q s (coefficientFor s xs cs) → R s (coefficientFor s xs cs)) → Along R xs cs
+  pub along-at : (i : ℕ) (xs : List Symbol) (cs : List Float) → Up i (ids xs) → Along Q xs cs → (Q s (coefficientFor s xs cs) → R s (coefficientFor s xs cs))
+      → Along R xs cs
   unfolding coefficientFor isSymbol
   along-at i [] [] u h f = tt
   along-at i [] (c ∷ cs) u h f = absurd h
@@ -131,7 +135,8 @@ module _ (Q R : ℕ → Float → Type 0) (s : ℕ) (there : (i : ℕ) (c : Floa
       pick : Bool → Float
       pick t = elim t [ true ↦ c | false ↦ coefficientFor s xs cs ]
 
-      go : Same? s (x .id) → (Q s (pick (eqb s (x .id))) → R s (pick (eqb s (x .id)))) → ((Q s (coefficientFor s xs cs) → R s (coefficientFor s xs cs)) → Along R xs cs) → R (x .id) c × Along R xs cs
+      go : Same? s (x .id) → (Q s (pick (eqb s (x .id))) → R s (pick (eqb s (x .id))))
+          → ((Q s (coefficientFor s xs cs) → R s (coefficientFor s xs cs)) → Along R xs cs) → R (x .id) c × Along R xs cs
       go (is a b d) f ih = (
         subst (λ (i : ℕ). R i c) b (subst (λ (t : Bool). Q s (pick t) → R s (pick t)) a f (subst (λ (i : ℕ). Q i c) (sym b) (h .0))),
         beyond′ (suc (x .id)) xs cs (omega arith) (u .1) (h .1),
@@ -168,7 +173,8 @@ pub record Chosen (Q : ℕ → Float → Type 0) (q : Float → Bool) (xs : List
   pub holds : Q (s .id) cell
   pub passes : q cell ≡ true
 
-pub first-chosen : (Q : ℕ → Float → Type 0) (p : Symbol → Bool) (q : Float → Bool) (xs : List Symbol) (cs : List Float) (s : Symbol) → Along Q xs cs → firstSymbol p q xs cs ≡ some s → Chosen Q q xs s
+pub first-chosen : (Q : ℕ → Float → Type 0) (p : Symbol → Bool) (q : Float → Bool) (xs : List Symbol) (cs : List Float) (s : Symbol) → Along Q xs cs
+    → firstSymbol p q xs cs ≡ some s → Chosen Q q xs s
 unfolding firstSymbol
 first-chosen Q p q [] [] s h e = absurd (none≢some e)
 first-chosen Q p q [] (c ∷ cs) s h e = absurd h

@@ -1,16 +1,16 @@
 -- A cell that reads: absent if its symbol is basic, finite while no write has been other. What each write leaves of that. Assumes nothing.
 use mathlib.Core.Path.{_≡_, refl, sym, ap, _∙_, subst}
 use mathlib.Core.List.{List, [], _∷_}
-use mathlib.Core.Bool.{Bool, true, false, not, _&&_, _||_, cond, true≢false}
+use mathlib.Core.Bool.{Bool, true, false, not, _&&_, cond, true≢false}
 use Prim.Native.Nat.{ℕ, _+_, _*_}
 use native.Mathlib.Omega.{arith}
-use lib.Dec.{T, eqb, ltb, eqb→eq, ltb→lt}
+use lib.Dec.{eqb, eqb→eq, ltb→lt}
 use lib.IntN.{ℤ}
 use lib.Ieee.{Float, nan, inf, fin, lt, eq, neg, ofBits, level, below, up, down}
 use Rattle.steps.specs.Number.{zero64, belowZero, nearZero, isFinite, Mark, allWhole, notWhole, notFinite, worse, markWrite, wholeIf, within, _+₆₄_, _*₆₄_}
 use Rattle.steps.specs.Symbol.{Symbol, absent, holds}
 use Rattle.steps.specs.Row.{Cell, kept, wrote, stored, cellValue, cellValues, cellMark, cellMarks, goesIfNearZero, insertCell, insertTimes, scaleCell}
-use Rattle.keeps.specs.Lists.{so, truly, left, right, no-both}
+use Rattle.keeps.specs.Lists.{so, left, right, no-both}
 use Rattle.keeps.specs.Along.{Along, along-to}
 
 -- ---- floats
@@ -186,7 +186,8 @@ module _ (B : ℕ → Type 0) (G : Type 0) (bound : Float) (i : ℕ) where
       go true e = kept-ok c h
       go false e = wrote-ok (c *₆₄ k) (λ b. absurd (no-both (h .0 b) e))
 
-pub values-ok : (B : ℕ → Type 0) (G H : Type 0) (bound : Float) → (H → G) → (xs : List Symbol) (cs : List Cell) → (H → Fine (cellMarks bound cs)) → Along (OkCell B G bound) xs cs → Along (Ok B H) xs (cellValues cs)
+pub values-ok : (B : ℕ → Type 0) (G H : Type 0) (bound : Float) → (H → G) → (xs : List Symbol) (cs : List Cell) → (H → Fine (cellMarks bound cs))
+    → Along (OkCell B G bound) xs cs → Along (Ok B H) xs (cellValues cs)
 unfolding cellValues cellMarks
 values-ok B G H bound g [] [] m h = tt
 values-ok B G H bound g [] (c ∷ cs) m h = absurd h

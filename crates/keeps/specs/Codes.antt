@@ -1,14 +1,14 @@
 -- Symbols as numbers: a code is of one symbol only, and the codes of the live symbols are counted. Assumes nothing.
-use mathlib.Core.Path.{_≡_, refl, sym, ap, _∙_, subst}
-use mathlib.Core.Logic.{_⊎_, inl, inr, _≢_}
+use mathlib.Core.Path.{_≡_, refl, ap}
+use mathlib.Core.Logic.{_⊎_, inl, inr}
 use mathlib.Core.List.{List, [], _∷_, _++_, map}
-use mathlib.Core.Bool.{Bool, true, false}
+use mathlib.Core.Bool.{true, false}
 use Prim.Native.Nat.{ℕ, suc, _+_, _*_, _≤_, _<_}
 use native.Mathlib.Omega.{arith}
 use lib.Dec.{eqb}
 use Rattle.steps.specs.Symbol.{Kind, External, Slack, Error, Dummy, Symbol, isSymbol, deleteSymbol}
 use Rattle.steps.specs.Readable.{kindCode, code}
-use Rattle.keeps.specs.Lists.{Same?, is, isnt, same, same?, times, times-append, Up}
+use Rattle.keeps.specs.Lists.{Same?, is, isnt, same, same?, times, Up}
 use Rattle.keeps.specs.Along.{ids, Mem}
 
 kind-code : (i j : ℕ) (k l : Kind) → i * 4 + kindCode k ≡ j * 4 + kindCode l → (i ≡ j) × (k ≡ l)
@@ -96,7 +96,8 @@ unfolding times deleteSymbol isSymbol
 codes-delete n i s [] u m = absurd m
 codes-delete n i s (x ∷ xs) u (inl e) = go (same? (s .id) (x .id))
   where
-    go : Same? (s .id) (x .id) → same n (code s) + times n (codes (elim (eqb (s .id) (x .id)) [ true ↦ xs | false ↦ x ∷ deleteSymbol (s .id) xs ])) ≡ same n (code x) + times n (codes xs)
+    go : Same? (s .id) (x .id)
+        → same n (code s) + times n (codes (elim (eqb (s .id) (x .id)) [ true ↦ xs | false ↦ x ∷ deleteSymbol (s .id) xs ])) ≡ same n (code x) + times n (codes xs)
     go (is a b c) = rw (a, e)
     go (isnt a b c) = absurd (b (ap (λ (z : Symbol). z .id) e))
 codes-delete n i s (x ∷ xs) u (inr m) = go (same? (s .id) (x .id)) (codes-delete n (suc (x .id)) s xs (u .1) m)

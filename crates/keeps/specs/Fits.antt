@@ -1,9 +1,9 @@
 -- The shape of a tableau that reads: live symbols ascend below the next id, rows are of live symbols and ascend, no row holds a basic symbol, numbers are finite while every write was. Small changes keep it. Assumes nothing.
 use mathlib.Core.Path.{_≡_, refl, sym, ap, _∙_, subst}
-use mathlib.Core.Logic.{_⊎_, inl, inr, _≢_}
+use mathlib.Core.Logic.{inl, inr, _≢_}
 use mathlib.Core.List.{List, [], _∷_, _++_, map}
 use mathlib.Core.Option.{Option, none, some}
-use mathlib.Core.Bool.{Bool, true, false, cond}
+use mathlib.Core.Bool.{Bool, true, false}
 use Prim.Native.Nat.{ℕ, suc, _+_, _≤_, _<_}
 use native.Mathlib.Omega.{arith}
 use lib.Dec.{eqb}
@@ -12,7 +12,7 @@ use Rattle.steps.specs.Number.{zero64, Mark, worse}
 use Rattle.steps.specs.Symbol.{Symbol, isSymbol, deleteCell, deleteSymbol}
 use Rattle.steps.specs.Row.{Row, appendCell}
 use Rattle.steps.specs.State.{Basic}
-use Rattle.steps.specs.Work.{Work, findRow, dropRow, keepRow, withTableau, appendSymbol, purge}
+use Rattle.steps.specs.Work.{Work, dropRow, keepRow}
 use Rattle.keeps.specs.Lists.{All, all-to, all-zip, all-append, Same?, is, isnt, same, same?, times, Up, up-from}
 use Rattle.keeps.specs.Keys.{rowId, dropBy, drop-all, drop-up, drop-times, drop-gone, dropRow-is, keepBy, keep-all, keep-up, keep-times, keepRow-is, none-has}
 use Rattle.keeps.specs.Along.{Along, ids, Mem, along-append, along-delete}
@@ -129,7 +129,9 @@ fits-append s xs next bs os m e f =
       rows =
           all-map _ _ bs
           (all-to _ _ (λ b h. append-ok now (Fine m) xs s (b .row) (row-to (IsBasic bs) now (Fine m) (Fine m) before (λ p. p) xs (b .row) h)) bs (f .rows));
-      objective = along-append (Ok now (Fine m)) xs os s zero64 (ok-to (IsBasic bs) now (Fine m) (Fine m) before (λ p. p) xs os (f .objective)) (ok-zero now (Fine m) (s .id));
+      objective =
+          along-append (Ok now (Fine m)) xs os s zero64 (ok-to (IsBasic bs) now (Fine m) (Fine m) before (λ p. p) xs os (f .objective))
+          (ok-zero now (Fine m) (s .id));
       artificial = tt;
     }
   where
@@ -140,7 +142,8 @@ fits-append s xs next bs os m e f =
     before i p = rw bids-rerow at p
 
 -- a symbol that isn't yet there isn't basic
-pub fresh-row : (xs : List Symbol) (next : ℕ) → All (λ (x : Symbol). x .id < next) xs → (bs : List Basic) → All (λ (b : Basic). Mem (b .symbol) xs) bs → times next (bids bs) ≡ 0
+pub fresh-row : (xs : List Symbol) (next : ℕ) → All (λ (x : Symbol). x .id < next) xs → (bs : List Basic) → All (λ (b : Basic). Mem (b .symbol) xs) bs
+    → times next (bids bs) ≡ 0
 unfolding times
 fresh-row xs next u [] h = refl
 fresh-row xs next u (b ∷ bs) h = go (same? next (rowId b)) (fresh-row xs next u bs (h .1))
@@ -193,10 +196,16 @@ fits-purge s xs next bs os m f =
       pos = f .pos;
       under = delete-all _ s xs (f .under);
       rows-up = rw bids-rerow (g .rows-up);
-      live = all-map _ _ left (all-zip (λ (b : Basic). Mem (b .symbol) xs) (λ (b : Basic). s ≢ rowId b) _ (λ b h n. delete-mem s (b .symbol) xs n h) left (g .live) others);
+      live =
+          all-map _ _ left (all-zip (λ (b : Basic). Mem (b .symbol) xs) (λ (b : Basic). s ≢ rowId b) _ (λ b h n. delete-mem s (b .symbol) xs n h) left
+          (g .live) others);
       rows =
           all-map _ _ left
-          (all-to _ _ (λ b h. ((h .0), along-delete (Ok now (Fine m)) s xs (b .row .cells) (ok-to (IsBasic left) now (Fine m) (Fine m) before (λ p. p) xs (b .row .cells) (h .1)))) left (g .rows));
+          (all-to _ _ (λ b h. (
+            (h .0),
+            along-delete (Ok now (Fine m)) s xs (b .row .cells)
+                (ok-to (IsBasic left) now (Fine m) (Fine m) before (λ p. p) xs (b .row .cells) (h .1)),
+          )) left (g .rows));
       objective = along-delete (Ok now (Fine m)) s xs os (ok-to (IsBasic left) now (Fine m) (Fine m) before (λ p. p) xs os (g .objective));
       artificial = tt;
     }
@@ -217,7 +226,8 @@ fits-purge s xs next bs os m f =
     others = none-has rowId s left (rw dropRow-is (drop-gone rowId 0 s bs (f .rows-up)))
 
 -- ---- a row more
-pub fits-keep : (s : Symbol) (r : Row) (xs : List Symbol) (next : ℕ) (bs : List Basic) (os : List Float) (a : Option Row) (m : Mark) → Mem s xs → times (s .id) (bids bs) ≡ 0
+pub fits-keep : (s : Symbol) (r : Row) (xs : List Symbol) (next : ℕ) (bs : List Basic) (os : List Float) (a : Option Row) (m : Mark) → Mem s xs
+    → times (s .id) (bids bs) ≡ 0
     → Up 1 (ids xs) → 1 ≤ next → All (λ (x : Symbol). x .id < next) xs → Up 0 (bids bs) → All (λ (b : Basic). Mem (b .symbol) xs) bs
     → (C : ℕ → Type 0) → ((i : ℕ) → 1 ≤ same i (s .id) + times i (bids bs) → C i)
     → RowOk C (Fine m) xs r → All (λ (b : Basic). RowOk C (Fine m) xs (b .row)) bs → Along (Ok C (Fine m)) xs os → ArtOk C (Fine m) xs a
@@ -229,7 +239,9 @@ fits-keep s r xs next bs os a m l z u p n v w C c mine h o t =
       under = n;
       rows-up = keep-up rowId 0 new bs (omega arith) z v;
       live = keep-all rowId _ new bs l w;
-      rows = keep-all rowId _ new bs (row-to C now (Fine m) (Fine m) to (λ p. p) xs r mine) (all-to _ _ (λ b h. row-to C now (Fine m) (Fine m) to (λ p. p) xs (b .row) h) bs h);
+      rows =
+          keep-all rowId _ new bs (row-to C now (Fine m) (Fine m) to (λ p. p) xs r mine)
+          (all-to _ _ (λ b h. row-to C now (Fine m) (Fine m) to (λ p. p) xs (b .row) h) bs h);
       objective = ok-to C now (Fine m) (Fine m) to (λ p. p) xs os o;
       artificial = art-to C now (Fine m) (Fine m) to (λ p. p) xs a t;
     })

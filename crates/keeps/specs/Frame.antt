@@ -1,6 +1,6 @@
 -- What a pivot and its like leave alone: symbols, next id, variables but for their flags, the absence of an artificial objective; and the infeasible list stays distinct. Assumes nothing.
 use mathlib.Core.Path.{_≡_, refl, sym, ap, _∙_}
-use mathlib.Core.List.{List, [], _∷_, _++_, map, reverse, reverseAux}
+use mathlib.Core.List.{List, [], _∷_}
 use mathlib.Core.Option.{Option, none, some}
 use mathlib.Core.Bool.{Bool, true, false, cond, _&&_}
 use Prim.Native.Nat.{ℕ, suc, _+_, _≤_}
@@ -8,13 +8,13 @@ use native.Mathlib.Omega.{arith}
 use lib.Dec.{eqb}
 use lib.ListN.{length}
 use lib.Ieee.{ne}
-use Rattle.steps.specs.Number.{zero64, belowZero}
+use Rattle.steps.specs.Number.{zero64, belowZero, Mark}
 use Rattle.steps.specs.Symbol.{Symbol, isExternal, isRestricted}
 use Rattle.steps.specs.Row.{Row, Written, solveForSymbols}
 use Rattle.steps.specs.State.{Basic, Variable, Changes}
 use Rattle.steps.specs.Work.{Work, withTableau, withRows, withObjective, withInfeasible, withChanges, withArtificial, marking, findRow, dropRow, keepRow}
 use Rattle.steps.specs.Changes.{withFlag, clearChanged, flagSymbol, varChanged, allChanged, note}
-use Rattle.steps.specs.Substitute.{Substituted, substituteInRows, rowsOf, notedOf, without, push, pushBelow, substitute, enterBasis, pivot}
+use Rattle.steps.specs.Substitute.{substituteInRows, rowsOf, notedOf, without, push, pushBelow, substitute, enterBasis, pivot}
 use Rattle.keeps.specs.Lists.{Same?, is, isnt, same, same?, times, times-append}
 use Rattle.keeps.specs.Keys.{rowId, keepRow-is, keep-length, dropRow-is, drop-length, Row?, no-row, a-row, row?}
 
@@ -125,6 +125,10 @@ pub rows-frame : (bs : List Basic) (w : Work) → Frame w (withRows bs w)
 unfolding withRows withTableau
 rows-frame bs w = record { symbols = refl; next = refl; variables = refl; list = λ h. h; plain = λ e. e }
 
+pub mark-frame : (m : Mark) (w : Work) → Frame w (marking m w)
+unfolding marking
+mark-frame m w = record { symbols = refl; next = refl; variables = refl; list = λ h. h; plain = λ e. e }
+
 pub enter-frame : (s : Symbol) (r : Row) (w : Work) → Frame w (enterBasis s r w)
 unfolding enterBasis
 enter-frame s r w = go (isExternal s && ne (r .constant) zero64)
@@ -170,9 +174,6 @@ pivot-frame l e w = go (findRow l (w .tableau .rows))
         let solved : Written = solveForSymbols l (e .id) (w .tableau .symbols) row in
         let x : Work = withRows (dropRow l (w .tableau .rows)) w in
         frame-trans (frame-trans (rows-frame (dropRow l (w .tableau .rows)) w) (mark-frame (solved .mark) x)) (enter-frame e (solved .row) (marking (solved .mark) x))
-      where
-        mark-frame : (m : Rattle.steps.specs.Number.Mark) (w : Work) → Frame w (marking m w)
-        mark-frame m w = unfold marking in record { symbols = refl; next = refl; variables = refl; list = λ h. h; plain = λ e. e }
 
 pub pivot-count : (l : ℕ) (e : Symbol) (w : Work) → length (pivot l e w .tableau .rows) ≡ length (w .tableau .rows)
 unfolding pivot marking withRows withTableau

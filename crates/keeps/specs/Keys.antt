@@ -4,7 +4,7 @@ use mathlib.Core.Logic.{inl, inr, _≢_}
 use mathlib.Core.List.{List, [], _∷_, map}
 use mathlib.Core.Option.{Option, none, some}
 use mathlib.Core.Bool.{Bool, true, false, not}
-use Prim.Native.Nat.{ℕ, zero, suc, _+_, _≤_, _<_}
+use Prim.Native.Nat.{ℕ, suc, _+_, _≤_, _<_}
 use native.Mathlib.Omega.{arith}
 use native.Mathlib.Nat.{eq-or-lt-of-le}
 use lib.Dec.{T, eqb, ltb, ltb→lt, nltb→le}
@@ -16,7 +16,7 @@ use Rattle.steps.specs.Work.{findRow, dropRow, keepRow}
 use Rattle.steps.specs.Changes.{findVariable}
 use Rattle.steps.specs.CreateRow.{keepVariable}
 use Rattle.steps.specs.Tests.{findConstraint, keepConstraint, dropConstraint, findEdit, keepEdit, dropEdit}
-use Rattle.keeps.specs.Lists.{All, Same?, is, isnt, same, same?, total, times, Up, up-from, up-none, so, so-not, none≢some, some-injective}
+use Rattle.keeps.specs.Lists.{All, Same?, is, isnt, same, same?, total, times, Up, up-from, up-none, none≢some, some-injective}
 
 module _ {A : Type 0} (key : A → ℕ) where
   unfoldable pub keepBy : A → List A → List A
@@ -62,7 +62,8 @@ module _ {A : Type 0} (key : A → ℕ) where
   pub keep-up : (i : ℕ) (r : A) (xs : List A) → i ≤ key r → times (key r) (map key xs) ≡ 0 → Up i (map key xs) → Up i (map key (keepBy r xs))
   unfolding keepBy times
   keep-up i r [] l z u = (l, tt)
-  keep-up i r (x ∷ xs) l z u = go (ltb (key r) (key x)) (ltb→lt (key r) (key x)) (nltb→le (key r) (key x)) (same? (key r) (key x)) (λ m. keep-up (suc (key x)) r xs m (omega arith) (u .1))
+  keep-up i r (x ∷ xs) l z u =
+      go (ltb (key r) (key x)) (ltb→lt (key r) (key x)) (nltb→le (key r) (key x)) (same? (key r) (key x)) (λ m. keep-up (suc (key x)) r xs m (omega arith) (u .1))
     where
       go : (t : Bool) → (T t → key r < key x) → (T (not t) → key x ≤ key r) → Same? (key r) (key x)
           → (suc (key x) ≤ key r → Up (suc (key x)) (map key (keepBy r xs)))
@@ -107,9 +108,6 @@ module _ {A : Type 0} (key : A → ℕ) where
       go : Same? n (key x) → (findBy n xs ≡ some y → 1 ≤ times n (map key xs)) → 1 ≤ same n (key x) + times n (map key xs)
       go (is a b c) ih = omega arith
       go (isnt a b c) ih = omega (arith, ih (rw (a, findBy) at e))
-
-  pub times-find : (n : ℕ) (xs : List A) → 1 ≤ times n (map key xs) → findBy n xs ≡ none → ⊥
-  times-find n xs l e = omega (arith, find-none n xs e)
 
   -- ---- dropping one
   pub drop-total : (f : A → ℕ) (n : ℕ) (xs : List A) (x : A) → findBy n xs ≡ some x → total f xs ≡ f x + total f (dropBy n xs)
@@ -226,7 +224,8 @@ row? n (b ∷ bs) = go (same? n (rowId b)) (row? n bs)
 pub keepVariable-is : (r : Variable) (xs : List Variable) → keepVariable r xs ≡ keepBy (λ (v : Variable). v .number) r xs
 unfolding keepVariable keepBy
 keepVariable-is r [] = refl
-keepVariable-is r (x ∷ xs) = ap (λ (z : List Variable). elim (ltb (r .number) (x .number)) as (λ _. List Variable) [ true ↦ r ∷ x ∷ xs | false ↦ x ∷ z ]) (keepVariable-is r xs)
+keepVariable-is r (x ∷ xs) =
+    ap (λ (z : List Variable). elim (ltb (r .number) (x .number)) as (λ _. List Variable) [ true ↦ r ∷ x ∷ xs | false ↦ x ∷ z ]) (keepVariable-is r xs)
 
 pub findVariable-is : (n : ℕ) (xs : List Variable) → findVariable n xs ≡ findBy (λ (v : Variable). v .number) n xs
 unfolding findVariable findBy
@@ -236,7 +235,8 @@ findVariable-is n (x ∷ xs) = ap (λ (z : Option Variable). elim (eqb n (x .num
 pub keepConstraint-is : (r : Constraint) (xs : List Constraint) → keepConstraint r xs ≡ keepBy (λ (c : Constraint). c .number) r xs
 unfolding keepConstraint keepBy
 keepConstraint-is r [] = refl
-keepConstraint-is r (x ∷ xs) = ap (λ (z : List Constraint). elim (ltb (r .number) (x .number)) as (λ _. List Constraint) [ true ↦ r ∷ x ∷ xs | false ↦ x ∷ z ]) (keepConstraint-is r xs)
+keepConstraint-is r (x ∷ xs) =
+    ap (λ (z : List Constraint). elim (ltb (r .number) (x .number)) as (λ _. List Constraint) [ true ↦ r ∷ x ∷ xs | false ↦ x ∷ z ]) (keepConstraint-is r xs)
 
 pub dropConstraint-is : (n : ℕ) (xs : List Constraint) → dropConstraint n xs ≡ dropBy (λ (c : Constraint). c .number) n xs
 unfolding dropConstraint dropBy

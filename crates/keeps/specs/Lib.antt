@@ -1,4 +1,4 @@
--- The root of the specs of `keeps`.
+-- After every call a state that reads as one still does: `Keeps` has the statements. Bottom up: lists and cells, the tableau's shape (`Fits`), the reading test in facts (`Reads`), the work of a call (`Good`), the calls.
 pub mod Lists
 pub mod Keys
 pub mod Along
@@ -11,4 +11,18 @@ pub mod Passes
 pub mod Codes
 pub mod Uses
 pub mod Places
+pub mod Clauses
 pub mod Reads
+pub mod Tested
+pub mod Good
+pub mod Suggest
+pub mod Fallen
+pub mod Leaving
+pub mod Removal
+pub mod Building
+pub mod Terms
+pub mod Creating
+pub mod Adding
+pub mod Addition
+pub mod Keeps
+pub mod Needed

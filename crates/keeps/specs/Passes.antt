@@ -1,6 +1,6 @@
 -- The two passes: from a tableau that reads to one that does, with the same symbols, variables and number of rows. Assumes nothing.
-use mathlib.Core.Path.{_≡_, refl, sym, ap, _∙_, subst}
-use mathlib.Core.Logic.{inl, inr, _≢_}
+use mathlib.Core.Path.{_≡_, refl, _∙_, subst}
+use mathlib.Core.Logic.{inl, inr}
 use mathlib.Core.List.{List, [], _∷_, reverse}
 use mathlib.Core.Option.{Option, none, some}
 use mathlib.Core.Bool.{Bool, true, false, not, cond, _&&_}
@@ -15,13 +15,13 @@ use Rattle.steps.specs.State.{Basic}
 use Rattle.steps.specs.Work.{Work, Outcome, refused, going, _>>=_, refuse, checkFinite, withTableau, withInfeasible, countPivot, findRow}
 use Rattle.steps.specs.Substitute.{pivot}
 use Rattle.steps.specs.Optimise.{Candidate, better, smallestFrom, smallestRatio, Goal, theObjective, theArtificial, goalCells, getEnteringSymbol, getLeavingRow, Choice, ended, stuck, pivotOn, choosePivot, countedPivot, optimise, isBelow, Popped, allPopped, popped, popBelow, dualRatios, getDualEnteringSymbol, DualChoice, feasible, noEntering, dualPivotOn, chooseDualPivot, countedDualPivot, dualOptimise}
-use Rattle.keeps.specs.Lists.{All, all-to, same, times, none-of, left, right, none≢some, some-injective, reverse-times}
+use Rattle.keeps.specs.Lists.{All, same, times, none-of, left, right, none≢some, some-injective, reverse-times}
 use Rattle.keeps.specs.Keys.{rowId, find-all, Row?, no-row, a-row, row?}
 use Rattle.keeps.specs.Along.{Along, Mem, Chosen, first-chosen}
 use Rattle.keeps.specs.Cells.{Ok, Fine, below-held, above-held}
 use Rattle.keeps.specs.RowOps.{RowOk}
 use Rattle.keeps.specs.Fits.{bids, IsBasic, ArtOk, FitsW}
-use Rattle.keeps.specs.Frame.{Once, Frame, frame-refl, frame-trans, pivot-frame, pivot-count}
+use Rattle.keeps.specs.Frame.{Frame, frame-refl, frame-trans, pivot-frame, pivot-count}
 use Rattle.keeps.specs.Pivots.{pivot-fits}
 
 -- ---- a step that goes on
@@ -75,7 +75,8 @@ pivot-ends l e w f h =
 
 pub counted-ends : (o : Outcome Work) (w : Work) → Ends (After w) o → Ends (After w) (o >>= λ v. going (countPivot v))
 unfolding countPivot
-counted-ends o w h = ends-bind (After w) (After w) o (λ v. going (countPivot v)) h (λ v a. record { fits = a .fits; fine = a .fine; frame = again v (a .frame); count = a .count })
+counted-ends o w h =
+    ends-bind (After w) (After w) o (λ v. going (countPivot v)) h (λ v a. record { fits = a .fits; fine = a .fine; frame = again v (a .frame); count = a .count })
   where
     again : (v : Work) → Frame w v → Frame w (countPivot v)
     again v f = record { symbols = f .symbols; next = f .next; variables = f .variables; list = f .list; plain = f .plain }
@@ -89,7 +90,9 @@ no-cells p q (x ∷ xs) e h = none≢some h
 
 entering-free : (g : Goal) (w : Work) → FitsW w → (e : Symbol) → getEnteringSymbol g w ≡ some e → Free w e
 unfolding getEnteringSymbol goalCells
-entering-free theObjective w f e h = held-free w (Fine (w .mark)) belowZero below-held e (first-chosen _ (λ s. not (isDummy s)) belowZero (w .tableau .symbols) (w .tableau .objective) e (f .objective) h)
+entering-free theObjective w f e h =
+    held-free w (Fine (w .mark)) belowZero below-held e
+    (first-chosen _ (λ s. not (isDummy s)) belowZero (w .tableau .symbols) (w .tableau .objective) e (f .objective) h)
 entering-free theArtificial w f e h = go (w .artificial) (f .artificial) h
   where
     cells : Option Row → List Float
@@ -144,7 +147,8 @@ abbrev pub Best : (Symbol → Type 0) → Option Candidate → Type 0
 Best P none = Unit
 Best P (some c) = P (c .symbol)
 
-smallestFrom-all : (P : Symbol → Type 0) (best : Option Candidate) (cs : List Candidate) → Best P best → All (λ (c : Candidate). P (c .symbol)) cs → Best P (smallestFrom best cs)
+smallestFrom-all : (P : Symbol → Type 0) (best : Option Candidate) (cs : List Candidate) → Best P best → All (λ (c : Candidate). P (c .symbol)) cs
+    → Best P (smallestFrom best cs)
 unfolding smallestFrom
 smallestFrom-all P best [] b h = b
 smallestFrom-all P best (c ∷ cs) b h = smallestFrom-all P (cond (better c best) (some c) best) cs (go (better c best)) (h .1)
@@ -163,7 +167,8 @@ smallest-all P cs h e q = go (smallestFrom none cs) (smallestFrom-all P none cs 
 
 -- ---- the dual pass
 
-dual-free : (P : Symbol → Type 0) (Q : ℕ → Float → Type 0) (xs : List Symbol) → ((x : Symbol) (c : Float) → Mem x xs → lt zero64 c ≡ true → Q (x .id) c → P x) → (cs os : List Float) → Along Q xs cs
+dual-free : (P : Symbol → Type 0) (Q : ℕ → Float → Type 0) (xs : List Symbol) → ((x : Symbol) (c : Float) → Mem x xs → lt zero64 c ≡ true → Q (x .id) c → P x)
+    → (cs os : List Float) → Along Q xs cs
     → All (λ (c : Candidate). P (c .symbol)) (dualRatios xs cs os)
 unfolding dualRatios
 dual-free P Q [] f [] os h = tt
@@ -188,7 +193,8 @@ dual-entering s w f e h = go (findRow s (w .tableau .rows)) (row? s (w .tableau 
     go o (no-row q) h = absurd (none≢some h)
     go o (a-row b q) h =
         smallest-all (Free w) (dualRatios (w .tableau .symbols) (b .row .cells) (w .tableau .objective))
-        (dual-free (Free w) (Ok (IsBasic (w .tableau .rows)) (Fine (w .mark))) (w .tableau .symbols) (λ x c m l k. record { live = m; free = none-of _ (λ d. above-held c l (k .0 d)) }) (b .row .cells) (w .tableau .objective)
+        (dual-free (Free w) (Ok (IsBasic (w .tableau .rows)) (Fine (w .mark))) (w .tableau .symbols)
+        (λ x c m l k. record { live = m; free = none-of _ (λ d. above-held c l (k .0 d)) }) (b .row .cells) (w .tableau .objective)
         (find-all rowId (λ (b : Basic). RowOk (IsBasic (w .tableau .rows)) (Fine (w .mark)) (w .tableau .symbols) (b .row)) s (w .tableau .rows) b q (f .rows) .1)) e h
 
 pop-less : (bs : List Basic) (l : List ℕ) (s : ℕ) (rest : List ℕ) → popBelow bs l ≡ popped s rest → (n : ℕ) → times n rest ≤ times n l
@@ -196,7 +202,8 @@ unfolding popBelow times
 pop-less bs [] s rest e n = let z : _≡_ {A = ℕ} 0 1 = cc in omega arith
 pop-less bs (x ∷ l) s rest e n = go (isBelow x bs) e (λ q. pop-less bs l s rest q n)
   where
-    go : (t : Bool) → elim t [ true ↦ popped x l | false ↦ popBelow bs l ] ≡ popped s rest → (popBelow bs l ≡ popped s rest → times n rest ≤ times n l) → times n rest ≤ same n x + times n l
+    go : (t : Bool) → elim t [ true ↦ popped x l | false ↦ popBelow bs l ] ≡ popped s rest → (popBelow bs l ≡ popped s rest → times n rest ≤ times n l)
+        → times n rest ≤ same n x + times n l
     go true q ih = let z : l ≡ rest = cc in rw (← z) (omega arith)
     go false q ih = omega (arith, ih q)
 
@@ -221,7 +228,13 @@ dual-pick w f = go (popBelow (w .tableau .rows) (reverse (w .tableau .infeasible
         by none r = no-symbol
         by (some e) r =
             dual-picked s (reverse rest) e (dual-entering s w f e r)
-            (λ n. omega (arith, reverse-times n rest, reverse-times n (w .tableau .infeasible), pop-less (w .tableau .rows) (reverse (w .tableau .infeasible)) s rest q n))
+            (λ n. omega (
+              arith,
+              reverse-times n rest,
+              reverse-times n (w .tableau .infeasible),
+              pop-less (w .tableau .rows)
+                  (reverse (w .tableau .infeasible)) s rest q n,
+            ))
 
 list-frame : (l : List ℕ) (w : Work) → ((n : ℕ) → times n l ≤ times n (w .tableau .infeasible)) → Frame w (withInfeasible l w)
 unfolding withInfeasible withTableau
@@ -232,25 +245,32 @@ emptied : (w : Work) → FitsW w → Fine (w .mark) → After w (withInfeasible 
 unfolding withInfeasible withTableau times
 emptied w f m = record { fits = f; fine = m; frame = list-frame [] w (λ n. omega arith); count = refl }
 
-dual-step : (s : ℕ) (l : List ℕ) (e : Symbol) (w : Work) → FitsW w → Free w e → ((n : ℕ) → times n l ≤ times n (w .tableau .infeasible)) → Ends (After w) (countedDualPivot s l e w)
+dual-step : (s : ℕ) (l : List ℕ) (e : Symbol) (w : Work) → FitsW w → Free w e → ((n : ℕ) → times n l ≤ times n (w .tableau .infeasible))
+    → Ends (After w) (countedDualPivot s l e w)
 unfolding countedDualPivot withInfeasible withTableau
 dual-step s l e w f h less =
     counted-ends (checkFinite (pivot s e (withInfeasible l w))) w
-    (ends-to (After (withInfeasible l w)) (After w) (checkFinite (pivot s e (withInfeasible l w))) (pivot-ends s e (withInfeasible l w) f (record { live = h .live; free = h .free }))
+    (ends-to (After (withInfeasible l w)) (After w) (checkFinite (pivot s e (withInfeasible l w)))
+    (pivot-ends s e (withInfeasible l w) f (record { live = h .live; free = h .free }))
     (λ v a. record { fits = a .fits; fine = a .fine; frame = frame-trans (list-frame l w less) (a .frame); count = a .count }))
 
 pub dual-ends : (left : ℕ) (w : Work) → FitsW w → Fine (w .mark) → Ends (After w) (dualOptimise left w)
 unfolding dualOptimise refuse
 dual-ends zero w f m = go (chooseDualPivot w)
   where
-    go : (c : DualChoice) → Ends (After w) (elim c [ feasible ↦ going (withInfeasible [] w) | noEntering ↦ refused 16 (w .pivots) (w .mark) | dualPivotOn s l e ↦ refused 14 (w .pivots) (w .mark) ])
+    go : (c : DualChoice)
+        → Ends (After w) (elim c [ feasible ↦ going (withInfeasible [] w) | noEntering ↦ refused 16 (w .pivots) (w .mark) | dualPivotOn s l e ↦ refused 14 (w .pivots) (w .mark) ])
     go feasible = emptied w f m
     go noEntering = tt
     go (dualPivotOn s l e) = tt
 dual-ends (suc left) w f m = go (chooseDualPivot w) (dual-pick w f) (λ v a. dual-ends left v (a .fits) (a .fine))
   where
     go : (c : DualChoice) → DualPicked w c → ((v : Work) → After w v → Ends (After v) (dualOptimise left v))
-        → Ends (After w) (elim c [ feasible ↦ going (withInfeasible [] w) | noEntering ↦ refused 16 (w .pivots) (w .mark) | dualPivotOn s l e ↦ countedDualPivot s l e w >>= λ v. dualOptimise left v ])
+        → Ends (After w) (elim c [
+          | feasible ↦ going (withInfeasible [] w)
+          | noEntering ↦ refused 16 (w .pivots) (w .mark)
+          | dualPivotOn s l e ↦ countedDualPivot s l e w >>= λ v. dualOptimise left v
+        ])
     go c all-above ih = emptied w f m
     go c no-symbol ih = tt
     go c (dual-picked s l e h less) ih =

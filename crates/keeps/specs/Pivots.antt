@@ -1,15 +1,15 @@
 -- A symbol enters the basis, and a pivot: the tableau keeps its shape. Assumes nothing.
-use mathlib.Core.Path.{_≡_, refl, sym, ap, _∙_, subst}
+use mathlib.Core.Path.{_≡_, refl, sym, ap}
 use mathlib.Core.Logic.{_≢_}
-use mathlib.Core.List.{List, [], _∷_, map}
+use mathlib.Core.List.{List, [], _∷_}
 use mathlib.Core.Option.{Option, none, some}
 use mathlib.Core.Bool.{Bool, true, false, cond, _&&_}
 use Prim.Native.Nat.{ℕ, _+_, _≤_}
 use native.Mathlib.Omega.{arith}
-use lib.Ieee.{Float, ne}
+use lib.Ieee.{ne}
 use Rattle.steps.specs.Number.{zero64, objectiveBound, Mark, allWhole, worse}
 use Rattle.steps.specs.Symbol.{Symbol, isExternal}
-use Rattle.steps.specs.Row.{Row, cellValues, cellMarks, Written, solveForSymbols}
+use Rattle.steps.specs.Row.{Row, cellMarks, Written, solveForSymbols}
 use Rattle.steps.specs.State.{Basic}
 use Rattle.steps.specs.Work.{Work, withTableau, withRows, withObjective, withInfeasible, withChanges, withArtificial, marking, findRow, dropRow, keepRow}
 use Rattle.steps.specs.Changes.{note}
@@ -17,7 +17,7 @@ use Rattle.steps.specs.Substitute.{Substituted, substituteInRow, substituteInCe
 use Rattle.keeps.specs.Lists.{All, Same?, is, isnt, same, same?, times, Up}
 use Rattle.keeps.specs.Keys.{rowId, dropRow-is, drop-times, drop-gone, find-all, Row?, no-row, a-row, row?}
 use Rattle.keeps.specs.Along.{ids, Mem}
-use Rattle.keeps.specs.Cells.{Ok, Fine, fine-l, fine-r}
+use Rattle.keeps.specs.Cells.{Fine, fine-l, fine-r}
 use Rattle.keeps.specs.RowOps.{RowOk, row-to, substituteInRow-ok, substituteInCells-ok, solveForSymbols-ok}
 use Rattle.keeps.specs.Fits.{bids, IsBasic, ArtOk, Fits, FitsW, fits-worse, fits-drop, fits-keep}
 
@@ -27,7 +27,8 @@ unfolding rowsOf substituteInRows
 bids-sub s xs r [] = refl
 bids-sub s xs r (b ∷ bs) = ap (λ (z : List ℕ). rowId b ∷ z) (bids-sub s xs r bs)
 
-pub live-sub : (P : Symbol → Type 0) (s : ℕ) (xs : List Symbol) (r : Row) (bs : List Basic) → All (λ (b : Basic). P (b .symbol)) bs → All (λ (b : Basic). P (b .symbol)) (rowsOf (substituteInRows s xs r bs))
+pub live-sub : (P : Symbol → Type 0) (s : ℕ) (xs : List Symbol) (r : Row) (bs : List Basic) → All (λ (b : Basic). P (b .symbol)) bs
+    → All (λ (b : Basic). P (b .symbol)) (rowsOf (substituteInRows s xs r bs))
 unfolding rowsOf substituteInRows
 live-sub P s xs r [] h = tt
 live-sub P s xs r (b ∷ bs) h = (h .0, live-sub P s xs r bs (h .1))
@@ -43,7 +44,8 @@ art-row : Option Written → Option Row
 art-row o = elim o [ none ↦ none | some a ↦ some (a .row) ]
 
 module _ (B C : ℕ → Type 0) (G H : Type 0) (g : H → G) (xs : List Symbol) (u : Up 1 (ids xs)) (s : ℕ) (old : (i : ℕ) → C i → s ≢ i → B i) (r : Row) (mine : RowOk C G xs r) where
-  rows-sub : (bs : List Basic) → (H → Fine (marksOf (substituteInRows s xs r bs))) → All (λ (b : Basic). RowOk B G xs (b .row)) bs → All (λ (b : Basic). RowOk C H xs (b .row)) (rowsOf (substituteInRows s xs r bs))
+  rows-sub : (bs : List Basic) → (H → Fine (marksOf (substituteInRows s xs r bs))) → All (λ (b : Basic). RowOk B G xs (b .row)) bs
+      → All (λ (b : Basic). RowOk C H xs (b .row)) (rowsOf (substituteInRows s xs r bs))
   unfolding rowsOf substituteInRows marksOf
   rows-sub [] m h = tt
   rows-sub (b ∷ bs) m h = (
@@ -86,11 +88,14 @@ enter-fits s r w f z l C old new h = go (isExternal s && ne (r .constant) zero64
 
     kept : Fits xs (w .tableau .nextId) (keepRow (record { symbol = s; row = r }) (rowsOf rows)) (v .tableau .objective) (v .artificial) (v .mark)
     kept =
-        fits-keep s r xs (w .tableau .nextId) (rowsOf rows) (v .tableau .objective) (v .artificial) (v .mark) l (rw bids-sub z) (f .up) (f .pos) (f .under) (rw bids-sub (f .rows-up))
+        fits-keep s r xs (w .tableau .nextId) (rowsOf rows) (v .tableau .objective) (v .artificial) (v .mark) l (rw bids-sub z) (f .up) (f .pos) (f .under)
+        (rw bids-sub (f .rows-up))
         (live-sub (λ x. Mem x xs) (s .id) xs r bs (f .live)) C (λ i p. new i (rw bids-sub at p)) (row-to C C (Fine (w .mark)) H (λ i c. c) g xs r h)
         (rows-sub (IsBasic bs) C (Fine (w .mark)) H g xs (f .up) (s .id) old r h bs (λ p. fine-l (marksOf rows) _ (rest p)) (f .rows))
-        (substituteInCells-ok (IsBasic bs) C (Fine (w .mark)) H g 1 xs (f .up) (s .id) old (r .cells) (w .tableau .objective) (h .1) (f .objective) (λ p. fine-l (cellMarks objectiveBound _) _ (fine-r (marksOf rows) _ (rest p))))
-        (art-sub (IsBasic bs) C (Fine (w .mark)) H g xs (f .up) (s .id) old r h (w .artificial) (λ p. fine-r (cellMarks objectiveBound _) _ (fine-r (marksOf rows) _ (rest p))) (f .artificial))
+        (substituteInCells-ok (IsBasic bs) C (Fine (w .mark)) H g 1 xs (f .up) (s .id) old (r .cells) (w .tableau .objective) (h .1) (f .objective)
+        (λ p. fine-l (cellMarks objectiveBound _) _ (fine-r (marksOf rows) _ (rest p))))
+        (art-sub (IsBasic bs) C (Fine (w .mark)) H g xs (f .up) (s .id) old r h (w .artificial)
+        (λ p. fine-r (cellMarks objectiveBound _) _ (fine-r (marksOf rows) _ (rest p))) (f .artificial))
 
     go : (t : Bool) → FitsW (withRows (keepRow (record { symbol = s; row = r }) ((cond t (note (s .id) v) v) .tableau .rows)) (cond t (note (s .id) v) v))
     go true = kept
@@ -138,6 +143,8 @@ pivot-fits l e w f z live = go (findRow l bs) (row? l bs)
     go o (no-row q) = f
     go o (a-row b q) =
         let solved : Written = solveForSymbols l (e .id) xs (b .row) in
-        enter-fits e (solved .row) (marking (solved .mark) (withRows (dropRow l bs) w)) (fits-worse (fits-drop f l) (solved .mark)) (omega (arith, fewer (e .id))) live C other (λ i c. c)
-        (solveForSymbols-ok (IsBasic bs) C (Fine (w .mark)) (Fine (worse (w .mark) (solved .mark))) (λ p. fine-l (w .mark) (solved .mark) p) 1 xs (f .up) l (e .id) old (b .row)
+        enter-fits e (solved .row) (marking (solved .mark) (withRows (dropRow l bs) w)) (fits-worse (fits-drop f l) (solved .mark))
+        (omega (arith, fewer (e .id))) live C other (λ i c. c)
+        (solveForSymbols-ok (IsBasic bs) C (Fine (w .mark)) (Fine (worse (w .mark) (solved .mark))) (λ p. fine-l (w .mark) (solved .mark) p) 1 xs (f .up) l
+        (e .id) old (b .row)
         (find-all rowId (λ (b : Basic). RowOk (IsBasic bs) (Fine (w .mark)) xs (b .row)) l bs b q (f .rows)) (λ p. fine-r (w .mark) (solved .mark) p))

@@ -1,15 +1,15 @@
 -- The test on one row's cells, and the cells along the symbols: each says the other. Assumes nothing.
-use mathlib.Core.Path.{_≡_, refl, sym, ap, _∙_, subst}
-use mathlib.Core.List.{List, [], _∷_, map}
-use mathlib.Core.Bool.{Bool, true, false, _&&_, true≢false}
-use Prim.Native.Nat.{ℕ, zero, suc, _+_, _≤_, _<_}
+use mathlib.Core.Path.{_≡_, refl, sym, subst}
+use mathlib.Core.List.{List, [], _∷_}
+use mathlib.Core.Bool.{Bool, true, false}
+use Prim.Native.Nat.{ℕ, suc, _+_, _≤_, _<_}
 use native.Mathlib.Omega.{arith}
-use lib.Dec.{T, eqb, eqb→eq, eqb-refl}
+use lib.Dec.{eqb, eqb→eq, eqb-refl}
 use lib.ListN.{length}
 use lib.Ieee.{Float}
 use Rattle.steps.specs.Number.{zero64, isFinite}
 use Rattle.steps.specs.Symbol.{Symbol, isSymbol, absent, coefficientFor}
-use Rattle.steps.specs.State.{State, Basic}
+use Rattle.steps.specs.State.{State}
 use Rattle.steps.specs.Readable.{all, holdsNoBasic, basicIds}
 use Rattle.keeps.specs.Lists.{All, all-in, all-out, Same?, is, isnt, same, same?, times, Up, so, truly, both, left, right}
 use Rattle.keeps.specs.Along.{Along, ids, along-length, at-coefficient}
@@ -51,12 +51,17 @@ coefficient-none n i (x ∷ xs) (c ∷ cs) l u = go (same? n (x .id)) (coefficie
     go (isnt a b d) ih = rw a ih
 
 module _ (B : ℕ → Type 0) (G : Type 0) where
-  pub along-in : (i : ℕ) (xs : List Symbol) (cs : List Float) → Up i (ids xs) → length cs ≡ length xs → All (λ (c : Float). isFinite c ≡ true) cs → ((n : ℕ) → B n → absent (coefficientFor n xs cs) ≡ true) → Along (Ok B G) xs cs
+  pub along-in : (i : ℕ) (xs : List Symbol) (cs : List Float) → Up i (ids xs) → length cs ≡ length xs → All (λ (c : Float). isFinite c ≡ true) cs
+      → ((n : ℕ) → B n → absent (coefficientFor n xs cs) ≡ true) → Along (Ok B G) xs cs
   unfolding coefficientFor isSymbol
   along-in i [] [] u l f h = tt
   along-in i [] (c ∷ cs) u l f h = absurd (omega arith)
   along-in i (x ∷ xs) [] u l f h = absurd (omega arith)
-  along-in i (x ∷ xs) (c ∷ cs) u l f h = (((λ b. here (same? (x .id) (x .id)) (h (x .id) b)), λ g. f .0), along-in (suc (x .id)) xs cs (u .1) (omega arith) (f .1) (λ n b. later n (same? n (x .id)) (h n b)))
+  along-in i (x ∷ xs) (c ∷ cs) u l f h = (
+    ((λ b. here (same? (x .id) (x .id)) (h (x .id) b)), λ g. f .0),
+    along-in (suc (x .id)) xs cs (u .1) (omega arith) (f .1)
+        (λ n b. later n (same? n (x .id)) (h n b)),
+  )
     where
       here : Same? (x .id) (x .id) → absent (elim (eqb (x .id) (x .id)) [ true ↦ c | false ↦ coefficientFor (x .id) xs cs ]) ≡ true → absent c ≡ true
       here (is a b d) e = rw a at e
@@ -76,7 +81,8 @@ module _ (B : ℕ → Type 0) (G : Type 0) where
   along-finite g (x ∷ xs) (c ∷ cs) h = (h .0 .1 g, along-finite g xs cs (h .1))
 
 -- ---- the test on cells
-pub cells-in : (s : State) (G : Type 0) (cs : List Float) → Up 1 (ids (s .tableau .symbols)) → holdsNoBasic s cs ≡ true → all isFinite cs ≡ true → Along (Ok (λ n. 1 ≤ times n (basicIds s)) G) (s .tableau .symbols) cs
+pub cells-in : (s : State) (G : Type 0) (cs : List Float) → Up 1 (ids (s .tableau .symbols)) → holdsNoBasic s cs ≡ true → all isFinite cs ≡ true
+    → Along (Ok (λ n. 1 ≤ times n (basicIds s)) G) (s .tableau .symbols) cs
 unfolding holdsNoBasic
 cells-in s G cs u e f =
     along-in (λ n. 1 ≤ times n (basicIds s)) G 1 (s .tableau .symbols) cs u (eqb-in (length cs) (length (s .tableau .symbols)) (left size none e)) (all-in isFinite cs f)

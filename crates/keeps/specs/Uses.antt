@@ -1,9 +1,8 @@
 -- Use counts as one function of the variable's number, 0 for one that isn't live. Assumes nothing.
-use mathlib.Core.Path.{_≡_, refl, sym, ap, _∙_, subst}
-use mathlib.Core.Logic.{inl, inr, _≢_}
+use mathlib.Core.Path.{_≡_, refl, sym, ap, _∙_}
 use mathlib.Core.List.{List, [], _∷_, _++_, map}
 use mathlib.Core.Bool.{Bool, true, false, cond}
-use Prim.Native.Nat.{ℕ, suc, _+_, _≤_, _<_}
+use Prim.Native.Nat.{ℕ, suc, _+_, _≤_}
 use native.Mathlib.Omega.{arith}
 use lib.Dec.{eqb}
 use Rattle.steps.specs.State.{Term, Variable}
@@ -35,7 +34,8 @@ uses-none n (v ∷ vs) z = go (same? n (v .number)) (uses-none n vs)
     go (isnt a b c) ih = uses-miss n v vs a ∙ ih (omega arith)
 
 -- with ascending numbers, each variable's count is that of its number
-pub uses-in : (U : ℕ → ℕ) (i : ℕ) (vs : List Variable) → Up i (map varNumber vs) → All (λ (v : Variable). v .uses ≡ U (v .number)) vs → (n : ℕ) → 1 ≤ times n (map varNumber vs) → usesOf n vs ≡ U n
+pub uses-in : (U : ℕ → ℕ) (i : ℕ) (vs : List Variable) → Up i (map varNumber vs) → All (λ (v : Variable). v .uses ≡ U (v .number)) vs → (n : ℕ)
+    → 1 ≤ times n (map varNumber vs) → usesOf n vs ≡ U n
 unfolding times
 uses-in U i [] u h n l = absurd (omega arith)
 uses-in U i (v ∷ vs) u h n l = go (same? n (v .number)) (uses-in U (suc (v .number)) vs (u .1) (h .1) n)
@@ -45,12 +45,20 @@ uses-in U i (v ∷ vs) u h n l = go (same? n (v .number)) (uses-in U (suc (v .nu
         uses-hit n v vs a ∙ omega (arith, h .0, ap U b)
     go (isnt a b c) ih = uses-miss n v vs a ∙ ih (omega arith)
 
-pub uses-out : (U : ℕ → ℕ) (i : ℕ) (vs : List Variable) → Up i (map varNumber vs) → ((n : ℕ) → i ≤ n → usesOf n vs ≡ U n) → All (λ (v : Variable). v .uses ≡ U (v .number)) vs
+pub uses-out : (U : ℕ → ℕ) (i : ℕ) (vs : List Variable) → Up i (map varNumber vs) → ((n : ℕ) → i ≤ n → usesOf n vs ≡ U n)
+    → All (λ (v : Variable). v .uses ≡ U (v .number)) vs
 uses-out U i [] u h = tt
 uses-out U i (v ∷ vs) u h = (here (same? (v .number) (v .number)), uses-out U (suc (v .number)) vs (u .1) (λ n l. later n l (same? n (v .number))))
   where
     here : Same? (v .number) (v .number) → v .uses ≡ U (v .number)
-    here (is a b c) = omega (arith, uses-hit (v .number) v vs a, h (v .number) (u .0), uses-none (v .number) vs (up-none (suc (v .number)) (v .number) (map varNumber vs) (omega arith) (u .1)))
+    here (is a b c) =
+        omega (
+          arith,
+          uses-hit (v .number) v vs a,
+          h (v .number) (u .0),
+          uses-none (v .number) vs
+              (up-none (suc (v .number)) (v .number) (map varNumber vs) (omega arith) (u .1)),
+        )
     here (isnt a b c) = absurd (b refl)
 
     later : (n : ℕ) → suc (v .number) ≤ n → Same? n (v .number) → usesOf n vs ≡ U n

@@ -33,7 +33,7 @@ use Rattle.steps.specs.Tests.{findEdit, keepEdit, dropEdit, keptTerms}
 use Rattle.steps.specs.Calls.{Answer, Result, begin, finish, stillBelow, refusedBy, acceptedAs, conclude, suggest}
 use Rattle.steps.specs.Readable.{readable}
 use Rattle.keeps.specs.Keys.{findEdit-is, keepEdit-is, dropEdit-is}
-use Rattle.keeps.specs.Reads.{reads-in}
+use Rattle.keeps.specs.Tested.{reads-in}
 use Rattle.bridge.specs.Nums.{finite≢, worse-l, worse-r, constantBound-z}
 use Rattle.bridge.specs.Rows.{In}
 use Rattle.bridge.specs.Table.{ReadsWork}

@@ -29,7 +29,7 @@ use Rattle.steps.specs.Tests.{findConstraint, findEdit, keepEdit, dropEdit, kep
 use Rattle.steps.specs.Calls.{Answer, Result, begin, finish, stillBelow, refusedBy, acceptedAs, conclude, suggest}
 use Rattle.steps.specs.Readable.{readable}
 use Rattle.keeps.specs.Keys.{findEdit-is, keepEdit-is, dropEdit-is}
-use Rattle.keeps.specs.Reads.{reads-in}
+use Rattle.keeps.specs.Tested.{reads-in}
 use Rattle.bridge.specs.Nums.{magnitude-z, constantBound-z}
 use Rattle.bridge.specs.Rows.{In}
 use Rattle.bridge.specs.Table.{ReadsWork}

@@ -36,6 +36,7 @@ use Rattle.steps.specs.Artificial.{standTemporary}
 use Rattle.bridge.specs.Rows.{In}
 use Rattle.bridge.specs.Table.{Live, ReadsWork}
 use Rattle.bridge.specs.Runs.{markOf, Standing, carried, Ran, rests, used-up, no-leaving, run}
+use Rattle.bridge.specs.Quiet.{Quiet, optimise-quiet}
 use Rattle.run.specs.Demand.{Demand}
 use Rattle.run.specs.Inv.{Held}
 use Rattle.run.specs.Build.{Built}
@@ -104,6 +105,7 @@ module _ (n : ℕ) (old : ℕ → KindZ) (S : StateZ) (held : List Held) (d : De
     pub clear : Clear (T .B) o
     pub no-var : (i : ℕ) → kind i ≡ external → o i ≡ 0ℤ
     pub steady : Steady kind begun x
+    pub idle : x .tableau .infeasible ≡ []
     pub made : ℕ
     pub count : x .pivots ≡ begun .pivots + made
     pub within : made ≤ left
@@ -181,6 +183,10 @@ module _ (n : ℕ) (old : ℕ → KindZ) (S : StateZ) (held : List Held) (d : De
   unfolding standTemporary appendTo withArtificial withRows withTableau appendSymbol newSymbol
   calm = record { listed = subst (All (λ j. kind j ≢ external)) (sym L) tt; kinds = H₀ .kinds; basics = all-map (λ (b : Basic) h. h .1) (begun .tableau .rows) (H₀ .rows-live) }
 
+  begun-list : begun .tableau .infeasible ≡ []
+  unfolding standTemporary appendTo withArtificial withRows withTableau appendSymbol newSymbol
+  begun-list = L
+
   stands₀ : Standing (begun .artificial)
   unfolding standTemporary withArtificial
   stands₀ = tt
@@ -195,9 +201,10 @@ module _ (n : ℕ) (old : ℕ → KindZ) (S : StateZ) (held : List Held) (d : De
   pub passes : (left : ℕ) → markOf (optimise left theArtificial begun) ≡ allWhole → PassEnds left (optimise left theArtificial begun)
   unfolding end
   passes left m = go (optimise left theArtificial begun) (run n kind ids asc cover in-ids left theArtificial begun T₀ (Q .o) G₀ (H₀, stands₀) m) (optimise-steady kind left theArtificial begun calm)
+      (optimise-quiet n kind ids asc cover in-ids left theArtificial begun T₀ (Q .o) G₀ (H₀, stands₀) m)
     where
-      rested : (x : Work) → Ran n kind ids asc cover in-ids theArtificial left begun T₀ (Q .o) (going x) → Steady kind begun x → Passed left x
-      rested x (rests k l f q y r e) st = record {
+      rested : (x : Work) → Ran n kind ids asc cover in-ids theArtificial left begun T₀ (Q .o) (going x) → Steady kind begun x → x .tableau .infeasible ≡ begun .tableau .infeasible → Passed left x
+      rested x (rests k l f q y r e) st quiet = record {
         T = after kind ids T₀ k;
         o = carried kind ids T₀ (Q .o) k;
         good = end-good k f;
@@ -210,13 +217,14 @@ module _ (n : ℕ) (old : ℕ → KindZ) (S : StateZ) (held : List Held) (d : De
         clear = end-main k f .clear;
         no-var = end-main k f .no-var;
         steady = st;
+        idle = quiet ∙ begun-list;
         made = k;
         count = e;
         within = l;
         fewer = ways k f;
       }
 
-      go : (t : Outcome Work) → Ran n kind ids asc cover in-ids theArtificial left begun T₀ (Q .o) t → IfGoing (Steady kind begun) t → PassEnds left t
-      go (going x) r st = rested x r st
-      go (refused k p t) (used-up f q e u) st = (refl, ways left f)
-      go (refused k p t) (no-leaving i l f e q s u v) st = absurd (never-stuck i f e q)
+      go : (t : Outcome Work) → Ran n kind ids asc cover in-ids theArtificial left begun T₀ (Q .o) t → IfGoing (Steady kind begun) t → Quiet (begun .tableau .infeasible) t → PassEnds left t
+      go (going x) r st quiet = rested x r st quiet
+      go (refused k p t) (used-up f q e u) st quiet = (refl, ways left f)
+      go (refused k p t) (no-leaving i l f e q s u v) st quiet = absurd (never-stuck i f e q)

@@ -12,7 +12,7 @@ use Rattle.simplex.specs.Lin.{Vec, δ, δ-same, δ-other, dot, dot-cong,
 use Rattle.simplex.specs.At.{at, At, here, there, at?, at-here, at-there}
 use Rattle.simplex.specs.Tab.{Solves, pivoted, pivot, pivot-solves, pivot-objective}
 use Rattle.simplex.specs.Basis.{Mask, Shape, Clear, swap, pivot-clear, pivot-shape}
-use Rattle.simplex.specs.Opt.{Kind, const, external, slack, dummy}
+use Rattle.simplex.specs.Opt.{Kind, const, external, slack, dummy, slack≢external}
 use Rattle.simplex.specs.Choose.{All}
 use Rattle.simplex.specs.Form.{Form, le!, eq!, ge!, le, eq, ge, resid, cost}
 use Rattle.simplex.specs.Problem.{Con, Equation, total, markerKind, Sound, Tag, Apart, Sounds, Models, cost-other, resid-other, all-zip}
@@ -20,6 +20,13 @@ use Rattle.simplex.specs.Change.{dot-at, dropped, drop-shape, drop-solve
 use Rattle.simplex.specs.Pass.{State, Good}
 use Rattle.simplex.specs.Temp.{rekind}
 use Rattle.simplex.specs.Run.{left, Foreign, foreign, models-drop}
+
+-- ---- kinds apart
+pub dummy≢external : dummy ≢ external
+dummy≢external e = let z : _≡_ {A = ℕ} 0 1 = cc in omega arith
+
+pub const≢external : const ≢ external
+const≢external e = let z : _≡_ {A = ℕ} 0 1 = cc in omega arith
 
 -- ---- the assignment that is 1 at one column
 abbrev pub nil : Vec
@@ -68,7 +75,12 @@ tag-kind n kind c S j (inl p) = go (restricted-marker (c .form))
     go (inr e) = inr (ap kind p ∙ S .marker-kind ∙ e)
 tag-kind n kind c S j (inr p) = inl (ap kind (p .1) ∙ S .other-kind (p .0))
 
-sounds-each : (n : ℕ) (kind : ℕ → Kind) (cs : List Con) → Sounds n kind cs → All (Sound n kind) cs
+-- a restricted column is no variable's
+pub not-variable : (kind : ℕ → Kind) (j : ℕ) → (kind j ≡ slack) ⊎ (kind j ≡ dummy) → kind j ≢ external
+not-variable kind j (inl e) x = slack≢external (sym e ∙ x)
+not-variable kind j (inr e) x = dummy≢external (sym e ∙ x)
+
+pub sounds-each : (n : ℕ) (kind : ℕ → Kind) (cs : List Con) → Sounds n kind cs → All (Sound n kind) cs
 sounds-each n kind [] h = tt
 sounds-each n kind (c ∷ cs) h = (h .0, sounds-each n kind cs (h .2))
 
@@ -129,7 +141,7 @@ module _ (n : ℕ) (kind : ℕ → Kind) (B : Mask) (R : ℕ → Vec) (o : Vec) 
   gone-models = record { shape = D .shape; clear = D .clear; sounds = gone-sounds cs F (D .sounds); solves = D .solves; worth = D .worth }
 
 external≢const : external ≢ const
-external≢const e = let z : _≡_ {A = ℕ} 0 1 = cc in omega arith
+external≢const e = const≢external (sym e)
 
 pub gone-good : (n : ℕ) (kind : ℕ → Kind) (S : State) (cs : List Con) → Good n kind S → Models n kind (S .B) (S .R) (S .o) cs → (s : ℕ) → s < n → s ≢ 0 → All (Foreign s) cs → Good n (at s external kind) S
 gone-good n kind S cs G D s h ne F =
