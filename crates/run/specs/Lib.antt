@@ -35,6 +35,8 @@ pub mod TempEnd
 pub mod TempGone
 pub mod TempLeaves
 pub mod Artificial
+pub mod AddEdit
+pub mod Run
 pub mod Inputs
 pub mod BuildVars
 pub mod BuildTerms
@@ -50,4 +52,3 @@ pub mod AddMarks
 pub mod AddSteps
 pub mod AddInv
 pub mod Add
-pub mod AddEdit
