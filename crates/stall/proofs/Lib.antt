@@ -6,3 +6,6 @@ pub mod Pass
 pub mod Quiet
 pub mod Accounts
 pub mod Calls
+pub mod RemoveStarts
+pub mod AddStarts
+pub mod Whole
