@@ -23,9 +23,9 @@ use Rattle.steps.proofs.Numbers.{test-number}
 use Rattle.bridge.specs.Finds.{none≢some, some-injective}
 use Rattle.bridge.specs.Runs.{markOf}
 use Rattle.run.specs.Demand.{Call, resets, fetches, adds, removes, addsEdit, removesEdit, suggests, make}
-use Rattle.stall.specs.Stall.{PassStart, outcomeOf, pivotsOf, allPivots, ways, allWays, addPasses, removePasses, passesOf, budgetOf, NoReturn, Fewer, Demand3, refusalOf, UsedUp, Some, Shares, TheCalls}
-use Rattle.stall.proofs.Turns.{pivotsAt, all-used}
-use Rattle.stall.proofs.Pass.{Starts, Unmarred, returns-not, fewer}
+use Rattle.stall.specs.Stall.{PassStart, outcomeOf, pivotsOf, allPivots, ways, allWays, addPasses, removePasses, passesOf, budgetOf, NoReturn, Level, Fewer, Demand3, Counted, moment, refusalOf, UsedUp, Some, Shares, TheCalls}
+use Rattle.stall.proofs.Turns.{pivotsAt, moments, all-used}
+use Rattle.stall.proofs.Pass.{Starts, Unmarred, returns-not, level, fewer}
 use Rattle.stall.proofs.Accounts.{Told, workOf, add-told, remove-told}
 
 -- ---- what the passes ps tell of an answer
@@ -116,9 +116,14 @@ answers b (addsEdit v k x) s e = subst (λ (y : ℕ). Answers y (passesOf (addsE
 answers b (removesEdit v x) s e = subst (λ (y : ℕ). Answers y (passesOf (removesEdit v x) s) (make (removesEdit v x) s)) (some-injective e) (unedit-answers v x s)
 answers b (suggests v k x) s e = absurd (none≢some e)
 
+each-counted : (ps : List PassStart) → All Counted ps
+unfolding moment pivotsOf
+each-counted [] = tt
+each-counted (p ∷ ps) = ((λ i. moments i (p .left) (p .goal) (p .work)), each-counted ps)
+
 -- THE PASSES ARE THE CALL'S, whatever its mark
 pub passes-are-the-calls : (b : ℕ) (c : Call) (s : State) → budgetOf c ≡ some b → TheCalls b c s
-passes-are-the-calls b c s e = let a = answers b c s e in record { shares = a .shares; pivots = a .pivots; used-up = a .used-up }
+passes-are-the-calls b c s e = let a = answers b c s e in record { counted = each-counted (passesOf c s); shares = a .shares; pivots = a .pivots; used-up = a .used-up }
 
 -- a call that answers yes has its mark whole at the end of each pass
 pub unmarred : (b : ℕ) (c : Call) (s : State) → budgetOf c ≡ some b → make c s .answer .whole ≡ true → All Unmarred (passesOf c s)
@@ -141,6 +146,10 @@ all-returns : (ps : List PassStart) → All Starts ps → All Unmarred ps → Al
 all-returns [] a m = tt
 all-returns (p ∷ ps) a m = (returns-not p (a .0) (m .0), all-returns ps (a .1) (m .1))
 
+all-level : (ps : List PassStart) → All Starts ps → All Unmarred ps → All Level ps
+all-level [] a m = tt
+all-level (p ∷ ps) a m = (level p (a .0) (m .0), all-level ps (a .1) (m .1))
+
 all-fewer : (ps : List PassStart) → All Starts ps → All Unmarred ps → All Fewer ps
 all-fewer [] a m = tt
 all-fewer (p ∷ ps) a m = (fewer p (a .0) (m .0), all-fewer ps (a .1) (m .1))
@@ -150,4 +159,4 @@ demand-3 b c s e m a =
     let u : All Unmarred (passesOf c s) = unmarred b c s e m in
     let f : All Fewer (passesOf c s) = all-fewer (passesOf c s) a u in
     let t : TheCalls b c s = passes-are-the-calls b c s e in
-    record { no-return = all-returns (passesOf c s) a u; fewer = f; enough = λ l q. omega (arith, l, below-ways b (passesOf c s) (t .shares) f (t .used-up q)) }
+    record { no-return = all-returns (passesOf c s) a u; level = all-level (passesOf c s) a u; fewer = f; enough = λ l q. omega (arith, l, below-ways b (passesOf c s) (t .shares) f (t .used-up q)) }

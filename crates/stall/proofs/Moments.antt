@@ -1,18 +1,20 @@
 -- The moments of a pass whose mark stays whole are the theory's states, one by one. Assumes nothing.
-use Prim.Native.Nat.{ℕ, zero, suc, _^_, _<_}
+use Prim.Native.Nat.{ℕ, zero, suc, _^_, _≤_, _<_}
+use native.Mathlib.Nat.{le-of-lt}
 use native.Mathlib.Omega.{arith}
 use mathlib.Core.Path.{_≡_, refl, sym, ap, _∙_, subst}
-use mathlib.Core.Bool.{Bool}
-use mathlib.Core.List.{List, []}
+use mathlib.Core.List.{List, [], map}
 use mathlib.Core.Option.{Option, none, some}
 use lib.IntN.{negsuc, _*ℤ_}
 use Rattle.simplex.specs.Ord.{1ℤ}
 use Rattle.simplex.specs.Lin.{Vec}
+use Rattle.simplex.specs.Choose.{Distinct, trues}
 use Rattle.simplex.specs.Basis.{swap}
 use Rattle.simplex.specs.Tab.{pivoted}
 use Rattle.simplex.specs.Opt.{Kind as KindZ, slack}
 use Rattle.simplex.specs.Pass.{State, step, Good, Choice, step-good}
-use Rattle.simplex.specs.Bound.{Mem}
+use Rattle.simplex.specs.Bland.{Pass}
+use Rattle.simplex.specs.Bound.{Mem, swap-trues}
 use Rattle.simplex.specs.Search.{Asc}
 use Rattle.simplex.specs.Look.{Look, go-on, look, next, after, Pivots}
 use Rattle.steps.specs.Number.{allWhole}
@@ -27,9 +29,11 @@ use Rattle.bridge.specs.Table.{ReadsWork, ArtAt, in-nonzero, pivot-z}
 use Rattle.bridge.specs.Chosen.{Leaves}
 use Rattle.bridge.specs.Looks.{Enters, Choose, pivots, choose-is, choice-is, minus-one, look-pivot}
 use Rattle.bridge.specs.Runs.{markOf, Standing, pivot-standing, optimise-mark, ReadsGoal}
-use Rattle.stall.specs.Stall.{turn, later, isBasic}
+use Rattle.run.specs.Steady.{pivot-kept}
+use Rattle.run.specs.Passes.{restrictedIds}
+use Rattle.stall.specs.Stall.{turn, later, isBasic, restrictedRows}
 use Rattle.stall.proofs.Turns.{Step}
-use Rattle.stall.proofs.Rows.{basic-is}
+use Rattle.stall.proofs.Rows.{basic-is, rows-are}
 
 -- the two objectives that a work reads as: the goal's row is the theory's
 pub record Reading (g : Goal) (kind : ℕ → KindZ) (w : Work) (S : State) (o a : Vec) : Type 0 where
@@ -93,6 +97,7 @@ module _ (n : ℕ) (kind : ℕ → KindZ) (ids : List ℕ) (asc : Asc ids) (cove
   pub record At (i : ℕ) (S : State) (u : Work) : Type 0 where
     pub pivots : (k : ℕ) → k < i → Pivots (after kind ids S k) (look kind ids (after kind ids S k))
     pub basics : (j : ℕ) → isBasic j u ≡ after kind ids S i .B j
+    pub rows : trues (map (after kind ids S i .B) (restrictedIds (u .tableau .symbols))) ≡ restrictedRows (u .tableau .rows)
 
   shift : (S : State) (l e : ℕ) → look kind ids S ≡ go-on l e → (i : ℕ) → after kind ids S (suc i) ≡ after kind ids (step l e S) i
   unfolding after next
@@ -104,15 +109,25 @@ module _ (n : ℕ) (kind : ℕ → KindZ) (ids : List ℕ) (asc : Asc ids) (cove
   at-first S l e k u = subst (Pivots S) (sym k) u
 
   one-on : (i : ℕ) (S : State) (u : Work) (l e : ℕ) → look kind ids S ≡ go-on l e → S .R l e ≡ negsuc 0 → At i (step l e S) u → At (suc i) S u
-  one-on i S u l e k m h = record { pivots = first; basics = λ j. h .basics j ∙ ap (λ (t : State). t .B j) (sym (shift S l e k i)) }
+  one-on i S u l e k m h = record {
+    pivots = first;
+    basics = λ j. h .basics j ∙ ap (λ (t : State). t .B j) (sym (shift S l e k i));
+    rows = ap (λ (t : State). trues (map (t .B) (restrictedIds (u .tableau .symbols)))) (shift S l e k i) ∙ h .rows;
+  }
     where
       first : (x : ℕ) → x < suc i → Pivots (after kind ids S x) (look kind ids (after kind ids S x))
       first zero b = at-first S l e k m
       first (suc x) b = subst (λ (t : State). Pivots t (look kind ids t)) (sym (shift S l e k x)) (h .pivots x (omega arith))
 
-  begins : (g : Goal) (w : Work) (S : State) (z : Vec) → ReadsGoal g kind w S z → (j : ℕ) → isBasic j w ≡ after kind ids S zero .B j
+  begins : (g : Goal) (w : Work) (S : State) (z : Vec) → ReadsGoal g kind w S z → At zero S w
   unfolding after
-  begins g w S z H j = basic-is kind w (S .B) (S .R) (objOf g (S .o) z) (artOf g (S .o) z) (reading g kind w S z H .reads) j
+  begins g w S z H =
+      let D = reading g kind w S z H in
+      record {
+        pivots = λ k b. absurd (omega arith);
+        basics = basic-is kind w (S .B) (S .R) (objOf g (S .o) z) (artOf g (S .o) z) (D .reads);
+        rows = rows-are kind w (S .B) (S .R) (objOf g (S .o) z) (artOf g (S .o) z) (D .reads);
+      }
 
   counted-mark : (w : Work) → countPivot w .mark ≡ allWhole → w .mark ≡ allWhole
   unfolding countPivot
@@ -120,7 +135,7 @@ module _ (n : ℕ) (kind : ℕ → KindZ) (ids : List ℕ) (asc : Asc ids) (cove
 
   pub at : (i left : ℕ) (g : Goal) (w : Work) (S : State) (z : Vec) → Good n kind S → ReadsGoal g kind w S z → markOf (optimise left g w) ≡ allWhole → (u : Work) → later i left g w ≡ some u → At i S u
   unfolding later markOf
-  at zero left g w S z G H m u q = record { pivots = λ k b. absurd (omega arith); basics = λ j. ap (isBasic j) (sym (some-injective q)) ∙ begins g w S z H j }
+  at zero left g w S z G H m u q = subst (At zero S) (some-injective q) (begins g w S z H)
   at (suc i) zero g w S z G H m u q = absurd (none≢some q)
   at (suc i) (suc left) g w S z G H m u q = go (turn g w) (optimise (suc left) g w) (Rattle.stall.proofs.Turns.step left g w) m q (at i left g)
     where
@@ -133,3 +148,32 @@ module _ (n : ℕ) (kind : ℕ → KindZ) (ids : List ℕ) (asc : Asc ids) (cove
           let v : Work = countPivot (pivot (l .id) e w) in
           let M : Moved g v S z (l .id) (e .id) = moves g w S z G H l e c (counted-mark (pivot (l .id) e w) (optimise-mark left g v m)) in
           one-on i S u (l .id) (e .id) (M .looks) (M .minus) (ih v (step (l .id) (e .id) S) (pivoted (l .id) (e .id) (S .R) z) (M .good) (M .reads) m u q)
+
+-- ---- n and r along a pass
+
+-- no pivot touches the symbols
+counted-symbols : (l : ℕ) (e : Symbol) (w : Work) → countPivot (pivot l e w) .tableau .symbols ≡ w .tableau .symbols
+unfolding countPivot
+counted-symbols l e w = pivot-kept l e w .symbols
+
+pub symbols-stay : (i left : ℕ) (g : Goal) (w u : Work) → later i left g w ≡ some u → u .tableau .symbols ≡ w .tableau .symbols
+unfolding later
+symbols-stay zero left g w u q = ap (λ (v : Work). v .tableau .symbols) (sym (some-injective q))
+symbols-stay (suc i) zero g w u q = absurd (none≢some q)
+symbols-stay (suc i) (suc left) g w u q = go (turn g w) (optimise (suc left) g w) (Rattle.stall.proofs.Turns.step left g w) q (λ v. symbols-stay i left g v u)
+  where
+    go : (t : Option Work) (o : Outcome Work) → Step left g w t o → elim t as (λ x. Option Work) [ none ↦ none | some v ↦ later i left g v ] ≡ some u
+        → ((v : Work) → later i left g v ≡ some u → u .tableau .symbols ≡ v .tableau .symbols) → u .tableau .symbols ≡ w .tableau .symbols
+    go t o Step.rests q ih = absurd (none≢some q)
+    go t o Step.no-row q ih = absurd (none≢some q)
+    go t o (Step.not-finite p e k r) q ih = absurd (none≢some q)
+    go t o (Step.pivots l e c) q ih = ih (countPivot (pivot (l .id) e w)) q ∙ counted-symbols (l .id) e w
+
+-- and each lets one restricted symbol in for another
+pub basics-stay : (n : ℕ) (kind : ℕ → KindZ) (m : ℕ) (S : ℕ → State) (le en : ℕ → ℕ) → Pass n kind m S le en → (rs : List ℕ) → Distinct rs → ((j : ℕ) → kind j ≡ slack → Mem j rs)
+    → (i : ℕ) → i ≤ m → trues (map (S i .B) rs) ≡ trues (map (S 0 .B) rs)
+basics-stay n kind m S le en P rs once all zero h = refl
+basics-stay n kind m S le en P rs once all (suc i) h =
+    let C = P .choice i h in
+    ap (λ (T : State). trues (map (T .B) rs)) (P .next i h)
+    ∙ swap-trues (le i) (en i) (S i .B) (C .l-basic) (C .e-free) rs once (all (le i) (C .l-slack)) (all (en i) (C .e-slack)) ∙ basics-stay n kind m S le en P rs once all i (le-of-lt h)

@@ -1,5 +1,5 @@
 -- What `optimise` is: turns, one after the other, while one is made and the budget lasts. Assumes nothing.
-use Prim.Native.Nat.{ℕ, zero, suc, _+_}
+use Prim.Native.Nat.{ℕ, zero, suc, _+_, _≤_, _<_}
 use native.Mathlib.Omega.{arith}
 use mathlib.Core.Path.{_≡_, refl, sym, ap, _∙_}
 use mathlib.Core.Option.{Option, none, some}
@@ -90,16 +90,20 @@ counts (suc left) g w = go (turn g w) (optimise (suc left) g w) (step left g w) 
     go t o (not-finite p q m s) ih = omega (arith, q)
     go t o (pivots l e q) ih = omega (arith, ih (countPivot (pivot (l .id) e w)), counted-one (l .id) e w)
 
--- ---- the moments are those of the pivots made, the last one among them
-pub last-moment : (left : ℕ) (g : Goal) (w : Work) → (u : Work) × (later (pivotsFrom left g w) left g w ≡ some u)
+-- ---- the moments: one for the start, one for each pivot made
+abbrev onward : ℕ → ℕ → Goal → Option Work → Option Work
+onward i left g t = elim t [ none ↦ none | some v ↦ later i left g v ]
+
+pub moments : (i left : ℕ) (g : Goal) (w : Work) → (i ≤ pivotsFrom left g w → (u : Work) × (later i left g w ≡ some u)) × (pivotsFrom left g w < i → later i left g w ≡ none)
 unfolding later pivotsFrom
-last-moment zero g w = (w, refl)
-last-moment (suc left) g w = go (turn g w) refl (last-moment left g)
+moments zero left g w = ((λ l. (w, refl)), (λ l. absurd (omega (arith, l))))
+moments (suc i) zero g w = ((λ l. absurd (omega (arith, l))), (λ l. refl))
+moments (suc i) (suc left) g w = go (turn g w) (moments i left g)
   where
-    go : (t : Option Work) → turn g w ≡ t → ((v : Work) → (u : Work) × (later (pivotsFrom left g v) left g v ≡ some u))
-        → (u : Work) × (later (elim t as (λ x. ℕ) [ none ↦ 0 | some v ↦ suc (pivotsFrom left g v) ]) (suc left) g w ≡ some u)
-    go none q ih = (w, refl)
-    go (some v) q ih = let h = ih v in (h .0, ap (λ (t : Option Work). elim t as (λ x. Option Work) [ none ↦ none | some x ↦ later (pivotsFrom left g v) left g x ]) q ∙ h .1)
+    go : (t : Option Work) → ((v : Work) → (i ≤ pivotsFrom left g v → (u : Work) × (later i left g v ≡ some u)) × (pivotsFrom left g v < i → later i left g v ≡ none))
+        → (suc i ≤ elim t as (λ x. ℕ) [ none ↦ 0 | some v ↦ suc (pivotsFrom left g v) ] → (u : Work) × (onward i left g t ≡ some u)) × (elim t as (λ x. ℕ) [ none ↦ 0 | some v ↦ suc (pivotsFrom left g v) ] < suc i → onward i left g t ≡ none)
+    go none ih = ((λ l. absurd (omega (arith, l))), (λ l. refl))
+    go (some v) ih = ((λ l. ih v .0 (omega (arith, l))), (λ l. ih v .1 (omega (arith, l))))
 
 -- ---- 14 is given with every pivot of the budget made
 pub all-used : (left : ℕ) (g : Goal) (w : Work) → refusalOf (optimise left g w) ≡ 14 → pivotsFrom left g w ≡ left

@@ -1,9 +1,10 @@
--- Demand 3 in document 01's words, for a reader who knows Cassowary and not antt. An add or a removal optimises in one or two passes, each a row of
--- pivots by the steps' own rule: `choosePivot` finds what enters and what leaves, `countedPivot` makes the pivot and counts it. A moment of a pass is
--- the work before its first pivot or after one of its pivots. `passesOf` gives the passes of a call, each by where it starts, in the words of the steps
--- themselves. Three things are then said of every add and removal of a whole run: no two moments of a pass have the same set of basic symbols; a pass
--- makes fewer pivots than there are ways to choose its r basic of its n restricted symbols; and a budget as large as these ways, summed over the
--- call's passes, is never used up. Nothing here speaks of numbers in rows.
+-- Demand 3 in document 01's words, for a reader who knows Cassowary and not antt. An add optimises in one or two passes, a removal in one. A pass is
+-- pivots by the steps' own rule, one after the other: `choosePivot` finds what enters and what leaves, `countedPivot` makes the pivot and counts it. Its
+-- moments are the work before its first pivot and after each of them. `passesOf` gives the passes of a call, each by where it starts, in the steps' own
+-- words and with the call's own budget. Of every add and removal of a whole run it is then said: no two moments of a pass have the same set of basic
+-- symbols; a pass makes fewer pivots than there are ways to choose r of n, which stay the same all along; and a budget as large as these ways, summed
+-- over the call's passes, is not used up. The last section says, of every call, that these are its passes. Nothing here speaks of numbers in rows.
+-- `never-stalls` in proofs/Whole.antt proves the first part, `passes-are-the-calls` in proofs/Calls.antt the second.
 use Prim.Native.Nat.{ℕ, zero, suc, _+_, _-_, _≤_, _<_}
 use mathlib.Core.Path.{_≡_}
 use mathlib.Core.Logic.{_⊎_, _≢_}
@@ -160,6 +161,13 @@ budgetOf (suggests v x b) = none
 abbrev pub NoReturn : PassStart → Type 0
 NoReturn p = (i j : ℕ) (u v : Work) → i < j → moment i p ≡ some u → moment j p ≡ some v → SameBasics u v → ⊥
 
+-- n and r are the same at every moment of the pass
+abbrev pub Level : PassStart → Type 0
+Level p =
+    (i : ℕ) (u : Work)
+    → moment i p ≡ some u
+    → (restrictedSymbols (u .tableau .symbols) ≡ restrictedSymbols (p .work .tableau .symbols)) × (restrictedRows (u .tableau .rows) ≡ restrictedRows (p .work .tableau .rows))
+
 -- "it makes fewer pivots than there are ways to choose r of n"
 abbrev pub Fewer : PassStart → Type 0
 Fewer p = pivotsOf p < ways p
@@ -169,9 +177,10 @@ Fewer p = pivotsOf p < ways p
 abbrev pub Enough : ℕ → Call → State → Type 0
 Enough b c s = allWays (passesOf c s) ≤ b → make c s .answer .number ≢ 14
 
--- all three, of a call with the budget b on a state
+-- all of it, of a call with the budget b on a state
 pub record Demand3 (b : ℕ) (c : Call) (s : State) : Type 0 where
   pub no-return : All NoReturn (passesOf c s)
+  pub level : All Level (passesOf c s)
   pub fewer : All Fewer (passesOf c s)
   pub enough : Enough b c s
 
@@ -180,6 +189,10 @@ abbrev pub NeverStalls : Type 0
 NeverStalls = (cs : List Call) (c : Call) (b : ℕ) → budgetOf c ≡ some b → Whole (c ∷ cs) → Demand3 b c (after cs .state)
 
 -- ---- these are the call's passes: said of every call, whole or not
+
+-- a pass has one moment for its start and one for each of its pivots
+abbrev pub Counted : PassStart → Type 0
+Counted p = (i : ℕ) → (i ≤ pivotsOf p → (u : Work) × (moment i p ≡ some u)) × (pivotsOf p < i → moment i p ≡ none)
 
 -- the number by which steps refuse, 0 where they go on
 unfoldable pub refusalOf : Outcome Work → ℕ
@@ -202,6 +215,7 @@ Shares b (p ∷ ps) = (p .left ≡ b) × Shares (b - pivotsOf p) ps
 
 -- the passes share the call's budget, the pivots that it answers are theirs, and it answers 14 only if one of them used the budget up
 pub record TheCalls (b : ℕ) (c : Call) (s : State) : Type 0 where
+  pub counted : All Counted (passesOf c s)
   pub shares : Shares b (passesOf c s)
   pub pivots : make c s .answer .pivots ≡ allPivots (passesOf c s)
   pub used-up : make c s .answer .number ≡ 14 → Some UsedUp (passesOf c s)
