@@ -1,15 +1,28 @@
 -- What stands at a place after a map or a zip in place, and how long the lists are: what proofs about the tables read off the definitions of `Loops`.
 -- Assumes nothing.
 use Prim.Native.Nat.{ℕ, zero, suc, _+_, _≤_, _<_}
-use mathlib.Core.Path.{_≡_, refl, sym, ap}
+use mathlib.Core.Path.{_≡_, refl, sym, ap, subst}
+use mathlib.Core.Bool.{Bool, true, false, not}
 use mathlib.Core.List.{List, [], _∷_, map}
 use native.Mathlib.Nat.{not-suc-le-zero, le-of-suc-le-suc, zero-add, add-zero}
 use native.Mathlib.Numerals.{add-one}
 use native.Mathlib.Omega.{arith}
+use lib.Dec.{T, ltb, ltb→lt, nltb→le}
 use lib.ListN.{length, getD, set}
 use lib.Seq.{getD-set-same, getD-set-other}
 use Rattle.laws.specs.Loops.{mapIn, zipIn, foldIn, fold-next, delete, insertAt}
 use Rattle.laws.specs.Lists.{tab, tab-ext}
+
+-- a fact of each place below i, and of place i
+pub below-more : (P : ℕ → Type 0) (i : ℕ) → ((m : ℕ) → m < i → P m) → P i → (m : ℕ) → m < i + 1 → P m
+below-more P i f p m h = go (ltb m i) refl
+  where
+    go : (b : Bool) → ltb m i ≡ b → P m
+    go true q = f m (ltb→lt m i (subst T (sym q) tt))
+    go false q =
+        let l : i ≤ m = nltb→le m i (subst (λ (b : Bool). T (not b)) (sym q) tt) in
+        let e : i ≡ m = omega (arith, l, h) in
+        subst P e p
 
 module _ {A : Type 0} where
   pub length-mapIn : (f : A → A) (i e : ℕ) (l : List A) → length (mapIn f i e l) ≡ length l
@@ -157,3 +170,22 @@ module _ {A B : Type 0} where
   zipIn-after f zero (suc e) (x ∷ l) (y ∷ m) (suc j) d a = zipIn-after f zero e l m j d (le-of-suc-le-suc a)
   zipIn-after f (suc i) (suc e) (x ∷ l) (y ∷ m) zero d a = absurd (not-suc-le-zero a)
   zipIn-after f (suc i) (suc e) (x ∷ l) (y ∷ m) (suc j) d a = zipIn-after f i e l m j d (le-of-suc-le-suc a)
+
+-- ---- a table of rows: each row keeps its length where what is done to one row does
+
+module _ {A : Type 0} where
+  pub lengths-mapIn : (f : List A → List A) (i e : ℕ) (w : List (List A)) → ((r : List A) → length (f r) ≡ length r) → (q : ℕ) → length (getD (mapIn f i e w) q []) ≡ length (getD w q [])
+  unfolding mapIn
+  lengths-mapIn f i e [] h q = refl
+  lengths-mapIn f i zero (x ∷ w) h q = refl
+  lengths-mapIn f zero (suc e) (x ∷ w) h zero = h x
+  lengths-mapIn f zero (suc e) (x ∷ w) h (suc q) = lengths-mapIn f zero e w h q
+  lengths-mapIn f (suc i) (suc e) (x ∷ w) h zero = refl
+  lengths-mapIn f (suc i) (suc e) (x ∷ w) h (suc q) = lengths-mapIn f i e w h q
+
+  pub lengths-set : (w : List (List A)) (p : ℕ) (r : List A) → length r ≡ length (getD w p []) → (q : ℕ) → length (getD (set w p r) q []) ≡ length (getD w q [])
+  lengths-set [] p r h q = refl
+  lengths-set (x ∷ w) zero r h zero = h
+  lengths-set (x ∷ w) zero r h (suc q) = refl
+  lengths-set (x ∷ w) (suc p) r h zero = refl
+  lengths-set (x ∷ w) (suc p) r h (suc q) = lengths-set w p r h q

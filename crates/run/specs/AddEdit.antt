@@ -24,10 +24,11 @@ use Rattle.keeps.specs.Keys.{findBy, keepBy, findEdit-is, keepEdit-is}
 use Rattle.bridge.specs.Nums.{zero64-z, constantBound-z, belowZero-z, magnitude-z}
 use Rattle.run.specs.Demand.{ofConstraint, ofEdit, sameKey, Demand, aim, addsEdit, make, accepted, Moment, next, None}
 use Rattle.run.specs.Inv.{Held, findHeld, ConstraintAt, EditAt, Inv}
+use Rattle.run.specs.Words.{whole-z}
 use Rattle.run.specs.Lookup.{find-keep-same, find-keep-other}
 use Rattle.run.specs.Perm.{found-hit, found-miss}
 use Rattle.run.specs.Suggest.{unchanged}
-use Rattle.run.specs.Inputs.{both, whole-z, z-whole, required-z}
+use Rattle.run.specs.Inputs.{both, z-whole, required-z}
 use Rattle.run.specs.AddEnds.{ArtificialEnds}
 use Rattle.run.specs.AddMarks.{createdOf, whole-steps}
 use Rattle.run.specs.AddInv.{W, none-meet, after-add}

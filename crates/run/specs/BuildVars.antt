@@ -5,66 +5,25 @@ use mathlib.Core.Logic.{_≢_}
 use mathlib.Core.List.{List, [], _∷_, map}
 use mathlib.Core.Option.{Option, none, some}
 use mathlib.Core.Bool.{Bool, true, false}
-use lib.Dec.{T, eqb, eqb→eq, eqb-refl, ltb}
+use lib.Dec.{T, eqb, eqb→eq, eqb-refl}
 use Rattle.simplex.specs.Opt.{Kind as KindZ, external}
 use Rattle.steps.specs.Symbol.{External, Symbol}
 use Rattle.steps.specs.State.{Variable}
 use Rattle.steps.specs.Changes.{findVariable}
 use Rattle.steps.specs.CreateRow.{keepVariable, useOnce}
+use Rattle.keeps.specs.Keys.{findBy, keepBy, findVariable-is, keepVariable-is}
 use Rattle.bridge.specs.Rows.{In}
-use Rattle.bridge.specs.Finds.{none≢some}
+use Rattle.run.specs.Lookup.{find-keep-same, find-keep-other}
 
 -- ---- lookups
-find-yes : (n : ℕ) (v : Variable) (vs : List Variable) → eqb n (v .number) ≡ true → findVariable n (v ∷ vs) ≡ some v
-unfolding findVariable
-find-yes n v vs e = rw (e, findVariable)
-
-find-no : (n : ℕ) (v : Variable) (vs : List Variable) → eqb n (v .number) ≡ false → findVariable n (v ∷ vs) ≡ findVariable n vs
-unfolding findVariable
-find-no n v vs e = rw (e, findVariable)
-
-find-nil : (n : ℕ) → findVariable n [] ≡ none
-unfolding findVariable
-find-nil n = refl
-
-pub same-eqb : (n : ℕ) → eqb n n ≡ true
-same-eqb n = go (eqb n n) (eqb-refl n)
-  where
-    go : (b : Bool) → T b → b ≡ true
-    go true t = refl
-    go false t = absurd t
+kept-is : (n : ℕ) (v : Variable) (vs : List Variable) → findVariable n (keepVariable v vs) ≡ findBy (λ (x : Variable). x .number) n (keepBy (λ (x : Variable). x .number) v vs)
+kept-is n v vs = ap (findVariable n) (keepVariable-is v vs) ∙ findVariable-is n (keepBy (λ (x : Variable). x .number) v vs)
 
 pub find-kept : (v : Variable) (vs : List Variable) → findVariable (v .number) vs ≡ none → findVariable (v .number) (keepVariable v vs) ≡ some v
-unfolding keepVariable
-find-kept v [] e = find-yes (v .number) v [] (same-eqb (v .number))
-find-kept v (x ∷ xs) e = go (ltb (v .number) (x .number)) (eqb (v .number) (x .number)) refl (find-kept v xs)
-  where
-    go : (l b : Bool) → eqb (v .number) (x .number) ≡ b → (findVariable (v .number) xs ≡ none → findVariable (v .number) (keepVariable v xs) ≡ some v)
-        → findVariable (v .number) (elim l [ true ↦ v ∷ x ∷ xs | false ↦ x ∷ keepVariable v xs ]) ≡ some v
-    go true b q ih = find-yes (v .number) v (x ∷ xs) (same-eqb (v .number))
-    go false true q ih = absurd (none≢some (sym e ∙ find-yes (v .number) x xs q))
-    go false false q ih = find-no (v .number) x (keepVariable v xs) q ∙ ih (sym (find-no (v .number) x xs q) ∙ e)
+find-kept v vs e = kept-is (v .number) v vs ∙ find-keep-same (λ (x : Variable). x .number) (v .number) v vs refl (sym (findVariable-is (v .number) vs) ∙ e)
 
 pub find-kept-other : (n : ℕ) (v : Variable) (vs : List Variable) → n ≢ v .number → findVariable n (keepVariable v vs) ≡ findVariable n vs
-unfolding keepVariable
-find-kept-other n v vs ne = all vs
-  where
-    no : (b : Bool) → eqb n (v .number) ≡ b → eqb n (v .number) ≡ false
-    no true e = absurd (ne (eqb→eq n (v .number) (subst T (sym e) tt)))
-    no false e = e
-
-    isnt : eqb n (v .number) ≡ false
-    isnt = no (eqb n (v .number)) refl
-
-    all : (vs : List Variable) → findVariable n (keepVariable v vs) ≡ findVariable n vs
-    all [] = find-no n v [] isnt
-    all (x ∷ xs) = go (ltb (v .number) (x .number)) (eqb n (x .number)) refl (all xs)
-      where
-        go : (l b : Bool) → eqb n (x .number) ≡ b → findVariable n (keepVariable v xs) ≡ findVariable n xs
-            → findVariable n (elim l [ true ↦ v ∷ x ∷ xs | false ↦ x ∷ keepVariable v xs ]) ≡ findVariable n (x ∷ xs)
-        go true b q ih = find-no n v (x ∷ xs) isnt
-        go false true q ih = find-yes n x (keepVariable v xs) q ∙ sym (find-yes n x xs q)
-        go false false q ih = find-no n x (keepVariable v xs) q ∙ ih ∙ sym (find-no n x xs q)
+find-kept-other n v vs ne = kept-is n v vs ∙ find-keep-other (λ (x : Variable). x .number) n v vs ne ∙ sym (findVariable-is n vs)
 
 abbrev pub usedAt : ℕ → Option Variable → Option Variable
 usedAt n none = none

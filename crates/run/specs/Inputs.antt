@@ -9,7 +9,7 @@ use lib.IntN.{ℤ, pos, negsuc, natAbs}
 use lib.Signed.{ltZ-yes, ltZ-no}
 use lib.Ieee.{Float, nan, inf, fin, le, lt, ofBits}
 use Rattle.laws.specs.Z.{_≼_, _≺_, lt→N}
-use Rattle.exact.specs.Whole.{IsZ, Zb, val, int, int-z, lit-z, le-z, lt-z}
+use Rattle.exact.specs.Whole.{IsZ, Zb, val, int, lit-z, le-z, lt-z}
 use Rattle.simplex.specs.Ord.{0ℤ}
 use Rattle.simplex.specs.Choose.{All}
 use Rattle.steps.specs.Number.{cellBound, constantBound, isWhole, within, belowZero, Mark, allWhole, notWhole, wholeIf, saysWhole}
@@ -17,6 +17,7 @@ use Rattle.steps.specs.Strength.{required}
 use Rattle.steps.specs.State.{Term, Relation, strengthOf}
 use Rattle.steps.specs.Add.{wholeWithin, wholeTerms, wholeInputs}
 use Rattle.bridge.specs.Nums.{cellBound-z, constantBound-z, belowZero-z, magnitude-z}
+use Rattle.run.specs.Words.{whole-z}
 
 pub both : (a b : Bool) → a && b ≡ true → (a ≡ true) × (b ≡ true)
 both true b e = (refl, e)
@@ -43,9 +44,6 @@ unfolding isWhole int
 is-int nan = refl
 is-int (inf s) = refl
 is-int (fin s m e) = refl
-
-pub whole-z : (x : Float) → isWhole x ≡ true → IsZ x (val x)
-whole-z x e = int-z x (subst T (sym e ∙ is-int x) tt)
 
 pub z-whole : {x : Float} {z : ℤ} → IsZ x z → isWhole x ≡ true
 z-whole {x} h = go (int x) (is-int x) (Rattle.exact.specs.Whole.z-int h)

@@ -1,12 +1,11 @@
 -- What a pivot and an optimise pass do not touch: the symbols, the next id, the variables but for their flags; and that the infeasible list holds restricted symbols only. Assumes nothing.
 use mathlib.Core.Path.{_≡_, refl, sym, ap, _∙_, subst}
 use mathlib.Core.Logic.{_⊎_, inl, inr, _≢_}
-use mathlib.Core.List.{List, [], _∷_, _++_}
+use mathlib.Core.List.{List, [], _∷_}
 use mathlib.Core.Option.{Option, none, some}
-use Prim.Native.Nat.{ℕ, zero, suc, _+_}
+use Prim.Native.Nat.{ℕ, zero, suc}
 use native.Mathlib.Omega.{arith}
 use mathlib.Core.Bool.{Bool, true, false, _&&_, cond, not}
-use lib.Dec.{eqb}
 use lib.Ieee.{Float, ne}
 use Rattle.simplex.specs.Choose.{All}
 use Rattle.simplex.specs.Opt.{Kind as KindZ, external, slack, dummy, slack≢external}
@@ -15,9 +14,10 @@ use Rattle.steps.specs.Symbol.{Symbol, isExternal, isRestricted, isDummy, first
 use Rattle.steps.specs.Row.{Row, Written, solveForSymbols}
 use Rattle.steps.specs.State.{Basic, Variable, Changes}
 use Rattle.steps.specs.Work.{Work, Outcome, refused, going, _>>=_, refuse, checkFinite, countPivot, marking, withRows, withTableau, withChanges, withArtificial, withObjective, withInfeasible, findRow, dropRow, keepRow}
-use Rattle.steps.specs.Changes.{withFlag, clearChanged, flagSymbol, varChanged, allChanged, note, findVariable}
-use Rattle.steps.specs.Substitute.{substituteInRows, rowsOf, notedOf, without, push, pushBelow, substitute, enterBasis, pivot}
+use Rattle.steps.specs.Changes.{withFlag, clearChanged, flagSymbol, varChanged, allChanged, note}
+use Rattle.steps.specs.Substitute.{substituteInRows, rowsOf, notedOf, pushBelow, substitute, enterBasis, pivot}
 use Rattle.steps.specs.Optimise.{Goal, goalCells, getEnteringSymbol, getLeavingRow, choosePivot, ended, stuck, pivotOn, Choice as Chosen, countedPivot, optimise}
+use Rattle.bridge.specs.Infeasible.{pushed-all}
 use Rattle.bridge.specs.Finds.{none≢some, some-injective, after-sub, sub-all, drop-all, keep-all}
 use Rattle.bridge.specs.Table.{kindOf, enter-parts}
 use Rattle.bridge.specs.Chosen.{restricted-is}
@@ -46,65 +46,7 @@ unfolding allChanged
 all-noted-variables [] c = refl
 all-noted-variables (s ∷ ss) c = all-noted-variables ss (varChanged s c) ∙ noted-variables s c
 
-unflag : Option Variable → Option Variable
-unflag none = none
-unflag (some v) = some (withFlag false v)
-
-find-unflagged : (n : ℕ) (vs : List Variable) → findVariable n (clearChanged vs) ≡ unflag (findVariable n vs)
-unfolding findVariable clearChanged unflag withFlag
-find-unflagged n [] = refl
-find-unflagged n (v ∷ vs) = go (eqb n (v .number)) (find-unflagged n vs)
-  where
-    go : (b : Bool) → findVariable n (clearChanged vs) ≡ unflag (findVariable n vs)
-        → _≡_ {A = Option Variable} (elim b [ true ↦ some (withFlag false v) | false ↦ findVariable n (clearChanged vs) ]) (unflag (elim b [ true ↦ some v | false ↦ findVariable n vs ]))
-    go true ih = refl
-    go false ih = ih
-
--- two lookups that differ in the flag at most
-abbrev pub LikeVar : Option Variable → Option Variable → Type 0
-LikeVar none none = Unit
-LikeVar none (some v) = ⊥
-LikeVar (some v) none = ⊥
-LikeVar (some v) (some u) = withFlag false v ≡ withFlag false u
-
-like : (s t : Option Variable) → unflag s ≡ unflag t → LikeVar s t
-unfolding unflag
-like none none e = tt
-like none (some v) e = none≢some e
-like (some v) none e = none≢some (sym e)
-like (some v) (some u) e = some-injective e
-
-pub same-variable : (n : ℕ) (vs us : List Variable) → clearChanged vs ≡ clearChanged us → LikeVar (findVariable n vs) (findVariable n us)
-same-variable n vs us e = like (findVariable n vs) (findVariable n us) (sym (find-unflagged n vs) ∙ ap (findVariable n) e ∙ find-unflagged n us)
-
-pub like-symbol : (v u : Variable) → withFlag false v ≡ withFlag false u → v .symbol ≡ u .symbol
-unfolding withFlag
-like-symbol v u e = ap (λ (x : Variable). x .symbol) e
-
 -- ---- the infeasible list gets restricted symbols only
-all-end : (Q : ℕ → Type 0) (s : ℕ) (l : List ℕ) → All Q l → Q s → All Q (l ++ (s ∷ []))
-all-end Q s [] a q = (q, tt)
-all-end Q s (x ∷ l) a q = (a .0, all-end Q s l (a .1) q)
-
-all-without : (Q : ℕ → Type 0) (s : ℕ) (l : List ℕ) → All Q l → All Q (without s l)
-unfolding without
-all-without Q s [] a = tt
-all-without Q s (x ∷ l) a = go (eqb s x) (all-without Q s l (a .1))
-  where
-    go : (t : Bool) → All Q (without s l) → All Q (elim t [ true ↦ l | false ↦ x ∷ without s l ])
-    go true ih = a .1
-    go false ih = (a .0, ih)
-
-pub pushed-all : (Q : ℕ → Type 0) (bs : List Basic) (l : List ℕ) → All Q l → All (λ (b : Basic). isRestricted (b .symbol) ≡ true → Q (b .symbol .id)) bs → All Q (pushBelow bs l)
-unfolding pushBelow push
-pushed-all Q [] l a f = a
-pushed-all Q (b ∷ bs) l a f = pushed-all Q bs (cond (isRestricted (b .symbol) && belowZero (b .row .constant)) (push l (b .symbol .id)) l) (go (isRestricted (b .symbol)) refl (belowZero (b .row .constant))) (f .1)
-  where
-    go : (t : Bool) → isRestricted (b .symbol) ≡ t → (r : Bool) → All Q (cond (isRestricted (b .symbol) && r) (without (b .symbol .id) l ++ (b .symbol .id ∷ [])) l)
-    go true e true = subst (λ (t : Bool). All Q (cond (t && true) (without (b .symbol .id) l ++ (b .symbol .id ∷ [])) l)) (sym e) (all-end Q (b .symbol .id) (without (b .symbol .id) l) (all-without Q (b .symbol .id) l a) (f .0 e))
-    go true e false = subst (λ (t : Bool). All Q (cond (t && false) (without (b .symbol .id) l ++ (b .symbol .id ∷ [])) l)) (sym e) a
-    go false e r = subst (λ (t : Bool). All Q (cond (t && r) (without (b .symbol .id) l ++ (b .symbol .id ∷ [])) l)) (sym e) a
-
 dummy≢external : dummy ≢ external
 dummy≢external p = let z : _≡_ {A = ℕ} 0 1 = cc in omega arith
 

@@ -23,7 +23,8 @@ use Rattle.bridge.specs.Nums.{zero64-z, belowZero-z}
 use Rattle.bridge.specs.Finds.{none≢some}
 use Rattle.run.specs.Demand.{ofConstraint, ofEdit, Demand, Call, resets, fetches, adds, removes, addsEdit, removesEdit, suggests, make, Moment, after, Whole}
 use Rattle.run.specs.Inv.{Inv}
-use Rattle.run.specs.Inputs.{both, whole-z, required-z}
+use Rattle.run.specs.Words.{whole-z}
+use Rattle.run.specs.Inputs.{both, required-z}
 use Rattle.run.specs.AddMarks.{markAdded, whole-steps}
 use Rattle.run.specs.Add.{passed, not-above, ids-left, added-whole}
 use Rattle.run.specs.Run.{Sound, run-sound}

@@ -1,6 +1,6 @@
 -- Substitution in all rows, in the objective and in the artificial objective, and the notes of the rows whose constant changes.
 use Prim.Native.Nat.{ℕ, _+_, _/_}
-use mathlib.Core.Path.{_≡_}
+use mathlib.Core.Path.{_≡_, refl}
 use mathlib.Core.Bool.{Bool, false, _&&_, cond}
 use mathlib.Core.List.{List, []}
 use lib.ListN.{getD, set}
@@ -47,6 +47,37 @@ substituteArtificialIn art at width pivot rows = cond art (set rows 50 (substitu
 unfoldable pub substituteArtificialMark : Bool → ℕ → ℕ → List Float → List (List Float) → Mark
 substituteArtificialMark art at width pivot rows = cond art (substituteRowMark at width pivot (getD rows 50 [])) allWhole
 
+-- ---- all of it but the infeasible list, and the mark of all that was written
+
+pub record Substitution : Type 0 where
+  pub head : List ℕ
+  pub names : List (List ℕ)
+  pub rows : List (List Float)
+  pub mark : Mark
+
+abbrev pub substitution : List ℕ → List (List ℕ) → List (List Float) → Mark → Substitution
+substitution h n w m = record { head = h; names = n; rows = w; mark = m }
+
+-- in the rows, then in the objective
+unfoldable pub substituteBelow : ℕ → ℕ → ℕ → List Float → List (List Float) → List (List Float)
+substituteBelow at width count pivot rows = substituteObjectiveIn at width pivot (substituteRowsIn at width count pivot rows)
+
+unfoldable pub substituteRowsOf : Bool → ℕ → ℕ → ℕ → List Float → List (List Float) → List (List Float)
+substituteRowsOf art at width count pivot rows = substituteArtificialIn art at width pivot (substituteBelow at width count pivot rows)
+
+unfoldable pub substituteMarkOf : Bool → ℕ → ℕ → ℕ → List Float → List (List Float) → Mark
+substituteMarkOf art at width count pivot rows =
+    worse (substituteRowsMark at width count pivot rows)
+    (worse (substituteObjectiveMark at width pivot (substituteRowsIn at width count pivot rows)) (substituteArtificialMark art at width pivot (substituteBelow at width count pivot rows)))
+
+unfoldable pub substituteOf : Bool → ℕ → List Float → Noted → List (List Float) → Substitution
+substituteOf art at pivot s rows =
+    substitution
+    (noteRows at (getD (s .head) 2 0) pivot rows s .head)
+    (noteRows at (getD (s .head) 2 0) pivot rows s .names)
+    (substituteRowsOf art at (getD (s .head) 1 0) (getD (s .head) 2 0) pivot rows)
+    (substituteMarkOf art at (getD (s .head) 1 0) (getD (s .head) 2 0) pivot rows)
+
 pub row-mark : (at width : ℕ) (pivot : List Float) (m : Mark) (row : List Float) {t : Mark} → t ≡ worse m (substituteRowMark at width pivot row) → t ≡ rowMarkWith at width pivot m row
 unfolding rowMarkWith
 row-mark at width pivot m row h = h
@@ -56,3 +87,17 @@ pub note-turn : (at : ℕ) (pivot : List Float) (rows : List (List Float)) (i : 
     → on ≡ (isExternal (symbolOf (getD (s .head) (145 + i) 0)) && changes (getD (getD rows i []) at nan) (getD pivot 0 nan)) → t ≡ varChangedIf on (getD (s .head) (145 + i) 0 / 4) s → t ≡ noteRow at pivot rows i s
 unfolding noteRow
 note-turn at pivot rows i s h q = rw (← h) q
+
+-- the calls of a substitution, put together: over variables
+pub substitute-calls : (art : Bool) (at : ℕ) (pivot : List Float) (s : Noted) (rows : List (List Float)) {t : Noted} {r₁ r₂ r₃ : List (List Float)} {a b c d : Mark}
+    → t ≡ noteRows at (getD (s .head) 2 0) pivot rows s
+    → a ≡ substituteRowsMark at (getD (s .head) 1 0) (getD (s .head) 2 0) pivot rows
+    → r₁ ≡ substituteRowsIn at (getD (s .head) 1 0) (getD (s .head) 2 0) pivot rows
+    → b ≡ substituteObjectiveMark at (getD (s .head) 1 0) pivot r₁
+    → r₂ ≡ substituteObjectiveIn at (getD (s .head) 1 0) pivot r₁
+    → c ≡ substituteArtificialMark art at (getD (s .head) 1 0) pivot r₂
+    → r₃ ≡ substituteArtificialIn art at (getD (s .head) 1 0) pivot r₂
+    → d ≡ worse a (worse b c)
+    → substitution (t .head) (t .names) r₃ d ≡ substituteOf art at pivot s rows
+unfolding substituteOf substituteBelow substituteRowsOf substituteMarkOf
+substitute-calls art at pivot s rows h₁ h₂ h₃ h₄ h₅ h₆ h₇ h₈ = rw (h₈, h₇, h₆, h₅, h₄, h₃, h₂, h₁) refl

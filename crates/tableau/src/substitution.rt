@@ -7,7 +7,7 @@ ghost use Rattle.steps.specs.Symbol.{isExternal};
 ghost use Rattle.layout.specs.Layout.{symbolOf};
 ghost use Rattle.rows.specs.Marks.{markOf};
 ghost use Rattle.tableau.specs.Notes.{noted};
-ghost use Rattle.tableau.specs.Substituting.{changes, substituteRowsIn, substituteRowsMark, noteRows, substituteObjectiveIn, substituteObjectiveMark, substituteArtificialIn, substituteArtificialMark};
+ghost use Rattle.tableau.specs.Substituting.{changes, substituteRowsIn, substituteRowsMark, noteRows, substituteObjectiveIn, substituteObjectiveMark, substituteArtificialIn, substituteArtificialMark, substitution, substituteOf};
 use crate::notes::var_changed_if;
 use rows::number::OBJECTIVE_BOUND;
 use rows::number::Wrote;
@@ -108,4 +108,30 @@ pub fn note_rows(
         var_changed_if(on, head, names, code / 4);
         i += 1;
     }
+}
+
+// The infeasible list is left as it is.
+pub fn substitute(
+    art: bool,
+    head: &mut [u64],
+    names: &mut [[u64; 20]],
+    rows: &mut [[f64; 130]],
+    at: usize,
+    pivot: &[f64; 130],
+) -> Wrote
+    requires { ⌜ length (now head) ≡ 326 ⌝ }
+    requires { ⌜ getD (now head) 1 0 ≤ 129 ⌝ }
+    requires { ⌜ getD (now head) 2 0 ≤ 49 ⌝ }
+    requires { ⌜ getD (now head) 4 0 ≤ length (now names) ⌝ }
+    requires { ⌜ length (now rows) ≡ 51 ⌝ }
+    requires { ⌜ at < 130 ⌝ }
+    ensures { λ r. ⌜ substitution (now (head .exit)) (now (names .exit)) (now (rows .exit)) (markOf r) ≡ substituteOf art at (now (pivot .entry)) (noted (now (head .entry)) (now (names .entry))) (now (rows .entry)) ⌝ }
+{
+    let width = head[1] as usize;
+    let count = head[2] as usize;
+    note_rows(head, names, rows, count, at, pivot);
+    let u = substitute_rows(rows, count, width, at, pivot);
+    let v = substitute_objective(rows, width, at, pivot);
+    let w = substitute_artificial(art, rows, width, at, pivot);
+    joined(u, joined(v, w))
 }
