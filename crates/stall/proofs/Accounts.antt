@@ -2,7 +2,7 @@
 use Prim.Native.Nat.{ℕ, _+_, _-_}
 use native.Mathlib.Omega.{arith}
 use mathlib.Core.Path.{_≡_, refl, sym, ap, _∙_, subst}
-use mathlib.Core.Logic.{_⊎_, inl, inr, _≢_}
+use mathlib.Core.Logic.{inl, inr}
 use mathlib.Core.Bool.{Bool, true, false}
 use mathlib.Core.List.{List, [], _∷_, _++_}
 use mathlib.Core.Option.{Option, none, some}
@@ -13,7 +13,7 @@ use Rattle.steps.specs.Symbol.{Slack, Symbol}
 use Rattle.steps.specs.State.{Term, Relation, Tag}
 use Rattle.steps.specs.Work.{Work, Outcome, refused, going, _>>=_, refuse, checkFinite, marking, withArtificial, newSymbol}
 use Rattle.steps.specs.CreateRow.{Created, createRow, chooseSubject, allDummies}
-use Rattle.steps.specs.Optimise.{Goal, theObjective, theArtificial, optimise}
+use Rattle.steps.specs.Optimise.{theObjective, theArtificial, optimise}
 use Rattle.steps.specs.Artificial.{standTemporary, removeTemporary, artificialConstantNearZero, addWithArtificialVariable}
 use Rattle.steps.specs.Add.{wholeInputs, addWithSubject, addCreated, Added, addSteps}
 use Rattle.steps.specs.Remove.{removeConstraintEffects, dropMarker, purgeTag, dropUses, removeSteps}

@@ -1,36 +1,35 @@
 -- Both passes of an add in a whole run start from a good tableau: step 6's with the temporary in it, step 7's with the new row. Assumes nothing.
 use Prim.Native.Nat.{ℕ, _-_, _≤_, _<_}
 use native.Mathlib.Omega.{arith}
-use mathlib.Core.Path.{_≡_, refl, sym, ap, _∙_, subst}
+use mathlib.Core.Path.{_≡_, refl, subst}
 use mathlib.Core.Bool.{Bool, true, false}
 use mathlib.Core.List.{List, [], _∷_, _++_, map}
 use mathlib.Core.Option.{Option, none, some}
 use lib.Dec.{lit<}
 use lib.ListN.{length}
-use lib.Ieee.{Float}
 use Rattle.simplex.specs.Ord.{0ℤ}
 use Rattle.simplex.specs.Choose.{All}
 use Rattle.simplex.specs.Opt.{external}
 use Rattle.steps.specs.Number.{belowZero, Mark, allWhole, notWhole, notFinite, wholeIf}
 use Rattle.steps.specs.Symbol.{Slack, Symbol}
-use Rattle.steps.specs.State.{Term, Relation, strengthOf}
+use Rattle.steps.specs.State.{strengthOf}
 use Rattle.steps.specs.Work.{Work, Outcome, refused, going, refuse, checkFinite, marking, withArtificial, newSymbol}
-use Rattle.steps.specs.CreateRow.{Created, createRow, chooseSubject, allDummies}
-use Rattle.steps.specs.Optimise.{theObjective, theArtificial}
+use Rattle.steps.specs.CreateRow.{Created, chooseSubject, allDummies}
+use Rattle.steps.specs.Optimise.{theArtificial}
 use Rattle.steps.specs.Artificial.{standTemporary}
 use Rattle.steps.specs.Add.{wholeInputs, addCreated, addSteps}
 use Rattle.steps.specs.Calls.{begin}
 use Rattle.bridge.specs.Rows.{In}
 use Rattle.bridge.specs.Runs.{Standing}
 use Rattle.run.specs.Demand.{Demand, Moment}
-use Rattle.run.specs.Inv.{columns, Held, conOf, Inv}
+use Rattle.run.specs.Inv.{columns, conOf, Inv}
 use Rattle.run.specs.Build.{Built, newHeld}
 use Rattle.run.specs.Subject.{no-externals}
 use Rattle.run.specs.TempStart.{kind₁, S₁, good₁, reads₁}
 use Rattle.run.specs.TempPass.{inside₁}
-use Rattle.run.specs.AddEnds.{Placed, Ends}
+use Rattle.run.specs.AddEnds.{Ends}
 use Rattle.run.specs.Artificial.{artificial-ends}
-use Rattle.run.specs.AddMarks.{markAdded, createdOf, WholeSteps}
+use Rattle.run.specs.AddMarks.{markAdded, createdOf}
 use Rattle.run.specs.AddSteps.{createdWays, created-ends}
 use Rattle.run.specs.AddInv.{W, B, room, idle}
 use Rattle.stall.specs.Stall.{PassStart, objectivePass, artificialPass, addPasses}

@@ -1,8 +1,8 @@
 -- The passes of a call are its own, and demand 3 for a call each of whose passes starts from a good tableau. Assumes nothing.
-use Prim.Native.Nat.{ℕ, _+_, _-_, _<_}
+use Prim.Native.Nat.{ℕ, _-_, _<_}
 use native.Mathlib.Omega.{arith}
-use mathlib.Core.Path.{_≡_, refl, sym, ap, _∙_, subst}
-use mathlib.Core.Logic.{_⊎_, inl, inr}
+use mathlib.Core.Path.{_≡_, refl, subst}
+use mathlib.Core.Logic.{inl, inr}
 use mathlib.Core.Bool.{true}
 use mathlib.Core.List.{List, [], _∷_}
 use mathlib.Core.Option.{Option, none, some}
@@ -23,7 +23,7 @@ use Rattle.steps.proofs.Numbers.{test-number}
 use Rattle.bridge.specs.Finds.{none≢some, some-injective}
 use Rattle.bridge.specs.Runs.{markOf}
 use Rattle.run.specs.Demand.{Call, resets, fetches, adds, removes, addsEdit, removesEdit, suggests, make}
-use Rattle.stall.specs.Stall.{PassStart, outcomeOf, pivotsOf, allPivots, ways, allWays, addPasses, removePasses, passesOf, budgetOf, NoReturn, Level, Fewer, Demand3, Counted, moment, refusalOf, UsedUp, Some, Shares, TheCalls}
+use Rattle.stall.specs.Stall.{PassStart, outcomeOf, pivotsOf, allPivots, allWays, addPasses, removePasses, passesOf, budgetOf, NoReturn, Level, Fewer, Demand3, Counted, moment, refusalOf, UsedUp, Some, Shares, TheCalls}
 use Rattle.stall.proofs.Turns.{pivotsAt, moments, all-used}
 use Rattle.stall.proofs.Pass.{Starts, Unmarred, returns-not, level, fewer}
 use Rattle.stall.proofs.Accounts.{Told, workOf, add-told, remove-told}

@@ -5,8 +5,7 @@ use native.Mathlib.Omega.{arith}
 use mathlib.Core.Path.{_≡_, refl, sym, ap, _∙_, subst}
 use mathlib.Core.List.{List, [], map}
 use mathlib.Core.Option.{Option, none, some}
-use lib.IntN.{negsuc, _*ℤ_}
-use Rattle.simplex.specs.Ord.{1ℤ}
+use lib.IntN.{negsuc}
 use Rattle.simplex.specs.Lin.{Vec}
 use Rattle.simplex.specs.Choose.{Distinct, trues}
 use Rattle.simplex.specs.Basis.{swap}
@@ -16,18 +15,17 @@ use Rattle.simplex.specs.Pass.{State, step, Good, Choice, step-good}
 use Rattle.simplex.specs.Bland.{Pass}
 use Rattle.simplex.specs.Bound.{Mem, swap-trues}
 use Rattle.simplex.specs.Search.{Asc}
-use Rattle.simplex.specs.Look.{Look, go-on, look, next, after, Pivots}
+use Rattle.simplex.specs.Look.{go-on, look, next, after, Pivots}
 use Rattle.steps.specs.Number.{allWhole}
 use Rattle.steps.specs.Symbol.{Symbol}
 use Rattle.steps.specs.Row.{Row}
-use Rattle.steps.specs.Work.{Work, Outcome, refused, going, countPivot}
+use Rattle.steps.specs.Work.{Work, Outcome, countPivot}
 use Rattle.steps.specs.Substitute.{pivot}
 use Rattle.steps.specs.Optimise.{Goal, theObjective, theArtificial, goalCells, choosePivot, pivotOn, optimise}
 use Rattle.bridge.specs.Rows.{Reads}
 use Rattle.bridge.specs.Finds.{none≢some, some-injective}
-use Rattle.bridge.specs.Table.{ReadsWork, ArtAt, in-nonzero, pivot-z}
-use Rattle.bridge.specs.Chosen.{Leaves}
-use Rattle.bridge.specs.Looks.{Enters, Choose, pivots, choose-is, choice-is, minus-one, look-pivot}
+use Rattle.bridge.specs.Table.{ReadsWork, ArtAt, pivot-z}
+use Rattle.bridge.specs.Looks.{Choose, pivots, choose-is, choice-is, minus-one, look-pivot}
 use Rattle.bridge.specs.Runs.{markOf, Standing, pivot-standing, optimise-mark, ReadsGoal}
 use Rattle.run.specs.Steady.{pivot-kept}
 use Rattle.run.specs.Passes.{restrictedIds}

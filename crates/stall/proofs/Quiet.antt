@@ -1,11 +1,11 @@
 -- Steps outside a pass: they count no pivot, never refuse 14, and a mark that is lost stays lost. Assumes nothing.
 use Prim.Native.Nat.{ℕ}
 use native.Mathlib.Omega.{arith}
-use mathlib.Core.Path.{_≡_, refl, sym, ap, _∙_}
+use mathlib.Core.Path.{_≡_, refl, _∙_}
 use mathlib.Core.Logic.{_≢_}
 use mathlib.Core.Bool.{Bool, true, false}
 use mathlib.Core.Option.{Option, none, some}
-use Rattle.steps.specs.Number.{Mark, allWhole, notWhole, notFinite, nearZero}
+use Rattle.steps.specs.Number.{Mark, allWhole, notWhole, notFinite}
 use Rattle.steps.specs.Symbol.{Symbol}
 use Rattle.steps.specs.Row.{Row}
 use Rattle.steps.specs.Work.{Work, Outcome, refused, going, _>>=_, refuse, checkFinite, withRows, findRow, dropRow, purge}
@@ -14,7 +14,7 @@ use Rattle.steps.specs.Substitute.{pivot}
 use Rattle.steps.specs.Artificial.{anyPivotableSymbol, isEmptyRow, removeTemporary}
 use Rattle.steps.specs.Add.{addWithSubject}
 use Rattle.steps.specs.Remove.{getMarkerLeavingRow, noteLeaving, dropMarker}
-use Rattle.steps.proofs.After.{After, after-refl, after-trans, marking-after, rows-after, purge-after, enter-after, pivot-after}
+use Rattle.steps.proofs.After.{After, after-trans, marking-after, rows-after, purge-after, enter-after, pivot-after}
 use Rattle.steps.proofs.AfterRemove.{noteLeaving-after}
 use Rattle.bridge.specs.Runs.{markOf}
 use Rattle.stall.specs.Stall.{refusalOf}

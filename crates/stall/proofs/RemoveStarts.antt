@@ -1,7 +1,7 @@
 -- A removal's pass in a whole run starts from a good tableau, without the symbols of what is removed. Assumes nothing.
 use Prim.Native.Nat.{ℕ, _-_}
 use mathlib.Core.Path.{_≡_, refl, sym, ap, _∙_, subst}
-use mathlib.Core.List.{List, [], _∷_}
+use mathlib.Core.List.{List, []}
 use mathlib.Core.Option.{Option, none, some}
 use lib.Ieee.{Float}
 use Rattle.simplex.specs.Ord.{0ℤ}
@@ -10,7 +10,7 @@ use Rattle.steps.specs.Number.{Mark, allWhole, notWhole, notFinite}
 use Rattle.steps.specs.State.{strengthOf, Tag, Constraint, Edit}
 use Rattle.steps.specs.Work.{Work, Outcome, refused, going, _>>=_, refuse, checkFinite}
 use Rattle.steps.specs.Optimise.{theObjective}
-use Rattle.steps.specs.Remove.{removeConstraintEffects, dropMarker, purgeTag}
+use Rattle.steps.specs.Remove.{dropMarker, purgeTag}
 use Rattle.steps.specs.Tests.{findConstraint, findEdit}
 use Rattle.steps.specs.Calls.{begin}
 use Rattle.steps.proofs.AfterRemove.{purgeTag-after}

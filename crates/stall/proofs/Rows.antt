@@ -1,9 +1,9 @@
 -- Rows counted as symbols: in a work that reads as a tableau, the rows on restricted symbols are the restricted symbols that are basic. Assumes nothing.
-use Prim.Native.Nat.{ℕ, suc, _≤_, _<_}
+use Prim.Native.Nat.{ℕ, suc, _≤_}
 use native.Mathlib.Omega.{arith}
 use mathlib.Core.Path.{_≡_, refl, sym, ap, ap₂, _∙_, subst}
-use mathlib.Core.Logic.{_⊎_, inl, inr, _≢_}
-use mathlib.Core.Bool.{Bool, true, false, not, true≢false}
+use mathlib.Core.Logic.{inl, inr, _≢_}
+use mathlib.Core.Bool.{Bool, true, false, not}
 use mathlib.Core.List.{List, [], _∷_, map}
 use mathlib.Core.Option.{Option, none, some}
 use lib.ListN.{length}
@@ -16,11 +16,11 @@ use Rattle.steps.specs.Row.{Row}
 use Rattle.steps.specs.State.{Basic}
 use Rattle.steps.specs.Work.{Work, findRow}
 use Rattle.bridge.specs.Rows.{In, Up, Sym?, is, isnt, sym?}
-use Rattle.bridge.specs.Finds.{UpRows, find-hit, find-miss, find-none, find-up}
+use Rattle.bridge.specs.Finds.{UpRows, find-hit, find-miss, find-up}
 use Rattle.bridge.specs.Table.{kindOf, Live, RowAt, ReadsWork, in-above}
 use Rattle.run.specs.Steady.{Kinded}
 use Rattle.run.specs.Passes.{restrictedIds, waysOf}
-use Rattle.stall.specs.Stall.{isBasic, restrictedRows, restrictedSymbols, ways, PassStart}
+use Rattle.stall.specs.Stall.{isBasic, restrictedRows, restrictedSymbols}
 
 -- ---- n
 

@@ -1,7 +1,7 @@
 -- What `optimise` is: turns, one after the other, while one is made and the budget lasts. Assumes nothing.
 use Prim.Native.Nat.{ℕ, zero, suc, _+_, _≤_, _<_}
 use native.Mathlib.Omega.{arith}
-use mathlib.Core.Path.{_≡_, refl, sym, ap, _∙_}
+use mathlib.Core.Path.{_≡_, refl, ap}
 use mathlib.Core.Option.{Option, none, some}
 use Rattle.steps.specs.Number.{Mark, allWhole, notWhole, notFinite}
 use Rattle.steps.specs.Symbol.{Symbol}

@@ -1,9 +1,9 @@
 -- DEMAND 3. In a whole run no optimise pass of an add or a removal holds the same basic symbols twice, each makes fewer pivots than there are ways to choose r of n, and these ways are budget enough. Assumes nothing.
 use Prim.Native.Nat.{ℕ, _≤_}
 use native.Mathlib.Omega.{arith}
-use mathlib.Core.Path.{_≡_, refl, sym, ap, _∙_, subst}
+use mathlib.Core.Path.{_≡_, refl, sym, _∙_, subst}
 use mathlib.Core.Bool.{Bool, true, false, _&&_, cond}
-use mathlib.Core.List.{List, [], _∷_}
+use mathlib.Core.List.{List, []}
 use mathlib.Core.Option.{Option, none, some}
 use lib.Dec.{T}
 use lib.ListN.{length}
@@ -21,15 +21,15 @@ use Rattle.steps.specs.Tests.{firstRefusal, addTests, addEditTests, keepConstra
 use Rattle.steps.specs.Calls.{Result, begin, finish, refusedBy, concludeAdd, add, addEdit}
 use Rattle.bridge.specs.Nums.{zero64-z, belowZero-z}
 use Rattle.bridge.specs.Finds.{none≢some}
-use Rattle.run.specs.Demand.{ofConstraint, ofEdit, Demand, Call, resets, fetches, adds, removes, addsEdit, removesEdit, suggests, make, Moment, after, Whole}
+use Rattle.run.specs.Demand.{ofConstraint, ofEdit, Call, resets, fetches, adds, removes, addsEdit, removesEdit, suggests, make, Moment, after}
 use Rattle.run.specs.Inv.{Inv}
 use Rattle.run.specs.Words.{whole-z}
 use Rattle.run.specs.Inputs.{both, required-z}
 use Rattle.run.specs.AddMarks.{markAdded, whole-steps}
 use Rattle.run.specs.Add.{passed, not-above, ids-left, added-whole}
-use Rattle.run.specs.Run.{Sound, run-sound}
-use Rattle.stall.specs.Stall.{PassStart, addPasses, passesOf, budgetOf, Demand3, NeverStalls}
-use Rattle.stall.proofs.Pass.{Starts, Unmarred}
+use Rattle.run.specs.Run.{run-sound}
+use Rattle.stall.specs.Stall.{PassStart, addPasses, passesOf, budgetOf, NeverStalls}
+use Rattle.stall.proofs.Pass.{Starts}
 use Rattle.stall.proofs.Calls.{unmarred, demand-3}
 use Rattle.stall.proofs.AddStarts.{add-starts}
 use Rattle.stall.proofs.RemoveStarts.{remove-starts, removeEdit-starts}
