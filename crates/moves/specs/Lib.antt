@@ -8,3 +8,5 @@ pub mod Walk
 pub mod Rows
 pub mod Columns
 pub mod Purge
+pub mod Entries
+pub mod Prune
