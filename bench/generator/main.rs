@@ -299,7 +299,11 @@ fn layouts(calls: u64, r: &mut Random) -> Vec<String> {
     }
     for i in 0..calls + 43 {
         let c = if i < 43 { i + 1 } else { r.from(1, 43) };
-        if edits > 0 && i >= 43 && r.one_in(4) {
+        if edits > 0 && i >= 43 && r.one_in(15) {
+            let v = 1 + 2 * r.below(edits);
+            lines.push(format!("removeedit {} 65535", v));
+            lines.push(format!("addedit {} {} 65535", v, [1, 1000, 1_000_000][r.below(3) as usize]));
+        } else if edits > 0 && i >= 43 && r.one_in(4) {
             lines.push(format!("suggest {} {} 65535", 1 + 2 * r.below(edits), r.below(900)));
         } else if added[c as usize] {
             added[c as usize] = false;
