@@ -1,3 +1,7 @@
--- Laws that know nothing of the solver, each written once: integers with linear arithmetic, and the ring solver.
+-- Laws that know nothing of the solver, each written once: integers, the ring solver, loops over places, lists in tables, a pass with a budget.
 pub mod Z
 pub mod Ring
+pub mod Loops
+pub mod Places
+pub mod Lists
+pub mod Budget

@@ -1,0 +1,17 @@
+-- `choose::better` meets its contract.
+-- Assumes nothing.
+use lib.Ieee.{neg, ofBits, div}
+use Rattle.choose.specs.Choose.{betterOf}
+use Rattle.choose.proofs.better.Statement.{statement}
+use Rattle.choose.proofs.better.Tie as tie
+
+returns : tie.Need-returns
+unfolding betterOf ofBits neg div
+returns c = rw (c .if1 .taken)
+
+returns-2 : tie.Need-returns-2
+unfolding betterOf ofBits neg div
+returns-2 c = rw (c .if1 .left)
+
+pub better-spec : {M : Type 1} → statement M
+better-spec = tie.close (tie.spec returns returns-2)

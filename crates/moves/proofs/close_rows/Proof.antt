@@ -1,0 +1,47 @@
+-- `moves::close_rows` meets its contract.
+-- Assumes nothing.
+use Prim.Native.Nat.{_-_, _≤_}
+use mathlib.Core.Path.{_≡_, refl}
+use mathlib.Core.List.{[]}
+use native.Mathlib.Omega.{arith}
+use lib.ListN.{length, length-set}
+use Rattle.moves.specs.Close.{closed, close-next, close-last}
+use borrow.Author.Needs.{needs}
+use Rattle.moves.proofs.close_rows.Statement.{statement}
+use Rattle.moves.proofs.close_rows.Tie as tie
+
+abbrev Inv-loop : tie.InvT-loop
+Inv-loop rows₀ i e j₀ rows j = (closed [] j e rows ≡ closed [] i e rows₀) × (length rows ≡ length rows₀) × (j ≤ e)
+
+abbrev μ-loop : tie.MeasureT-loop
+μ-loop rows₀ i e j₀ rows j = e - j
+
+loop-holds : tie.Need-loop-holds Inv-loop μ-loop
+loop-holds c = (refl, refl, search needs)
+
+loop-again : tie.Need-loop-again Inv-loop μ-loop
+loop-again c = (close-next _ _ _ _ (omega arith) (omega arith) (c .before .before .loop .inv .0), simp length-set (omega arith), omega arith)
+
+same-length : tie.Need-same-length Inv-loop μ-loop
+same-length c = omega arith
+
+returns : tie.Need-returns Inv-loop μ-loop
+returns c = close-last _ _ _ _ (omega arith) (omega arith) (c .before .loop .inv .0)
+
+pub close-rows-spec : {M : Type 1} → statement M
+close-rows-spec =
+    tie.close
+    (tie.spec
+    Inv-loop
+    μ-loop
+    loop-holds
+    (λ c. search needs)
+    (λ c. search needs)
+    (λ c. search needs)
+    (λ c. search needs)
+    (λ c. search needs)
+    (λ c. search needs)
+    (λ c. search needs)
+    loop-again
+    same-length
+    returns)

@@ -1,0 +1,49 @@
+-- `moves::entry_at` meets its contract.
+-- Assumes nothing.
+use Prim.Native.Nat.{_-_, _≤_}
+use mathlib.Core.Path.{_≡_, refl}
+use native.Mathlib.Omega.{arith}
+use lib.Dec.{eqb}
+use lib.ListN.{getD}
+use borrow.Author.Tests.{eq-eqb, ne-eqb}
+use Rattle.laws.specs.Loops.{first, first-next, first-here, first-last}
+use Rattle.moves.specs.Moves.{entryAt}
+use borrow.Author.Needs.{needs}
+use Rattle.moves.proofs.entry_at.Statement.{statement}
+use Rattle.moves.proofs.entry_at.Tie as tie
+
+abbrev Inv-loop : tie.InvT-loop
+Inv-loop head id e j₀ j = (first (λ k. eqb id (getD head k 0)) (λ k. k) e j e ≡ entryAt id head) × (196 ≤ j)
+
+abbrev μ-loop : tie.MeasureT-loop
+μ-loop head id e j₀ j = e - j
+
+loop-holds : tie.Need-loop-holds Inv-loop μ-loop
+unfolding entryAt
+loop-holds c = (refl, search needs)
+
+returns : tie.Need-returns Inv-loop μ-loop
+returns c = (first-here _ _ _ _ _ (omega arith) (eq-eqb _ _ (c .if1 .taken)) (c .before .before .before .loop .inv .0), omega arith)
+
+loop-again : tie.Need-loop-again Inv-loop μ-loop
+loop-again c = (first-next _ _ _ _ _ (omega arith) (ne-eqb _ _ (c .if1 .left)) (c .before .before .before .loop .inv .0), omega arith)
+
+returns-2 : tie.Need-returns-2 Inv-loop μ-loop
+returns-2 c = (first-last _ _ _ _ _ (omega arith) (c .before .loop .inv .0), omega arith)
+
+pub entry-at-spec : {M : Type 1} → statement M
+entry-at-spec =
+    tie.close
+    (tie.spec
+    Inv-loop
+    μ-loop
+    (λ c. search needs)
+    (λ c. search needs)
+    loop-holds
+    (λ c. search needs)
+    (λ c. search needs)
+    returns
+    (λ c. search needs)
+    (λ c. search needs)
+    loop-again
+    returns-2)

@@ -1,0 +1,6 @@
+-- Rows, symbols, list entries and items that come and go: over the tables' places, and that the tables then read as the steps say.
+pub mod Close
+pub mod Moved
+pub mod Moves
+pub mod Counts
+pub mod Turns

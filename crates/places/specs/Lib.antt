@@ -1,0 +1,3 @@
+-- Tests place by place that know no table's layout, and what follows from them.
+pub mod Finding
+pub mod Shares

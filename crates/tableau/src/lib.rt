@@ -1,0 +1,3 @@
+// The tableau: operations on all rows, the objective and the artificial objective, with the notes that they leave.
+pub mod notes;
+pub mod substitution;
