@@ -59,11 +59,11 @@ class Tableau:
             self.pivot(best[2], c)
 
 
-def least(constraints, variables):
-    """(feasible, numerator, denominator) of the least weighted error; a constraint is (terms, constant, relation, strength)"""
+def equations(constraints, variables):
+    """rows at a right side of 0 or more and the cost of each column: x = x+ - x-, then two columns a constraint, e = p - q"""
     place = {v: i for i, v in enumerate(sorted(variables))}
     n = 2 * len(place)
-    width = n + 2 * len(constraints)    # x = x+ - x-, then two columns a constraint: e = p - q
+    width = n + 2 * len(constraints)
     rows, cost = [], [0] * width
     for i, (terms, constant, relation, strength) in enumerate(constraints):
         row = [0] * width
@@ -79,31 +79,42 @@ def least(constraints, variables):
             row[q] = 1
             cost[q] = 0 if required or relation == 'le' else strength
         right = -constant
-        if right < 0:
-            row, right = [-x for x in row], -right
-        rows.append(row + [right])
+        rows.append([-x for x in row] + [-right] if right < 0 else row + [right])
+    return rows, cost
+
+
+def feasible(rows, width):
+    """a tableau at a point where all equations hold, or None; redundant rows are left out"""
     m = len(rows)
     full = [row[:-1] + [1 if j == i else 0 for j in range(m)] + [row[-1]] for i, row in enumerate(rows)]
-    first = [-sum(r[j] for r in full) for j in range(width)] + [0] * m + [-sum(r[-1] for r in full)]
-    t = Tableau(full + [first], list(range(width, width + m)))
+    goal = [-sum(r[j] for r in full) for j in range(width)] + [0] * m + [-sum(r[-1] for r in full)]
+    t = Tableau(full + [goal], list(range(width, width + m)))
     t.minimise(range(width))
     if t.rows[-1][-1] != 0:
-        return False, 0, 1
-    for r in range(m):    # an artificial that stays at 0 is taken out where a cell allows it, and else is a redundant row
+        return None
+    for r in range(m):
         if t.basis[r] >= width:
             c = next((j for j in range(width) if t.rows[r][j] != 0), None)
             if c is not None:
                 t.pivot(r, c)
     kept = [r for r in range(m) if t.basis[r] < width]
-    goal = [x * t.unit for x in cost] + [0] * m + [0]
-    for r in kept:
-        k = cost[t.basis[r]]
-        if k:
-            goal = [x - k * y for x, y in zip(goal, t.rows[r])]
-    unit = t.unit
-    t = Tableau([t.rows[r] for r in kept] + [goal], [t.basis[r] for r in kept])
-    t.unit = unit
-    if not t.minimise(range(width)):
+    out = Tableau([t.rows[r] for r in kept], [t.basis[r] for r in kept])
+    out.unit = t.unit
+    return out
+
+
+def least(constraints, variables):
+    """(feasible, numerator, denominator) of the least weighted error; a constraint is (terms, constant, relation, strength)"""
+    rows, cost = equations(constraints, variables)
+    t = feasible(rows, len(cost))
+    if t is None:
+        return False, 0, 1
+    goal = [x * t.unit for x in cost] + [0] * (len(rows) + 1)
+    for row, column in zip(t.rows, t.basis):
+        if cost[column]:
+            goal = [x - cost[column] * y for x, y in zip(goal, row)]
+    t.rows.append(goal)
+    if not t.minimise(range(len(cost))):
         raise ArithmeticError('an error below zero')
     return True, -t.rows[-1][-1], t.unit
 

@@ -63,6 +63,7 @@ pub struct Expression {
     pub constant: f64
 }
 
+// EDIT 19: from_constant, negate, the conversions, Display, WeightedRelation and PartialConstraint went with the operators
 impl Expression {
     /// Constructs an expression from a single term. Forms an expression of the form _n x_
     /// where n is the coefficient, and x is the variable.

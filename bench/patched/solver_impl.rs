@@ -20,12 +20,13 @@ use ::std::cell::RefCell;
 use ::std::collections::{ BTreeMap, BTreeSet }; // EDIT 1: was HashMap, HashSet
 use ::std::collections::btree_map::Entry;
 
-// "Sizes": EDIT 4
+// EDIT 4: "32 live variables, 48 live constraints (edits counted), 16 terms in a constraint." "next id is above 4,294,900,000"
 const MOST_VARIABLES: usize = 32;
 const MOST_CONSTRAINTS: usize = 48;
 const MOST_TERMS: usize = 16;
 const LAST_ID: usize = 4_294_900_000;
 
+// EDIT 20: what aids.rs looks at is pub(crate), here and in Solver
 #[derive(Copy, Clone)]
 pub(crate) struct Tag {
     pub(crate) marker: Symbol,
@@ -59,6 +60,8 @@ pub struct Solver {
 }
 
 impl Solver {
+    // EDIT 19: add_constraints is left out
+
     /// Construct a new solver.
     pub fn new() -> Solver {
         Solver {
@@ -210,7 +213,7 @@ impl Solver {
         // be added using an artificial variable. If that fails, then
         // the row represents an unsatisfiable constraint.
         if subject.type_() == SymbolType::Invalid {
-            if !try!(self.add_with_artificial_variable(&row)) {
+            if !try!(self.add_with_artificial_variable(&row)) { // EDIT 3
                 return Err(Refusal(12)); // EDIT 3
             }
         } else {
@@ -230,7 +233,7 @@ impl Solver {
         // aggregate work due to a smaller average system size. It
         // also ensures the solver remains in a consistent state.
         let objective = self.objective.clone();
-        self.optimise(&objective)
+        self.optimise(&objective) // EDIT 3
     }
 
     /// Remove a constraint from the solver.
@@ -244,7 +247,7 @@ impl Solver {
 
     // EDIT 3: the crate's remove_constraint from here on
     fn remove_constraint_steps(&mut self, name: Name) -> Result<(), Refusal> {
-        let (constraint, tag) = try!(self.cns.remove(&name).ok_or(Refusal(5)));
+        let (constraint, tag) = try!(self.cns.remove(&name).ok_or(Refusal(5))); // EDIT 2, 3
         let constraint = &constraint;
 
         // Remove the error effects from the objective function
@@ -271,7 +274,7 @@ impl Solver {
         // solver remains consistent. It makes the solver api easier to
         // use at a small tradeoff for speed.
         let objective = self.objective.clone();
-        try!(self.optimise(&objective));
+        try!(self.optimise(&objective)); // EDIT 3
 
         // Check for and decrease the reference count for variables referenced by the constraint
         // If the reference count is zero remove the variable from the variable map
@@ -331,7 +334,7 @@ impl Solver {
         if self.id_tick > LAST_ID {
             return self.refused(11);
         }
-        let cn = Constraint::new(Name::EditOf(v),
+        let cn = Constraint::new(Name::EditOf(v), // EDIT 2: "an edit's constraint has no number"
                                  Expression::from_term(Term::new(v.clone(), 1.0)),
                                  RelationalOperator::Equal,
                                  strength);
@@ -385,7 +388,7 @@ impl Solver {
     fn suggest_value_steps(&mut self, variable: Variable, value: f64) -> Result<(), Refusal> {
         watch::suggestion(value); // EDIT 7
         let (info_tag_marker, info_tag_other, delta) = {
-            let info = try!(self.edits.get_mut(&variable).ok_or(Refusal(8)));
+            let info = try!(self.edits.get_mut(&variable).ok_or(Refusal(8))); // EDIT 3
             let delta = value - info.constant;
             info.constant = value;
             (info.tag.marker, info.tag.other, delta)
@@ -399,14 +402,14 @@ impl Solver {
             if self.rows.get_mut(&info_tag_marker)
                 .map(|row|
                      if row.add(-delta) < 0.0 {
-                         Solver::push_infeasible(infeasible_rows, info_tag_marker);
+                         Solver::push_infeasible(infeasible_rows, info_tag_marker); // EDIT 15
                      }).is_some()
             {
 
             } else if self.rows.get_mut(&info_tag_other)
                 .map(|row|
                      if row.add(delta) < 0.0 {
-                         Solver::push_infeasible(infeasible_rows, info_tag_other);
+                         Solver::push_infeasible(infeasible_rows, info_tag_other); // EDIT 15
                      }).is_some()
             {
 
@@ -430,7 +433,7 @@ impl Solver {
                         row.add(diff) < 0.0 &&
                         symbol.type_() != SymbolType::External
                     {
-                        Solver::push_infeasible(infeasible_rows, *symbol);
+                        Solver::push_infeasible(infeasible_rows, *symbol); // EDIT 15
                     }
                 }
             }
