@@ -4,7 +4,7 @@ use mathlib.Core.Logic.{_⊎_, inl, inr, _≢_}
 use mathlib.Core.List.{List, [], _∷_, _++_, reverse, reverseAux}
 use mathlib.Core.Option.{Option, none, some}
 use Prim.Native.Nat.{ℕ, zero, suc, _+_, _<_}
-use mathlib.Core.Bool.{Bool, true, false, _&&_, cond, true≢false}
+use mathlib.Core.Bool.{Bool, true, false, not, _&&_, cond, true≢false}
 use lib.Dec.{T, eqb, eqb→eq, eqb-refl}
 use lib.IntN.{ℤ, negsuc, negℤ, _+ℤ_, _*ℤ_}
 use lib.Signed.{ltZ-yes}
@@ -16,14 +16,15 @@ use Rattle.simplex.specs.Lin.{Vec, δ, δ-same, δ-other}
 use Rattle.simplex.specs.Choose.{All}
 use Rattle.simplex.specs.Basis.{swap}
 use Rattle.simplex.specs.Tab.{pivoted, pivot as pivotZ}
-use Rattle.simplex.specs.Opt.{Kind as KindZ, const, external, slack, dummy, slack≢external}
+use Rattle.simplex.specs.Opt.{Kind as KindZ, const, external, slack, dummy, slack≢external, slack≢const}
 use Rattle.simplex.specs.Pass.{State, step}
 use Rattle.simplex.specs.Bound.{Mem}
 use Rattle.simplex.specs.Dual.{Good}
-use Rattle.simplex.specs.Problem.{Con, Models}
+use Rattle.simplex.specs.Problem.{Con, Meets, Models}
+use Rattle.simplex.specs.Never.{never-16}
 use Rattle.simplex.specs.Final.{Best, dual-models, dragged}
 use Rattle.steps.specs.Number.{zero64, belowZero, Mark, allWhole, notWhole, notFinite}
-use Rattle.steps.specs.Symbol.{Symbol, isExternal, isRestricted}
+use Rattle.steps.specs.Symbol.{Symbol, isExternal, isRestricted, isDummy}
 use Rattle.steps.specs.Row.{Row, Written, solveForSymbols}
 use Rattle.steps.specs.State.{Basic}
 use Rattle.steps.specs.Work.{Work, Outcome, refused, going, _>>=_, refuse, checkFinite, countPivot, marking, withRows, withTableau, withChanges, withArtificial, withObjective, withInfeasible, findRow, dropRow, keepRow}
@@ -32,10 +33,11 @@ use Rattle.steps.specs.Substitute.{substituteInRows, rowsOf, without, push, pus
 use Rattle.steps.specs.Optimise.{isBelow, Popped, allPopped, popped, popBelow, getDualEnteringSymbol, DualChoice, feasible, noEntering, dualPivotOn, chooseDualPivot, countedDualPivot, dualOptimise}
 use Rattle.bridge.specs.Quot.{yes}
 use Rattle.bridge.specs.Nums.{belowZero-z, finite≢}
-use Rattle.bridge.specs.Rows.{In, Sym?, is, isnt, sym?, ReadsRow}
+use Rattle.bridge.specs.Rows.{In, NotIn, Sym?, is, isnt, sym?, ReadsRow}
 use Rattle.bridge.specs.Finds.{none≢some, some-injective, find-hit, find-miss, find-none, find-keep-other, sub-all, drop-all}
 use Rattle.bridge.specs.Table.{kindOf, RowAt, Live, ReadsWork, in-nonzero, found-in, enter-parts}
-use Rattle.bridge.specs.Chosen.{restricted-is, slack-restricted}
+use Rattle.bridge.specs.Chosen.{restricted-is, slack-not-dummy}
+use Rattle.bridge.specs.Looks.{in-or-not}
 use Rattle.bridge.specs.Runs.{markOf, pivot-mark}
 use Rattle.bridge.specs.Infeasible.{mem-rev, all-rev, at-mem, pushed-keep, pushed-all, pushed-found, Pops, through, stops, pops, below-row, is-below}
 use Rattle.bridge.specs.Duals.{Enters, Entering, dual-entering, dual-pivot, Moved}
@@ -131,6 +133,26 @@ module _ (n : ℕ) (kind : ℕ → KindZ) (inside : (j : ℕ) → kind j ≡ sla
 
     pub found : Entering (S .R s) (S .o) (w .tableau .symbols) (getDualEnteringSymbol s w)
     found = dual-entering n kind w S (W .good) z (W .reads) inside s (at-s .0) sl low row hit
+
+    -- where some assignment meets the required constraints, a symbol enters: 16 is never given
+    pub some-way : 0 < n → (x : Vec) → 0ℤ ≺ x 0 → All (Meets n x) cs → Entering (S .R s) (S .o) (w .tableau .symbols) none → ⊥
+    some-way in-n x d M none-in = never-16 n kind (S .B) (S .R) (S .o) cs s x in-n (W .good .zero) (W .good .consts) (W .models) (at-s .0) sl low (λ i e. W .good .no-vars s i ks e) none d M
+      where
+        at-symbol : (i : ℕ) → kind i ≡ slack → (xs : List Symbol) → All (λ (y : Symbol). kind (y .id) ≡ kindOf (y .kind)) xs → All (λ (y : Symbol). not (isDummy y) ≡ true → 0ℤ ≺ S .R s (y .id) → ⊥) xs → In i xs → 0ℤ ≺ S .R s i → ⊥
+        at-symbol i e [] k a m h = absurd m
+        at-symbol i e (y ∷ xs) k a (inl p) h = a .0 (slack-not-dummy y (sym (k .0) ∙ ap kind (sym p) ∙ e)) (subst (λ (j : ℕ). 0ℤ ≺ S .R s j) p h)
+        at-symbol i e (y ∷ xs) k a (inr m) h = at-symbol i e xs (k .1) (a .1) m h
+
+        by-sign : (i : ℕ) → (0ℤ ≺ S .R s i → ⊥) → (0ℤ ≺ S .R s i) ⊎ (S .R s i ≼ 0ℤ) → S .R s i ≼ 0ℤ
+        by-sign i f (inl h) = absurd (f h)
+        by-sign i f (inr h) = h
+
+        none : (i : ℕ) → kind i ≡ slack → S .R s i ≼ 0ℤ
+        none i e = go (in-or-not i (w .tableau .symbols))
+          where
+            go : In i (w .tableau .symbols) ⊎ NotIn i (w .tableau .symbols) → S .R s i ≼ 0ℤ
+            go (inl m) = by-sign i (at-symbol i e (w .tableau .symbols) (W .reads .kinds) none-in m) (≺-or-≼ 0ℤ (S .R s i))
+            go (inr m) = absurd (slack≢external (sym e ∙ W .reads .unknown i (λ z. slack≢const (sym e ∙ ap kind z ∙ W .good .zero)) m))
 
     module _ (e : Symbol) (E : Enters (S .R s) (S .o) (w .tableau .symbols) e) (m : pivot s e (withInfeasible (reverse rest) w) .mark ≡ allWhole) where
       E′ : Enters (S .R s) (S .o) (w′ .tableau .symbols) e
@@ -264,7 +286,7 @@ module _ (n : ℕ) (kind : ℕ → KindZ) (inside : (j : ℕ) → kind j ≡ sla
 
   abbrev pub Ends : Outcome Work → Type 0
   Ends (going x) = Dragged x
-  Ends (refused k p t) = (k ≡ 14) ⊎ (k ≡ 16)
+  Ends (refused k p t) = k ≡ 14
 
   counted : (x : Work) (S : State) (z : Vec) → Drag n kind inside cs x S z → Drag n kind inside cs (countPivot x) S z
   unfolding countPivot
@@ -298,44 +320,43 @@ module _ (n : ℕ) (kind : ℕ → KindZ) (inside : (j : ℕ) → kind j ≡ sla
               absurd (true≢false (sym (is-below j (w .tableau .rows) y q (belowZero-z (r .1 .constant .isz) ∙ yes h))
               ∙ at-mem (λ s. isBelow s (w .tableau .rows) ≡ false) (reverse (w .tableau .infeasible)) j A (mem-rev j (w .tableau .infeasible) [] (inl (W .full j b s h)))))
 
-  -- what is chosen
-  data Turn (w : Work) (S : State) (z : Vec) : DualChoice → Type 0 where
-    at-rest : All (λ s. isBelow s (w .tableau .rows) ≡ false) (reverse (w .tableau .infeasible)) → Turn w S z feasible
-    no-way : Turn w S z noEntering
-    pivots : (s : ℕ) (l : List ℕ) (e : Symbol) → (pivot s e (withInfeasible (reverse l) w) .mark ≡ allWhole → Drag n kind inside cs (pivot s e (withInfeasible (reverse l) w)) (step s (e .id) S) (pivoted s (e .id) (S .R) z))
-        → Turn w S z (dualPivotOn s (reverse l) e)
+  -- x is some assignment that meets the required constraints, such as the values before a drag
+  module _ (in-n : 0 < n) (x : Vec) (x-up : 0ℤ ≺ x 0) (M : All (Meets n x) cs) where
+    -- what is chosen
+    data Turn (w : Work) (S : State) (z : Vec) : DualChoice → Type 0 where
+      at-rest : All (λ s. isBelow s (w .tableau .rows) ≡ false) (reverse (w .tableau .infeasible)) → Turn w S z feasible
+      pivots : (s : ℕ) (l : List ℕ) (e : Symbol) → (pivot s e (withInfeasible (reverse l) w) .mark ≡ allWhole → Drag n kind inside cs (pivot s e (withInfeasible (reverse l) w)) (step s (e .id) S) (pivoted s (e .id) (S .R) z))
+          → Turn w S z (dualPivotOn s (reverse l) e)
 
-  turn : (w : Work) (S : State) (z : Vec) → Drag n kind inside cs w S z → Turn w S z (chooseDualPivot w)
-  unfolding chooseDualPivot
-  turn w S z W = by-list (popBelow (w .tableau .rows) (reverse (w .tableau .infeasible))) (pops (λ s. kind s ≢ external) (w .tableau .rows) (reverse (w .tableau .infeasible)) (all-rev (λ s. kind s ≢ external) (w .tableau .infeasible) [] (W .listed) tt))
-    where
-      by-symbol : (s : ℕ) (l : List ℕ) (b : isBelow s (w .tableau .rows) ≡ true) (k : kind s ≢ external) (a : All (λ s. kind s ≢ external) l) (t : Option Symbol) → Entering (S .R s) (S .o) (w .tableau .symbols) t
-          → Turn w S z (elim t [ none ↦ noEntering | some e ↦ dualPivotOn s (reverse l) e ])
-      by-symbol s l b k a none f = no-way
-      by-symbol s l b k a (some e) E = pivots s l e (λ m. next n kind inside cs w S z W s l b k a e E m)
+    turn : (w : Work) (S : State) (z : Vec) → Drag n kind inside cs w S z → Turn w S z (chooseDualPivot w)
+    unfolding chooseDualPivot
+    turn w S z W = by-list (popBelow (w .tableau .rows) (reverse (w .tableau .infeasible))) (pops (λ s. kind s ≢ external) (w .tableau .rows) (reverse (w .tableau .infeasible)) (all-rev (λ s. kind s ≢ external) (w .tableau .infeasible) [] (W .listed) tt))
+      where
+        by-symbol : (s : ℕ) (l : List ℕ) (b : isBelow s (w .tableau .rows) ≡ true) (k : kind s ≢ external) (a : All (λ s. kind s ≢ external) l) (t : Option Symbol) → Entering (S .R s) (S .o) (w .tableau .symbols) t
+            → Turn w S z (elim t [ none ↦ noEntering | some e ↦ dualPivotOn s (reverse l) e ])
+        by-symbol s l b k a none f = absurd (some-way n kind inside cs w S z W s l b k a in-n x x-up M f)
+        by-symbol s l b k a (some e) E = pivots s l e (λ m. next n kind inside cs w S z W s l b k a e E m)
 
-      by-list : (p : Popped) → Pops (λ s. kind s ≢ external) (w .tableau .rows) (reverse (w .tableau .infeasible)) p
-          → Turn w S z (elim p [ allPopped ↦ feasible | popped s l ↦ elim (getDualEnteringSymbol s w) [ none ↦ noEntering | some e ↦ dualPivotOn s (reverse l) e ] ])
-      by-list p (through A) = at-rest A
-      by-list p (stops s l b k a) = by-symbol s l b k a (getDualEnteringSymbol s w) (found n kind inside cs w S z W s l b k a)
+        by-list : (p : Popped) → Pops (λ s. kind s ≢ external) (w .tableau .rows) (reverse (w .tableau .infeasible)) p
+            → Turn w S z (elim p [ allPopped ↦ feasible | popped s l ↦ elim (getDualEnteringSymbol s w) [ none ↦ noEntering | some e ↦ dualPivotOn s (reverse l) e ] ])
+        by-list p (through A) = at-rest A
+        by-list p (stops s l b k a) = by-symbol s l b k a (getDualEnteringSymbol s w) (found n kind inside cs w S z W s l b k a)
 
-  -- THE DUAL PASS
-  pub drag : 0 < n → (left : ℕ) (w : Work) (S : State) (z : Vec) → Drag n kind inside cs w S z → markOf (dualOptimise left w) ≡ allWhole → Ends (dualOptimise left w)
-  unfolding dualOptimise refuse markOf Whole-drag
-  drag in-n zero w S z W = go (chooseDualPivot w) (turn w S z W)
-    where
-      go : (c : DualChoice) → Turn w S z c → Whole-drag (elim c [ feasible ↦ going (withInfeasible [] w) | noEntering ↦ refused 16 (w .pivots) (w .mark) | dualPivotOn s l e ↦ refused 14 (w .pivots) (w .mark) ])
-      go c (at-rest A) = λ m. rest in-n w S z W A
-      go c no-way = λ m. inr refl
-      go c (pivots s l e f) = λ m. inl refl
-  drag in-n (suc left) w S z W = go (chooseDualPivot w) (turn w S z W) (drag in-n left)
-    where
-      go : (c : DualChoice) → Turn w S z c → ((w : Work) (S : State) (z : Vec) → Drag n kind inside cs w S z → markOf (dualOptimise left w) ≡ allWhole → Ends (dualOptimise left w))
-          → Whole-drag (elim c [ feasible ↦ going (withInfeasible [] w) | noEntering ↦ refused 16 (w .pivots) (w .mark) | dualPivotOn s l e ↦ countedDualPivot s l e w >>= λ v. dualOptimise left v ])
-      go c (at-rest A) ih = λ m. rest in-n w S z W A
-      go c no-way ih = λ m. inr refl
-      go c (pivots s l e f) ih =
-          turned left s (reverse l) e w Whole-drag (λ q m. absurd (finite≢ m))
-          (λ m. ih (countPivot (pivot s e (withInfeasible (reverse l) w))) (step s (e .id) S) (pivoted s (e .id) (S .R) z)
-          (counted (pivot s e (withInfeasible (reverse l) w)) (step s (e .id) S) (pivoted s (e .id) (S .R) z)
-          (f (counted-mark (pivot s e (withInfeasible (reverse l) w)) (dual-mark left (countPivot (pivot s e (withInfeasible (reverse l) w))) m)))) m)
+    -- THE DUAL PASS
+    pub drag : (left : ℕ) (w : Work) (S : State) (z : Vec) → Drag n kind inside cs w S z → markOf (dualOptimise left w) ≡ allWhole → Ends (dualOptimise left w)
+    unfolding dualOptimise refuse markOf Whole-drag
+    drag zero w S z W = go (chooseDualPivot w) (turn w S z W)
+      where
+        go : (c : DualChoice) → Turn w S z c → Whole-drag (elim c [ feasible ↦ going (withInfeasible [] w) | noEntering ↦ refused 16 (w .pivots) (w .mark) | dualPivotOn s l e ↦ refused 14 (w .pivots) (w .mark) ])
+        go c (at-rest A) = λ m. rest in-n w S z W A
+        go c (pivots s l e f) = λ m. refl
+    drag (suc left) w S z W = go (chooseDualPivot w) (turn w S z W) (drag left)
+      where
+        go : (c : DualChoice) → Turn w S z c → ((w : Work) (S : State) (z : Vec) → Drag n kind inside cs w S z → markOf (dualOptimise left w) ≡ allWhole → Ends (dualOptimise left w))
+            → Whole-drag (elim c [ feasible ↦ going (withInfeasible [] w) | noEntering ↦ refused 16 (w .pivots) (w .mark) | dualPivotOn s l e ↦ countedDualPivot s l e w >>= λ v. dualOptimise left v ])
+        go c (at-rest A) ih = λ m. rest in-n w S z W A
+        go c (pivots s l e f) ih =
+            turned left s (reverse l) e w Whole-drag (λ q m. absurd (finite≢ m))
+            (λ m. ih (countPivot (pivot s e (withInfeasible (reverse l) w))) (step s (e .id) S) (pivoted s (e .id) (S .R) z)
+            (counted (pivot s e (withInfeasible (reverse l) w)) (step s (e .id) S) (pivoted s (e .id) (S .R) z)
+            (f (counted-mark (pivot s e (withInfeasible (reverse l) w)) (dual-mark left (countPivot (pivot s e (withInfeasible (reverse l) w))) m)))) m)

@@ -102,14 +102,14 @@ module _ (m : Moment) (I : Inv m) where
   agree : (σ : Vec) (x : ℕ → ℤ) → ((v : ℕ) → Known v → σ (I .sym v) ≡ x v) → All (Agrees (I .sym) σ x) (I .held)
   agree σ x f = all-map (λ (h : Held). all-map (λ (t : Term) k. (column-in (t .variable) k .0, f (t .variable) k)) (keptTerms (h .demand .terms))) (I .held) (I .known)
 
-  one : I .table .R 0 0 ≡ 1ℤ
+  pub one : I .table .R 0 0 ≡ 1ℤ
   one = I .good .shape .unit 0 (I .good .shape .const) 0 ∙ δ-same 0
 
   at-values : (v : ℕ) → Known v → I .table .R (I .sym v) 0 ≡ values (m .state) v
   unfolding values
   at-values v k = let t = value-is v in sym (isz-val (t .1) ∙ t .2 k)
 
-  best-columns : Rattle.simplex.specs.Final.Best columns (map (conOf (I .sym)) (I .held)) (λ j. I .table .R j 0)
+  pub best-columns : Rattle.simplex.specs.Final.Best columns (map (conOf (I .sym)) (I .held)) (λ j. I .table .R j 0)
   best-columns =
       dragged columns (I .kind) (map (conOf (I .sym)) (I .held)) (I .table) (omega arith)
       (record {

@@ -18,7 +18,7 @@ use Rattle.simplex.specs.Choose.{All}
 use Rattle.simplex.specs.Opt.{Kind as KindZ, external, slack}
 use Rattle.simplex.specs.Pass.{State as StateZ, Good}
 use Rattle.simplex.specs.Form.{Form, eq, eq! }
-use Rattle.simplex.specs.Problem.{Con, Models}
+use Rattle.simplex.specs.Problem.{Con, Meets, Models}
 use Rattle.simplex.specs.Drag.{edit}
 use Rattle.steps.specs.Number.{_-₆₄_, constantBound, isFinite, isWhole, within, Mark, allWhole, notWhole, notFinite, worse, wholeIf, saysWhole}
 use Rattle.steps.specs.Strength.{required}
@@ -41,7 +41,8 @@ use Rattle.bridge.specs.Runs.{markOf}
 use Rattle.bridge.specs.Drags.{Dragged, Ends, drag, dual-mark}
 use Rattle.run.specs.Demand.{Key, ofConstraint, ofEdit, sameKey, Demand, Call, suggests, make, accepted, liveAfter, Moment, next}
 use Rattle.run.specs.Inv.{columns, Held, exprOf, formOf, otherId, conOf, findHeld, Shaped, EditedAs, EditAt, ConstraintAt, VarAt, WholeDemand, Once, Inv}
-use Rattle.run.specs.Perm.{withoutHeld, all-found, models-first}
+use Rattle.run.specs.AtRest.{one, best-columns}
+use Rattle.run.specs.Perm.{withoutHeld, all-found, all-first, models-first}
 use Rattle.run.specs.Refit.{withExpr, models-expr, expr-less, movedHeld, moved-own, moved-other, live-moved, MovedAt, find-moved, out-moved, once-moved, models-back}
 use Rattle.run.specs.Inputs.{both, whole-if, says-whole, whole-within, inputs-z}
 use Rattle.run.specs.Steady.{Kept, kept-trans, IfGoing}
@@ -147,7 +148,7 @@ module _ (m : Moment) (I : Inv m) (u : ℕ) (x : Float) (e : Edit) (h : Held) (f
     pub input : wholeWithin constantBound x ≡ true
 
   abbrev pub Comes : Outcome Work → Type 0
-  Comes (refused k p t) = eqb k 0 ≡ false
+  Comes (refused k p t) = k ≡ 14
   Comes (going y) = Reached y
 
   start-mark : work .mark ≡ allWhole → wholeWithin constantBound x ≡ true
@@ -177,6 +178,14 @@ module _ (m : Moment) (I : Inv m) (u : ℕ) (x : Float) (e : Edit) (h : Held) (f
   tagged : Models columns (I .kind) (I .table .B) (I .table .R) (I .table .o) (edit expr weight (e .tag .marker .id) (o .id) ∷ others)
   tagged = subst (λ (t : Tag). Models columns (I .kind) (I .table .B) (I .table .R) (I .table .o) (edit expr weight (t .marker .id) (o .id) ∷ others)) (sym (E .tag)) in-front
 
+  -- the values before the drag meet what is required, for an edit is not
+  denominator : 0ℤ ≺ I .table .R 0 0
+  denominator = subst (λ (z : ℤ). 0ℤ ≺ z) (sym (one m I)) (record { lt = tt })
+
+  met : All (Meets columns (λ j. I .table .R j 0)) others
+  unfolding others
+  met = all-first (conOf (I .sym)) (ofEdit u) (Meets columns (λ j. I .table .R j 0)) (I .held) h found (best-columns m I .meets) .1
+
   -- the pass from the shifted rows
   unfoldable pub shifted-work : Work
   shifted-work = shiftConstants (e .tag) delta work
@@ -185,7 +194,7 @@ module _ (m : Moment) (I : Inv m) (u : ℕ) (x : Float) (e : Edit) (h : Held) (f
   unfolding shifted-work
   ended left a q =
       go (dualOptimise left (shiftConstants (e .tag) delta work))
-      (drag columns (I .kind) inside (edit (plus expr (negℤ grown) (δ 0)) weight (e .tag .marker .id) (o .id) ∷ others) (omega arith) left (shiftConstants (e .tag) delta work) _ _
+      (drag columns (I .kind) inside (edit (plus expr (negℤ grown) (δ 0)) weight (e .tag .marker .id) (o .id) ∷ others) (omega arith) (λ j. I .table .R j 0) denominator (tt, met) left (shiftConstants (e .tag) delta work) _ _
       (starts columns (I .kind) (omega arith) inside work (I .table) (λ _. 0ℤ) (I .good) (I .rest) work-reads no-art still expr weight (e .tag) o two others tagged delta grown (delta-z input) (marks .1)) q)
       (dual-kept left (shiftConstants (e .tag) delta work))
     where
@@ -195,12 +204,8 @@ module _ (m : Moment) (I : Inv m) (u : ℕ) (x : Float) (e : Edit) (h : Held) (f
       input : wholeWithin constantBound x ≡ true
       input = start-mark (marks .0)
 
-      nonzero : (k : ℕ) → (k ≡ 14) ⊎ (k ≡ 16) → eqb k 0 ≡ false
-      nonzero k (inl p) = ap (λ (n : ℕ). eqb n 0) p
-      nonzero k (inr p) = ap (λ (n : ℕ). eqb n 0) p
-
       go : (t : Outcome Work) → Ends columns (I .kind) inside (edit (plus expr (negℤ grown) (δ 0)) weight (e .tag .marker .id) (o .id) ∷ others) t → IfGoing (Kept (shiftConstants (e .tag) delta work)) t → Comes t
-      go (refused k p t) f g = nonzero k f
+      go (refused k p t) f g = f
       go (going y) f g = record {
         dragged = subst (λ (t : Tag). Dragged columns (I .kind) inside (edit (plus expr (negℤ grown) (δ 0)) weight (t .marker .id) (o .id) ∷ others) y) (E .tag) f;
         kept = kept-trans (begin (m .state)) work y begin-kept (kept-trans work (shiftConstants (e .tag) delta work) y (shift-kept (e .tag) delta work) g);

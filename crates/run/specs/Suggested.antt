@@ -282,7 +282,7 @@ suggest-inv m u x b I R = finite (isFinite x) refl
 
     outcome : (e : Edit) (h : Held) (f : findHeld (ofEdit u) (I .held) ≡ some h) (E : EditedAs u e h) → make c (m .state) ≡ conclude (m .state) (suggestSteps b e x (begin (m .state))) (next-state e)
         → (t : Outcome Work) → suggestSteps b e x (begin (m .state)) ≡ t → Comes m I u x e h f E t → Whole (conclude (m .state) t (next-state e)) → Inv (next c m)
-    outcome e h f E q (refused k p t) r z w = unchanged c m k p (saysWhole t) (q ∙ ap (λ (o : Outcome Work). conclude (m .state) o (next-state e)) r) z I
+    outcome e h f E q (refused k p t) r z w = unchanged c m k p (saysWhole t) (q ∙ ap (λ (o : Outcome Work). conclude (m .state) o (next-state e)) r) (ap (λ (n : ℕ). eqb n 0) z) I
     outcome e h f E q (going y) r z w = changed c m y (next-state e y) (q ∙ ap (λ (o : Outcome Work). conclude (m .state) o (next-state e)) r) (after-inv m I (reads-in (m .state) R .edits-up) u x e h f E y z (says-whole (y .mark) w))
 
     at-edit : (d : Option Edit) → findEdit u (m .state .edits) ≡ d → (g : Option Held) → findHeld (ofEdit u) (I .held) ≡ g → EditAt u d g → isFinite x ≡ true → Whole (make c (m .state)) → Inv (next c m)
