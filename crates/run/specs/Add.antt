@@ -138,6 +138,16 @@ module _ (art : ArtificialEnds) (m : Moment) (I : Inv m) (d : Demand) (budget : 
       go (refused k p mk) e (inr z) = absurd (omega (arith, z .0, ap (λ (r : Result). r .answer .number) (made (refused k p mk) e), n))
       go (going x) e F = absurd (omega (arith, ap (λ (r : Result). r .answer .number) (made (going x) e), n))
 
+  -- accepted, 12 or 14: the steps of a whole run give nothing else
+  pub step-number : (Q : ℕ → Type 0) → Q 0 → Q 12 → Q 14 → Q (make call (m .state) .answer .number)
+  unfolding addedBy _>>=_ concludeAdd refusedBy acceptedAs
+  step-number Q zero twelve fourteen = go (placedAndRested budget c) refl (ends art m I d budget up few low steps-whole)
+    where
+      go : (t : Outcome Work) → placedAndRested budget c ≡ t → FinalIn t → Q (make call (m .state) .answer .number)
+      go (refused k p mk) e (inl z) = subst Q (sym (ap (λ (r : Result). r .answer .number) (made (refused k p mk) e) ∙ z .0)) twelve
+      go (refused k p mk) e (inr z) = subst Q (sym (ap (λ (r : Result). r .answer .number) (made (refused k p mk) e) ∙ z .0)) fourteen
+      go (going x) e F = subst Q (sym (ap (λ (r : Result). r .answer .number) (made (going x) e))) zero
+
 -- ---- AN ADD
 module _ (art : ArtificialEnds) (m : Moment) (n : ℕ) (ts : List Term) (k : Float) (r : Relation) (b : ℕ) (I : Inv m) (whole : make (adds n ts k r b) (m .state) .answer .whole ≡ true) where
   abbrev d : Demand
@@ -218,3 +228,16 @@ module _ (art : ArtificialEnds) (m : Moment) (n : ℕ) (ts : List Term) (k : Flo
           let S = steps-whole art m I d b (P .strength) (P .few) (P .low) (adds n ts k r b) after (is-add e) whole in
           none-meet art m I d b (P .strength) (P .few) (P .low) S k refl (W art m I d b (P .strength) (P .few) (P .low) S .inputs)
           (unmet-12 art m I d b (P .strength) (P .few) (P .low) (adds n ts k r b) after (is-add e) whole h)
+
+  -- 15 IS NEVER GIVEN
+  pub add-15 : make (adds n ts k r b) (m .state) .answer .number ≢ 15
+  unfolding refusedBy
+  add-15 = go (firstRefusal (addTests n ts k r (m .state))) refl
+    where
+      go : (t : Option ℕ) → firstRefusal (addTests n ts k r (m .state)) ≡ t → make (adds n ts k r b) (m .state) .answer .number ≢ 15
+      go (some j) e = λ h.
+          refused-by (λ i. i ≢ 15) (addTests n ts k r (m .state)) (numbers (λ i. i ≢ 15) (λ p. omega arith) (λ p. omega arith) (λ p. omega arith) (λ p. omega arith) (λ p. omega arith) (λ p. omega arith) (λ p. omega arith) n ts k r (m .state)) j e
+          (sym (ap (λ (x : Result). x .answer .number) (is-refused j e)) ∙ h)
+      go none e =
+          let P = passes n ts k r (m .state) e in
+          step-number art m I d b (P .strength) (P .few) (P .low) (adds n ts k r b) after (is-add e) whole (λ i. i ≢ 15) (λ p. omega arith) (λ p. omega arith) (λ p. omega arith)

@@ -32,7 +32,7 @@ use Rattle.run.specs.Inputs.{both, z-whole, required-z}
 use Rattle.run.specs.AddEnds.{ArtificialEnds}
 use Rattle.run.specs.AddMarks.{createdOf, whole-steps}
 use Rattle.run.specs.AddInv.{W, none-meet, after-add}
-use Rattle.run.specs.Add.{passed, refused-by, ids-left, added-whole, steps-whole, kept-inv, unmet-12}
+use Rattle.run.specs.Add.{passed, refused-by, ids-left, added-whole, steps-whole, kept-inv, unmet-12, step-number}
 
 -- ---- a clipped strength
 zero-up : belowZero zero64 ≡ false
@@ -210,3 +210,16 @@ module _ (art : ArtificialEnds) (m : Moment) (u : ℕ) (k : Float) (b : ℕ) (I 
           let S = steps-whole art m I d b (strong e) (one-term u) (P .low) (addsEdit u k b) after (is-add e) whole in
           none-meet art m I d b (strong e) (one-term u) (P .low) S (neg zero64) same-zero (edit-inputs (editTerms u) (equal s) (W art m I d b (strong e) (one-term u) (P .low) S .inputs))
           (unmet-12 art m I d b (strong e) (one-term u) (P .low) (addsEdit u k b) after (is-add e) whole h)
+
+  -- 15 IS NEVER GIVEN
+  pub addEdit-15 : make (addsEdit u k b) (m .state) .answer .number ≢ 15
+  unfolding refusedBy
+  addEdit-15 = go (firstRefusal (addEditTests u s (m .state))) refl
+    where
+      go : (t : Option ℕ) → firstRefusal (addEditTests u s (m .state)) ≡ t → make (addsEdit u k b) (m .state) .answer .number ≢ 15
+      go (some j) e = λ h.
+          refused-by (λ i. i ≢ 15) (addEditTests u s (m .state)) (numbers (λ i. i ≢ 15) (λ p. omega arith) (λ p. omega arith) (λ p. omega arith) (λ p. omega arith) (λ p. omega arith) u s (m .state)) j e
+          (sym (ap (λ (x : Result). x .answer .number) (is-refused j e)) ∙ h)
+      go none e =
+          let P = passes u s (m .state) e in
+          step-number art m I d b (strong e) (one-term u) (P .low) (addsEdit u k b) after (is-add e) whole (λ i. i ≢ 15) (λ p. omega arith) (λ p. omega arith) (λ p. omega arith)

@@ -1,7 +1,8 @@
 -- DEMAND 2. After every call of a whole run the values are whole, meet every required demand exactly, and no assignment by fractions that meets them
 -- has less weighted error; and a call that answers 12 asked for something that nothing meets together with what is live. Assumes nothing.
-use mathlib.Core.Path.{_≡_, subst}
-use mathlib.Core.Bool.{Bool, true, false, not}
+use mathlib.Core.Path.{_≡_, sym, _∙_, subst}
+use mathlib.Core.Logic.{_⊎_, inl, inr, _≢_}
+use mathlib.Core.Bool.{Bool, true, false, not, true≢false}
 use mathlib.Core.List.{List, [], _∷_, _++_}
 use Prim.Native.Nat.{ℕ}
 use native.Mathlib.Omega.{arith}
@@ -10,6 +11,8 @@ use Rattle.steps.specs.State.{State}
 use Rattle.steps.specs.Tests.{member}
 use Rattle.steps.specs.Changing.{Changing, made, testNumbers, stepNumbers}
 use Rattle.steps.proofs.Numbers.{number-listed}
+use Rattle.steps.proofs.Marks.{not-finite-says-no}
+use Rattle.simplex.specs.Choose.{All}
 use Rattle.steps.specs.Calls.{reset}
 use Rattle.steps.specs.Readable.{readable}
 use Rattle.keeps.specs.Keeps.{empty-reads, reset-reads, add-reads, remove-reads, addEdit-reads, removeEdit-reads, suggest-reads, fetch-reads}
@@ -18,10 +21,10 @@ use Rattle.run.specs.Inv.{Inv}
 use Rattle.run.specs.AtRest.{at-rest}
 use Rattle.run.specs.Start.{start-inv, reset-inv, fetch-inv}
 use Rattle.run.specs.Artificial.{artificial-ends}
-use Rattle.run.specs.Add.{add-inv, add-12}
-use Rattle.run.specs.AddEdit.{addEdit-inv, addEdit-12}
-use Rattle.run.specs.Remove.{remove-inv, removeEdit-inv}
-use Rattle.run.specs.Suggested.{suggest-inv}
+use Rattle.run.specs.Add.{add-inv, add-12, add-15}
+use Rattle.run.specs.AddEdit.{addEdit-inv, addEdit-12, addEdit-15}
+use Rattle.run.specs.Remove.{remove-inv, removeEdit-inv, remove-refusals, removeEdit-refusals}
+use Rattle.run.specs.Suggested.{suggest-inv, suggest-16}
 
 -- ---- each call keeps what a run rests on
 
@@ -59,13 +62,22 @@ run-sound (c ∷ cs) w = let s = run-sound cs (w .0) in record { inv = inv-next 
 pub whole-run-best : (cs : List Call) → Whole cs → Best (after cs)
 whole-run-best cs w = at-rest (after cs) (run-sound cs w .inv)
 
--- 12 is no number of a call that adds nothing
-other-number : (c : Changing) (s : State) → T (not (member 12 (0 ∷ testNumbers c ++ stepNumbers c))) → made c s .answer .number ≡ 12 → ⊥
-other-number c s n e = go (member 12 (0 ∷ testNumbers c ++ stepNumbers c)) n (subst (λ (k : ℕ). T (member k (0 ∷ testNumbers c ++ stepNumbers c))) e (number-listed c s))
+-- a number that a call does not have
+other-number : (k : ℕ) (c : Changing) (s : State) → T (not (member k (0 ∷ testNumbers c ++ stepNumbers c))) → made c s .answer .number ≡ k → ⊥
+other-number k c s n e = go (member k (0 ∷ testNumbers c ++ stepNumbers c)) n (subst (λ (k : ℕ). T (member k (0 ∷ testNumbers c ++ stepNumbers c))) e (number-listed c s))
   where
     go : (b : Bool) → T (not b) → T b → ⊥
     go true n m = n
     go false n m = m
+
+-- a whole answer is none of 13
+finite-yes : (c : Changing) (s : State) → made c s .answer .whole ≡ true → made c s .answer .number ≢ 13
+finite-yes c s w e = true≢false (sym w ∙ not-finite-says-no c s e)
+
+none-of : (k j : ℕ) → k ≢ 0 → k ≢ j → k ≢ 14 → (k ≡ 0) ⊎ ((k ≡ j) ⊎ (k ≡ 14)) → ⊥
+none-of k j a b c (inl p) = a p
+none-of k j a b c (inr (inl p)) = b p
+none-of k j a b c (inr (inr p)) = c p
 
 zero≢12 : _≡_ {A = ℕ} 0 12 → ⊥
 zero≢12 p = omega arith
@@ -76,7 +88,37 @@ unfolding make accepted member reset
 whole-run-12 resets cs w e = absurd (zero≢12 e)
 whole-run-12 fetches cs w e = absurd (zero≢12 e)
 whole-run-12 (adds n ts k r b) cs w e = add-12 artificial-ends (after cs) n ts k r b (run-sound cs (w .0) .inv) (w .1) e
-whole-run-12 (removes n b) cs w e = absurd (other-number (Rattle.steps.specs.Changing.removes n b) (after cs .state) tt e)
+whole-run-12 (removes n b) cs w e = absurd (other-number 12 (Rattle.steps.specs.Changing.removes n b) (after cs .state) tt e)
 whole-run-12 (addsEdit v k b) cs w e = addEdit-12 artificial-ends (after cs) v k b (run-sound cs (w .0) .inv) (w .1) e
-whole-run-12 (removesEdit v b) cs w e = absurd (other-number (Rattle.steps.specs.Changing.removesEdit v b) (after cs .state) tt e)
-whole-run-12 (suggests v x b) cs w e = absurd (other-number (Rattle.steps.specs.Changing.suggests v x b) (after cs .state) tt e)
+whole-run-12 (removesEdit v b) cs w e = absurd (other-number 12 (Rattle.steps.specs.Changing.removesEdit v b) (after cs .state) tt e)
+whole-run-12 (suggests v x b) cs w e = absurd (other-number 12 (Rattle.steps.specs.Changing.suggests v x b) (after cs .state) tt e)
+
+each : {n : ℕ} → n ≢ 13 → n ≢ 15 → n ≢ 16 → n ≢ 17 → All (λ (k : ℕ). n ≢ k) (13 ∷ 15 ∷ 16 ∷ 17 ∷ [])
+each a b c d = (a, (b, (c, (d, tt))))
+
+-- Beyond the demand: in a whole run 13, 15, 16 and 17 are never answered.
+pub whole-run-numbers : (c : Call) (cs : List Call) → Whole (c ∷ cs) → All (λ (k : ℕ). make c (after cs .state) .answer .number ≢ k) (13 ∷ 15 ∷ 16 ∷ 17 ∷ [])
+unfolding make member reset
+whole-run-numbers resets cs w = each (λ e. omega arith) (λ e. omega arith) (λ e. omega arith) (λ e. omega arith)
+whole-run-numbers fetches cs w = each (λ e. omega arith) (λ e. omega arith) (λ e. omega arith) (λ e. omega arith)
+whole-run-numbers (adds n ts k r b) cs w =
+    let c : Changing = Rattle.steps.specs.Changing.adds n ts k r b in
+    each (finite-yes c (after cs .state) (w .1)) (add-15 artificial-ends (after cs) n ts k r b (run-sound cs (w .0) .inv) (w .1)) (other-number 16 c (after cs .state) tt) (other-number 17 c (after cs .state) tt)
+whole-run-numbers (removes n b) cs w =
+    let c : Changing = Rattle.steps.specs.Changing.removes n b in
+    each (finite-yes c (after cs .state) (w .1)) (away 15 (λ p. omega arith) (λ p. omega arith) (λ p. omega arith)) (other-number 16 c (after cs .state) tt) (away 17 (λ p. omega arith) (λ p. omega arith) (λ p. omega arith))
+  where
+    away : (k : ℕ) → k ≢ 0 → k ≢ 5 → k ≢ 14 → make (removes n b) (after cs .state) .answer .number ≢ k
+    away k p q r e = none-of k 5 p q r (subst (λ (j : ℕ). (j ≡ 0) ⊎ ((j ≡ 5) ⊎ (j ≡ 14))) e (remove-refusals (after cs) n b (run-sound cs (w .0) .inv) (run-sound cs (w .0) .reads) (w .1)))
+whole-run-numbers (addsEdit v k b) cs w =
+    let c : Changing = Rattle.steps.specs.Changing.addsEdit v k b in
+    each (finite-yes c (after cs .state) (w .1)) (addEdit-15 artificial-ends (after cs) v k b (run-sound cs (w .0) .inv) (w .1)) (other-number 16 c (after cs .state) tt) (other-number 17 c (after cs .state) tt)
+whole-run-numbers (removesEdit v b) cs w =
+    let c : Changing = Rattle.steps.specs.Changing.removesEdit v b in
+    each (finite-yes c (after cs .state) (w .1)) (away 15 (λ p. omega arith) (λ p. omega arith) (λ p. omega arith)) (other-number 16 c (after cs .state) tt) (away 17 (λ p. omega arith) (λ p. omega arith) (λ p. omega arith))
+  where
+    away : (k : ℕ) → k ≢ 0 → k ≢ 8 → k ≢ 14 → make (removesEdit v b) (after cs .state) .answer .number ≢ k
+    away k p q r e = none-of k 8 p q r (subst (λ (j : ℕ). (j ≡ 0) ⊎ ((j ≡ 8) ⊎ (j ≡ 14))) e (removeEdit-refusals (after cs) v b (run-sound cs (w .0) .inv) (run-sound cs (w .0) .reads) (w .1)))
+whole-run-numbers (suggests v x b) cs w =
+    let c : Changing = Rattle.steps.specs.Changing.suggests v x b in
+    each (finite-yes c (after cs .state) (w .1)) (other-number 15 c (after cs .state) tt) (suggest-16 (after cs) v x b (run-sound cs (w .0) .inv) (w .1)) (other-number 17 c (after cs .state) tt)

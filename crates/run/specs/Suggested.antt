@@ -297,3 +297,31 @@ suggest-inv m u x b I R = finite (isFinite x) refl
     finite : (f : Bool) → isFinite x ≡ f → Whole (make c (m .state)) → Inv (next c m)
     finite false p w = unchanged c m 1 0 (m .state .whole) (rw (p, suggest) refl) refl I
     finite true p w = at-edit (findEdit u (m .state .edits)) refl (findHeld (ofEdit u) (I .held)) refl (I .edits u) p w
+
+-- ---- and is refused 1, 8 or 14 alone
+pub suggest-16 : (m : Moment) (u : ℕ) (x : Float) (b : ℕ) → Inv m → make (suggests u x b) (m .state) .answer .whole ≡ true → make (suggests u x b) (m .state) .answer .number ≢ 16
+unfolding make suggest conclude acceptedAs refusedBy markOf
+suggest-16 m u x b I = finite (isFinite x) refl
+  where
+    c : Call
+    c = suggests u x b
+
+    next-state : Edit → Work → State
+    next-state e w = finish w (m .state .constraints) (keepEdit (record { variable = u; strength = e .strength; tag = e .tag; suggestion = x }) (dropEdit u (m .state .edits)))
+
+    Never : Result → Type 0
+    Never r = r .answer .whole ≡ true → r .answer .number ≢ 16
+
+    outcome : (e : Edit) (h : Held) (f : findHeld (ofEdit u) (I .held) ≡ some h) (E : EditedAs u e h) → (t : Outcome Work) → (markOf t ≡ allWhole → Comes m I u x e h f E t) → Never (conclude (m .state) t (next-state e))
+    outcome e h f E (refused k p t) z w = λ q. omega (arith, z (says-whole t w), q)
+    outcome e h f E (going y) z w = λ q. omega arith
+
+    at-edit : (d : Option Edit) → findEdit u (m .state .edits) ≡ d → (g : Option Held) → findHeld (ofEdit u) (I .held) ≡ g → EditAt u d g → isFinite x ≡ true → Never (make c (m .state))
+    at-edit none q none r a p = rw (p, q, suggest) (λ w e. omega arith)
+    at-edit none q (some h) r a p = absurd a
+    at-edit (some e) q none r a p = absurd a
+    at-edit (some e) q (some h) r E p = rw (p, q, suggest) (outcome e h r E (suggestSteps b e x (begin (m .state))) (steps-come m I u x e h r E b))
+
+    finite : (f : Bool) → isFinite x ≡ f → Never (make c (m .state))
+    finite false p = rw (p, suggest) (λ w e. omega arith)
+    finite true p = at-edit (findEdit u (m .state .edits)) refl (findHeld (ofEdit u) (I .held)) refl (I .edits u) p
