@@ -5,3 +5,4 @@ pub mod Owners
 pub mod Tableau
 pub mod Kinds
 pub mod Meaning
+pub mod Given
