@@ -7,7 +7,7 @@ use native.Mathlib.Nat.{not-suc-le-zero, le-of-suc-le-suc, add-zero, zero-add, s
 use native.Mathlib.Omega.{arith}
 use lib.ListN.{length, getD, set}
 use Rattle.laws.specs.Loops.{run, turns}
-use Rattle.laws.specs.Lists.{tab, listOf, length-tab, getD-tab, laid}
+use Rattle.laws.specs.Lists.{tab, listOf, tab-ext, length-tab, getD-tab, laid}
 
 -- place i is made anew from what stands there
 unfoldable pub remade : {A : Type 0} → A → (ℕ → A → A) → ℕ → List A → List A
@@ -48,6 +48,10 @@ module _ {A : Type 0} where
   unfolding tab
   tab-from g a i zero = refl
   tab-from g a i (suc n) = ap (λ (r : List A). g (a + i) ∷ r) (rw (add-suc a i) at (tab-from g a (suc i) n))
+
+  pub list-ext : (n : ℕ) (g h : ℕ → A) → ((j : ℕ) → j < n → g j ≡ h j) → listOf n g ≡ listOf n h
+  unfolding listOf
+  list-ext n g h q = tab-ext g h 0 n λ j a b. q j (omega arith)
 
 -- ---- a stretch of a table, and the rows of a table
 

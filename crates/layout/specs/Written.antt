@@ -70,7 +70,7 @@ variable-reals : (n : List ℕ) (r : List Float) → variableReals (variableOf n
 unfolding variableReals variableOf tab
 variable-reals n r = refl
 
-most-is : (c : ℕ) → c ≤ 16 → most16 c ≡ c
+pub most-is : (c : ℕ) → c ≤ 16 → most16 c ≡ c
 unfolding most16
 most-is c h = rw (le-leb c 16 h) refl
 

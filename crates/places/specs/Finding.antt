@@ -13,7 +13,7 @@ use Rattle.layout.specs.Rooms.{and-left, and-right}
 
 -- ---- a test over places, place by place
 
-never : {A : Type 0} (n : ℕ) → n < n → A
+pub never : {A : Type 0} (n : ℕ) → n < n → A
 never n h = absurd (omega arith)
 
 all-from : (p : ℕ → Bool) (i n : ℕ) → allFrom p i n ≡ true → (j : ℕ) → i ≤ j → j < i + n → p j ≡ true

@@ -9,7 +9,7 @@ ghost use Rattle.layout.specs.Rooms.{lengthsRight, Lengths};
 ghost use Rattle.symbols.specs.Symbols.{idsAscend};
 ghost use Rattle.items.specs.Items.{numbersAscend};
 ghost use Rattle.reading.specs.Reads.{reads};
-ghost use Rattle.reading.specs.Tested.{roomFor, countsFit, Counted, inOrder, contentFits, tested};
+ghost use Rattle.reading.specs.Tested.{roomFor, countsFit, Counted, inOrder, contentFits};
 
 pub fn lengths_right(
     head: &[u64],
@@ -90,7 +90,7 @@ pub fn reads_as_state(
     reals: &[[f64; 17]],
     rows: &[[f64; 130]],
 ) -> bool
-    ensures { λ r. ⌜ r ≡ tested (tables (now (head .entry)) (now (names .entry)) (now (reals .entry)) (now (rows .entry))) ⌝ }
+    ensures { λ r. ⌜ r ≡ reads (tables (now (head .entry)) (now (names .entry)) (now (reals .entry)) (now (rows .entry))) ⌝ }
 {
     if !lengths_right(head, names, reals, rows) {
         return false;

@@ -10,6 +10,7 @@ use Rattle.layout.specs.Rooms.{lengthsRight, Lengths, lengths, both}
 use Rattle.symbols.specs.Symbols.{idsAscend}
 use Rattle.items.specs.Items.{numbersAscend}
 use Rattle.reading.specs.Tested.{countsFit, Counted, counted, inOrder, contentFits, tested}
+use Rattle.reading.specs.Meaning.{tested-is}
 use borrow.Author.Needs.{needs}
 use Rattle.reading.proofs.reads_as_state.Statement.{statement}
 use Rattle.reading.proofs.reads_as_state.Tie as tie
@@ -42,25 +43,25 @@ module _ (t : Tables) where
   whole e f g i j k l = l ∙ rw (← e, f, ← g, i, ← j, k) refl
 
 returns : tie.Need-returns
-returns c = short (tables (c .before .before .before .args .head .now) (c .before .before .before .args .names .now) (c .before .before .before .args .reals .now) (c .before .before .before .args .rows .now)) (c .before .lengths-right .ensures) (not-true _ (c .if1 .taken))
+returns c = short (tables (c .before .before .before .args .head .now) (c .before .before .before .args .names .now) (c .before .before .before .args .reals .now) (c .before .before .before .args .rows .now)) (c .before .lengths-right .ensures) (not-true _ (c .if1 .taken)) ∙ tested-is (tables (c .before .before .before .args .head .now) (c .before .before .before .args .names .now) (c .before .before .before .args .reals .now) (c .before .before .before .args .rows .now))
 
 counts-fit-requires : tie.Need-counts-fit-requires
 counts-fit-requires c κs = (lens _ (c .before .lengths-right .ensures) (not-false _ (c .if1 .left))) .0
 
 returns-2 : tie.Need-returns-2
-returns-2 c = many (tables (c .before .before .before .before .before .args .head .now) (c .before .before .before .before .before .args .names .now) (c .before .before .before .before .before .args .reals .now) (c .before .before .before .before .before .args .rows .now)) (c .before .before .before .lengths-right .ensures) (not-false _ (c .before .before .if1 .left)) (c .before .counts-fit .ensures) (not-true _ (c .if2 .taken))
+returns-2 c = many (tables (c .before .before .before .before .before .args .head .now) (c .before .before .before .before .before .args .names .now) (c .before .before .before .before .before .args .reals .now) (c .before .before .before .before .before .args .rows .now)) (c .before .before .before .lengths-right .ensures) (not-false _ (c .before .before .if1 .left)) (c .before .counts-fit .ensures) (not-true _ (c .if2 .taken)) ∙ tested-is (tables (c .before .before .before .before .before .args .head .now) (c .before .before .before .before .before .args .names .now) (c .before .before .before .before .before .args .reals .now) (c .before .before .before .before .before .args .rows .now))
 
 in-order-requires : tie.Need-in-order-requires
 in-order-requires c κs = let l = lens _ (c .before .before .before .lengths-right .ensures) (not-false _ (c .before .before .if1 .left)) in (l .0, (l .1, cnts _ (c .before .counts-fit .ensures) (not-false _ (c .if2 .left))))
 
 returns-3 : tie.Need-returns-3
-returns-3 c = mixed (tables (c .before .before .before .before .before .before .before .args .head .now) (c .before .before .before .before .before .before .before .args .names .now) (c .before .before .before .before .before .before .before .args .reals .now) (c .before .before .before .before .before .before .before .args .rows .now)) (c .before .before .before .before .before .lengths-right .ensures) (not-false _ (c .before .before .before .before .if1 .left)) (c .before .before .before .counts-fit .ensures) (not-false _ (c .before .before .if2 .left)) (c .before .in-order .ensures) (not-true _ (c .if3 .taken))
+returns-3 c = mixed (tables (c .before .before .before .before .before .before .before .args .head .now) (c .before .before .before .before .before .before .before .args .names .now) (c .before .before .before .before .before .before .before .args .reals .now) (c .before .before .before .before .before .before .before .args .rows .now)) (c .before .before .before .before .before .lengths-right .ensures) (not-false _ (c .before .before .before .before .if1 .left)) (c .before .before .before .counts-fit .ensures) (not-false _ (c .before .before .if2 .left)) (c .before .in-order .ensures) (not-true _ (c .if3 .taken)) ∙ tested-is (tables (c .before .before .before .before .before .before .before .args .head .now) (c .before .before .before .before .before .before .before .args .names .now) (c .before .before .before .before .before .before .before .args .reals .now) (c .before .before .before .before .before .before .before .args .rows .now))
 
 content-fits-requires : tie.Need-content-fits-requires
 content-fits-requires c κs = let o = ordered _ _ (c .before .in-order .ensures) (not-false _ (c .if3 .left)) in (lens _ (c .before .before .before .before .before .lengths-right .ensures) (not-false _ (c .before .before .before .before .if1 .left)), (cnts _ (c .before .before .before .counts-fit .ensures) (not-false _ (c .before .before .if2 .left)), (o .0, o .1)))
 
 returns-4 : tie.Need-returns-4
-returns-4 c = whole (tables (c .before .before .before .before .before .before .before .before .args .head .now) (c .before .before .before .before .before .before .before .before .args .names .now) (c .before .before .before .before .before .before .before .before .args .reals .now) (c .before .before .before .before .before .before .before .before .args .rows .now)) (c .before .before .before .before .before .before .lengths-right .ensures) (not-false _ (c .before .before .before .before .before .if1 .left)) (c .before .before .before .before .counts-fit .ensures) (not-false _ (c .before .before .before .if2 .left)) (c .before .before .in-order .ensures) (not-false _ (c .before .if3 .left)) (c .content-fits .ensures)
+returns-4 c = whole (tables (c .before .before .before .before .before .before .before .before .args .head .now) (c .before .before .before .before .before .before .before .before .args .names .now) (c .before .before .before .before .before .before .before .before .args .reals .now) (c .before .before .before .before .before .before .before .before .args .rows .now)) (c .before .before .before .before .before .before .lengths-right .ensures) (not-false _ (c .before .before .before .before .before .if1 .left)) (c .before .before .before .before .counts-fit .ensures) (not-false _ (c .before .before .before .if2 .left)) (c .before .before .in-order .ensures) (not-false _ (c .before .if3 .left)) (c .content-fits .ensures) ∙ tested-is (tables (c .before .before .before .before .before .before .before .before .args .head .now) (c .before .before .before .before .before .before .before .before .args .names .now) (c .before .before .before .before .before .before .before .before .args .reals .now) (c .before .before .before .before .before .before .before .before .args .rows .now))
 
 pub reads-as-state-spec : {M : Type 1} → statement M
 reads-as-state-spec =
