@@ -1,15 +1,12 @@
 -- The notes of changed variables, over the head and the variables' records.
-use Prim.Native.Nat.{ℕ, zero, suc, _/_, _%_, _<_}
+use Prim.Native.Nat.{ℕ, _/_}
 use mathlib.Core.Path.{_≡_, refl}
 use mathlib.Core.Bool.{Bool, true, false, cond}
 use mathlib.Core.List.{List}
-use native.Mathlib.Nat.{not-suc-le-zero, le-of-suc-le-suc}
 use native.Mathlib.Omega.{arith}
 use lib.Dec.{eqb}
 use lib.ListN.{getD, set}
 use lib.Seq.{getD-set-other}
-use Rattle.steps.specs.Symbol.{isExternal}
-use Rattle.layout.specs.Layout.{kindOf, symbolOf}
 use Rattle.laws.specs.Loops.{mapIn}
 
 unfoldable pub clearedRow : List ℕ → List ℕ
@@ -39,22 +36,14 @@ varChangedIn id s =
 unfoldable pub varChangedIf : Bool → ℕ → Noted → Noted
 varChangedIf on id s = cond on (varChangedIn id s) s
 
--- ---- a symbol's kind, by its code
-
-four : (P : ℕ → Type 0) → P 0 → P 1 → P 2 → P 3 → (k : ℕ) → k < 4 → P k
-four P a b c d zero h = a
-four P a b c d (suc zero) h = b
-four P a b c d (suc (suc zero)) h = c
-four P a b c d (suc (suc (suc zero))) h = d
-four P a b c d (suc (suc (suc (suc k)))) h = absurd (not-suc-le-zero (le-of-suc-le-suc (le-of-suc-le-suc (le-of-suc-le-suc (le-of-suc-le-suc h)))))
-
-pub external : (c : ℕ) → isExternal (symbolOf c) ≡ eqb (c % 4) 0
-unfolding symbolOf kindOf isExternal
-external c = four (λ k. isExternal (record { id = 0; kind = kindOf k }) ≡ eqb k 0) refl refl refl refl (c % 4) (omega arith)
-
 -- ---- what a note leaves as it was
 
 pub noted-count : (on : Bool) (id : ℕ) (s : Noted) → getD (varChangedIf on id s .head) 4 0 ≡ getD (s .head) 4 0
 unfolding varChangedIf varChangedIn
 noted-count true id s = getD-set-other (s .head) 7 4 0 0 (omega arith)
 noted-count false id s = refl
+
+pub changed-if-head : (on : Bool) (id : ℕ) (s : Noted) (q : ℕ) → (q ≡ 7 → ⊥) → getD (varChangedIf on id s .head) q 0 ≡ getD (s .head) q 0
+unfolding varChangedIf varChangedIn
+changed-if-head true id s q h = getD-set-other (s .head) 7 q 0 0 h
+changed-if-head false id s q h = refl

@@ -134,11 +134,6 @@ changed-if-flags true id s f = rw (getD-set-other (s .head) 7 4 0 0 (omega arith
     go false = flagged-flags n (s .names) f id
 changed-if-flags false id s f = f
 
-pub changed-if-head : (on : Bool) (id : ℕ) (s : Noted) (q : ℕ) → (q ≡ 7 → ⊥) → getD (varChangedIf on id s .head) q 0 ≡ getD (s .head) q 0
-unfolding varChangedIf varChangedIn
-changed-if-head true id s q h = getD-set-other (s .head) 7 q 0 0 h
-changed-if-head false id s q h = refl
-
 pub changed-if-length : (on : Bool) (id : ℕ) (s : Noted) → length (varChangedIf on id s .head) ≡ length (s .head)
 unfolding varChangedIf varChangedIn
 changed-if-length true id s = length-set (s .head) 7 0

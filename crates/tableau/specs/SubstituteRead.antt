@@ -21,8 +21,8 @@ use Rattle.rows.specs.Marks.{worse-unit, worse-assoc}
 use Rattle.rows.specs.Table.{substituteRowIn, substituteRowMark, substituteRowChanged, insertRowChanged}
 use Rattle.rows.specs.Place.{PlaceOf}
 use Rattle.rows.specs.Reading.{rowOf, writtenOf, substitute-row-read}
-use Rattle.tableau.specs.Notes.{Noted, varChangedIf}
-use Rattle.tableau.specs.NotesRead.{changesIn, Flags, changed-if-read, changed-if-flags, changed-if-head, changed-if-length}
+use Rattle.tableau.specs.Notes.{Noted, varChangedIf, changed-if-head}
+use Rattle.tableau.specs.NotesRead.{changesIn, Flags, changed-if-read, changed-if-flags, changed-if-length}
 use Rattle.tableau.specs.Substituting.{substituteRowsIn, rowMarkWith, row-mark, substituteRowsMark, changes, noteRow, noteRows}
 
 noted-cons : (r : Substituted) (rs : List Substituted) (c : Changes)

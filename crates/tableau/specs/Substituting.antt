@@ -1,16 +1,19 @@
 -- Substitution in all rows, in the objective and in the artificial objective, and the notes of the rows whose constant changes.
 use Prim.Native.Nat.{ℕ, _+_, _/_}
-use mathlib.Core.Path.{_≡_, refl}
+use mathlib.Core.Path.{_≡_, refl, _∙_}
 use mathlib.Core.Bool.{Bool, false, _&&_, cond}
 use mathlib.Core.List.{List, []}
+use native.Mathlib.Omega.{arith}
 use lib.ListN.{getD, set}
 use lib.Ieee.{Float, nan, ne}
-use Rattle.laws.specs.Loops.{mapIn, foldIn, run}
+use Rattle.laws.specs.Loops.{mapIn, foldIn, run, run-keeps}
 use Rattle.steps.specs.Number.{zero64, _*₆₄_, objectiveBound, Mark, allWhole, worse}
 use Rattle.steps.specs.Symbol.{isExternal, absent}
 use Rattle.layout.specs.Layout.{symbolOf}
 use Rattle.rows.specs.Table.{substituteRowIn, substituteRowMark, substituteCellsIn, substituteCellsMark}
-use Rattle.tableau.specs.Notes.{Noted, varChangedIf}
+use Rattle.moves.specs.Moves.{pushBelowOf}
+use Rattle.moves.specs.Counts.{Fits}
+use Rattle.tableau.specs.Notes.{Noted, varChangedIf, changed-if-head}
 
 -- the places of the rows, and of the artificial objective, in the table
 unfoldable pub substituteRowsIn : ℕ → ℕ → ℕ → List Float → List (List Float) → List (List Float)
@@ -78,6 +81,12 @@ substituteOf art at pivot s rows =
     (substituteRowsOf art at (getD (s .head) 1 0) (getD (s .head) 2 0) pivot rows)
     (substituteMarkOf art at (getD (s .head) 1 0) (getD (s .head) 2 0) pivot rows)
 
+-- with the pushes: "a restricted row below 0 is pushed"
+unfoldable pub pushedOf : Substitution → Substitution
+pushedOf s = substitution (pushBelowOf (s .rows) (s .head)) (s .names) (s .rows) (s .mark)
+
+-- ---- the turns and the calls, over variables
+
 pub row-mark : (at width : ℕ) (pivot : List Float) (m : Mark) (row : List Float) {t : Mark} → t ≡ worse m (substituteRowMark at width pivot row) → t ≡ rowMarkWith at width pivot m row
 unfolding rowMarkWith
 row-mark at width pivot m row h = h
@@ -101,3 +110,22 @@ pub substitute-calls : (art : Bool) (at : ℕ) (pivot : List Float) (s : Noted) 
     → substitution (t .head) (t .names) r₃ d ≡ substituteOf art at pivot s rows
 unfolding substituteOf substituteBelow substituteRowsOf substituteMarkOf
 substitute-calls art at pivot s rows h₁ h₂ h₃ h₄ h₅ h₆ h₇ h₈ = rw (h₈, h₇, h₆, h₅, h₄, h₃, h₂, h₁) refl
+
+-- ---- the notes change the head at place 7 alone
+
+pub noteRows-head : (at count : ℕ) (pivot : List Float) (rows : List (List Float)) (s : Noted) (q : ℕ) → (q ≡ 7 → ⊥) → getD (noteRows at count pivot rows s .head) q 0 ≡ getD (s .head) q 0
+unfolding noteRows noteRow
+noteRows-head at count pivot rows s q c =
+    run-keeps (λ (t : Noted). getD (t .head) q 0 ≡ getD (s .head) q 0) (noteRow at pivot rows) (λ i t h. changed-if-head _ _ t q c ∙ h) 1 (1 + count) s refl
+
+pub noted-fits : (at count : ℕ) (pivot : List Float) (rows : List (List Float)) (s : Noted) {t : Noted} → t ≡ noteRows at count pivot rows s → Fits (t .head) (getD (s .head) 1 0) (getD (s .head) 2 0) (getD (s .head) 3 0)
+noted-fits at count pivot rows s e =
+    rw e (
+      omega (arith, noteRows-head at count pivot rows s 1 (omega arith)),
+      omega (arith, noteRows-head at count pivot rows s 2 (omega arith)),
+      omega (arith, noteRows-head at count pivot rows s 3 (omega arith)),
+    )
+
+pub pushed-calls : (h : List ℕ) (n : List (List ℕ)) (w : List (List Float)) (m : Mark) {g : List ℕ} {s : Substitution} → substitution h n w m ≡ s → g ≡ pushBelowOf w h → substitution g n w m ≡ pushedOf s
+unfolding pushedOf
+pushed-calls h n w m e q = rw (← e, q) refl

@@ -18,6 +18,7 @@ use Rattle.steps.specs.Work.{Work, withTableau, withRows, withObjective, withIn
 use Rattle.steps.specs.Changes.{allChanged}
 use Rattle.steps.specs.Substitute.{substituteInRow, substituteInCells, Substituted, substituteInRows, rowsOf, marksOf, notedOf, pushBelow, substitute}
 use Rattle.layout.specs.Layout.{Tables, tables, symbolOf, cellsOf, basicOf, basicsOf, variablesOf, read}
+use Rattle.choose.specs.Reading.{symbolsIn, basicsIn, entriesIn}
 use Rattle.rows.specs.Table.{Wide, substituteRowIn, substituteRowChanged, substituteRowMark, substituteCellsIn}
 use Rattle.rows.specs.Stays.{length-substituteRowIn, length-substituteCellsIn}
 use Rattle.rows.specs.Place.{PlaceOf}
@@ -47,15 +48,6 @@ work symbols next rows objective infeasible changes artificial mark pivots =
       mark = mark;
       pivots = pivots;
     }
-
-unfoldable pub symbolsIn : List ℕ → List Symbol
-symbolsIn h = listOf (getD h 1 0) λ i. symbolOf (getD h (16 + i) 0)
-
-unfoldable pub basicsIn : List ℕ → List (List Float) → List Basic
-basicsIn h w = listOf (getD h 2 0) λ i. basicOf (getD h 1 0) (getD h (146 + i) 0) (getD w (1 + i) [])
-
-unfoldable pub entriesIn : List ℕ → List ℕ
-entriesIn h = listOf (getD h 3 0) λ i. getD h (196 + i) 0
 
 unfoldable pub artificialIn : Bool → List ℕ → List (List Float) → Option Row
 artificialIn art h w = cond art (some (rowOf (getD h 1 0) (getD w 50 []))) none

@@ -6,9 +6,11 @@ ghost use lib.ListN.{length, getD};
 ghost use Rattle.steps.specs.Symbol.{isExternal};
 ghost use Rattle.layout.specs.Layout.{symbolOf};
 ghost use Rattle.rows.specs.Marks.{markOf};
+ghost use Rattle.moves.specs.Counts.{Fits};
 ghost use Rattle.tableau.specs.Notes.{noted};
-ghost use Rattle.tableau.specs.Substituting.{changes, substituteRowsIn, substituteRowsMark, noteRows, substituteObjectiveIn, substituteObjectiveMark, substituteArtificialIn, substituteArtificialMark, substitution, substituteOf};
+ghost use Rattle.tableau.specs.Substituting.{changes, substituteRowsIn, substituteRowsMark, noteRows, substituteObjectiveIn, substituteObjectiveMark, substituteArtificialIn, substituteArtificialMark, substitution, substituteOf, pushedOf};
 use crate::notes::var_changed_if;
+use moves::push_below;
 use rows::number::OBJECTIVE_BOUND;
 use rows::number::Wrote;
 use rows::number::joined;
@@ -110,8 +112,8 @@ pub fn note_rows(
     }
 }
 
-// The infeasible list is left as it is.
-pub fn substitute(
+// All but the infeasible list.
+fn substitute_and_note(
     art: bool,
     head: &mut [u64],
     names: &mut [[u64; 20]],
@@ -126,6 +128,7 @@ pub fn substitute(
     requires { ⌜ length (now rows) ≡ 51 ⌝ }
     requires { ⌜ at < 130 ⌝ }
     ensures { λ r. ⌜ substitution (now (head .exit)) (now (names .exit)) (now (rows .exit)) (markOf r) ≡ substituteOf art at (now (pivot .entry)) (noted (now (head .entry)) (now (names .entry))) (now (rows .entry)) ⌝ }
+    ensures { λ _. ⌜ Fits (now (head .exit)) (getD (now (head .entry)) 1 0) (getD (now (head .entry)) 2 0) (getD (now (head .entry)) 3 0) ⌝ }
 {
     let width = head[1] as usize;
     let count = head[2] as usize;
@@ -134,4 +137,27 @@ pub fn substitute(
     let v = substitute_objective(rows, width, at, pivot);
     let w = substitute_artificial(art, rows, width, at, pivot);
     joined(u, joined(v, w))
+}
+
+pub fn substitute(
+    art: bool,
+    head: &mut [u64],
+    names: &mut [[u64; 20]],
+    rows: &mut [[f64; 130]],
+    at: usize,
+    pivot: &[f64; 130],
+) -> Wrote
+    requires { ⌜ length (now head) ≡ 326 ⌝ }
+    requires { ⌜ getD (now head) 1 0 ≤ 129 ⌝ }
+    requires { ⌜ getD (now head) 2 0 ≤ 49 ⌝ }
+    requires { ⌜ getD (now head) 3 0 ≤ 130 ⌝ }
+    requires { ⌜ getD (now head) 4 0 ≤ length (now names) ⌝ }
+    requires { ⌜ length (now rows) ≡ 51 ⌝ }
+    requires { ⌜ at < 130 ⌝ }
+    ensures { λ r. ⌜ substitution (now (head .exit)) (now (names .exit)) (now (rows .exit)) (markOf r) ≡ pushedOf (substituteOf art at (now (pivot .entry)) (noted (now (head .entry)) (now (names .entry))) (now (rows .entry))) ⌝ }
+    ensures { λ _. ⌜ Fits (now (head .exit)) (getD (now (head .entry)) 1 0) (getD (now (head .entry)) 2 0) 130 ⌝ }
+{
+    let w = substitute_and_note(art, head, names, rows, at, pivot);
+    push_below(head, rows);
+    w
 }

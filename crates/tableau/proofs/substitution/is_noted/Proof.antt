@@ -5,9 +5,9 @@ use mathlib.Core.Bool.{_&&_, Bool, cond, false, not, true}
 use mathlib.Core.Path.{refl, _≡_}
 use lib.Dec.{eqb}
 use lib.Ieee.{binary64, eq, mul, ne}
+use Rattle.choose.specs.Kinds.{external}
 use Rattle.steps.specs.Number.{zero64}
 use Rattle.steps.specs.Symbol.{absent}
-use Rattle.tableau.specs.Notes.{external}
 use Rattle.tableau.specs.Substituting.{changes}
 use Rattle.tableau.proofs.substitution.is_noted.Statement.{statement}
 use Rattle.tableau.proofs.substitution.is_noted.Tie as tie
