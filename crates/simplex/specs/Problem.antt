@@ -14,7 +14,7 @@ use Rattle.simplex.specs.Lin.{Vec, δ, Same?, same, other, same?, dot, d
 use Rattle.simplex.specs.Tab.{Solves}
 use Rattle.simplex.specs.Basis.{Mask, Shape, Clear, at-column, basic-solves}
 use Rattle.simplex.specs.Opt.{Kind, const, external, slack, dummy, slack≢dummy, Feasible, Lowest, at-least, no-feasible}
-use Rattle.simplex.specs.Choose.{All}
+use Rattle.simplex.specs.Choose.{All, all-zip}
 use Rattle.simplex.specs.Form.{Form, le!, eq!, ge!, le, eq, ge, soft, resid, cost, viol, Holds, fit-s, fit-t, fit-resid, fit-s-nonneg, fit-t-nonneg, fit-cost, viol-least, holds, add-mono}
 
 -- a constraint: its expression (place 0 is the constant), form, strength, marker and other symbol (not used where it is required)
@@ -114,14 +114,6 @@ const-plain kind j e (inr p) = let z : _≡_ {A = ℕ} 0 1 = cc in omega arith
 external-plain : (kind : ℕ → Kind) (j : ℕ) → kind j ≡ external → Plain kind j
 external-plain kind j e (inl p) = let z : _≡_ {A = ℕ} 0 1 = cc in omega arith
 external-plain kind j e (inr p) = let z : _≡_ {A = ℕ} 0 1 = cc in omega arith
-
-pub all-map : {A : Type 0} {Q W : A → Type 0} → ((a : A) → Q a → W a) → (l : List A) → All Q l → All W l
-all-map f [] h = tt
-all-map f (a ∷ l) h = (f a (h .0), all-map f l (h .1))
-
-pub all-zip : {A : Type 0} {Q W X : A → Type 0} → ((a : A) → Q a → W a → X a) → (l : List A) → All Q l → All W l → All X l
-all-zip f [] h g = tt
-all-zip f (a ∷ l) h g = (f a (h .0) (g .0), all-zip f l (h .1) (g .1))
 
 sounds-all : (n : ℕ) (kind : ℕ → Kind) (cs : List Con) → Sounds n kind cs → All (Sound n kind) cs
 sounds-all n kind [] h = tt
@@ -265,7 +257,7 @@ module _ (n : ℕ) (kind : ℕ → Kind) (x : Vec) where
   full-fits : (cs : List Con) → Sounds n kind cs → All (Fits (full cs)) cs
   unfolding full Fits
   full-fits [] S = tt
-  full-fits (c ∷ cs) S = (own, all-zip {Q = Apart c} {W = Fits (full cs)} keep cs (S .1) (full-fits cs (S .2)))
+  full-fits (c ∷ cs) S = (own, all-zip {P = Apart c} {Q = Fits (full cs)} keep cs (S .1) (full-fits cs (S .2)))
     where
       own-marker : Put c (full cs) (c .marker) → put c (full cs) (c .marker) ≡ fit-s (c .form) (val c)
       own-marker (at-marker p e) = e
@@ -310,7 +302,7 @@ module _ (n : ℕ) (kind : ℕ → Kind) (x : Vec) where
 
   pub full-equations : (cs : List Con) → Sounds n kind cs → All (Meets n x) cs → All (Equation n (full cs)) cs
   unfolding Fits val
-  full-equations cs S M = all-zip one cs (all-zip {Q = Sound n kind} {W = Meets n x} {X = λ c. Sound n kind c × Meets n x c} (λ c a b. (a, b)) cs (sounds-all n kind cs S) M) (full-fits cs S)
+  full-equations cs S M = all-zip one cs (all-zip {P = Sound n kind} {Q = Meets n x} {C = λ c. Sound n kind c × Meets n x c} (λ c a b. (a, b)) cs (sounds-all n kind cs S) M) (full-fits cs S)
     where
       one : (c : Con) → Sound n kind c × Meets n x c → Fits (full cs) c → Equation n (full cs) c
       one c h f =
@@ -347,7 +339,7 @@ module _ (n : ℕ) (kind : ℕ → Kind) (σ : Vec) (F : Feasible n kind σ) whe
   one-met c S E = holds (c .form) (dot n (c .expr) σ) (σ (c .marker)) (σ (c .other)) (marker-nonneg c S) (λ e. F .dummies (c .marker) (S .marker-in) (S .marker-kind ∙ ap markerKind e)) E
 
   pub met : (cs : List Con) → Sounds n kind cs → All (Equation n σ) cs → All (Meets n σ) cs
-  met cs S E = all-zip {Q = Sound n kind} one-met cs (sounds-all n kind cs S) E
+  met cs S E = all-zip {P = Sound n kind} one-met cs (sounds-all n kind cs S) E
 
   pub error-total : (cs : List Con) → Sounds n kind cs → All (Equation n σ) cs → error n cs σ ≼ total cs σ
   error-total [] S E = ≼-refl 0ℤ
