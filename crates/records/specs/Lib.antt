@@ -1,0 +1,3 @@
+-- The stored records: over the tables' places, and that the tables then read as the steps say.
+pub mod Records
+pub mod Turns
