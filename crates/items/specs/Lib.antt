@@ -1,0 +1,3 @@
+-- The items' part of the reading test: variables, constraints and edits, place by place.
+pub mod Items
+pub mod Order
