@@ -14,8 +14,8 @@ use Rattle.steps.specs.State.{Basic, Tableau, Changes}
 use Rattle.steps.specs.Work.{Work, withTableau, withRows, withChanges, keepRow}
 use Rattle.steps.specs.Changes.{varChanged, note}
 use Rattle.steps.specs.Substitute.{substitute, enterBasis}
-use Rattle.layout.specs.Layout.{tables, symbolOf, basicOf, basicsOf, variablesOf, read}
-use Rattle.rows.specs.Table.{Wide}
+use Rattle.layout.specs.Layout.{tables, symbolOf, basicOf, basicsOf, variablesOf, read, symbolsOf, entriesOf}
+use Rattle.moves.specs.Columns.{Wide}
 use Rattle.rows.specs.Place.{PlaceOf}
 use Rattle.rows.specs.Reading.{rowOf}
 use Rattle.choose.specs.Reading.{symbolsIn, basicsIn, entriesIn, tableauIn}
@@ -35,7 +35,7 @@ unfoldable pub workBy : Tableau → Changes → Option Row → Mark → ℕ → 
 workBy t c r a v = record { tableau = t; changes = c; artificial = r; mark = a; pivots = v }
 
 pub work-is : (art : Bool) (a : Mark) (v : ℕ) (h : List ℕ) (n : List (List ℕ)) (reals w : List (List Float)) → workOf art a v (tables h n reals w) ≡ workBy (tableauIn h w) (changesIn reals (noted h n)) (artificialIn art h w) a v
-unfolding workBy workOf read basicsOf variablesOf tableauIn symbolsIn basicsIn entriesIn changesIn artificialIn
+unfolding workBy workOf read symbolsOf entriesOf basicsOf variablesOf tableauIn symbolsIn basicsIn entriesIn changesIn artificialIn
 work-is art a v h n reals w = refl
 
 -- ---- a note
@@ -53,7 +53,7 @@ noted-work on id art a v s reals w h f =
 pub note-read : (on : Bool) (id : ℕ) (art : Bool) (a : Mark) (v : ℕ) (s : Noted) (reals w : List (List Float)) → 7 < length (s .head) → Flags (getD (s .head) 4 0) (s .names)
     → workOf art a v (tables (varChangedIf on id s .head) (varChangedIf on id s .names) reals w)
     ≡ cond on (note id (workOf art a v (tables (s .head) (s .names) reals w))) (workOf art a v (tables (s .head) (s .names) reals w))
-unfolding note withChanges workOf read variablesOf changesIn
+unfolding note withChanges workOf read symbolsOf entriesOf basicsOf variablesOf changesIn
 note-read on id art a v s reals w h f = noted-work on id art a v s reals w h f ∙ by on
   where
     by : (on : Bool) → withChanges (cond on (varChanged id (changesIn reals s)) (changesIn reals s)) (workOf art a v (tables (s .head) (s .names) reals w))
@@ -94,9 +94,9 @@ module _ (code : ℕ) (row : List Float) (h : List ℕ) (w : List (List Float)) 
       let e = row-place-between (board h w) len (code / 4) in
       length-opened (rowPlace (code / 4) h) (1 + getD h 2 0) row w (omega arith) (omega arith) [] ∙ size
 
-  kept-wide : Wide w → length row ≡ 130 → Wide (keptRow code row (board h w) .rows)
+  kept-wide : Wide w 51 → length row ≡ 130 → Wide (keptRow code row (board h w) .rows) 51
   unfolding keptRow opened
-  kept-wide f long = every-wide _ (every-insertAt wide-row (rowPlace (code / 4) h) row _ long (every-delete wide-row (1 + getD h 2 0) w (wide-every w f)))
+  kept-wide f long = every-wide _ kept-stand (every-insertAt wide-row (rowPlace (code / 4) h) row _ long (every-delete wide-row (1 + getD h 2 0) w (wide-every w size f)))
 
   kept-artificial : (art : Bool) → artificialIn art (keptRow code row (board h w) .head) (keptRow code row (board h w) .rows) ≡ artificialIn art h w
   unfolding artificialIn

@@ -13,9 +13,9 @@ use Rattle.steps.specs.Symbol.{Symbol}
 use Rattle.steps.specs.Row.{Row, Written, solveForSymbols}
 use Rattle.steps.specs.Work.{Work, withTableau, withRows, marking, findRow, dropRow}
 use Rattle.steps.specs.Substitute.{enterBasis, pivot}
-use Rattle.layout.specs.Layout.{tables, symbolOf, basicsOf, read}
+use Rattle.layout.specs.Layout.{tables, symbolOf, basicsOf, read, symbolsOf, entriesOf}
 use Rattle.rows.specs.Marks.{worse-assoc}
-use Rattle.rows.specs.Table.{Wide}
+use Rattle.moves.specs.Columns.{Wide}
 use Rattle.rows.specs.Stays.{length-solveForSymbolsIn}
 use Rattle.rows.specs.Place.{PlaceOf}
 use Rattle.rows.specs.Reading.{rowOf, writtenOf, solve-both-read}
@@ -47,13 +47,13 @@ module _ (i : ℕ) (h : List ℕ) (n : List (List ℕ)) (w : List (List Float)) 
   dropped-count : getD (d .head) 2 0 ≡ getD h 2 0 - 1
   dropped-count = dropped-rows (board h w) (ready .head-long) i (ready .few-rows) low high
 
-  dropped-wide : Wide (d .rows)
-  unfolding droppedRow closed
-  dropped-wide = every-wide _ (every-insertAt wide-row (getD h 2 0) (getD w (getD h 2 0) []) _ (ready .rows-wide .wide (getD h 2 0) (omega (arith, ready .few-rows, ready .rows-stand))) (every-delete wide-row i w (wide-every w (ready .rows-wide))))
-
   dropped-stand : length (d .rows) ≡ 51
   unfolding droppedRow
   dropped-stand = length-closed [] i (getD h 2 0) w high (omega (arith, ready .few-rows, ready .rows-stand)) [] ∙ ready .rows-stand
+
+  dropped-wide : Wide (d .rows) 51
+  unfolding droppedRow closed
+  dropped-wide = every-wide _ dropped-stand (every-insertAt wide-row (getD h 2 0) (getD w (getD h 2 0) []) _ (ready .rows-wide (getD h 2 0) (omega (arith, ready .few-rows))) (every-delete wide-row i w (wide-every w (ready .rows-stand) (ready .rows-wide))))
 
   dropped-50 : getD (d .rows) 50 [] ≡ getD w 50 []
   unfolding droppedRow
@@ -116,11 +116,11 @@ module _ (l i t j : ℕ) (h : List ℕ) (n : List (List ℕ)) (reals w : List (L
   out = droppedRow i (board h w)
 
   in-row : getD h 1 0 < length (getD w i [])
-  in-row = omega (arith, ready .few-symbols, ready .rows-wide .wide i (omega (arith, high, ready .few-rows, ready .rows-stand)))
+  in-row = omega (arith, ready .few-symbols, ready .rows-wide i (omega (arith, high, ready .few-rows)))
 
   row-long : length row ≡ 130
   unfolding solvedRow
-  row-long = length-solveForSymbolsIn (1 + t) (1 + j) (getD h 1 0) (getD w i []) ∙ ready .rows-wide .wide i (omega (arith, high, ready .few-rows, ready .rows-stand))
+  row-long = length-solveForSymbolsIn (1 + t) (1 + j) (getD h 1 0) (getD w i []) ∙ ready .rows-wide i (omega (arith, high, ready .few-rows))
 
   solved-read : writtenOf (rowOf (getD h 1 0) row) false (solvedMark i (1 + t) (1 + j) h w) ≡ solveForSymbols l (code / 4) (symbolsIn h) (rowOf (getD h 1 0) (getD w i []))
   unfolding solvedRow solvedMark
@@ -130,12 +130,12 @@ module _ (l i t j : ℕ) (h : List ℕ) (n : List (List ℕ)) (reals w : List (L
   out-symbols = symbols-by (out .head) h (dropped-place i h n w ready low high 1 (omega arith) (omega arith)) λ k b. dropped-place i h n w ready low high (16 + k) (omega arith) (omega (arith, b, ready .few-symbols))
 
   row-is : (a : Mark) (v : ℕ) → findRow l (workOf art a v (tables h n reals w) .tableau .rows) ≡ some (rowOf (getD h 1 0) (getD w i []))
-  unfolding workOf read basicsOf basicsIn rowOf
+  unfolding workOf read symbolsOf entriesOf basicsOf basicsIn rowOf
   row-is a v = row-found h l w ∙ ap (choose.onFound (λ k. some (rowIn h (getD w k []))) none) found
 
   solved-is : (a : Mark) (v : ℕ) → writtenOf (rowOf (getD h 1 0) row) false (solvedMark i (1 + t) (1 + j) h w)
       ≡ solveForSymbols l (symbolOf code .id) (workOf art a v (tables h n reals w) .tableau .symbols) (rowOf (getD h 1 0) (getD w i []))
-  unfolding workOf read symbolsIn symbolOf
+  unfolding workOf read symbolsOf entriesOf basicsOf symbolsIn symbolOf
   solved-is a v = solved-read
 
   module _ (room : Room (substituteOf art (1 + j) row (noted (out .head) n) (out .rows) .head) (substituteOf art (1 + j) row (noted (out .head) n) (out .rows) .rows)) where

@@ -11,7 +11,7 @@ use Rattle.laws.specs.Places.{Every, every-at, at-every}
 use Rattle.steps.specs.Number.{Mark, worse}
 use Rattle.steps.specs.Substitute.{substitute}
 use Rattle.layout.specs.Layout.{tables}
-use Rattle.rows.specs.Table.{Wide}
+use Rattle.moves.specs.Columns.{Wide}
 use Rattle.rows.specs.Place.{PlaceOf}
 use Rattle.rows.specs.Reading.{rowOf}
 use Rattle.choose.specs.Reading.{symbolsIn}
@@ -25,11 +25,11 @@ use Rattle.tableau.specs.Working.{workOf, Ready, substitute-pushed-read,
 abbrev pub wide-row : List Float → Type 0
 wide-row r = length r ≡ 130
 
-pub wide-every : (w : List (List Float)) → Wide w → Every wide-row w
-wide-every w h = at-every wide-row w [] (h .wide)
+pub wide-every : (w : List (List Float)) → length w ≡ 51 → Wide w 51 → Every wide-row w
+wide-every w e h = at-every wide-row w [] λ q k. h q (omega (arith, k, e))
 
-pub every-wide : (w : List (List Float)) → Every wide-row w → Wide w
-every-wide w h = record { wide = every-at wide-row w [] h }
+pub every-wide : (w : List (List Float)) → length w ≡ 51 → Every wide-row w → Wide w 51
+every-wide w e h q k = every-at wide-row w [] h q (omega (arith, k, e))
 
 -- the list has room for each push
 pub record Room (h : List ℕ) (w : List (List Float)) : Type 0 where
