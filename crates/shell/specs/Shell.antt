@@ -101,6 +101,28 @@ whole-call f t w w₁ w₂ {t₂} {a} {ok} {on} keeps e₁ e₂ e₃ e₄ e₅ e
     go false true h i j k m n o = absurd (subst T k tt)
     go false false h i j k m n o = rw (← h, j, o) refl
 
+-- what a public call hands from `enter` to its steps, and from its steps to `leave`
+
+pub then-given : (X : Type 0) {b : Bool} → b ≡ true → Then b X → X
+then-given X e q = rw e at q
+
+-- what the steps leave in the room of an accepted call
+abbrev pub Left : Tables → Type 0
+Left w = (Lengths w) × (Counts (w .head)) × (Coded w)
+
+pub steps-ready : (t w : Tables) (b : Bool) → Then b (Entered t w) → Then b (Ready w)
+steps-ready t w true h = h .1
+steps-ready t w false h = tt
+
+pub leave-ready : (t w w₂ : Tables) (ok on : Bool) → ok ≡ reads t && lengthsRight w → Then (ok && on) (Left w₂) → Then (ok && on) ((Lengths t) × (Lengths w₂) × (Counts (w₂ .head)))
+leave-ready t w w₂ true true e h = (reads-lengths t (both (reads t) (lengthsRight w) (sym e) .0), h .0, h .1)
+leave-ready t w w₂ true false e h = tt
+leave-ready t w w₂ false on e h = tt
+
+pub left-coded : (w₂ : Tables) (on : Bool) → Then on (Left w₂) → Then on (Coded w₂)
+left-coded w₂ true h = h .2
+left-coded w₂ false h = tt
+
 -- the room is cleared at its own length
 pub cleared-same : (w w₂ : Tables) {z : Tables} → length (w₂ .head) ≡ length (w .head) → length (w₂ .names) ≡ length (w .names) → length (w₂ .reals) ≡ length (w .reals) → length (w₂ .rows) ≡ length (w .rows) → z ≡ cleared w₂ → z ≡ cleared w
 unfolding cleared
