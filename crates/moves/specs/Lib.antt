@@ -13,3 +13,4 @@ pub mod Prune
 pub mod Room
 pub mod Held
 pub mod Listed
+pub mod Ascent
