@@ -77,7 +77,7 @@ delete-up s i (x ∷ xs) u = go (isSymbol s x) (delete-up s (x .id) xs (u .1))
     go true ih = lower xs (u .1)
     go false ih = (u .0, ih)
 
-delete-in : (s j : ℕ) (xs : List Symbol) → j ≢ s → In j xs → In j (deleteSymbol s xs)
+pub delete-in : (s j : ℕ) (xs : List Symbol) → j ≢ s → In j xs → In j (deleteSymbol s xs)
 unfolding deleteSymbol
 delete-in s j [] n m = absurd m
 delete-in s j (x ∷ xs) n m = go (sym? s x) m (delete-in s j xs n)

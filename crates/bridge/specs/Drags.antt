@@ -4,7 +4,7 @@ use mathlib.Core.Logic.{_⊎_, inl, inr, _≢_}
 use mathlib.Core.List.{List, [], _∷_, _++_, reverse, reverseAux}
 use mathlib.Core.Option.{Option, none, some}
 use Prim.Native.Nat.{ℕ, zero, suc, _+_, _<_}
-use mathlib.Core.Bool.{Bool, true, false, _&&_, cond, true≢false}
+use mathlib.Core.Bool.{Bool, true, false, not, _&&_, cond, true≢false}
 use lib.Dec.{T, eqb, eqb→eq, eqb-refl}
 use lib.IntN.{ℤ, negsuc, negℤ, _+ℤ_, _*ℤ_}
 use lib.Signed.{ltZ-yes}
@@ -13,17 +13,18 @@ use Rattle.laws.specs.Z.{_≼_, _≺_}
 use Rattle.laws.specs.Ring.{ring, v, k as κ, _⊞_, _⊠_, ⊟_}
 use Rattle.simplex.specs.Ord.{0ℤ, 1ℤ, ≼-of-eq, ≺→≼, clash, ≺-or-≼, neg-pos}
 use Rattle.simplex.specs.Lin.{Vec, δ, δ-same, δ-other}
-use Rattle.simplex.specs.Choose.{All}
+use Rattle.simplex.specs.Choose.{All, all-map-of as all-map}
 use Rattle.simplex.specs.Basis.{swap}
 use Rattle.simplex.specs.Tab.{pivoted, pivot as pivotZ}
-use Rattle.simplex.specs.Opt.{Kind as KindZ, const, external, slack, dummy, slack≢external}
+use Rattle.simplex.specs.Opt.{Kind as KindZ, const, external, slack, dummy, slack≢external, slack≢const}
 use Rattle.simplex.specs.Pass.{State, step}
 use Rattle.simplex.specs.Bound.{Mem}
 use Rattle.simplex.specs.Dual.{Good}
-use Rattle.simplex.specs.Problem.{Con, Models}
+use Rattle.simplex.specs.Problem.{Con, Meets, Models}
+use Rattle.simplex.specs.Never.{never-16}
 use Rattle.simplex.specs.Final.{Best, dual-models, dragged}
 use Rattle.steps.specs.Number.{zero64, belowZero, Mark, allWhole, notWhole, notFinite}
-use Rattle.steps.specs.Symbol.{Symbol, isExternal, isRestricted}
+use Rattle.steps.specs.Symbol.{Symbol, isExternal, isRestricted, isDummy}
 use Rattle.steps.specs.Row.{Row, Written, solveForSymbols}
 use Rattle.steps.specs.State.{Basic}
 use Rattle.steps.specs.Work.{Work, Outcome, refused, going, _>>=_, refuse, checkFinite, countPivot, marking, withRows, withTableau, withChanges, withArtificial, withObjective, withInfeasible, findRow, dropRow, keepRow}
@@ -32,138 +33,17 @@ use Rattle.steps.specs.Substitute.{substituteInRows, rowsOf, without, push, pus
 use Rattle.steps.specs.Optimise.{isBelow, Popped, allPopped, popped, popBelow, getDualEnteringSymbol, DualChoice, feasible, noEntering, dualPivotOn, chooseDualPivot, countedDualPivot, dualOptimise}
 use Rattle.bridge.specs.Quot.{yes}
 use Rattle.bridge.specs.Nums.{belowZero-z, finite≢}
-use Rattle.bridge.specs.Rows.{In, Sym?, is, isnt, sym?, ReadsRow}
+use Rattle.bridge.specs.Rows.{In, NotIn, Sym?, is, isnt, sym?, ReadsRow}
 use Rattle.bridge.specs.Finds.{none≢some, some-injective, find-hit, find-miss, find-none, find-keep-other, sub-all, drop-all}
 use Rattle.bridge.specs.Table.{kindOf, RowAt, Live, ReadsWork, in-nonzero, found-in, enter-parts}
-use Rattle.bridge.specs.Chosen.{restricted-is, slack-restricted}
+use Rattle.bridge.specs.Chosen.{restricted-is, slack-not-dummy}
+use Rattle.bridge.specs.Looks.{in-or-not}
 use Rattle.bridge.specs.Runs.{markOf, pivot-mark}
+use Rattle.bridge.specs.Infeasible.{mem-rev, all-rev, at-mem, pushed-keep, pushed-all, pushed-found, Pops, through, stops, pops, below-row, is-below}
 use Rattle.bridge.specs.Duals.{Enters, Entering, dual-entering, dual-pivot, Moved}
 
--- ---- lists of ids
-mem-rev : (j : ℕ) (l r : List ℕ) → Mem j l ⊎ Mem j r → Mem j (reverseAux l r)
-mem-rev j [] r (inl m) = absurd m
-mem-rev j [] r (inr m) = m
-mem-rev j (x ∷ l) r (inl (inl e)) = mem-rev j l (x ∷ r) (inr (inl e))
-mem-rev j (x ∷ l) r (inl (inr m)) = mem-rev j l (x ∷ r) (inl m)
-mem-rev j (x ∷ l) r (inr m) = mem-rev j l (x ∷ r) (inr (inr m))
-
-all-rev : (Q : ℕ → Type 0) (l r : List ℕ) → All Q l → All Q r → All Q (reverseAux l r)
-all-rev Q [] r a b = b
-all-rev Q (x ∷ l) r a b = all-rev Q l (x ∷ r) (a .1) (a .0, b)
-
-at-mem : (Q : ℕ → Type 0) (l : List ℕ) (j : ℕ) → All Q l → Mem j l → Q j
-at-mem Q [] j a m = absurd m
-at-mem Q (x ∷ l) j a (inl e) = subst Q (sym e) (a .0)
-at-mem Q (x ∷ l) j a (inr m) = at-mem Q l j (a .1) m
-
-mem-end : (s : ℕ) (l : List ℕ) → Mem s (l ++ (s ∷ []))
-mem-end s [] = inl refl
-mem-end s (x ∷ l) = inr (mem-end s l)
-
-mem-front : (j s : ℕ) (l : List ℕ) → Mem j l → Mem j (l ++ (s ∷ []))
-mem-front j s [] m = absurd m
-mem-front j s (x ∷ l) (inl e) = inl e
-mem-front j s (x ∷ l) (inr m) = inr (mem-front j s l m)
-
-all-end : (Q : ℕ → Type 0) (s : ℕ) (l : List ℕ) → All Q l → Q s → All Q (l ++ (s ∷ []))
-all-end Q s [] a q = (q, tt)
-all-end Q s (x ∷ l) a q = (a .0, all-end Q s l (a .1) q)
-
-mem-without : (j s : ℕ) (l : List ℕ) → j ≢ s → Mem j l → Mem j (without s l)
-unfolding without
-mem-without j s [] n m = absurd m
-mem-without j s (x ∷ l) n m = go (eqb s x) refl m (mem-without j s l n)
-  where
-    go : (t : Bool) → eqb s x ≡ t → (j ≡ x) ⊎ Mem j l → (Mem j l → Mem j (without s l)) → Mem j (elim t [ true ↦ l | false ↦ x ∷ without s l ])
-    go true e (inl p) ih = absurd (n (p ∙ sym (eqb→eq s x (subst T (sym e) tt))))
-    go true e (inr m) ih = m
-    go false e (inl p) ih = inl p
-    go false e (inr m) ih = inr (ih m)
-
-all-without : (Q : ℕ → Type 0) (s : ℕ) (l : List ℕ) → All Q l → All Q (without s l)
-unfolding without
-all-without Q s [] a = tt
-all-without Q s (x ∷ l) a = go (eqb s x) (all-without Q s l (a .1))
-  where
-    go : (t : Bool) → All Q (without s l) → All Q (elim t [ true ↦ l | false ↦ x ∷ without s l ])
-    go true ih = a .1
-    go false ih = (a .0, ih)
-
-push-keep : (j s : ℕ) (l : List ℕ) → Mem j l → Mem j (push l s)
-unfolding push
-push-keep j s l m = go (eqb j s) refl
-  where
-    go : (t : Bool) → eqb j s ≡ t → Mem j (without s l ++ (s ∷ []))
-    go true e = subst (λ (x : ℕ). Mem x (without s l ++ (s ∷ []))) (sym (eqb→eq j s (subst T (sym e) tt))) (mem-end s (without s l))
-    go false e = mem-front j s (without s l) (mem-without j s l (λ p. subst T e (subst (λ (y : ℕ). T (eqb j y)) p (eqb-refl j))) m)
-
--- ---- "a restricted row below 0 is pushed"
-pushed-keep : (bs : List Basic) (j : ℕ) (l : List ℕ) → Mem j l → Mem j (pushBelow bs l)
-unfolding pushBelow
-pushed-keep [] j l m = m
-pushed-keep (b ∷ bs) j l m = pushed-keep bs j (cond (isRestricted (b .symbol) && belowZero (b .row .constant)) (push l (b .symbol .id)) l) (go (isRestricted (b .symbol) && belowZero (b .row .constant)))
-  where
-    go : (t : Bool) → Mem j (cond t (push l (b .symbol .id)) l)
-    go true = push-keep j (b .symbol .id) l m
-    go false = m
-
-pushed-all : (Q : ℕ → Type 0) (bs : List Basic) (l : List ℕ) → All Q l → All (λ (b : Basic). isRestricted (b .symbol) ≡ true → Q (b .symbol .id)) bs → All Q (pushBelow bs l)
-unfolding pushBelow push
-pushed-all Q [] l a f = a
-pushed-all Q (b ∷ bs) l a f = pushed-all Q bs (cond (isRestricted (b .symbol) && belowZero (b .row .constant)) (push l (b .symbol .id)) l) (go (isRestricted (b .symbol)) refl (belowZero (b .row .constant))) (f .1)
-  where
-    go : (t : Bool) → isRestricted (b .symbol) ≡ t → (r : Bool) → All Q (cond (isRestricted (b .symbol) && r) (without (b .symbol .id) l ++ (b .symbol .id ∷ [])) l)
-    go true e true = subst (λ (t : Bool). All Q (cond (t && true) (without (b .symbol .id) l ++ (b .symbol .id ∷ [])) l)) (sym e) (all-end Q (b .symbol .id) (without (b .symbol .id) l) (all-without Q (b .symbol .id) l a) (f .0 e))
-    go true e false = subst (λ (t : Bool). All Q (cond (t && false) (without (b .symbol .id) l ++ (b .symbol .id ∷ [])) l)) (sym e) a
-    go false e r = subst (λ (t : Bool). All Q (cond (t && r) (without (b .symbol .id) l ++ (b .symbol .id ∷ [])) l)) (sym e) a
-
-pushed-found : (kind : ℕ → KindZ) (bs : List Basic) (j : ℕ) (r : Row) (l : List ℕ) → All (λ (b : Basic). kind (b .symbol .id) ≡ kindOf (b .symbol .kind)) bs → findRow j bs ≡ some r
-    → kind j ≡ slack → belowZero (r .constant) ≡ true → Mem j (pushBelow bs l)
-unfolding pushBelow push
-pushed-found kind [] j r l a f s c = absurd (none≢some (sym (find-none j) ∙ f))
-pushed-found kind (b ∷ bs) j r l a f s c = go (sym? j (b .symbol)) (λ q. pushed-found kind bs j r (cond (isRestricted (b .symbol) && belowZero (b .row .constant)) (push l (b .symbol .id)) l) (a .1) q s c)
-  where
-    go : Sym? j (b .symbol) → (findRow j bs ≡ some r → Mem j (pushBelow bs (cond (isRestricted (b .symbol) && belowZero (b .row .constant)) (push l (b .symbol .id)) l)))
-        → Mem j (pushBelow bs (cond (isRestricted (b .symbol) && belowZero (b .row .constant)) (push l (b .symbol .id)) l))
-    go (is e p d) ih =
-        let same : b .row ≡ r = some-injective (sym (find-hit j b bs e) ∙ f) in
-        let both : isRestricted (b .symbol) && belowZero (b .row .constant) ≡ true = ap₂ (λ (x y : Bool). x && y) (slack-restricted (b .symbol) (sym (a .0) ∙ ap kind (sym p) ∙ s)) (ap (λ (r : Row). belowZero (r .constant)) same ∙ c) in
-        pushed-keep bs j (cond (isRestricted (b .symbol) && belowZero (b .row .constant)) (push l (b .symbol .id)) l)
-        (subst (λ (t : Bool). Mem j (cond t (push l (b .symbol .id)) l)) (sym both) (subst (λ (x : ℕ). Mem x (without (b .symbol .id) l ++ (b .symbol .id ∷ []))) (sym p) (mem-end (b .symbol .id) (without (b .symbol .id) l))))
-    go (isnt e p d) ih = ih (sym (find-miss j b bs e) ∙ f)
-
--- ---- what is popped
-pub data Pops (Q : ℕ → Type 0) (bs : List Basic) (l : List ℕ) : Popped → Type 0 where
-  through : All (λ s. isBelow s bs ≡ false) l → Pops Q bs l allPopped
-  stops : (s : ℕ) (rest : List ℕ) → isBelow s bs ≡ true → Q s → All Q rest → Pops Q bs l (popped s rest)
-
-pops : (Q : ℕ → Type 0) (bs : List Basic) (l : List ℕ) → All Q l → Pops Q bs l (popBelow bs l)
-unfolding popBelow
-pops Q bs [] a = through tt
-pops Q bs (s ∷ rest) a = go (isBelow s bs) refl (popBelow bs rest) (pops Q bs rest (a .1))
-  where
-    more : isBelow s bs ≡ false → (t : Popped) → Pops Q bs rest t → Pops Q bs (s ∷ rest) t
-    more e t (through b) = through (e, b)
-    more e t (stops x y b c d) = stops x y b c d
-
-    go : (t : Bool) → isBelow s bs ≡ t → (p : Popped) → Pops Q bs rest p → Pops Q bs (s ∷ rest) (elim (isBelow s bs) [ true ↦ popped s rest | false ↦ p ])
-    go true e p ih = rw e (stops s rest e (a .0) (a .1))
-    go false e p ih = rw e (more e p ih)
-
-below-row : (s : ℕ) (bs : List Basic) → isBelow s bs ≡ true → (r : Row) × (findRow s bs ≡ some r) × (belowZero (r .constant) ≡ true)
-unfolding isBelow
-below-row s bs e = go (findRow s bs) refl e
-  where
-    go : (t : Option Row) → findRow s bs ≡ t → (elim t as (λ x. Bool) [ none ↦ false | some r ↦ belowZero (r .constant) ]) ≡ true → (r : Row) × (findRow s bs ≡ some r) × (belowZero (r .constant) ≡ true)
-    go none q e = absurd (true≢false (sym e))
-    go (some r) q e = (r, q, e)
-
-is-below : (s : ℕ) (bs : List Basic) (r : Row) → findRow s bs ≡ some r → belowZero (r .constant) ≡ true → isBelow s bs ≡ true
-unfolding isBelow
-is-below s bs r q e = ap (λ (t : Option Row). elim t as (λ x. Bool) [ none ↦ false | some r ↦ belowZero (r .constant) ]) q ∙ e
-
 -- ---- a pivot's list and rows
-enter-list : (s : Symbol) (r : Row) (w : Work) → enterBasis s r w .tableau .infeasible ≡ pushBelow (rowsOf (substituteInRows (s .id) (w .tableau .symbols) r (w .tableau .rows))) (w .tableau .infeasible)
+pub enter-list : (s : Symbol) (r : Row) (w : Work) → enterBasis s r w .tableau .infeasible ≡ pushBelow (rowsOf (substituteInRows (s .id) (w .tableau .symbols) r (w .tableau .rows))) (w .tableau .infeasible)
 unfolding enterBasis substitute note withTableau withChanges withArtificial marking withRows withObjective withInfeasible
 enter-list s r w = go (isExternal s && ne (r .constant) zero64)
   where
@@ -172,7 +52,7 @@ enter-list s r w = go (isExternal s && ne (r .constant) zero64)
     go true = refl
     go false = refl
 
-pivot-is : (l : ℕ) (e : Symbol) (w : Work) (row : Row) → findRow l (w .tableau .rows) ≡ some row
+pub pivot-is : (l : ℕ) (e : Symbol) (w : Work) (row : Row) → findRow l (w .tableau .rows) ≡ some row
     → pivot l e w ≡ enterBasis e (solveForSymbols l (e .id) (w .tableau .symbols) row .row) (marking (solveForSymbols l (e .id) (w .tableau .symbols) row .mark) (withRows (dropRow l (w .tableau .rows)) w))
 unfolding pivot
 pivot-is l e w row q = rw (q, pivot) refl
@@ -182,16 +62,12 @@ pub record Lists (l : ℕ) (e : Symbol) (w : Work) (row : Row) : Type 0 where
   pub rows : pivot l e w .tableau .rows
       ≡ keepRow (record { symbol = e; row = solveForSymbols l (e .id) (w .tableau .symbols) row .row }) (rowsOf (substituteInRows (e .id) (w .tableau .symbols) (solveForSymbols l (e .id) (w .tableau .symbols) row .row) (dropRow l (w .tableau .rows))))
 
-pivot-lists : (l : ℕ) (e : Symbol) (w : Work) (row : Row) → findRow l (w .tableau .rows) ≡ some row → Lists l e w row
+pub pivot-lists : (l : ℕ) (e : Symbol) (w : Work) (row : Row) → findRow l (w .tableau .rows) ≡ some row → Lists l e w row
 unfolding marking withRows withTableau
 pivot-lists l e w row q =
     let s : Written = solveForSymbols l (e .id) (w .tableau .symbols) row in
     let v : Work = marking (s .mark) (withRows (dropRow l (w .tableau .rows)) w) in
     record { list = ap (λ (x : Work). x .tableau .infeasible) (pivot-is l e w row q) ∙ enter-list e (s .row) v; rows = ap (λ (x : Work). x .tableau .rows) (pivot-is l e w row q) ∙ enter-parts e (s .row) v .rows }
-
-all-map : {A : Type 0} (P Q : A → Type 0) → ((x : A) → P x → Q x) → (l : List A) → All P l → All Q l
-all-map P Q f [] a = tt
-all-map P Q f (x ∷ l) a = (f x (a .0), all-map P Q f l (a .1))
 
 dummy≢external : dummy ≢ external
 dummy≢external e = slack≢external (ap turn e)
@@ -253,6 +129,26 @@ module _ (n : ℕ) (kind : ℕ → KindZ) (inside : (j : ℕ) → kind j ≡ sla
 
     pub found : Entering (S .R s) (S .o) (w .tableau .symbols) (getDualEnteringSymbol s w)
     found = dual-entering n kind w S (W .good) z (W .reads) inside s (at-s .0) sl low row hit
+
+    -- where some assignment meets the required constraints, a symbol enters: 16 is never given
+    pub some-way : 0 < n → (x : Vec) → 0ℤ ≺ x 0 → All (Meets n x) cs → Entering (S .R s) (S .o) (w .tableau .symbols) none → ⊥
+    some-way in-n x d M none-in = never-16 n kind (S .B) (S .R) (S .o) cs s x in-n (W .good .zero) (W .good .consts) (W .models) (at-s .0) sl low (λ i e. W .good .no-vars s i ks e) none d M
+      where
+        at-symbol : (i : ℕ) → kind i ≡ slack → (xs : List Symbol) → All (λ (y : Symbol). kind (y .id) ≡ kindOf (y .kind)) xs → All (λ (y : Symbol). not (isDummy y) ≡ true → 0ℤ ≺ S .R s (y .id) → ⊥) xs → In i xs → 0ℤ ≺ S .R s i → ⊥
+        at-symbol i e [] k a m h = absurd m
+        at-symbol i e (y ∷ xs) k a (inl p) h = a .0 (slack-not-dummy y (sym (k .0) ∙ ap kind (sym p) ∙ e)) (subst (λ (j : ℕ). 0ℤ ≺ S .R s j) p h)
+        at-symbol i e (y ∷ xs) k a (inr m) h = at-symbol i e xs (k .1) (a .1) m h
+
+        by-sign : (i : ℕ) → (0ℤ ≺ S .R s i → ⊥) → (0ℤ ≺ S .R s i) ⊎ (S .R s i ≼ 0ℤ) → S .R s i ≼ 0ℤ
+        by-sign i f (inl h) = absurd (f h)
+        by-sign i f (inr h) = h
+
+        none : (i : ℕ) → kind i ≡ slack → S .R s i ≼ 0ℤ
+        none i e = go (in-or-not i (w .tableau .symbols))
+          where
+            go : In i (w .tableau .symbols) ⊎ NotIn i (w .tableau .symbols) → S .R s i ≼ 0ℤ
+            go (inl m) = by-sign i (at-symbol i e (w .tableau .symbols) (W .reads .kinds) none-in m) (≺-or-≼ 0ℤ (S .R s i))
+            go (inr m) = absurd (slack≢external (sym e ∙ W .reads .unknown i (λ z. slack≢const (sym e ∙ ap kind z ∙ W .good .zero)) m))
 
     module _ (e : Symbol) (E : Enters (S .R s) (S .o) (w .tableau .symbols) e) (m : pivot s e (withInfeasible (reverse rest) w) .mark ≡ allWhole) where
       E′ : Enters (S .R s) (S .o) (w′ .tableau .symbols) e
@@ -334,7 +230,7 @@ module _ (n : ℕ) (kind : ℕ → KindZ) (inside : (j : ℕ) → kind j ≡ sla
                   ∙ ap (findRow j) (sym (lists .rows)) ∙ q) k (belowZero-z (r .1 .constant .isz) ∙ yes c))
 
 -- ---- the loop
-turned : (left : ℕ) (s : ℕ) (l : List ℕ) (e : Symbol) (w : Work) (Q : Outcome Work → Type 0) → (pivot s e (withInfeasible l w) .mark ≡ notFinite → Q (refused 13 (pivot s e (withInfeasible l w) .pivots) notFinite))
+pub turned : (left : ℕ) (s : ℕ) (l : List ℕ) (e : Symbol) (w : Work) (Q : Outcome Work → Type 0) → (pivot s e (withInfeasible l w) .mark ≡ notFinite → Q (refused 13 (pivot s e (withInfeasible l w) .pivots) notFinite))
     → Q (dualOptimise left (countPivot (pivot s e (withInfeasible l w)))) → Q (countedDualPivot s l e w >>= λ v. dualOptimise left v)
 unfolding countedDualPivot checkFinite refuse _>>=_
 turned left s l e w Q f h = go (pivot s e (withInfeasible l w) .mark) refl
@@ -379,11 +275,14 @@ module _ (n : ℕ) (kind : ℕ → KindZ) (inside : (j : ℕ) → kind j ≡ sla
     pub good : Good n kind state
     pub reads : ReadsWork kind x (state .B) (state .R) (state .o) other
     pub models : Models n kind (state .B) (state .R) (state .o) cs
+    pub no-var : (j : ℕ) → kind j ≡ external → state .o j ≡ 0ℤ
+    pub up : (j : ℕ) → state .B j ≡ true → kind j ≡ slack → 0ℤ ≼ state .R j 0
+    pub idle : x .tableau .infeasible ≡ []
     pub best : Best n cs (λ j. state .R j 0)
 
   abbrev pub Ends : Outcome Work → Type 0
   Ends (going x) = Dragged x
-  Ends (refused k p t) = (k ≡ 14) ⊎ (k ≡ 16)
+  Ends (refused k p t) = k ≡ 14
 
   counted : (x : Work) (S : State) (z : Vec) → Drag n kind inside cs x S z → Drag n kind inside cs (countPivot x) S z
   unfolding countPivot
@@ -395,11 +294,21 @@ module _ (n : ℕ) (kind : ℕ → KindZ) (inside : (j : ℕ) → kind j ≡ sla
   -- all popped: nothing is below 0
   rest : 0 < n → (w : Work) (S : State) (z : Vec) → Drag n kind inside cs w S z → All (λ s. isBelow s (w .tableau .rows) ≡ false) (reverse (w .tableau .infeasible)) → Dragged (withInfeasible [] w)
   unfolding withInfeasible withTableau
-  rest in-n w S z W A = record { state = S; other = z; good = W .good; reads = W .reads; models = W .models; best = dragged n kind cs S in-n (W .good) (W .models) (W .no-var) (λ j b s. up j b s (≺-or-≼ (S .R j 0) 0ℤ)) }
+  rest in-n w S z W A = record {
+    state = S;
+    other = z;
+    good = W .good;
+    reads = W .reads;
+    models = W .models;
+    no-var = W .no-var;
+    up = λ j b s. above j b s (≺-or-≼ (S .R j 0) 0ℤ);
+    idle = refl;
+    best = dragged n kind cs S in-n (W .good) (W .models) (W .no-var) (λ j b s. above j b s (≺-or-≼ (S .R j 0) 0ℤ));
+  }
     where
-      up : (j : ℕ) → S .B j ≡ true → kind j ≡ slack → (S .R j 0 ≺ 0ℤ) ⊎ (0ℤ ≼ S .R j 0) → 0ℤ ≼ S .R j 0
-      up j b s (inr h) = h
-      up j b s (inl h) = go (findRow j (w .tableau .rows)) refl (W .reads .rows j)
+      above : (j : ℕ) → S .B j ≡ true → kind j ≡ slack → (S .R j 0 ≺ 0ℤ) ⊎ (0ℤ ≼ S .R j 0) → 0ℤ ≼ S .R j 0
+      above j b s (inr h) = h
+      above j b s (inl h) = go (findRow j (w .tableau .rows)) refl (W .reads .rows j)
         where
           go : (t : Option Row) → findRow j (w .tableau .rows) ≡ t → RowAt (w .tableau .symbols) t (S .B j) (S .R j) → 0ℤ ≼ S .R j 0
           go none q r = absurd (true≢false (sym b ∙ r))
@@ -407,44 +316,43 @@ module _ (n : ℕ) (kind : ℕ → KindZ) (inside : (j : ℕ) → kind j ≡ sla
               absurd (true≢false (sym (is-below j (w .tableau .rows) y q (belowZero-z (r .1 .constant .isz) ∙ yes h))
               ∙ at-mem (λ s. isBelow s (w .tableau .rows) ≡ false) (reverse (w .tableau .infeasible)) j A (mem-rev j (w .tableau .infeasible) [] (inl (W .full j b s h)))))
 
-  -- what is chosen
-  data Turn (w : Work) (S : State) (z : Vec) : DualChoice → Type 0 where
-    at-rest : All (λ s. isBelow s (w .tableau .rows) ≡ false) (reverse (w .tableau .infeasible)) → Turn w S z feasible
-    no-way : Turn w S z noEntering
-    pivots : (s : ℕ) (l : List ℕ) (e : Symbol) → (pivot s e (withInfeasible (reverse l) w) .mark ≡ allWhole → Drag n kind inside cs (pivot s e (withInfeasible (reverse l) w)) (step s (e .id) S) (pivoted s (e .id) (S .R) z))
-        → Turn w S z (dualPivotOn s (reverse l) e)
+  -- x is some assignment that meets the required constraints, such as the values before a drag
+  module _ (in-n : 0 < n) (x : Vec) (x-up : 0ℤ ≺ x 0) (M : All (Meets n x) cs) where
+    -- what is chosen
+    data Turn (w : Work) (S : State) (z : Vec) : DualChoice → Type 0 where
+      at-rest : All (λ s. isBelow s (w .tableau .rows) ≡ false) (reverse (w .tableau .infeasible)) → Turn w S z feasible
+      pivots : (s : ℕ) (l : List ℕ) (e : Symbol) → (pivot s e (withInfeasible (reverse l) w) .mark ≡ allWhole → Drag n kind inside cs (pivot s e (withInfeasible (reverse l) w)) (step s (e .id) S) (pivoted s (e .id) (S .R) z))
+          → Turn w S z (dualPivotOn s (reverse l) e)
 
-  turn : (w : Work) (S : State) (z : Vec) → Drag n kind inside cs w S z → Turn w S z (chooseDualPivot w)
-  unfolding chooseDualPivot
-  turn w S z W = by-list (popBelow (w .tableau .rows) (reverse (w .tableau .infeasible))) (pops (λ s. kind s ≢ external) (w .tableau .rows) (reverse (w .tableau .infeasible)) (all-rev (λ s. kind s ≢ external) (w .tableau .infeasible) [] (W .listed) tt))
-    where
-      by-symbol : (s : ℕ) (l : List ℕ) (b : isBelow s (w .tableau .rows) ≡ true) (k : kind s ≢ external) (a : All (λ s. kind s ≢ external) l) (t : Option Symbol) → Entering (S .R s) (S .o) (w .tableau .symbols) t
-          → Turn w S z (elim t [ none ↦ noEntering | some e ↦ dualPivotOn s (reverse l) e ])
-      by-symbol s l b k a none f = no-way
-      by-symbol s l b k a (some e) E = pivots s l e (λ m. next n kind inside cs w S z W s l b k a e E m)
+    turn : (w : Work) (S : State) (z : Vec) → Drag n kind inside cs w S z → Turn w S z (chooseDualPivot w)
+    unfolding chooseDualPivot
+    turn w S z W = by-list (popBelow (w .tableau .rows) (reverse (w .tableau .infeasible))) (pops (λ s. kind s ≢ external) (w .tableau .rows) (reverse (w .tableau .infeasible)) (all-rev (λ s. kind s ≢ external) (w .tableau .infeasible) [] (W .listed) tt))
+      where
+        by-symbol : (s : ℕ) (l : List ℕ) (b : isBelow s (w .tableau .rows) ≡ true) (k : kind s ≢ external) (a : All (λ s. kind s ≢ external) l) (t : Option Symbol) → Entering (S .R s) (S .o) (w .tableau .symbols) t
+            → Turn w S z (elim t [ none ↦ noEntering | some e ↦ dualPivotOn s (reverse l) e ])
+        by-symbol s l b k a none f = absurd (some-way n kind inside cs w S z W s l b k a in-n x x-up M f)
+        by-symbol s l b k a (some e) E = pivots s l e (λ m. next n kind inside cs w S z W s l b k a e E m)
 
-      by-list : (p : Popped) → Pops (λ s. kind s ≢ external) (w .tableau .rows) (reverse (w .tableau .infeasible)) p
-          → Turn w S z (elim p [ allPopped ↦ feasible | popped s l ↦ elim (getDualEnteringSymbol s w) [ none ↦ noEntering | some e ↦ dualPivotOn s (reverse l) e ] ])
-      by-list p (through A) = at-rest A
-      by-list p (stops s l b k a) = by-symbol s l b k a (getDualEnteringSymbol s w) (found n kind inside cs w S z W s l b k a)
+        by-list : (p : Popped) → Pops (λ s. kind s ≢ external) (w .tableau .rows) (reverse (w .tableau .infeasible)) p
+            → Turn w S z (elim p [ allPopped ↦ feasible | popped s l ↦ elim (getDualEnteringSymbol s w) [ none ↦ noEntering | some e ↦ dualPivotOn s (reverse l) e ] ])
+        by-list p (through A) = at-rest A
+        by-list p (stops s l b k a) = by-symbol s l b k a (getDualEnteringSymbol s w) (found n kind inside cs w S z W s l b k a)
 
-  -- THE DUAL PASS
-  pub drag : 0 < n → (left : ℕ) (w : Work) (S : State) (z : Vec) → Drag n kind inside cs w S z → markOf (dualOptimise left w) ≡ allWhole → Ends (dualOptimise left w)
-  unfolding dualOptimise refuse markOf Whole-drag
-  drag in-n zero w S z W = go (chooseDualPivot w) (turn w S z W)
-    where
-      go : (c : DualChoice) → Turn w S z c → Whole-drag (elim c [ feasible ↦ going (withInfeasible [] w) | noEntering ↦ refused 16 (w .pivots) (w .mark) | dualPivotOn s l e ↦ refused 14 (w .pivots) (w .mark) ])
-      go c (at-rest A) = λ m. rest in-n w S z W A
-      go c no-way = λ m. inr refl
-      go c (pivots s l e f) = λ m. inl refl
-  drag in-n (suc left) w S z W = go (chooseDualPivot w) (turn w S z W) (drag in-n left)
-    where
-      go : (c : DualChoice) → Turn w S z c → ((w : Work) (S : State) (z : Vec) → Drag n kind inside cs w S z → markOf (dualOptimise left w) ≡ allWhole → Ends (dualOptimise left w))
-          → Whole-drag (elim c [ feasible ↦ going (withInfeasible [] w) | noEntering ↦ refused 16 (w .pivots) (w .mark) | dualPivotOn s l e ↦ countedDualPivot s l e w >>= λ v. dualOptimise left v ])
-      go c (at-rest A) ih = λ m. rest in-n w S z W A
-      go c no-way ih = λ m. inr refl
-      go c (pivots s l e f) ih =
-          turned left s (reverse l) e w Whole-drag (λ q m. absurd (finite≢ m))
-          (λ m. ih (countPivot (pivot s e (withInfeasible (reverse l) w))) (step s (e .id) S) (pivoted s (e .id) (S .R) z)
-          (counted (pivot s e (withInfeasible (reverse l) w)) (step s (e .id) S) (pivoted s (e .id) (S .R) z)
-          (f (counted-mark (pivot s e (withInfeasible (reverse l) w)) (dual-mark left (countPivot (pivot s e (withInfeasible (reverse l) w))) m)))) m)
+    -- THE DUAL PASS
+    pub drag : (left : ℕ) (w : Work) (S : State) (z : Vec) → Drag n kind inside cs w S z → markOf (dualOptimise left w) ≡ allWhole → Ends (dualOptimise left w)
+    unfolding dualOptimise refuse markOf Whole-drag
+    drag zero w S z W = go (chooseDualPivot w) (turn w S z W)
+      where
+        go : (c : DualChoice) → Turn w S z c → Whole-drag (elim c [ feasible ↦ going (withInfeasible [] w) | noEntering ↦ refused 16 (w .pivots) (w .mark) | dualPivotOn s l e ↦ refused 14 (w .pivots) (w .mark) ])
+        go c (at-rest A) = λ m. rest in-n w S z W A
+        go c (pivots s l e f) = λ m. refl
+    drag (suc left) w S z W = go (chooseDualPivot w) (turn w S z W) (drag left)
+      where
+        go : (c : DualChoice) → Turn w S z c → ((w : Work) (S : State) (z : Vec) → Drag n kind inside cs w S z → markOf (dualOptimise left w) ≡ allWhole → Ends (dualOptimise left w))
+            → Whole-drag (elim c [ feasible ↦ going (withInfeasible [] w) | noEntering ↦ refused 16 (w .pivots) (w .mark) | dualPivotOn s l e ↦ countedDualPivot s l e w >>= λ v. dualOptimise left v ])
+        go c (at-rest A) ih = λ m. rest in-n w S z W A
+        go c (pivots s l e f) ih =
+            turned left s (reverse l) e w Whole-drag (λ q m. absurd (finite≢ m))
+            (λ m. ih (countPivot (pivot s e (withInfeasible (reverse l) w))) (step s (e .id) S) (pivoted s (e .id) (S .R) z)
+            (counted (pivot s e (withInfeasible (reverse l) w)) (step s (e .id) S) (pivoted s (e .id) (S .R) z)
+            (f (counted-mark (pivot s e (withInfeasible (reverse l) w)) (dual-mark left (countPivot (pivot s e (withInfeasible (reverse l) w))) m)))) m)

@@ -33,7 +33,7 @@ use Rattle.bridge.specs.Table.{RowAt, ReadsWork}
 use Rattle.bridge.specs.Runs.{markOf, ReadsGoal, carried, Ran, rests, used-up, no-leaving, run}
 
 -- ---- the value of a column: its row's constant, or 0.0
-pub valueAt : ℕ → List Basic → Float
+unfoldable pub valueAt : ℕ → List Basic → Float
 valueAt j bs = elim (findRow j bs) [ none ↦ zero64 | some r ↦ r .constant ]
 
 pub value-z : (kind : ℕ → KindZ) (w : Work) (B : Mask) (R : ℕ → Vec) (o a : Vec) → ReadsWork kind w B R o a → ((j : ℕ) → B j ≡ false → (i : ℕ) → R j i ≡ δ j i)

@@ -17,7 +17,8 @@ use lib.Ieee.Order.{round-mono, transfer, kept, drop}
 use lib.Ieee.Fits.{down-pos, round-is}
 use lib.Ieee.Bits.{is-true}
 use Rattle.laws.specs.Z.{P, N, at, _⊗_, ⊖_, p, n, _≼_, _≺_, eqZ, ltZ↑, ltN, lt→N, N→lt, N→le}
-use Rattle.exact.specs.Whole.{IsZ, sgn, bool-ext}
+use Rattle.exact.specs.Whole.{IsZ, sgn}
+use Rattle.exact.specs.Compare.{bool-ext, below-z}
 
 -- ---- the unit: 2 ^ 1074 of the format's smallest values are 1
 unfoldable pub D : ℕ
@@ -35,34 +36,6 @@ pub record Over (x : Float) (z : ℤ) : Type 0 where
   pub is : sgn sign size ≡ z
 
 -- ---- the order of such floats is that of the integers
-below-scaled : (i j c : ℕ) → 0 < c → ltb (i * c) (j * c) ≡ ltb i j
-below-scaled i j c cp = bool-ext (ltb (i * c) (j * c)) (ltb i j)
-    (λ t. lt→ltb i j (lt-of-mul-lt-mul-right c (ltb→lt (i * c) (j * c) t)))
-    (λ t. lt→ltb (i * c) (j * c) (mul-lt-mul-of-pos-right (ltb→lt i j t) cp))
-
-sum-pos : (i j c : ℕ) → 0 < c → ltb 0 (i * c + j * c) ≡ ltb 0 (i + j)
-sum-pos i j c cp = ap (ltb 0) (sym (e i j c)) ∙ ap (λ (x : ℕ). ltb x ((i + j) * c)) (sym (zero-mul c)) ∙ below-scaled 0 (i + j) c cp
-  where
-    e : (i j c : ℕ) → (i + j) * c ≡ i * c + j * c
-    e i j c = omega arith
-
-below-z : (s t : Bool) (i j c : ℕ) → 0 < c → below s (i * c) t (j * c) ≡ ltZ (sgn s i) (sgn t j)
-below-z false false i j c cp = below-scaled i j c cp
-below-z false true i zero c cp = sym (leb·suc-zero i)
-below-z false true i (suc j) c cp = refl
-below-z true false zero j c cp = sum-pos 0 j c cp ∙ ap (ltb 0) (e j)
-  where
-    e : (j : ℕ) → 0 + j ≡ j
-    e j = omega arith
-below-z true false (suc i) j c cp = sum-pos (suc i) j c cp ∙ ap (ltb 0) (e i j) ∙ leb·suc-suc 0 (i + j) ∙ leb·zero (i + j)
-  where
-    e : (i j : ℕ) → suc i + j ≡ suc (i + j)
-    e i j = omega arith
-below-z true true zero zero c cp = below-scaled 0 0 c cp
-below-z true true zero (suc j) c cp = below-scaled (suc j) 0 c cp ∙ leb·suc-zero (suc j)
-below-z true true (suc i) zero c cp = below-scaled 0 (suc i) c cp ∙ leb·suc-suc 0 i ∙ leb·zero i
-below-z true true (suc i) (suc j) c cp = below-scaled (suc j) (suc i) c cp ∙ leb·suc-suc (suc j) i
-
 -- two pairs of naturals in one proportion
 below-same : (s t : Bool) (a b c i j d : ℕ) → 0 < c → 0 < d → a * c ≡ i * d → b * c ≡ j * d → below s a t b ≡ ltZ (sgn s i) (sgn t j)
 below-same s t a b c i j d C E p q =

@@ -87,7 +87,7 @@ pivot-pivots l e w = pivot-cases l e w (λ (x : Work). x .pivots ≡ w .pivots) 
     entered true s = refl
     entered false s = refl
 
-counted-mark : (w : Work) → countPivot w .mark ≡ allWhole → w .mark ≡ allWhole
+pub counted-mark : (w : Work) → countPivot w .mark ≡ allWhole → w .mark ≡ allWhole
 unfolding countPivot
 counted-mark w m = m
 
@@ -96,7 +96,7 @@ unfolding countPivot
 counted-one l e w = ap suc (pivot-pivots l e w)
 
 -- ---- one turn of the loop
-turned : (left : ℕ) (g : Goal) (l e : Symbol) (w : Work) (Q : Outcome Work → Type 0) → (pivot (l .id) e w .mark ≡ notFinite → Q (refused 13 (pivot (l .id) e w .pivots) notFinite))
+pub turned : (left : ℕ) (g : Goal) (l e : Symbol) (w : Work) (Q : Outcome Work → Type 0) → (pivot (l .id) e w .mark ≡ notFinite → Q (refused 13 (pivot (l .id) e w .pivots) notFinite))
     → Q (optimise left g (countPivot (pivot (l .id) e w))) → Q (countedPivot l e w >>= λ v. optimise left g v)
 unfolding countedPivot checkFinite refuse _>>=_
 turned left g l e w Q f h = go (pivot (l .id) e w .mark) refl
@@ -166,7 +166,7 @@ module _ (n : ℕ) (kind : ℕ → KindZ) (ids : List ℕ) (asc : Asc ids) (cove
   module _ (w : Work) (S : State) (G : Good n kind S) (o a : Vec) (H : ReadsWork kind w (S .B) (S .R) o a) (l e : Symbol) (E : Enters n kind w (S .B) (S .R) o a H (S .o) G e)
       (L : Leaves kind (w .tableau .symbols) (w .tableau .rows) (w .tableau .objective) (w .artificial) (S .B) (S .R) o a H (e .id) (in-nonzero (e .id) (w .tableau .symbols) (H .up) (E .live .0)) l)
       (m : pivot (l .id) e w .mark ≡ allWhole) where
-    turn-is : (w .mark ≡ allWhole) × (S .R (l .id) (e .id) *ℤ S .R (l .id) (e .id) ≡ 1ℤ)
+    pub turn-is : (w .mark ≡ allWhole) × (S .R (l .id) (e .id) *ℤ S .R (l .id) (e .id) ≡ 1ℤ)
         × ReadsWork kind (pivot (l .id) e w) (swap (l .id) (e .id) (S .B)) (Rattle.simplex.specs.Tab.pivot (l .id) (e .id) (S .R)) (pivoted (l .id) (e .id) (S .R) o) (pivoted (l .id) (e .id) (S .R) a)
     turn-is = pivot-z kind w (S .B) (S .R) o a H (l .id) e (L .basic) (E .free) (E .live) (G .shape .unit (e .id) (E .free)) m
 
@@ -179,7 +179,7 @@ module _ (n : ℕ) (kind : ℕ → KindZ) (ids : List ℕ) (asc : Asc ids) (cove
     is-look : look kind ids S ≡ go-on (l .id) (e .id)
     is-look = look-pivot n kind ids asc cover S G (l .id) (e .id) is-choice
 
-    is-good : Good n kind (step (l .id) (e .id) S)
+    pub is-good : Good n kind (step (l .id) (e .id) S)
     is-good = step-good n kind S G (l .id) (e .id) is-choice
 
   -- ---- what the pass is
@@ -191,25 +191,25 @@ module _ (n : ℕ) (kind : ℕ → KindZ) (ids : List ℕ) (asc : Asc ids) (cove
         → (p : ℕ) → p ≡ w .pivots + m → (t : Mark) → Ran g left w S z (refused 15 p t)
 
   -- ---- both goals at once
-  abbrev objOf : Goal → Vec → Vec → Vec
+  abbrev pub objOf : Goal → Vec → Vec → Vec
   objOf theObjective q z = q
   objOf theArtificial q z = z
 
-  abbrev artOf : Goal → Vec → Vec → Vec
+  abbrev pub artOf : Goal → Vec → Vec → Vec
   artOf theObjective q z = z
   artOf theArtificial q z = q
 
-  reads-of : (g : Goal) (w : Work) (S : State) (z : Vec) → ReadsGoal g kind w S z → ReadsWork kind w (S .B) (S .R) (objOf g (S .o) z) (artOf g (S .o) z)
+  pub reads-of : (g : Goal) (w : Work) (S : State) (z : Vec) → ReadsGoal g kind w S z → ReadsWork kind w (S .B) (S .R) (objOf g (S .o) z) (artOf g (S .o) z)
   reads-of theObjective w S z h = h
   reads-of theArtificial w S z h = h .0
 
-  reads-on : (g : Goal) (w : Work) (S : State) (z : Vec) (l : ℕ) (e : Symbol) → ReadsGoal g kind w S z
+  pub reads-on : (g : Goal) (w : Work) (S : State) (z : Vec) (l : ℕ) (e : Symbol) → ReadsGoal g kind w S z
       → ReadsWork kind (pivot l e w) (swap l (e .id) (S .B)) (Rattle.simplex.specs.Tab.pivot l (e .id) (S .R)) (pivoted l (e .id) (S .R) (objOf g (S .o) z)) (pivoted l (e .id) (S .R) (artOf g (S .o) z))
       → ReadsGoal g kind (pivot l e w) (step l (e .id) S) (pivoted l (e .id) (S .R) z)
   reads-on theObjective w S z l e h r = r
   reads-on theArtificial w S z l e h r = (r, pivot-standing l e w (h .1))
 
-  count-reads : (g : Goal) (x : Work) (S : State) (z : Vec) → ReadsGoal g kind x S z → ReadsGoal g kind (countPivot x) S z
+  pub count-reads : (g : Goal) (x : Work) (S : State) (z : Vec) → ReadsGoal g kind x S z → ReadsGoal g kind (countPivot x) S z
   unfolding countPivot
   count-reads theObjective x S z h = h
   count-reads theArtificial x S z h = h
@@ -243,7 +243,7 @@ module _ (n : ℕ) (kind : ℕ → KindZ) (ids : List ℕ) (asc : Asc ids) (cove
   Whole-run : (g : Goal) (left : ℕ) (w : Work) (S : State) (z : Vec) → Outcome Work → Type 0
   Whole-run g left w S z x = markOf x ≡ allWhole → Ran g left w S z x
 
-  view : (g : Goal) (w : Work) (S : State) (z : Vec) (G : Good n kind S) (H : ReadsGoal g kind w S z)
+  pub view : (g : Goal) (w : Work) (S : State) (z : Vec) (G : Good n kind S) (H : ReadsGoal g kind w S z)
       → Choose n kind w (S .B) (S .R) (objOf g (S .o) z) (artOf g (S .o) z) (reads-of g w S z H) (S .o) G (choosePivot g w)
   view g w S z G H =
       let c = goal-cells g kind w S z H in

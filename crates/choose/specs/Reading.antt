@@ -9,7 +9,7 @@ use Rattle.steps.specs.Symbol.{Symbol}
 use Rattle.steps.specs.Row.{Row}
 use Rattle.steps.specs.State.{Basic, Tableau, State}
 use Rattle.laws.specs.Lists.{listOf}
-use Rattle.layout.specs.Layout.{Tables, symbolOf, cellsOf, basicOf, basicsOf, read}
+use Rattle.layout.specs.Layout.{Tables, symbolOf, cellsOf, basicOf, symbolsOf, basicsOf, entriesOf, read}
 
 unfoldable pub symbolsIn : List ℕ → List Symbol
 symbolsIn h = listOf (getD h 1 0) λ i. symbolOf (getD h (16 + i) 0)
@@ -28,5 +28,5 @@ tableauIn h w =
     record { symbols = symbolsIn h; nextId = getD h 0 0; rows = basicsIn h w; objective = cellsOf (getD h 1 0) (getD w 0 []); infeasible = entriesIn h }
 
 pub tableau-read : (t : Tables) → read t .tableau ≡ tableauIn (t .head) (t .rows)
-unfolding read basicsOf tableauIn symbolsIn basicsIn entriesIn
+unfolding read symbolsOf basicsOf entriesOf tableauIn symbolsIn basicsIn entriesIn
 tableau-read t = refl

@@ -1,48 +1,83 @@
--- Items by number in a region of `names` and `reals`: variables from 0, constraints from 32, edits from 80; their counts are at 4, 5 and 6 of the head.
-use Prim.Native.Nat.{ℕ, _+_, _-_, _≤_, _<_}
+-- The items' part of the reading test, place by place, as the code runs it.
+use Prim.Native.Nat.{ℕ, _+_, _-_, _%_}
+use mathlib.Core.Bool.{Bool, true, false, _&&_, _||_}
 use mathlib.Core.List.{List, []}
-use lib.Dec.{eqb, ltb}
-use lib.ListN.{getD, set}
-use lib.Ieee.{Float}
-use Rattle.laws.specs.Loops.{first}
-use Rattle.choose.specs.declared.Found.{Found}
-use Rattle.choose.specs.declared.Found.the-variants.{At, Nothing}
-use Rattle.moves.specs.Close.{closed, opened}
+use lib.Dec.{eqb, leb, ltb}
+use lib.ListN.{getD, replicate}
+use lib.Ieee.{Float, isNan}
+use Rattle.steps.specs.Number.{isFinite}
+use Rattle.steps.specs.Readable.{tagKinds}
+use Rattle.laws.specs.Loops.{run}
+use Rattle.laws.specs.Lists.{allIn}
+use Rattle.layout.specs.Layout.{symbolOf, otherOf, constraintsAt, editsAt, termsAt, coefficientsAt, numberOf, symbolCode, otherSymbol, usesOf, changedFlag, termCount, oldValue, strengthIn, suggestionIn}
+use Rattle.layout.specs.Copy.{most16}
+use Rattle.places.specs.Finding.{placeIn}
+use Rattle.places.specs.Shares.{Shares, shares, take, noneLeft, stock, finiteIn}
 
--- the three tables that hold the items
-pub record Items : Type 0 where
-  pub head : List ℕ
-  pub names : List (List ℕ)
-  pub reals : List (List Float)
+-- a number that a u32 holds
+unfoldable pub isU32 : ℕ → Bool
+isU32 x = leb x 4294967295
 
-abbrev pub items : List ℕ → List (List ℕ) → List (List Float) → Items
-items h n r = record { head = h; names = n; reals = r }
+-- the numbers of the c items from row a on ascend
+unfoldable pub numbersAscend : List (List ℕ) → ℕ → ℕ → Bool
+numbersAscend n a c = allIn (λ i. ltb (numberOf (getD n (a + (i - 1)) [])) (numberOf (getD n (a + i) []))) 1 c
 
--- the place found is from a on and before e
-abbrev pub Between : ℕ → ℕ → Found → Type 0
-Between a e (At i) = (a ≤ i) × (i < e)
-Between a e Nothing = Unit
+-- which of the c items from row a on has the number x, c if none
+unfoldable pub nameAt : List (List ℕ) → ℕ → ℕ → ℕ → ℕ
+nameAt n a c x = placeIn (λ j. numberOf (getD n (a + j) [])) c x
 
--- the place of this number, from a on and before e
-unfoldable pub nameAt : ℕ → ℕ → ℕ → List (List ℕ) → Found
-nameAt a e x n = first (λ j. eqb x (getD (getD n j []) 0 0)) At Nothing a e
+-- ---- one by one
 
--- where an item of this number stands by ascending number
-unfoldable pub namePlace : ℕ → ℕ → ℕ → List (List ℕ) → ℕ
-namePlace a e x n = first (λ j. ltb x (getD (getD n j []) 0 0)) (λ j. j) e a e
+-- a variable's symbol is External, its old value finite or NaN
+unfoldable pub variableFits : List ℕ → List Float → Bool
+variableFits n r = isU32 (numberOf n) && eqb (symbolCode n % 4) 0 && leb (changedFlag n) 1 && (isFinite (oldValue r) || isNan (oldValue r))
 
--- an item comes to the region from a on, whose count is at c of the head
-unfoldable pub keptItem : ℕ → ℕ → List ℕ → List Float → Items → Items
-keptItem c a name real t =
-    items
-    (set (t .head) c (getD (t .head) c 0 + 1))
-    (opened (namePlace a (a + getD (t .head) c 0) (getD name 0 0) (t .names)) (a + getD (t .head) c 0) name (t .names))
-    (opened (namePlace a (a + getD (t .head) c 0) (getD name 0 0) (t .names)) (a + getD (t .head) c 0) real (t .reals))
+unfoldable pub variablesFit : List (List ℕ) → List (List Float) → ℕ → Bool
+variablesFit n r v = allIn (λ i. variableFits (getD n i []) (getD r i [])) 0 v
 
--- the item at place i goes
-unfoldable pub droppedItem : ℕ → ℕ → ℕ → Items → Items
-droppedItem c a i t =
-    items
-    (set (t .head) c (getD (t .head) c 0 - 1))
-    (closed [] i (a + getD (t .head) c 0 - 1) (t .names))
-    (closed [] i (a + getD (t .head) c 0 - 1) (t .reals))
+-- "each tag's kinds are those Add gives"
+unfoldable pub kindsFit : Float → ℕ → ℕ → Bool
+kindsFit strength m o = tagKinds strength (record { marker = symbolOf m; other = otherOf o })
+
+unfoldable pub constraintFits : List ℕ → List Float → Bool
+constraintFits n r =
+    isU32 (numberOf n)
+    && leb (termCount n) 16
+    && kindsFit (strengthIn r) (symbolCode n) (otherSymbol n)
+    && isFinite (strengthIn r)
+    && finiteIn r coefficientsAt (most16 (termCount n))
+
+unfoldable pub constraintsFit : List (List ℕ) → List (List Float) → ℕ → Bool
+constraintsFit n r c = allIn (λ i. constraintFits (getD n (constraintsAt + i) []) (getD r (constraintsAt + i) [])) 0 c
+
+unfoldable pub editFits : List ℕ → List Float → Bool
+editFits n r = eqb (symbolCode n % 4) 2 && kindsFit (strengthIn r) (symbolCode n) (otherSymbol n) && isFinite (strengthIn r) && isFinite (suggestionIn r)
+
+unfoldable pub editsFit : List (List ℕ) → List (List Float) → ℕ → Bool
+editsFit n r e = allIn (λ i. editFits (getD n (editsAt + i) []) (getD r (editsAt + i) [])) 0 e
+
+-- ---- use counts: each variable has as many shares as it has uses, and each stored term takes one
+
+unfoldable pub takeVariable : List (List ℕ) → ℕ → ℕ → Shares → Shares
+takeVariable n v x s = take (nameAt n 0 v x) s
+
+unfoldable pub takeTerms : List (List ℕ) → ℕ → List ℕ → Shares → Shares
+takeTerms n v row s = run (λ j z. takeVariable n v (getD row (termsAt + j) 0) z) 0 (most16 (termCount row)) s
+
+unfoldable pub takeConstraints : List (List ℕ) → ℕ → ℕ → Shares → Shares
+takeConstraints n v c s = run (λ i z. takeTerms n v (getD n (constraintsAt + i) []) z) 0 c s
+
+unfoldable pub takeEdits : List (List ℕ) → ℕ → ℕ → Shares → Shares
+takeEdits n v e s = run (λ i z. takeVariable n v (numberOf (getD n (editsAt + i) [])) z) 0 e s
+
+unfoldable pub noUses : List ℕ
+noUses = replicate 33 0
+
+unfoldable pub takeUses : List (List ℕ) → ℕ → ℕ → ℕ → Shares
+takeUses n v c e = takeEdits n v e (takeConstraints n v c (shares (stock (λ i. usesOf (getD n i [])) v noUses) true))
+
+unfoldable pub usesFit : List (List ℕ) → ℕ → ℕ → ℕ → Bool
+usesFit n v c e = takeUses n v c e .ok && noneLeft (takeUses n v c e .left) v
+
+unfoldable pub itemsFit : List (List ℕ) → List (List Float) → ℕ → ℕ → ℕ → Bool
+itemsFit n r v c e = numbersAscend n constraintsAt c && numbersAscend n editsAt e && variablesFit n r v && constraintsFit n r c && editsFit n r e && usesFit n v c e

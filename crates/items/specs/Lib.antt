@@ -1,6 +1,3 @@
--- Variables, constraints and edits that come and go: over the places of `names` and `reals`, and that the tables then read as the steps say.
+-- The items' part of the reading test: variables, constraints and edits, place by place.
 pub mod Items
-pub mod Turns
-pub mod Region
-pub mod Read
-pub mod Dropped
+pub mod Order

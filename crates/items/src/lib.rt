@@ -1,260 +1,326 @@
-// Variables, constraints and edits that come and go in the lent tables, and the look for one by its number. The counts in the head follow.
+// The items' part of the reading test: variables, constraints and edits.
 ghost use mathlib.Core.Path.{_≡_};
-ghost use mathlib.Core.List.{[]};
-ghost use Prim.Native.Nat.{_+_, _-_, _<_, _≤_};
+ghost use mathlib.Core.Bool.{true, false, _&&_};
+ghost use mathlib.Core.List.{List, []};
+ghost use Prim.Native.Nat.{ℕ, _+_, _-_, _<_, _≤_};
 ghost use lib.ListN.{getD, length};
-ghost use Rattle.moves.specs.Close.{closed, opened};
-ghost use Rattle.items.specs.Items.{items, Between, nameAt, namePlace, keptItem, droppedItem};
-use choose::Found;
+ghost use Rattle.layout.specs.Layout.{itemsSize, usesOf};
+ghost use Rattle.layout.specs.Copy.{most16};
+ghost use Rattle.places.specs.Shares.{shares, stock};
+ghost use Rattle.items.specs.Items.{isU32, numbersAscend, nameAt, variableFits, variablesFit, kindsFit, constraintFits, constraintsFit, editFits, editsFit, takeVariable, takeTerms, takeConstraints, takeEdits, noUses, usesFit, itemsFit};
 
-// ---- by one place
-
-fn close_names(names: &mut [[u64; 20]], i: usize, e: usize)
-    requires { ⌜ i ≤ e ⌝ }
-    requires { ⌜ e < length (now names) ⌝ }
-    ensures { λ _. ⌜ now (names .exit) ≡ closed [] i e (now (names .entry)) ⌝ }
+pub fn is_u32(x: u64) -> bool
+    ensures { λ r. ⌜ r ≡ isU32 x ⌝ }
 {
-    let mut j = i;
-    while j < e {
-        names[j] = names[j + 1];
-        j += 1;
-    }
+    x <= 4294967295
 }
 
-fn close_reals(reals: &mut [[f64; 17]], i: usize, e: usize)
-    requires { ⌜ i ≤ e ⌝ }
-    requires { ⌜ e < length (now reals) ⌝ }
-    ensures { λ _. ⌜ now (reals .exit) ≡ closed [] i e (now (reals .entry)) ⌝ }
+pub fn at_most_16(c: u64) -> usize
+    ensures { λ r. ⌜ r ≡ most16 c ⌝ }
+    ensures { λ r. ⌜ r ≤ 16 ⌝ }
 {
-    let mut j = i;
-    while j < e {
-        reals[j] = reals[j + 1];
-        j += 1;
-    }
+    if c <= 16 { c as usize } else { 16 }
 }
 
-fn open_names(names: &mut [[u64; 20]], i: usize, e: usize, name: &[u64; 20])
-    requires { ⌜ i ≤ e ⌝ }
-    requires { ⌜ e < length (now names) ⌝ }
-    ensures { λ _. ⌜ now (names .exit) ≡ opened i e (now (name .entry)) (now (names .entry)) ⌝ }
+pub fn numbers_ascend(names: &[[u64; 20]], a: usize, c: usize) -> bool
+    requires { ⌜ a + c ≤ length (now names) ⌝ }
+    ensures { λ r. ⌜ r ≡ numbersAscend (now (names .entry)) a c ⌝ }
 {
-    let mut j = e;
-    while i < j {
-        names[j] = names[j - 1];
-        j -= 1;
+    let mut ok = true;
+    let mut i = 1;
+    while i < c {
+        ok = ok & (names[a + (i - 1)][0] < names[a + i][0]);
+        i += 1;
     }
-    names[i] = *name;
+    ok
 }
 
-fn open_reals(reals: &mut [[f64; 17]], i: usize, e: usize, real: &[f64; 17])
-    requires { ⌜ i ≤ e ⌝ }
-    requires { ⌜ e < length (now reals) ⌝ }
-    ensures { λ _. ⌜ now (reals .exit) ≡ opened i e (now (real .entry)) (now (reals .entry)) ⌝ }
-{
-    let mut j = e;
-    while i < j {
-        reals[j] = reals[j - 1];
-        j -= 1;
-    }
-    reals[i] = *real;
-}
+// ---- an item's place
 
-// ---- by number
-
-// The place of this number, from a on and before e.
-fn name_at(names: &[[u64; 20]], a: usize, e: usize, number: u64) -> Found
-    requires { ⌜ e ≤ length (now names) ⌝ }
-    ensures { λ r. ⌜ r ≡ nameAt a e number (now (names .entry)) ⌝ }
-    ensures { λ r. ⌜ Between a e r ⌝ }
+pub fn name_at(names: &[[u64; 20]], a: usize, c: usize, x: u64) -> usize
+    requires { ⌜ a + c ≤ length (now names) ⌝ }
+    ensures { λ r. ⌜ r ≡ nameAt (now (names .entry)) a c x ⌝ }
+    ensures { λ r. ⌜ r ≤ c ⌝ }
 {
-    let mut j = a;
-    while j < e {
-        if number == names[j][0] {
-            return Found::At(j);
+    let mut i = 0;
+    while i < c {
+        if x == names[a + i][0] {
+            return i;
         }
-        j += 1;
+        i += 1;
     }
-    Found::Nothing
+    c
 }
 
-pub fn find_variable(head: &[u64], names: &[[u64; 20]], number: u64) -> Found
-    requires { ⌜ length (now head) ≡ 326 ⌝ }
-    requires { ⌜ length (now names) ≡ 128 ⌝ }
-    requires { ⌜ getD (now head) 4 0 ≤ 32 ⌝ }
-    ensures { λ r. ⌜ r ≡ nameAt 0 (getD (now (head .entry)) 4 0) number (now (names .entry)) ⌝ }
-    ensures { λ r. ⌜ Between 0 (getD (now (head .entry)) 4 0) r ⌝ }
+// Slots guess a variable's place by its number's last eight bits: a guess is looked at, and if it is wrong the variables are looked along.
+pub fn fill_numbers(slots: &mut [u8; 256], names: &[[u64; 20]], v: usize)
+    requires { ⌜ length (now names) ≡ itemsSize ⌝ }
+    requires { ⌜ v ≤ 32 ⌝ }
 {
-    name_at(names, 0, head[4] as usize, number)
+    let mut i = 0;
+    while i < v {
+        slots[(names[i][0] % 256) as usize] = i as u8;
+        i += 1;
+    }
 }
 
-pub fn find_constraint(head: &[u64], names: &[[u64; 20]], number: u64) -> Found
-    requires { ⌜ length (now head) ≡ 326 ⌝ }
-    requires { ⌜ length (now names) ≡ 128 ⌝ }
-    requires { ⌜ getD (now head) 5 0 ≤ 48 ⌝ }
-    ensures { λ r. ⌜ r ≡ nameAt 32 (32 + getD (now (head .entry)) 5 0) number (now (names .entry)) ⌝ }
-    ensures { λ r. ⌜ Between 32 (32 + getD (now (head .entry)) 5 0) r ⌝ }
-{
-    name_at(names, 32, 32 + head[5] as usize, number)
+fn wide(x: u8) -> usize {
+    x as usize
 }
 
-pub fn find_edit(head: &[u64], names: &[[u64; 20]], number: u64) -> Found
-    requires { ⌜ length (now head) ≡ 326 ⌝ }
-    requires { ⌜ length (now names) ≡ 128 ⌝ }
-    requires { ⌜ getD (now head) 6 0 ≤ 48 ⌝ }
-    ensures { λ r. ⌜ r ≡ nameAt 80 (80 + getD (now (head .entry)) 6 0) number (now (names .entry)) ⌝ }
-    ensures { λ r. ⌜ Between 80 (80 + getD (now (head .entry)) 6 0) r ⌝ }
-{
-    name_at(names, 80, 80 + head[6] as usize, number)
+fn guess(slots: &[u8; 256], x: u64) -> usize {
+    wide(slots[(x % 256) as usize])
 }
 
-// Where an item of this number stands by ascending number.
-fn name_place(names: &[[u64; 20]], a: usize, e: usize, number: u64) -> usize
-    requires { ⌜ a ≤ e ⌝ }
-    requires { ⌜ e ≤ length (now names) ⌝ }
-    ensures { λ r. ⌜ r ≡ namePlace a e number (now (names .entry)) ⌝ }
-    ensures { λ r. ⌜ a ≤ r ⌝ }
-    ensures { λ r. ⌜ r ≤ e ⌝ }
+pub fn variable_at(slots: &[u8; 256], names: &[[u64; 20]], v: usize, x: u64) -> usize
+    requires { ⌜ v ≤ length (now names) ⌝ }
+    requires { ⌜ numbersAscend (now names) 0 v ≡ true ⌝ }
+    ensures { λ r. ⌜ r ≡ nameAt (now (names .entry)) 0 v x ⌝ }
+    ensures { λ r. ⌜ r ≤ v ⌝ }
 {
-    let mut j = a;
-    while j < e {
-        if number < names[j][0] {
-            return j;
+    let g = guess(slots, x);
+    if g < v {
+        if x == names[g][0] {
+            return g;
         }
-        j += 1;
     }
-    e
+    name_at(names, 0, v, x)
 }
 
-// ---- an item comes, or goes: in the region from a on, whose count is at c of the head
+// ---- one by one
 
-fn keep_item(
-    head: &mut [u64],
-    names: &mut [[u64; 20]],
-    reals: &mut [[f64; 17]],
+fn variable_fits(name: &[u64; 20], real: &[f64; 17]) -> bool
+    ensures { λ b. ⌜ b ≡ variableFits (now (name .entry)) (now (real .entry)) ⌝ }
+{
+    is_u32(name[0]) & (name[1] % 4 == 0) & (name[3] <= 1) & places::old_fits(real[0])
+}
+
+fn variables_fit(names: &[[u64; 20]], reals: &[[f64; 17]], v: usize) -> bool
+    requires { ⌜ v ≤ length (now names) ⌝ }
+    requires { ⌜ v ≤ length (now reals) ⌝ }
+    ensures { λ b. ⌜ b ≡ variablesFit (now (names .entry)) (now (reals .entry)) v ⌝ }
+{
+    let mut ok = true;
+    let mut i = 0;
+    while i < v {
+        ok = ok & variable_fits(&names[i], &reals[i]);
+        i += 1;
+    }
+    ok
+}
+
+fn kinds_fit(strength: f64, m: u64, o: u64) -> bool
+    ensures { λ b. ⌜ b ≡ kindsFit strength m o ⌝ }
+{
+    let below = strength < 1001001000.0;
+    let kind = m % 4;
+    if kind == 1 {
+        if o == 0 { !below } else { below & (o % 4 == 2) }
+    } else if kind == 2 {
+        if o == 0 { false } else { below & (o % 4 == 2) }
+    } else if kind == 3 {
+        if o == 0 { !below } else { false }
+    } else {
+        false
+    }
+}
+
+fn constraint_fits(name: &[u64; 20], real: &[f64; 17]) -> bool
+    ensures { λ b. ⌜ b ≡ constraintFits (now (name .entry)) (now (real .entry)) ⌝ }
+{
+    is_u32(name[0])
+        & (name[3] <= 16)
+        & kinds_fit(real[0], name[1], name[2])
+        & places::is_finite(real[0])
+        & places::real_finite(real, 1, at_most_16(name[3]))
+}
+
+fn constraints_fit(names: &[[u64; 20]], reals: &[[f64; 17]], c: usize) -> bool
+    requires { ⌜ length (now names) ≡ itemsSize ⌝ }
+    requires { ⌜ length (now reals) ≡ itemsSize ⌝ }
+    requires { ⌜ c ≤ 48 ⌝ }
+    ensures { λ b. ⌜ b ≡ constraintsFit (now (names .entry)) (now (reals .entry)) c ⌝ }
+{
+    let mut ok = true;
+    let mut i = 0;
+    while i < c {
+        ok = ok
+            & constraint_fits(
+                &names[layout::CONSTRAINTS + i],
+                &reals[layout::CONSTRAINTS + i],
+            );
+        i += 1;
+    }
+    ok
+}
+
+fn edit_fits(name: &[u64; 20], real: &[f64; 17]) -> bool
+    ensures { λ b. ⌜ b ≡ editFits (now (name .entry)) (now (real .entry)) ⌝ }
+{
+    (name[1] % 4 == 2)
+        & kinds_fit(real[0], name[1], name[2])
+        & places::is_finite(real[0])
+        & places::is_finite(real[1])
+}
+
+fn edits_fit(names: &[[u64; 20]], reals: &[[f64; 17]], e: usize) -> bool
+    requires { ⌜ length (now names) ≡ itemsSize ⌝ }
+    requires { ⌜ length (now reals) ≡ itemsSize ⌝ }
+    requires { ⌜ e ≤ 48 ⌝ }
+    ensures { λ b. ⌜ b ≡ editsFit (now (names .entry)) (now (reals .entry)) e ⌝ }
+{
+    let mut ok = true;
+    let mut i = 0;
+    while i < e {
+        ok = ok & edit_fits(&names[layout::EDITS + i], &reals[layout::EDITS + i]);
+        i += 1;
+    }
+    ok
+}
+
+// ---- use counts: each variable has as many shares as it has uses, and each stored term takes one
+
+fn take_variable(
+    left: &mut [u64],
+    slots: &[u8; 256],
+    names: &[[u64; 20]],
+    v: usize,
+    x: u64,
+    ok: bool,
+) -> bool
+    requires { ⌜ v < length (now left) ⌝ }
+    requires { ⌜ v ≤ length (now names) ⌝ }
+    requires { ⌜ numbersAscend (now names) 0 v ≡ true ⌝ }
+    ensures { λ r. ⌜ shares (now (left .exit)) r ≡ takeVariable (now (names .entry)) v x (shares (now (left .entry)) ok) ⌝ }
+{
+    let p = variable_at(slots, names, v, x);
+    places::take_share(left, p, ok)
+}
+
+fn take_terms(
+    left: &mut [u64],
+    slots: &[u8; 256],
+    names: &[[u64; 20]],
+    v: usize,
+    row: &[u64; 20],
+    start: bool,
+) -> bool
+    requires { ⌜ v < length (now left) ⌝ }
+    requires { ⌜ v ≤ length (now names) ⌝ }
+    requires { ⌜ numbersAscend (now names) 0 v ≡ true ⌝ }
+    ensures { λ r. ⌜ shares (now (left .exit)) r ≡ takeTerms (now (names .entry)) v (now (row .entry)) (shares (now (left .entry)) start) ⌝ }
+{
+    let n = at_most_16(row[3]);
+    let mut ok = start;
+    let mut i = 0;
+    while i < n {
+        ok = take_variable(left, slots, names, v, row[layout::TERMS + i], ok);
+        i += 1;
+    }
+    ok
+}
+
+fn take_constraints(
+    left: &mut [u64],
+    slots: &[u8; 256],
+    names: &[[u64; 20]],
+    v: usize,
     c: usize,
-    a: usize,
-    name: &[u64; 20],
-    real: &[f64; 17],
-)
-    requires { ⌜ length (now head) ≡ 326 ⌝ }
-    requires { ⌜ length (now names) ≡ 128 ⌝ }
-    requires { ⌜ length (now reals) ≡ 128 ⌝ }
-    requires { ⌜ c < 326 ⌝ }
-    requires { ⌜ a + getD (now head) c 0 < 128 ⌝ }
-    ensures { λ _. ⌜ items (now (head .exit)) (now (names .exit)) (now (reals .exit)) ≡ keptItem c a (now (name .entry)) (now (real .entry)) (items (now (head .entry)) (now (names .entry)) (now (reals .entry))) ⌝ }
+    start: bool,
+) -> bool
+    requires { ⌜ v < length (now left) ⌝ }
+    requires { ⌜ length (now names) ≡ itemsSize ⌝ }
+    requires { ⌜ v ≤ 32 ⌝ }
+    requires { ⌜ c ≤ 48 ⌝ }
+    requires { ⌜ numbersAscend (now names) 0 v ≡ true ⌝ }
+    ensures { λ r. ⌜ shares (now (left .exit)) r ≡ takeConstraints (now (names .entry)) v c (shares (now (left .entry)) start) ⌝ }
 {
-    let n = head[c];
-    let e = a + n as usize;
-    let p = name_place(names, a, e, name[0]);
-    open_names(names, p, e, name);
-    open_reals(reals, p, e, real);
-    head[c] = n + 1;
+    let mut ok = start;
+    let mut i = 0;
+    while i < c {
+        ok = take_terms(left, slots, names, v, &names[layout::CONSTRAINTS + i], ok);
+        i += 1;
+    }
+    ok
 }
 
-fn drop_item(
-    head: &mut [u64],
-    names: &mut [[u64; 20]],
-    reals: &mut [[f64; 17]],
+fn take_edits(
+    left: &mut [u64],
+    slots: &[u8; 256],
+    names: &[[u64; 20]],
+    v: usize,
+    e: usize,
+    start: bool,
+) -> bool
+    requires { ⌜ v < length (now left) ⌝ }
+    requires { ⌜ length (now names) ≡ itemsSize ⌝ }
+    requires { ⌜ v ≤ 32 ⌝ }
+    requires { ⌜ e ≤ 48 ⌝ }
+    requires { ⌜ numbersAscend (now names) 0 v ≡ true ⌝ }
+    ensures { λ r. ⌜ shares (now (left .exit)) r ≡ takeEdits (now (names .entry)) v e (shares (now (left .entry)) start) ⌝ }
+{
+    let mut ok = start;
+    let mut i = 0;
+    while i < e {
+        ok = take_variable(left, slots, names, v, names[layout::EDITS + i][0], ok);
+        i += 1;
+    }
+    ok
+}
+
+fn no_uses() -> [u64; 33]
+    ensures { λ r. ⌜ r ≡ noUses ⌝ }
+{
+    [0; 33]
+}
+
+fn stock_uses(left: &mut [u64], names: &[[u64; 20]], v: usize)
+    requires { ⌜ v ≤ length (now left) ⌝ }
+    requires { ⌜ v ≤ length (now names) ⌝ }
+    ensures { λ _. ⌜ now (left .exit) ≡ stock (λ i. usesOf (getD (now (names .entry)) i [])) v (now (left .entry)) ⌝ }
+{
+    let mut i = 0;
+    while i < v {
+        left[i] = names[i][2];
+        i += 1;
+    }
+}
+
+fn uses_fit(slots: &[u8; 256], names: &[[u64; 20]], v: usize, c: usize, e: usize) -> bool
+    requires { ⌜ length (now names) ≡ itemsSize ⌝ }
+    requires { ⌜ v ≤ 32 ⌝ }
+    requires { ⌜ c ≤ 48 ⌝ }
+    requires { ⌜ e ≤ 48 ⌝ }
+    requires { ⌜ numbersAscend (now names) 0 v ≡ true ⌝ }
+    ensures { λ b. ⌜ b ≡ usesFit (now (names .entry)) v c e ⌝ }
+{
+    let mut left = no_uses();
+    stock_uses(&mut left, names, v);
+    let ok1 = take_constraints(&mut left, slots, names, v, c, true);
+    let ok2 = take_edits(&mut left, slots, names, v, e, ok1);
+    ok2 & places::none_left(&left, v)
+}
+
+pub fn items_fit(
+    slots: &[u8; 256],
+    names: &[[u64; 20]],
+    reals: &[[f64; 17]],
+    v: usize,
     c: usize,
-    a: usize,
-    i: usize,
-)
-    requires { ⌜ length (now head) ≡ 326 ⌝ }
-    requires { ⌜ length (now names) ≡ 128 ⌝ }
-    requires { ⌜ length (now reals) ≡ 128 ⌝ }
-    requires { ⌜ c < 326 ⌝ }
-    requires { ⌜ a + getD (now head) c 0 ≤ 128 ⌝ }
-    requires { ⌜ a ≤ i ⌝ }
-    requires { ⌜ i < a + getD (now head) c 0 ⌝ }
-    ensures { λ _. ⌜ items (now (head .exit)) (now (names .exit)) (now (reals .exit)) ≡ droppedItem c a i (items (now (head .entry)) (now (names .entry)) (now (reals .entry))) ⌝ }
+    e: usize,
+) -> bool
+    requires { ⌜ length (now names) ≡ itemsSize ⌝ }
+    requires { ⌜ length (now reals) ≡ itemsSize ⌝ }
+    requires { ⌜ v ≤ 32 ⌝ }
+    requires { ⌜ c ≤ 48 ⌝ }
+    requires { ⌜ e ≤ 48 ⌝ }
+    requires { ⌜ numbersAscend (now names) 0 v ≡ true ⌝ }
+    ensures { λ b. ⌜ b ≡ itemsFit (now (names .entry)) (now (reals .entry)) v c e ⌝ }
 {
-    let n = head[c];
-    let e = a + n as usize - 1;
-    close_names(names, i, e);
-    close_reals(reals, i, e);
-    head[c] = n - 1;
-}
-
-pub fn keep_variable(
-    head: &mut [u64],
-    names: &mut [[u64; 20]],
-    reals: &mut [[f64; 17]],
-    name: &[u64; 20],
-    real: &[f64; 17],
-)
-    requires { ⌜ length (now head) ≡ 326 ⌝ }
-    requires { ⌜ length (now names) ≡ 128 ⌝ }
-    requires { ⌜ length (now reals) ≡ 128 ⌝ }
-    requires { ⌜ getD (now head) 4 0 < 32 ⌝ }
-    ensures { λ _. ⌜ items (now (head .exit)) (now (names .exit)) (now (reals .exit)) ≡ keptItem 4 0 (now (name .entry)) (now (real .entry)) (items (now (head .entry)) (now (names .entry)) (now (reals .entry))) ⌝ }
-{
-    keep_item(head, names, reals, 4, 0, name, real);
-}
-
-pub fn drop_variable(head: &mut [u64], names: &mut [[u64; 20]], reals: &mut [[f64; 17]], i: usize)
-    requires { ⌜ length (now head) ≡ 326 ⌝ }
-    requires { ⌜ length (now names) ≡ 128 ⌝ }
-    requires { ⌜ length (now reals) ≡ 128 ⌝ }
-    requires { ⌜ getD (now head) 4 0 ≤ 32 ⌝ }
-    requires { ⌜ 0 ≤ i ⌝ }
-    requires { ⌜ i < 0 + getD (now head) 4 0 ⌝ }
-    ensures { λ _. ⌜ items (now (head .exit)) (now (names .exit)) (now (reals .exit)) ≡ droppedItem 4 0 i (items (now (head .entry)) (now (names .entry)) (now (reals .entry))) ⌝ }
-{
-    drop_item(head, names, reals, 4, 0, i);
-}
-
-pub fn keep_constraint(
-    head: &mut [u64],
-    names: &mut [[u64; 20]],
-    reals: &mut [[f64; 17]],
-    name: &[u64; 20],
-    real: &[f64; 17],
-)
-    requires { ⌜ length (now head) ≡ 326 ⌝ }
-    requires { ⌜ length (now names) ≡ 128 ⌝ }
-    requires { ⌜ length (now reals) ≡ 128 ⌝ }
-    requires { ⌜ getD (now head) 5 0 < 48 ⌝ }
-    ensures { λ _. ⌜ items (now (head .exit)) (now (names .exit)) (now (reals .exit)) ≡ keptItem 5 32 (now (name .entry)) (now (real .entry)) (items (now (head .entry)) (now (names .entry)) (now (reals .entry))) ⌝ }
-{
-    keep_item(head, names, reals, 5, 32, name, real);
-}
-
-pub fn drop_constraint(head: &mut [u64], names: &mut [[u64; 20]], reals: &mut [[f64; 17]], i: usize)
-    requires { ⌜ length (now head) ≡ 326 ⌝ }
-    requires { ⌜ length (now names) ≡ 128 ⌝ }
-    requires { ⌜ length (now reals) ≡ 128 ⌝ }
-    requires { ⌜ getD (now head) 5 0 ≤ 48 ⌝ }
-    requires { ⌜ 32 ≤ i ⌝ }
-    requires { ⌜ i < 32 + getD (now head) 5 0 ⌝ }
-    ensures { λ _. ⌜ items (now (head .exit)) (now (names .exit)) (now (reals .exit)) ≡ droppedItem 5 32 i (items (now (head .entry)) (now (names .entry)) (now (reals .entry))) ⌝ }
-{
-    drop_item(head, names, reals, 5, 32, i);
-}
-
-pub fn keep_edit(
-    head: &mut [u64],
-    names: &mut [[u64; 20]],
-    reals: &mut [[f64; 17]],
-    name: &[u64; 20],
-    real: &[f64; 17],
-)
-    requires { ⌜ length (now head) ≡ 326 ⌝ }
-    requires { ⌜ length (now names) ≡ 128 ⌝ }
-    requires { ⌜ length (now reals) ≡ 128 ⌝ }
-    requires { ⌜ getD (now head) 6 0 < 48 ⌝ }
-    ensures { λ _. ⌜ items (now (head .exit)) (now (names .exit)) (now (reals .exit)) ≡ keptItem 6 80 (now (name .entry)) (now (real .entry)) (items (now (head .entry)) (now (names .entry)) (now (reals .entry))) ⌝ }
-{
-    keep_item(head, names, reals, 6, 80, name, real);
-}
-
-pub fn drop_edit(head: &mut [u64], names: &mut [[u64; 20]], reals: &mut [[f64; 17]], i: usize)
-    requires { ⌜ length (now head) ≡ 326 ⌝ }
-    requires { ⌜ length (now names) ≡ 128 ⌝ }
-    requires { ⌜ length (now reals) ≡ 128 ⌝ }
-    requires { ⌜ getD (now head) 6 0 ≤ 48 ⌝ }
-    requires { ⌜ 80 ≤ i ⌝ }
-    requires { ⌜ i < 80 + getD (now head) 6 0 ⌝ }
-    ensures { λ _. ⌜ items (now (head .exit)) (now (names .exit)) (now (reals .exit)) ≡ droppedItem 6 80 i (items (now (head .entry)) (now (names .entry)) (now (reals .entry))) ⌝ }
-{
-    drop_item(head, names, reals, 6, 80, i);
+    numbers_ascend(names, layout::CONSTRAINTS, c)
+        & numbers_ascend(names, layout::EDITS, e)
+        & variables_fit(names, reals, v)
+        & constraints_fit(names, reals, c)
+        & edits_fit(names, reals, e)
+        & uses_fit(slots, names, v, c, e)
 }

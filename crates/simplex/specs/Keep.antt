@@ -36,7 +36,7 @@ pub record Subject (n : ℕ) (kind : ℕ → Kind) (S : State) (r : Vec) (x : �
 dummy≢external : {t : Kind} → t ≡ dummy → t ≢ external
 dummy≢external p q = let z : _≡_ {A = ℕ} 0 1 = cc in omega arith
 
-pub added : State → Vec → ℕ → State
+unfoldable pub added : State → Vec → ℕ → State
 added S r x = record { B = at x true (S .B); R = λ j. out x (r x) r (S .R j); o = out x (r x) r (S .o) }
 
 module _ (n : ℕ) (kind : ℕ → Kind) (S : State) (G : Good n kind S) (r : Vec) (x : ℕ) (C : Subject n kind S r x) where

@@ -1,0 +1,75 @@
+//! Random sessions of many kinds in the text format of calls, the same for the same arguments.
+//!
+//! usage: generator KINDS SESSIONS CALLS SEED [plain]
+//!
+//! KINDS is `all` or names joined by commas, taken in turn. `plain` leaves out the bench's own calls (dump, check,
+//! setnext) and the kind that needs one, so that any program of the format can be given the sessions.
+mod mixed;
+mod random;
+mod special;
+
+use mixed::{mixed, KINDS};
+use random::Random;
+use special::{ids, layouts, limits, malformed, redundant, refusals, trolley};
+
+const OTHERS: &[&str] = &["redundant", "refusals", "limits", "trolley", "ids", "malformed", "layouts"];
+
+fn session(name: &str, calls: u64, r: &mut Random) -> Vec<String> {
+    match name {
+        "redundant" => redundant(calls, r),
+        "refusals" => refusals(calls, r),
+        "limits" => limits(calls, r),
+        "trolley" => trolley(calls, r),
+        "ids" => ids(calls, r),
+        "layouts" => layouts(calls, r),
+        "malformed" => malformed(calls, r),
+        _ => match KINDS.iter().find(|k| k.name == name) {
+            Some(kind) => mixed(kind, calls, r),
+            None => usage(),
+        },
+    }
+}
+
+fn usage() -> ! {
+    let names: Vec<&str> = KINDS.iter().map(|k| k.name).chain(OTHERS.iter().cloned()).collect();
+    eprintln!("usage: generator KINDS SESSIONS CALLS SEED [plain]\nkinds: all, {}", names.join(", "));
+    std::process::exit(2)
+}
+
+fn main() {
+    let args: Vec<String> = std::env::args().skip(1).collect();
+    if args.len() < 4 {
+        usage();
+    }
+    let plain = args.get(4).map_or(false, |a| a == "plain");
+    let (sessions, calls, seed): (u64, u64, u64) = match (args[1].parse(), args[2].parse(), args[3].parse()) {
+        (Ok(a), Ok(b), Ok(c)) => (a, b, c),
+        _ => usage(),
+    };
+    let kinds: Vec<&str> = match args[0].as_str() {
+        // the definitions have no answer to a line that is no call and are slow on large layouts, and a plain program has no setnext
+        "all" => {
+            let left_out: &[&str] = if plain { &["ids"] } else { &["malformed", "layouts"] };
+            KINDS.iter().map(|k| k.name).chain(OTHERS.iter().cloned()).filter(|k| !left_out.contains(k)).collect()
+        }
+        names => names.split(',').collect(),
+    };
+    let mut out = String::new();
+    for i in 0..sessions {
+        let mut r = Random::new(seed, i);
+        let kind = kinds[(i % kinds.len() as u64) as usize];
+        out.push_str("reset\n");
+        for line in session(kind, calls, &mut r) {
+            out.push_str(&line);
+            out.push('\n');
+            if !plain && r.one_in(8) {
+                out.push_str("dump\n");
+            }
+        }
+        if !plain {
+            out.push_str("dump\ncheck\n");
+        }
+    }
+    use std::io::Write;
+    let _ = std::io::stdout().write_all(out.as_bytes());
+}

@@ -1,0 +1,53 @@
+//! The patched crate, driven by the text format of calls.
+extern crate cassowary_patched as cassowary;
+
+#[path = "../format.rs"]
+mod format;
+
+use cassowary::{strength, Answer, Constraint, Expression, Name, RelationalOperator, Solver, Term, Variable};
+use format::{bits, Call, Relation};
+
+fn line(a: Answer) -> String {
+    format!("{} {} {}", a.refusal, a.pivots, a.whole as u8)
+}
+
+fn add(solver: &mut Solver, number: u32, relation: Relation, strength: f64, constant: f64, terms: &[(u32, f64)], budget: u16) -> Answer {
+    let op = match relation {
+        Relation::AtMost => RelationalOperator::LessOrEqual,
+        Relation::Equal => RelationalOperator::Equal,
+        Relation::AtLeast => RelationalOperator::GreaterOrEqual,
+    };
+    let terms = terms.iter().map(|&(v, k)| Term::new(Variable(v), k)).collect();
+    solver.add_constraint(Constraint::new(Name::Number(number), Expression::new(terms, constant), op, strength), budget)
+}
+
+fn fetched(changes: &[(Variable, f64)]) -> String {
+    let list: String = changes.iter().map(|(v, x)| format!(" {}:{}", v.0, bits(*x))).collect();
+    format!("{}{}", changes.len(), list)
+}
+
+fn main() {
+    let mut solver = Solver::new();
+    format::serve(|call| match call {
+        Call::Reset => line(solver.reset()),
+        Call::Add { number, budget, relation, strength, constant, terms } => {
+            line(add(&mut solver, number, relation, strength, constant, &terms, budget))
+        }
+        Call::Remove { number, budget } => line(solver.remove_constraint(number, budget)),
+        Call::AddEdit { variable, strength, budget } => line(solver.add_edit_variable(Variable(variable), strength, budget)),
+        Call::RemoveEdit { variable, budget } => line(solver.remove_edit_variable(Variable(variable), budget)),
+        Call::Suggest { variable, value, budget } => line(solver.suggest_value(Variable(variable), value, budget)),
+        Call::Value(v) => bits(solver.get_value(Variable(v))),
+        Call::HasConstraint(n) => (solver.has_constraint(n) as u8).to_string(),
+        Call::HasEdit(v) => (solver.has_edit_variable(&Variable(v)) as u8).to_string(),
+        Call::Fetch => fetched(solver.fetch_changes()),
+        Call::Create(a, b, c, w) => bits(strength::create(a, b, c, w)),
+        Call::Clip(s) => bits(strength::clip(s)),
+        Call::Dump => solver.dump(),
+        Call::Check => if solver.reads_as_one() { "reads" } else { "no" }.to_string(),
+        Call::SetNext(id) => {
+            solver.set_next(id);
+            "set".to_string()
+        }
+    });
+}

@@ -1,0 +1,85 @@
+// Tests place by place that know no table's layout: finite numbers, and shares that are taken one by one.
+ghost use mathlib.Core.Path.{_≡_};
+ghost use mathlib.Core.Bool.{_||_};
+ghost use mathlib.Core.List.{List, []};
+ghost use Prim.Native.Nat.{ℕ, _+_, _-_, _<_, _≤_};
+ghost use lib.ListN.{getD, length, set, replicate};
+ghost use lib.Ieee.{nan, isNan};
+ghost use Rattle.steps.specs.Number.{isFinite};
+ghost use Rattle.steps.specs.Symbol.{absent};
+ghost use Rattle.places.specs.Shares.{shares, take, noneLeft, finiteIn};
+
+// a product with 0.0 is 0.0 of what is finite, and NaN of what is not
+pub fn is_finite(x: f64) -> bool
+    ensures { λ r. ⌜ r ≡ isFinite x ⌝ }
+{
+    x * 0.0 == 0.0
+}
+
+pub fn is_absent(x: f64) -> bool
+    ensures { λ r. ⌜ r ≡ absent x ⌝ }
+{
+    x == 0.0
+}
+
+// "a variable's old value may be NaN"
+pub fn old_fits(x: f64) -> bool
+    ensures { λ r. ⌜ r ≡ isFinite x || isNan x ⌝ }
+{
+    is_finite(x) | (x != x)
+}
+
+pub fn row_finite(row: &[f64; 130], a: usize, n: usize) -> bool
+    requires { ⌜ a + n ≤ 130 ⌝ }
+    ensures { λ r. ⌜ r ≡ finiteIn (now (row .entry)) a n ⌝ }
+{
+    let mut ok = true;
+    let mut i = 0;
+    while i < n {
+        ok = ok & is_finite(row[a + i]);
+        i += 1;
+    }
+    ok
+}
+
+pub fn real_finite(row: &[f64; 17], a: usize, n: usize) -> bool
+    requires { ⌜ a + n ≤ 17 ⌝ }
+    ensures { λ r. ⌜ r ≡ finiteIn (now (row .entry)) a n ⌝ }
+{
+    let mut ok = true;
+    let mut i = 0;
+    while i < n {
+        ok = ok & is_finite(row[a + i]);
+        i += 1;
+    }
+    ok
+}
+
+fn less_one(x: u64) -> u64
+    ensures { λ r. ⌜ r ≡ x - 1 ⌝ }
+{
+    if x == 0 { 0 } else { x - 1 }
+}
+
+// one of the shares at place p, if there is one left
+pub fn take_share(left: &mut [u64], p: usize, ok: bool) -> bool
+    requires { ⌜ p < length (now left) ⌝ }
+    ensures { λ r. ⌜ shares (now (left .exit)) r ≡ take p (shares (now (left .entry)) ok) ⌝ }
+{
+    let x = left[p];
+    left[p] = less_one(x);
+    ok & (0 < x)
+}
+
+pub fn none_left(left: &[u64], n: usize) -> bool
+    requires { ⌜ n ≤ length (now left) ⌝ }
+    ensures { λ r. ⌜ r ≡ noneLeft (now (left .entry)) n ⌝ }
+{
+    let mut ok = true;
+    let mut i = 0;
+    while i < n {
+        ok = ok & (left[i] == 0);
+        i += 1;
+    }
+    ok
+}

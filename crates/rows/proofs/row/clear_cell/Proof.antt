@@ -1,0 +1,14 @@
+-- `rows::row::clear_cell` meets its contract.
+-- Assumes nothing.
+use mathlib.Core.Path.{refl}
+use borrow.Author.Needs.{needs}
+use Rattle.steps.specs.Number.{zero64}
+use Rattle.rows.proofs.row.clear_cell.Statement.{statement}
+use Rattle.rows.proofs.row.clear_cell.Tie as tie
+
+returns : tie.Need-returns
+unfolding zero64
+returns c = refl
+
+pub clear-cell-spec : {M : Type 1} → statement M
+clear-cell-spec = tie.close (tie.spec (λ c. search needs) (λ c. search needs) returns)

@@ -1,0 +1,58 @@
+-- `rows::row::scale_cells` meets its contract.
+-- Assumes nothing.
+use Prim.Native.Nat.{_+_, _-_, _≤_}
+use mathlib.Core.Path.{refl, _≡_}
+use native.Mathlib.Omega.{arith}
+use lib.Ieee.{nan}
+use lib.ListN.{length, length-set}
+use borrow.Author.Needs.{needs}
+use Rattle.laws.specs.Loops.{fold-last, fold-next-set, foldIn, map-last, map-next, mapIn}
+use Rattle.rows.specs.Marks.{mark-clean, markOf}
+use Rattle.rows.specs.Table.{scaleCellsIn, scaleCellsMark, scaled-mark, scaled-value, scaledMark, scaledValue}
+use Rattle.steps.specs.Number.{cellBound}
+use Rattle.rows.proofs.row.scale_cells.Statement.{statement}
+use Rattle.rows.proofs.row.scale_cells.Tie as tie
+
+abbrev Inv-loop : tie.InvT-loop
+Inv-loop row₀ factor width w₀ i₀ row w i = (mapIn (scaledValue factor) i (1 + width) row ≡ mapIn (scaledValue factor) i₀ (1 + width) row₀) × (foldIn (scaledMark factor) i (1 + width) row (markOf w) ≡ foldIn (scaledMark factor) i₀ (1 + width) row₀ (markOf w₀)) × (length row ≡ 130) × (i ≤ 1 + width)
+
+abbrev μ-loop : tie.MeasureT-loop
+μ-loop row₀ factor width w₀ i₀ row w i = 1 + width - i
+
+loop-holds : tie.Need-loop-holds Inv-loop μ-loop
+loop-holds c = (refl, refl, search needs, search needs)
+
+loop-again : tie.Need-loop-again Inv-loop μ-loop
+unfolding cellBound
+loop-again c = (
+  map-next _ _ _ _ nan (omega arith) (scaled-value _ _ (c .cell-value .ensures) (c .before .before .scale-cell .ensures)) (c .before .before .before .before .before .loop .inv .0),
+  fold-next-set _ _ _ _ _ nan _ (omega arith) (omega arith) (scaled-mark _ _ _ (c .before .mark-cell .ensures) (c .before .before .scale-cell .ensures)) (c .before .before .before .before .before .loop .inv .1),
+  simp length-set (omega arith),
+  omega arith,
+)
+
+returns : tie.Need-returns Inv-loop μ-loop
+unfolding scaleCellsIn scaleCellsMark
+returns c =
+    (rw (← mark-clean, ← c .before .before .nothing .ensures) (fold-last _ _ _ _ _ (omega arith) (c .before .loop .inv .1)), map-last _ _ _ _ (omega arith) (c .before .loop .inv .0))
+
+pub scale-cells-spec : {M : Type 1} → statement M
+scale-cells-spec =
+    tie.close
+    (tie.spec
+    Inv-loop
+    μ-loop
+    (λ c κs. search needs)
+    (λ c κs. search needs)
+    loop-holds
+    (λ c. search needs)
+    (λ c. search needs)
+    (λ c κs. search needs)
+    (λ c κs. search needs)
+    (λ c κs. search needs)
+    (λ c. search needs)
+    (λ c. search needs)
+    (λ c. search needs)
+    (λ c. search needs)
+    loop-again
+    returns)

@@ -1,0 +1,8 @@
+-- What the contracts of `rows` cite, and the laws that its definitions read as the steps.
+pub mod Marks
+pub mod Table
+pub mod Integral
+pub mod Place
+pub mod Cells
+pub mod Stays
+pub mod Reading

@@ -1,0 +1,234 @@
+// The operations on one row: place 0 the constant, places 1 to `width` the cells, the places past them the lender's.
+ghost use mathlib.Core.Path.{_≡_};
+ghost use mathlib.Core.Bool.{false};
+ghost use Prim.Native.Nat.{_<_, _≤_, _+_};
+ghost use lib.ListN.{length, getD, set};
+ghost use lib.Ieee.{nan, ne};
+ghost use Rattle.steps.specs.Number.{zero64};
+ghost use Rattle.rows.specs.Marks.{markOf};
+ghost use Rattle.rows.specs.Table.{Wide, insertSymbolAt, insertSymbolMark, insertCellsIn, insertCellsMark, insertRowIn, insertRowMark, insertRowChanged, scaleCellsIn, scaleCellsMark, solveRowIn, solveRowMark, solveForSymbolsIn, solveForSymbolsMark, reverseSignIn, substituteRowIn, substituteRowMark, substituteRowChanged, substituteCellsIn, substituteCellsMark, shiftConstantIn, shiftConstantMark};
+use crate::cell::cell_mark;
+use crate::cell::cell_value;
+use crate::cell::factor_mark;
+use crate::cell::insert_cell;
+use crate::cell::insert_times;
+use crate::cell::mark_cell;
+use crate::cell::scale_cell;
+use crate::cell::stored;
+use crate::number::CELL_BOUND;
+use crate::number::CONSTANT_BOUND;
+use crate::number::Wrote;
+use crate::number::joined;
+use crate::number::mark_write;
+use crate::number::nothing;
+
+// An array by value tells its length, and one behind a reference does not: these two hand it over, at no cost.
+fn told(row: [f64; 130])
+    ensures { λ _. ⌜ length row ≡ 130 ⌝ }
+{}
+
+pub fn wide(row: &[f64; 130])
+    ensures { λ _. ⌜ length (now (row .entry)) ≡ 130 ⌝ }
+{
+    told(*row);
+}
+
+// The compiler drops the loop: nothing comes of it but the fact.
+pub fn wide_rows(rows: &[[f64; 130]])
+    ensures { λ _. ⌜ Wide (now (rows .entry)) ⌝ }
+{
+    let mut i = 0;
+    while i < rows.len() {
+        wide(&rows[i]);
+        i += 1;
+    }
+}
+
+// What an insertion wrote, and whether it changed the constant.
+pub struct Inserted {
+    pub changed: bool,
+    pub wrote: Wrote,
+}
+
+pub fn insert_symbol(row: &mut [f64; 130], at: usize, k: f64, bound: f64) -> Wrote
+    requires { ⌜ at < 130 ⌝ }
+    ensures { λ r. ⌜ markOf r ≡ insertSymbolMark at k bound (now (row .entry)) ⌝ }
+    ensures { λ _. ⌜ now (row .exit) ≡ insertSymbolAt at k (now (row .entry)) ⌝ }
+{
+    let c = insert_cell(row[at], k);
+    row[at] = cell_value(c);
+    cell_mark(bound, c)
+}
+
+pub fn insert_cells(
+    row: &mut [f64; 130],
+    other: &[f64; 130],
+    k: f64,
+    width: usize,
+    bound: f64,
+) -> Wrote
+    requires { ⌜ width < 130 ⌝ }
+    ensures { λ r. ⌜ markOf r ≡ insertCellsMark bound k width (now (other .entry)) (now (row .entry)) ⌝ }
+    ensures { λ _. ⌜ now (row .exit) ≡ insertCellsIn k width (now (other .entry)) (now (row .entry)) ⌝ }
+{
+    wide(row);
+    wide(other);
+    let mut w = nothing();
+    let mut i = 1;
+    while i <= width {
+        let c = insert_times(k, other[i], row[i]);
+        w = mark_cell(bound, w, c);
+        row[i] = cell_value(c);
+        i += 1;
+    }
+    w
+}
+
+pub fn insert_row(row: &mut [f64; 130], other: &[f64; 130], k: f64, width: usize) -> Inserted
+    requires { ⌜ width < 130 ⌝ }
+    ensures { λ r. ⌜ r .changed ≡ insertRowChanged k (now (other .entry)) ⌝ }
+    ensures { λ r. ⌜ markOf (r .wrote) ≡ insertRowMark k width (now (other .entry)) (now (row .entry)) ⌝ }
+    ensures { λ _. ⌜ now (row .exit) ≡ insertRowIn k width (now (other .entry)) (now (row .entry)) ⌝ }
+{
+    let p = other[0] * k;
+    let total = row[0] + p;
+    row[0] = total;
+    let w = insert_cells(row, other, k, width, CELL_BOUND);
+    Inserted {
+        changed: p != 0.0,
+        wrote: joined(mark_write(CONSTANT_BOUND, total), w),
+    }
+}
+
+fn scale_cells(row: &mut [f64; 130], factor: f64, width: usize) -> Wrote
+    requires { ⌜ width < 130 ⌝ }
+    ensures { λ r. ⌜ markOf r ≡ scaleCellsMark factor width (now (row .entry)) ⌝ }
+    ensures { λ _. ⌜ now (row .exit) ≡ scaleCellsIn factor width (now (row .entry)) ⌝ }
+{
+    wide(row);
+    let mut w = nothing();
+    let mut i = 1;
+    while i <= width {
+        let c = scale_cell(factor, row[i]);
+        w = mark_cell(CELL_BOUND, w, c);
+        row[i] = cell_value(c);
+        i += 1;
+    }
+    w
+}
+
+pub fn solve_for(row: &mut [f64; 130], at: usize, width: usize) -> Wrote
+    requires { ⌜ at < 130 ⌝ }
+    requires { ⌜ width < 130 ⌝ }
+    ensures { λ r. ⌜ markOf r ≡ solveRowMark at width (now (row .entry)) ⌝ }
+    ensures { λ _. ⌜ now (row .exit) ≡ solveRowIn at width (now (row .entry)) ⌝ }
+{
+    let cell = row[at];
+    let factor = -1.0 / cell;
+    let total = row[0] * factor;
+    row[0] = total;
+    row[at] = 0.0;
+    let w = scale_cells(row, factor, width);
+    joined(
+        factor_mark(cell, factor),
+        joined(mark_write(CONSTANT_BOUND, total), w),
+    )
+}
+
+pub fn solve_for_symbols(
+    row: &mut [f64; 130],
+    leaving: usize,
+    entering: usize,
+    width: usize,
+) -> Wrote
+    requires { ⌜ leaving < 130 ⌝ }
+    requires { ⌜ entering < 130 ⌝ }
+    requires { ⌜ width < 130 ⌝ }
+    ensures { λ r. ⌜ markOf r ≡ solveForSymbolsMark leaving entering width (now (row .entry)) ⌝ }
+    ensures { λ _. ⌜ now (row .exit) ≡ solveForSymbolsIn leaving entering width (now (row .entry)) ⌝ }
+{
+    let v = insert_symbol(row, leaving, -1.0, CELL_BOUND);
+    let w = solve_for(row, entering, width);
+    joined(v, w)
+}
+
+pub fn reverse_sign(row: &mut [f64; 130], width: usize)
+    requires { ⌜ width < 130 ⌝ }
+    ensures { λ _. ⌜ now (row .exit) ≡ reverseSignIn width (now (row .entry)) ⌝ }
+{
+    row[0] = -row[0];
+    let mut i = 1;
+    while i <= width {
+        row[i] = stored(-row[i]);
+        i += 1;
+    }
+}
+
+pub fn substitute_row(row: &mut [f64; 130], at: usize, other: &[f64; 130], width: usize) -> Inserted
+    requires { ⌜ at < 130 ⌝ }
+    requires { ⌜ width < 130 ⌝ }
+    ensures { λ r. ⌜ r .changed ≡ substituteRowChanged at (now (other .entry)) (now (row .entry)) ⌝ }
+    ensures { λ r. ⌜ markOf (r .wrote) ≡ substituteRowMark at width (now (other .entry)) (now (row .entry)) ⌝ }
+    ensures { λ _. ⌜ now (row .exit) ≡ substituteRowIn at width (now (other .entry)) (now (row .entry)) ⌝ }
+{
+    let k = row[at];
+    if k == 0.0 {
+        let w = nothing();
+        return Inserted {
+            changed: false,
+            wrote: w,
+        };
+    }
+    row[at] = 0.0;
+    insert_row(row, other, k, width)
+}
+
+// In an objective, which has no constant.
+pub fn substitute_cells(
+    row: &mut [f64; 130],
+    at: usize,
+    other: &[f64; 130],
+    width: usize,
+    bound: f64,
+) -> Wrote
+    requires { ⌜ at < 130 ⌝ }
+    requires { ⌜ width < 130 ⌝ }
+    ensures { λ r. ⌜ markOf r ≡ substituteCellsMark bound at width (now (other .entry)) (now (row .entry)) ⌝ }
+    ensures { λ _. ⌜ now (row .exit) ≡ substituteCellsIn at width (now (other .entry)) (now (row .entry)) ⌝ }
+{
+    let k = row[at];
+    if k == 0.0 {
+        return nothing();
+    }
+    row[at] = 0.0;
+    insert_cells(row, other, k, width, bound)
+}
+
+pub fn clear_cell(row: &mut [f64; 130], at: usize)
+    requires { ⌜ at < 130 ⌝ }
+    ensures { λ _. ⌜ now (row .exit) ≡ set (now (row .entry)) at zero64 ⌝ }
+{
+    row[at] = 0.0;
+}
+
+// The place of a new symbol, past the last one.
+pub fn append_cell(row: &mut [f64; 130], width: usize)
+    requires { ⌜ width + 1 < 130 ⌝ }
+    ensures { λ _. ⌜ now (row .exit) ≡ set (now (row .entry)) (width + 1) zero64 ⌝ }
+{
+    row[width + 1] = 0.0;
+}
+
+pub fn shift_constant(row: &mut [f64; 130], d: f64) -> Inserted
+    ensures { λ r. ⌜ r .changed ≡ ne d zero64 ⌝ }
+    ensures { λ r. ⌜ markOf (r .wrote) ≡ shiftConstantMark d (now (row .entry)) ⌝ }
+    ensures { λ _. ⌜ now (row .exit) ≡ shiftConstantIn d (now (row .entry)) ⌝ }
+{
+    let total = row[0] + d;
+    row[0] = total;
+    let w = mark_write(CONSTANT_BOUND, total);
+    Inserted {
+        changed: d != 0.0,
+        wrote: w,
+    }
+}

@@ -1,0 +1,268 @@
+-- An optimise pass on the objective, for any call: with its mark whole it leaves a good state at rest that models the same constraints, or is refused 14 after fewer pivots than there are bases. Assumes nothing.
+use mathlib.Core.Path.{_≡_, refl, sym, ap, _∙_, subst}
+use mathlib.Core.Logic.{_⊎_, inl, inr, _≢_}
+use mathlib.Core.List.{List, [], _∷_, map}
+use mathlib.Core.Option.{Option, none, some}
+use Prim.Native.Nat.{ℕ, _+_, _≤_, _<_}
+use native.Mathlib.Nat.{le-refl}
+use native.Mathlib.Omega.{arith}
+use mathlib.Core.Bool.{Bool, true, false, not, true≢false}
+use lib.Dec.{T}
+use lib.ListN.{length}
+use lib.Signed.{ltZ, ltZ-yes}
+use Rattle.laws.specs.Z.{_≼_}
+use Rattle.simplex.specs.Ord.{0ℤ, clash, ≼-of-eq}
+use Rattle.simplex.specs.Lin.{Vec}
+use Rattle.simplex.specs.Choose.{All, Distinct, choose, trues, all-map}
+use Rattle.simplex.specs.Basis.{Mask}
+use Rattle.simplex.specs.Opt.{Kind as KindZ, const, external, slack, dummy, slack≢external, slack≢const}
+use Rattle.simplex.specs.Pass.{State as StateZ, Good, differ}
+use Rattle.simplex.specs.Bland.{Pass, good}
+use Rattle.simplex.specs.Bound.{Mem}
+use Rattle.simplex.specs.Search.{Asc}
+use Rattle.simplex.specs.Count.{asc-distinct}
+use Rattle.simplex.specs.Look.{done, look, after, lv, ev, Looked, at-rest, looked, pass, enough}
+use Rattle.simplex.specs.Problem.{Con, Models}
+use Rattle.simplex.specs.Final.{models-pass}
+use Rattle.steps.specs.Number.{belowZero, allWhole}
+use Rattle.steps.specs.Symbol.{Kind, External, Slack, Error, Dummy, Symbol, isExternal, isRestricted}
+use Rattle.steps.specs.Row.{Row}
+use Rattle.steps.specs.State.{Basic}
+use Rattle.steps.specs.Work.{Work, Outcome, refused, going, findRow}
+use Rattle.steps.specs.Optimise.{theObjective, optimise, isBelow}
+use Rattle.steps.specs.Calls.{stillBelow}
+use Rattle.bridge.specs.Nums.{belowZero-z}
+use Rattle.bridge.specs.Rows.{In, NotIn, Up}
+use Rattle.bridge.specs.Table.{kindOf, RowAt, ArtAt, ReadsWork, found-in}
+use Rattle.bridge.specs.Looks.{in-or-not}
+use Rattle.bridge.specs.Runs.{markOf, carried, Ran, rests, run}
+use Rattle.bridge.specs.Ends.{Verdict, optimise-whole}
+use Rattle.run.specs.Steady.{Kinded, Calm, Steady, IfGoing, optimise-steady}
+
+-- ---- the ids of the live symbols, and of the restricted ones: demand 3's n is how many these are
+unfoldable pub idsOf : List Symbol → List ℕ
+idsOf [] = []
+idsOf (x ∷ xs) = x .id ∷ idsOf xs
+
+unfoldable pub restrictedIds : List Symbol → List ℕ
+restrictedIds [] = []
+restrictedIds (x ∷ xs) = elim (isRestricted x) [ true ↦ x .id ∷ restrictedIds xs | false ↦ restrictedIds xs ]
+
+-- the ways to choose the basic ones of the restricted symbols: demand 3's "n choose r"
+unfoldable pub waysOf : List Symbol → Mask → ℕ
+waysOf xs B = choose (length (restrictedIds xs)) (trues (map B (restrictedIds xs)))
+
+lower : (i k : ℕ) (l : List ℕ) → i < k → All (λ z. k < z) l → All (λ z. i < z) l
+lower i k [] h a = tt
+lower i k (z ∷ l) h a = (omega (arith, a .0), lower i k l h (a .1))
+
+ids-up : (i : ℕ) (xs : List Symbol) → Up i xs → All (λ z. i < z) (idsOf xs) × Asc (idsOf xs)
+unfolding idsOf Asc
+ids-up i [] u = (tt, tt)
+ids-up i (x ∷ xs) u = let t = ids-up (x .id) xs (u .1) in ((u .0, lower i (x .id) (idsOf xs) (u .0) (t .0)), t)
+
+rest-up : (i : ℕ) (xs : List Symbol) → Up i xs → All (λ z. i < z) (restrictedIds xs) × Asc (restrictedIds xs)
+unfolding restrictedIds Asc
+rest-up i [] u = (tt, tt)
+rest-up i (x ∷ xs) u = go (isRestricted x) (rest-up (x .id) xs (u .1))
+  where
+    go : (b : Bool) → All (λ z. x .id < z) (restrictedIds xs) × Asc (restrictedIds xs)
+        → All (λ z. i < z) (elim b [ true ↦ x .id ∷ restrictedIds xs | false ↦ restrictedIds xs ]) × Asc (elim b [ true ↦ x .id ∷ restrictedIds xs | false ↦ restrictedIds xs ])
+    go true t = ((u .0, lower i (x .id) (restrictedIds xs) (u .0) (t .0)), t)
+    go false t = (lower i (x .id) (restrictedIds xs) (u .0) (t .0), t .1)
+
+in-mem : (j : ℕ) (xs : List Symbol) → In j xs → Mem j (idsOf xs)
+unfolding idsOf
+in-mem j [] m = absurd m
+in-mem j (x ∷ xs) (inl e) = inl e
+in-mem j (x ∷ xs) (inr m) = inr (in-mem j xs m)
+
+mem-in : (j : ℕ) (xs : List Symbol) → Mem j (idsOf xs) → In j xs
+unfolding idsOf
+mem-in j [] m = absurd m
+mem-in j (x ∷ xs) (inl e) = inl e
+mem-in j (x ∷ xs) (inr m) = inr (mem-in j xs m)
+
+external-or : (x : Symbol) → (isRestricted x ≡ true) ⊎ (kindOf (x .kind) ≡ external)
+unfolding isRestricted isExternal
+external-or x = go (x .kind)
+  where
+    go : (t : Kind) → (not (elim t [ External ↦ true | Slack ↦ false | Error ↦ false | Dummy ↦ false ]) ≡ true) ⊎ (kindOf t ≡ external)
+    go External = inr refl
+    go Slack = inl refl
+    go Error = inl refl
+    go Dummy = inl refl
+
+pub in-restricted : (kind : ℕ → KindZ) (j : ℕ) (xs : List Symbol) → All (Kinded kind) xs → In j xs → kind j ≢ external → Mem j (restrictedIds xs)
+unfolding restrictedIds
+in-restricted kind j [] a m n = absurd m
+in-restricted kind j (x ∷ xs) a m n = go (isRestricted x) refl (external-or x) m (λ q. in-restricted kind j xs (a .1) q n)
+  where
+    go : (b : Bool) → isRestricted x ≡ b → (isRestricted x ≡ true) ⊎ (kindOf (x .kind) ≡ external) → (j ≡ x .id) ⊎ In j xs → (In j xs → Mem j (restrictedIds xs)) → Mem j (elim b [ true ↦ x .id ∷ restrictedIds xs | false ↦ restrictedIds xs ])
+    go true e v (inl p) ih = inl p
+    go true e v (inr m) ih = inr (ih m)
+    go false e (inl t) m ih = absurd (true≢false (sym t ∙ e))
+    go false e (inr t) (inl p) ih = absurd (n (ap kind p ∙ a .0 ∙ t))
+    go false e (inr t) (inr m) ih = ih m
+
+-- ---- list entries whose row is absent or not below 0 go: all of them
+module _ (n : ℕ) (kind : ℕ → KindZ) (w : Work) (S : StateZ) (z : Vec) (G : Good n kind S) (H : ReadsWork kind w (S .B) (S .R) (S .o) z) where
+  not-below : (j : ℕ) → kind j ≢ external → isBelow j (w .tableau .rows) ≡ false
+  unfolding isBelow
+  not-below j ne = go (findRow j (w .tableau .rows)) (H .rows j)
+    where
+      nonneg : S .B j ≡ true → (t : KindZ) → kind j ≡ t → 0ℤ ≼ S .R j 0
+      nonneg b const k = absurd (true≢false (sym b ∙ ap (S .B) (G .consts j k) ∙ G .shape .const))
+      nonneg b external k = absurd (ne k)
+      nonneg b slack k = G .feasible j b k
+      nonneg b dummy k = ≼-of-eq (sym (G .still-dummies j k))
+
+      by : (r : Row) (b : Bool) → belowZero (r .constant) ≡ b → belowZero (r .constant) ≡ ltZ (S .R j 0) 0ℤ → 0ℤ ≼ S .R j 0 → b ≡ false
+      by r true e q l = absurd (clash (ltZ-yes (subst T (sym (sym q ∙ e)) tt)) l)
+      by r false e q l = refl
+
+      go : (t : Option Row) → RowAt (w .tableau .symbols) t (S .B j) (S .R j) → elim t as (λ x. Bool) [ none ↦ false | some r ↦ belowZero (r .constant) ] ≡ false
+      go none h = refl
+      go (some r) h = by r (belowZero (r .constant)) refl (belowZero-z (h .1 .constant .isz)) (nonneg (h .0) (kind j) refl)
+
+  pub none-below : (l : List ℕ) → All (λ j. kind j ≢ external) l → stillBelow (w .tableau .rows) l ≡ []
+  unfolding stillBelow
+  none-below [] a = refl
+  none-below (j ∷ l) a = go (isBelow j (w .tableau .rows)) (not-below j (a .0)) (none-below l (a .1))
+    where
+      go : (b : Bool) → b ≡ false → stillBelow (w .tableau .rows) l ≡ [] → _≡_ {A = List ℕ} (elim b [ true ↦ j ∷ stillBelow (w .tableau .rows) l | false ↦ stillBelow (w .tableau .rows) l ]) []
+      go true e ih = absurd (true≢false e)
+      go false e ih = ih
+
+-- ---- the pass
+pub record Rested (n : ℕ) (kind : ℕ → KindZ) (cs : List Con) (left ways : ℕ) (w x : Work) : Type 0 where
+  pub table : StateZ
+  pub good : Good n kind table
+  pub rest : (j : ℕ) → kind j ≡ slack → 0ℤ ≼ table .o j
+  pub models : Models n kind (table .B) (table .R) (table .o) cs
+  pub reads : ReadsWork kind x (table .B) (table .R) (table .o) (λ _. 0ℤ)
+  pub steady : Steady kind w x
+  -- how many pivots it took
+  pub made : ℕ
+  pub count : x .pivots ≡ w .pivots + made
+  pub within : made ≤ left
+  pub fewer : made < ways
+
+-- what a pass on the objective that keeps the mark answers
+abbrev pub Optimised : (n : ℕ) → (ℕ → KindZ) → List Con → ℕ → ℕ → Work → Outcome Work → Type 0
+Optimised n kind cs left ways w (going x) = Rested n kind cs left ways w x
+Optimised n kind cs left ways w (refused k p t) = (k ≡ 14) × (left < ways)
+
+pub resting : (kind : ℕ → KindZ) (ids : List ℕ) (S : StateZ) → Looked kind ids S done → (j : ℕ) → kind j ≡ slack → 0ℤ ≼ S .o j
+resting kind ids S (at-rest h) = h
+
+-- where no artificial objective stands, any row will do for it
+pub other-artificial : (kind : ℕ → KindZ) (w : Work) (B : Mask) (R : ℕ → Vec) (o a b : Vec) → w .artificial ≡ none → ReadsWork kind w B R o a → ReadsWork kind w B R o b
+other-artificial kind w B R o a b e H = record {
+  up = H .up;
+  kinds = H .kinds;
+  unknown = H .unknown;
+  rows-up = H .rows-up;
+  rows-live = H .rows-live;
+  rows = H .rows;
+  objective = H .objective;
+  beyond = H .beyond;
+  artificial = subst (λ (t : Option Row). ArtAt (w .tableau .symbols) t b) (sym e) tt;
+}
+
+-- ---- the columns of a tableau that a pass moves among
+module _ (n : ℕ) (kind : ℕ → KindZ) (w : Work) (B : Mask) (R : ℕ → Vec) (o a : Vec) (zero : kind 0 ≡ const) (H : ReadsWork kind w B R o a) (inside : (j : ℕ) → In j (w .tableau .symbols) → j < n) where
+  pub slack-in : (j : ℕ) → kind j ≡ slack → In j (w .tableau .symbols)
+  slack-in j s = go (in-or-not j (w .tableau .symbols))
+    where
+      go : In j (w .tableau .symbols) ⊎ NotIn j (w .tableau .symbols) → In j (w .tableau .symbols)
+      go (inl m) = m
+      go (inr m) = absurd (slack≢external (sym s ∙ H .unknown j (differ slack≢const kind j 0 s zero) m))
+
+  pub basic-in : (j : ℕ) → B j ≡ true → In j (w .tableau .symbols)
+  basic-in j b = go (findRow j (w .tableau .rows)) refl (H .rows j)
+    where
+      go : (t : Option Row) → findRow j (w .tableau .rows) ≡ t → RowAt (w .tableau .symbols) t (B j) (R j) → In j (w .tableau .symbols)
+      go none q h = absurd (true≢false (sym b ∙ h))
+      go (some r) q h = found-in (λ i. In i (w .tableau .symbols)) j (w .tableau .rows) r (all-map (λ (b : Basic) h. h .0) (w .tableau .rows) (H .rows-live)) q
+
+  pub live-asc : Asc (idsOf (w .tableau .symbols))
+  live-asc = ids-up 0 (w .tableau .symbols) (H .up) .1
+
+  pub live-cover : (j : ℕ) → kind j ≡ slack → Mem j (idsOf (w .tableau .symbols))
+  live-cover j s = in-mem j (w .tableau .symbols) (slack-in j s)
+
+  pub live-inside : (j : ℕ) → Mem j (idsOf (w .tableau .symbols)) → j < n
+  live-inside j m = inside j (mem-in j (w .tableau .symbols) m)
+
+  pub live-once : Distinct (restrictedIds (w .tableau .symbols))
+  live-once = asc-distinct (restrictedIds (w .tableau .symbols)) (rest-up 0 (w .tableau .symbols) (H .up) .1)
+
+  pub live-basics : (j : ℕ) → B j ≡ true → kind j ≢ external → Mem j (restrictedIds (w .tableau .symbols))
+  live-basics j b ne = in-restricted kind j (w .tableau .symbols) (H .kinds) (basic-in j b) ne
+
+  pub live-slacks : (j : ℕ) → kind j ≡ slack → Mem j (restrictedIds (w .tableau .symbols))
+  live-slacks j s = in-restricted kind j (w .tableau .symbols) (H .kinds) (slack-in j s) (λ e. slack≢external (sym s ∙ e))
+
+module _ (n : ℕ) (kind : ℕ → KindZ) (w : Work) (S : StateZ) (z : Vec) (cs : List Con) (in-n : 0 < n) (inside : (j : ℕ) → In j (w .tableau .symbols) → j < n) (G : Good n kind S)
+    (D : Models n kind (S .B) (S .R) (S .o) cs) (H : ReadsWork kind w (S .B) (S .R) (S .o) z) (no-art : w .artificial ≡ none) (L : All (λ j. kind j ≢ external) (w .tableau .infeasible)) where
+  abbrev ids : List ℕ
+  ids = idsOf (w .tableau .symbols)
+
+  abbrev rs : List ℕ
+  rs = restrictedIds (w .tableau .symbols)
+
+  asc : Asc ids
+  asc = live-asc n kind w (S .B) (S .R) (S .o) z (G .zero) H inside
+
+  cover : (j : ℕ) → kind j ≡ slack → Mem j ids
+  cover = live-cover n kind w (S .B) (S .R) (S .o) z (G .zero) H inside
+
+  in-ids : (j : ℕ) → Mem j ids → j < n
+  in-ids = live-inside n kind w (S .B) (S .R) (S .o) z (G .zero) H inside
+
+  once : Distinct rs
+  once = live-once n kind w (S .B) (S .R) (S .o) z (G .zero) H inside
+
+  basics : (j : ℕ) → S .B j ≡ true → kind j ≢ external → Mem j rs
+  basics = live-basics n kind w (S .B) (S .R) (S .o) z (G .zero) H inside
+
+  slacks : (j : ℕ) → kind j ≡ slack → Mem j rs
+  slacks = live-slacks n kind w (S .B) (S .R) (S .o) z (G .zero) H inside
+
+  calm : Calm kind w
+  calm = record { listed = L; kinds = H .kinds; basics = all-map (λ (b : Basic) h. h .1) (w .tableau .rows) (H .rows-live) }
+
+  module _ (left : ℕ) (m : markOf (optimise left theObjective w) ≡ allWhole) where
+    rested : (x : Work) → Ran n kind ids asc cover in-ids theObjective left w S z (going x) → Steady kind w x → Rested n kind cs left (waysOf (w .tableau .symbols) (S .B)) w x
+    unfolding waysOf after
+    rested x (rests k l f d y r q) st = record {
+      table = after kind ids S k;
+      good = GT;
+      rest = resting kind ids (after kind ids S k) (subst (Looked kind ids (after kind ids S k)) d (looked kind ids asc cover n (after kind ids S k) GT));
+      models = models-pass n kind cs k (after kind ids S) (λ i. lv (look kind ids (after kind ids S i))) (λ i. ev (look kind ids (after kind ids S i))) Q D k (le-refl k);
+      reads = other-artificial kind x ((after kind ids S k) .B) ((after kind ids S k) .R) ((after kind ids S k) .o) (carried kind ids S z k) (λ _. 0ℤ) (st .kept .artificial no-art) r;
+      steady = st;
+      made = k;
+      count = q;
+      within = l;
+      fewer = enough n kind ids asc cover in-ids S k G f rs once basics slacks;
+    }
+      where
+        Q : Pass n kind k (after kind ids S) (λ i. lv (look kind ids (after kind ids S i))) (λ i. ev (look kind ids (after kind ids S i)))
+        Q = pass n kind ids asc cover in-ids S k G f
+
+        GT : Good n kind (after kind ids S k)
+        GT = good n kind k (after kind ids S) (λ i. lv (look kind ids (after kind ids S i))) (λ i. ev (look kind ids (after kind ids S i))) Q k (le-refl k)
+
+    -- THE PASS
+    pub optimised : Optimised n kind cs left (waysOf (w .tableau .symbols) (S .B)) w (optimise left theObjective w)
+    unfolding waysOf
+    optimised =
+        go (optimise left theObjective w) (run n kind ids asc cover in-ids left theObjective w S z G H m) (optimise-steady kind left theObjective w calm)
+        (optimise-whole n kind ids asc cover in-ids left w S z cs rs in-n once basics slacks G D H m)
+      where
+        go : (t : Outcome Work) → Ran n kind ids asc cover in-ids theObjective left w S z t → IfGoing (Steady kind w) t → Verdict n kind ids asc cover in-ids left S cs rs t
+            → Optimised n kind cs left (waysOf (w .tableau .symbols) (S .B)) w t
+        go (going x) r st v = rested x r st
+        go (refused k p t) r st v = v

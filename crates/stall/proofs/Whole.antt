@@ -1,0 +1,134 @@
+-- DEMAND 3. In a whole run no optimise pass of an add or a removal holds the same basic symbols twice, each makes fewer pivots than there are ways to choose r of n, and these ways are budget enough. Assumes nothing.
+use Prim.Native.Nat.{ℕ, _≤_}
+use native.Mathlib.Omega.{arith}
+use mathlib.Core.Path.{_≡_, refl, sym, _∙_, subst}
+use mathlib.Core.Bool.{Bool, true, false, _&&_, cond}
+use mathlib.Core.List.{List, []}
+use mathlib.Core.Option.{Option, none, some}
+use lib.Dec.{T}
+use lib.ListN.{length}
+use lib.Signed.{ltZ, ltZ-yes}
+use lib.Ieee.{Float, lt, le}
+use Rattle.exact.specs.Whole.{IsZ, val}
+use Rattle.exact.specs.Compare.{le-z}
+use Rattle.simplex.specs.Ord.{0ℤ, ≺→≼}
+use Rattle.simplex.specs.Choose.{All}
+use Rattle.steps.specs.Number.{zero64, constantBound, belowZero, isWhole, allWhole}
+use Rattle.steps.specs.Strength.{required, clip}
+use Rattle.steps.specs.State.{Term, Relation, equal, strengthOf, State}
+use Rattle.steps.specs.Add.{Added, wholeTerms, wholeInputs, wholeWithin, addSteps}
+use Rattle.steps.specs.Edit.{editTerms, addEditSteps}
+use Rattle.steps.specs.Tests.{firstRefusal, addTests, addEditTests, keepConstraint, keepEdit, keptTerms}
+use Rattle.steps.specs.Calls.{Result, begin, finish, refusedBy, concludeAdd, add, addEdit}
+use Rattle.bridge.specs.Nums.{zero64-z, belowZero-z}
+use Rattle.bridge.specs.Finds.{none≢some}
+use Rattle.run.specs.Demand.{ofConstraint, ofEdit, Call, resets, fetches, adds, removes, addsEdit, removesEdit, suggests, make, Moment, after}
+use Rattle.run.specs.Inv.{Inv}
+use Rattle.run.specs.Words.{whole-z}
+use Rattle.run.specs.Inputs.{both, required-z}
+use Rattle.run.specs.AddMarks.{markAdded, whole-steps}
+use Rattle.run.specs.Add.{passed, not-above, ids-left, added-whole}
+use Rattle.run.specs.Run.{run-sound}
+use Rattle.stall.specs.Stall.{PassStart, addPasses, passesOf, budgetOf, NeverStalls}
+use Rattle.stall.proofs.Pass.{Starts}
+use Rattle.stall.proofs.Calls.{unmarred, demand-3}
+use Rattle.stall.proofs.AddStarts.{add-starts}
+use Rattle.stall.proofs.RemoveStarts.{remove-starts, removeEdit-starts}
+
+-- ---- an add
+record Passes (ts : List Term) (r : Relation) (s : State) : Type 0 where
+  strength : belowZero (strengthOf r) ≡ false
+  few : length ts ≤ 16
+  low : s .tableau .nextId ≤ 4_294_900_000
+
+passes : (n : ℕ) (ts : List Term) (k : Float) (r : Relation) (s : State) → firstRefusal (addTests n ts k r s) ≡ none → Passes ts r s
+unfolding addTests
+passes n ts k r s e =
+    let t₁ = passed _ _ e in
+    let t₂ = passed _ _ (t₁ .1) in
+    let t₃ = passed _ _ (t₂ .1) in
+    let t₄ = passed _ _ (t₃ .1) in
+    let t₅ = passed _ _ (t₄ .1) in
+    let t₆ = passed _ _ (t₅ .1) in
+    let t₇ = passed _ _ (t₆ .1) in
+    record { strength = t₂ .0; few = not-above 16 (length ts) (t₃ .0); low = ids-left s (t₇ .0) }
+
+adds-start : (m : Moment) → Inv m → (n : ℕ) (ts : List Term) (k : Float) (r : Relation) (b : ℕ) → make (adds n ts k r b) (m .state) .answer .whole ≡ true → All Starts (passesOf (adds n ts k r b) (m .state))
+unfolding passesOf make add
+adds-start m I n ts k r b = go (firstRefusal (addTests n ts k r (m .state))) refl
+  where
+    next : Added → State
+    next a = finish (a .work) (keepConstraint (record { number = n; strength = strengthOf r; terms = keptTerms ts; tag = a .tag }) (m .state .constraints)) (m .state .edits)
+
+    go : (o : Option ℕ) → firstRefusal (addTests n ts k r (m .state)) ≡ o
+        → (elim o as (λ x. Result) [ some x ↦ refusedBy x 0 (m .state .whole) (m .state) | none ↦ concludeAdd (m .state) (addSteps b ts k r (begin (m .state))) next ]) .answer .whole ≡ true
+        → All Starts (elim o as (λ x. List PassStart) [ some x ↦ [] | none ↦ addPasses b ts k r (begin (m .state)) ])
+    go (some x) e w = tt
+    go none e w =
+        let P = passes n ts k r (m .state) e in
+        add-starts m I (record { key = ofConstraint n; terms = ts; constant = k; relation = r }) b (P .strength) (P .few) (P .low) (added-whole (m .state) (addSteps b ts k r (begin (m .state))) next w)
+
+-- ---- an add edit
+
+-- a clipped strength that is whole is not below 0
+clip-up : (s : Float) → isWhole (clip s) ≡ true → belowZero (clip s) ≡ false
+unfolding clip
+clip-up s = go (le s zero64) refl (lt s required)
+  where
+    kept : IsZ s (val s) → le s zero64 ≡ false → (b : Bool) → ltZ (val s) 0ℤ ≡ b → belowZero s ≡ false
+    kept h e true q = absurd (subst T (sym (le-z h zero64-z) ∙ e) (≺→≼ {a = val s} {b = 0ℤ} (ltZ-yes (subst T (sym q) tt)) .le))
+    kept h e false q = belowZero-z h ∙ q
+
+    go : (a : Bool) → le s zero64 ≡ a → (b : Bool) → isWhole (cond a zero64 (cond b s required)) ≡ true → belowZero (cond a zero64 (cond b s required)) ≡ false
+    go true e b w = belowZero-z zero64-z
+    go false e true w = kept (whole-z s w) e (ltZ (val s) 0ℤ) refl
+    go false e false w = belowZero-z required-z
+
+whole-strength : (ts : List Term) (k s : Float) → wholeInputs ts k (equal s) ≡ true → isWhole s ≡ true
+unfolding wholeInputs strengthOf
+whole-strength ts k s e = both (wholeTerms ts && wholeWithin constantBound k) (isWhole s) e .1
+
+edit-low : (v : ℕ) (k : Float) (s : State) → firstRefusal (addEditTests v k s) ≡ none → s .tableau .nextId ≤ 4_294_900_000
+unfolding addEditTests
+edit-low v k s e =
+    let t₁ = passed _ _ e in
+    let t₂ = passed _ _ (t₁ .1) in
+    let t₃ = passed _ _ (t₂ .1) in
+    let t₄ = passed _ _ (t₃ .1) in
+    let t₅ = passed _ _ (t₄ .1) in
+    ids-left s (t₅ .0)
+
+one-term : (v : ℕ) → length (editTerms v) ≤ 16
+unfolding editTerms
+one-term v = omega arith
+
+edit-start : (m : Moment) → Inv m → (v : ℕ) (k : Float) (b : ℕ) → make (addsEdit v k b) (m .state) .answer .whole ≡ true → All Starts (passesOf (addsEdit v k b) (m .state))
+unfolding passesOf make addEdit addEditSteps strengthOf
+edit-start m I v k b = go (firstRefusal (addEditTests v (clip k) (m .state))) refl
+  where
+    next : Added → State
+    next a = finish (a .work) (m .state .constraints) (keepEdit (record { variable = v; strength = clip k; tag = a .tag; suggestion = zero64 }) (m .state .edits))
+
+    go : (o : Option ℕ) → firstRefusal (addEditTests v (clip k) (m .state)) ≡ o
+        → (elim o as (λ x. Result) [ some x ↦ refusedBy x 0 (m .state .whole) (m .state) | none ↦ concludeAdd (m .state) (addSteps b (editTerms v) zero64 (equal (clip k)) (begin (m .state))) next ]) .answer .whole ≡ true
+        → All Starts (elim o as (λ x. List PassStart) [ some x ↦ [] | none ↦ addPasses b (editTerms v) zero64 (equal (clip k)) (begin (m .state)) ])
+    go (some x) e w = tt
+    go none e w =
+        let q : markAdded (addSteps b (editTerms v) zero64 (equal (clip k)) (begin (m .state))) ≡ allWhole = added-whole (m .state) (addSteps b (editTerms v) zero64 (equal (clip k)) (begin (m .state))) next w in
+        add-starts m I (record { key = ofEdit v; terms = editTerms v; constant = zero64; relation = equal (clip k) }) b
+        (clip-up k (whole-strength (editTerms v) zero64 (clip k) (whole-steps b (editTerms v) zero64 (equal (clip k)) (begin (m .state)) q .inputs))) (one-term v) (edit-low v (clip k) (m .state) e) q
+
+-- ---- every call's passes start well
+pub starts : (m : Moment) → Inv m → (c : Call) (b : ℕ) → budgetOf c ≡ some b → make c (m .state) .answer .whole ≡ true → All Starts (passesOf c (m .state))
+unfolding budgetOf
+starts m I resets b e w = absurd (none≢some e)
+starts m I fetches b e w = absurd (none≢some e)
+starts m I (adds n ts k r x) b e w = adds-start m I n ts k r x w
+starts m I (removes n x) b e w = remove-starts m I n x (unmarred b (removes n x) (m .state) e w)
+starts m I (addsEdit v k x) b e w = edit-start m I v k x w
+starts m I (removesEdit v x) b e w = removeEdit-starts m I v x (unmarred b (removesEdit v x) (m .state) e w)
+starts m I (suggests v k x) b e w = absurd (none≢some e)
+
+-- DEMAND 3
+pub never-stalls : NeverStalls
+never-stalls cs c b e w = demand-3 b c (after cs .state) e (w .1) (starts (after cs) (run-sound cs (w .0) .inv) c b e (w .1))

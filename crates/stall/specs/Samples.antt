@@ -1,0 +1,45 @@
+-- Two adds and a removal, computed pass by pass: what n and r are, the ways to choose r of n, and the pivots made.
+use Prim.Native.Nat.{ℕ, _-_}
+use mathlib.Core.List.{List, [], _∷_, map}
+use lib.Dec.{T}
+use lib.Ieee.{Float}
+use Rattle.simplex.specs.Choose.{choose}
+use Rattle.steps.specs.Strength.{required}
+use Rattle.steps.specs.State.{Relation, atMost, equal}
+use Rattle.steps.specs.Readable.{concat}
+use Rattle.steps.specs.Session.{sameNumbers}
+use Rattle.steps.specs.Twelve.{num, minus, x, openTwelve}
+use Rattle.run.specs.Demand.{Call, adds, removes, make, accepted, liveAfter, next, start, after}
+use Rattle.stall.specs.Stall.{PassStart, goesOn, turn, pivotsFrom, pivotsOf, restrictedRows, restrictedSymbols, ways, objectivePass, artificialPass, addPasses, removePasses, passesOf}
+
+-- n, r, the ways, the pivots
+unfoldable pub figures : PassStart → List ℕ
+figures p = restrictedSymbols (p .work .tableau .symbols) ∷ restrictedRows (p .work .tableau .rows) ∷ ways p ∷ pivotsOf p ∷ []
+
+-- those of the passes of a call after others, the last of them first
+unfoldable pub figuresOf : List Call → Call → List ℕ
+figuresOf before c = concat (map figures (passesOf c (after before .state)))
+
+-- constraint c: x related to n
+unfoldable pub xIs : ℕ → (Float → Relation) → ℕ → Float → Call
+xIs c relation n strength = adds c (x ∷ []) (minus n) (relation strength) 10
+
+-- the key: unfolds this module and what it computes with
+unfoldable pub openSamples : Unit {0}
+unfolding openTwelve choose make accepted liveAfter next start after goesOn turn pivotsFrom pivotsOf restrictedRows restrictedSymbols ways objectivePass artificialPass addPasses removePasses passesOf figures figuresOf xIs
+openSamples = tt
+
+-- x ≤ 8, then x = 5, both required. Step 6's pass has the slack, the dummy and the temporary, which alone of them is basic; it makes one pivot. Then the temporary is gone, and step 7's makes none.
+pub required-equality : T (sameNumbers (figuresOf (xIs 1 atMost 8 required ∷ []) (xIs 2 equal 5 required)) (3 ∷ 1 ∷ 3 ∷ 1 ∷ 2 ∷ 1 ∷ 2 ∷ 0 ∷ []))
+unfolding openSamples
+required-equality = tt
+
+-- W3: x = 10 at 1, then x ≤ 8. Two errors, the slack and the temporary; then without it.
+pub third-session : T (sameNumbers (figuresOf (xIs 1 equal 10 (num 1) ∷ []) (xIs 2 atMost 8 required)) (4 ∷ 1 ∷ 4 ∷ 1 ∷ 3 ∷ 1 ∷ 3 ∷ 0 ∷ []))
+unfolding openSamples
+third-session = tt
+
+-- and x ≤ 8 removed again: its slack is gone before the pass
+pub removed-again : T (sameNumbers (figuresOf (xIs 2 atMost 8 required ∷ xIs 1 equal 10 (num 1) ∷ []) (removes 2 10)) (2 ∷ 0 ∷ 1 ∷ 0 ∷ []))
+unfolding openSamples
+removed-again = tt

@@ -1,0 +1,123 @@
+-- The three ways in which a changing call answers, on every input. Assumes nothing.
+use Prim.Native.Nat.{ℕ}
+use native.Mathlib.Omega.{arith}
+use mathlib.Core.Path.{_≡_, refl, ap}
+use mathlib.Core.Bool.{Bool, true, false, cond}
+use mathlib.Core.List.{List}
+use mathlib.Core.Option.{Option, none, some}
+use lib.Ieee.{Float}
+use Rattle.steps.specs.Number.{isFinite, Mark, allWhole, notWhole, saysWhole}
+use Rattle.steps.specs.Strength.{clip}
+use Rattle.steps.specs.State.{Term, Relation, equal, Constraint, Edit, State}
+use Rattle.steps.specs.Work.{Work, Outcome}
+use Rattle.steps.specs.Add.{Added}
+use Rattle.steps.specs.Edit.{editTerms, addEditSteps}
+use Rattle.steps.specs.Tests.{member, firstRefusal, hasConstraint, hasEdit, addTests, addEditTests, findConstraint, findEdit}
+use Rattle.steps.specs.Calls.{Result, begin, finish, refusedBy, acceptedAs, conclude, concludeAdd, add, remove, addEdit, removeEdit, suggest}
+use Rattle.steps.specs.Changing.{Changing, adds, removes, addsEdit, removesEdit, suggests, made, budgetOf, tests, stepNumbers, Stores}
+use Rattle.steps.proofs.Ends.{Bounds, Within, Stopped, Ends, stops, goes}
+use Rattle.steps.proofs.Steps.{addSteps-ends, removeSteps-ends, suggestSteps-ends}
+
+-- what its steps are held to
+abbrev pub bounds : Changing → State → Bounds
+bounds c s = record { budget = budgetOf c; stored = s .whole; numbers = stepNumbers c }
+
+-- how a changing call comes to its answer
+pub data Answered (c : Changing) (s : State) : Result → Type 0 where
+  -- a test failed, and no step was taken
+  byTest : (n : ℕ) → firstRefusal (tests c s) ≡ some n → Answered c s (refusedBy n 0 (s .whole) s)
+  -- the steps met a refusal, with p pivots made and the mark m
+  bySteps : (n p : ℕ) (m : Mark) → firstRefusal (tests c s) ≡ none → Stopped (bounds c s) n p m
+      → Answered c s (refusedBy n p (saysWhole m) s)
+  -- accepted: what the steps came to is stored
+  accepts : (w : Work) (cs : List Constraint) (es : List Edit) → firstRefusal (tests c s) ≡ none → Within (bounds c s) w → Stores c s cs es
+      → Answered c s (acceptedAs w (finish w cs es))
+
+-- the steps begin with no pivot, and with the stored mark
+begins : (c : Changing) (s : State) → Within (bounds c s) (begin s)
+unfolding begin saysWhole
+begins c s = record { spent = omega arith; mark = go (s .whole) }
+  where
+    go : (b : Bool) → cond b allWhole notWhole ≡ allWhole → b ≡ true
+    go true e = refl
+    go false e = ap saysWhole e
+
+-- steps that end so give such an answer
+concluded : (c : Changing) (s : State) (o : Outcome Work) (cs : List Constraint) (es : List Edit) → firstRefusal (tests c s) ≡ none → Stores c s cs es
+    → Ends (bounds c s) (Within (bounds c s)) o → Answered c s (conclude s o λ w. finish w cs es)
+unfolding conclude
+concluded c s o cs es e k (stops {n = n} {p = p} {m = m} h) = bySteps n p m e h
+concluded c s o cs es e k (goes {a = w} h) = accepts w cs es e h k
+
+-- the same of Add's steps, where the tag decides what is stored
+concludedAdd : (c : Changing) (s : State) (o : Outcome Added) (cs : Added → List Constraint) (es : Added → List Edit) → firstRefusal (tests c s) ≡ none → ((a : Added) → Stores c s (cs a) (es a))
+    → Ends (bounds c s) (λ (a : Added). Within (bounds c s) (a .work)) o
+    → Answered c s (concludeAdd s o λ a. finish (a .work) (cs a) (es a))
+unfolding concludeAdd
+concludedAdd c s o cs es e k (stops {n = n} {p = p} {m = m} h) = bySteps n p m e h
+concludedAdd c s o cs es e k (goes {a = a} h) = accepts (a .work) (cs a) (es a) e h (k a)
+
+-- a call that answers by its first test that fails, or else by its steps
+tested : (c : Changing) (s : State) (o : Option ℕ) → firstRefusal (tests c s) ≡ o → (r : Result) → (firstRefusal (tests c s) ≡ none → Answered c s r)
+    → Answered c s (elim o [ some n ↦ refusedBy n 0 (s .whole) s | none ↦ r ])
+tested c s none e r h = h e
+tested c s (some n) e r h = byTest n e
+
+-- ---- the five calls
+
+add-answered : (n : ℕ) (ts : List Term) (k : Float) (r : Relation) (b : ℕ) (s : State) → Answered (adds n ts k r b) s (add n ts k r b s)
+unfolding add member
+add-answered n ts k r b s =
+    tested (adds n ts k r b) s (firstRefusal (addTests n ts k r s)) refl _
+    λ e. concludedAdd (adds n ts k r b) s _ _ _ e (λ a. (a .tag, refl, refl)) (addSteps-ends {lim = bounds (adds n ts k r b) s} tt tt tt tt ts k r (begin s) (begins (adds n ts k r b) s))
+
+-- a live number is one that is found
+constraint-test : (n : ℕ) (s : State) (o : Option Constraint) → findConstraint n (s .constraints) ≡ o → hasConstraint n s ≡ elim o [ none ↦ false | some c ↦ true ]
+unfolding hasConstraint
+constraint-test n s o e = rw (e, hasConstraint)
+
+edit-test : (n : ℕ) (s : State) (o : Option Edit) → findEdit n (s .edits) ≡ o → hasEdit n s ≡ elim o [ none ↦ false | some c ↦ true ]
+unfolding hasEdit
+edit-test n s o e = rw (e, hasEdit)
+
+remove-answered : (n b : ℕ) (s : State) → Answered (removes n b) s (remove n b s)
+unfolding remove firstRefusal member
+remove-answered n b s = go (findConstraint n (s .constraints)) refl
+  where
+    go : (o : Option Constraint) → findConstraint n (s .constraints) ≡ o → Answered (removes n b) s (remove n b s)
+    go none e = rw (e, remove) (byTest 5 (rw (constraint-test n s none e)))
+    go (some c) e =
+        rw (e, remove) (concluded (removes n b) s _ _ _ (rw (constraint-test n s (some c) e)) (refl, refl) (removeSteps-ends {lim = bounds (removes n b) s} tt tt tt tt (c .tag) (c .strength) (c .terms) (begin s) (begins (removes n b) s)))
+
+addEdit-answered : (n : ℕ) (k : Float) (b : ℕ) (s : State) → Answered (addsEdit n k b) s (addEdit n k b s)
+unfolding addEdit addEditSteps member
+addEdit-answered n k b s =
+    tested (addsEdit n k b) s (firstRefusal (addEditTests n (clip k) s)) refl _
+    λ e. concludedAdd (addsEdit n k b) s _ _ _ e (λ a. (a .tag, refl, refl)) (addSteps-ends {lim = bounds (addsEdit n k b) s} tt tt tt tt (editTerms n) _ (equal (clip k)) (begin s) (begins (addsEdit n k b) s))
+
+removeEdit-answered : (n b : ℕ) (s : State) → Answered (removesEdit n b) s (removeEdit n b s)
+unfolding removeEdit firstRefusal member
+removeEdit-answered n b s = go (findEdit n (s .edits)) refl
+  where
+    go : (o : Option Edit) → findEdit n (s .edits) ≡ o → Answered (removesEdit n b) s (removeEdit n b s)
+    go none e = rw (e, removeEdit) (byTest 8 (rw (edit-test n s none e)))
+    go (some c) e =
+        rw (e, removeEdit) (concluded (removesEdit n b) s _ _ _ (rw (edit-test n s (some c) e)) (refl, refl) (removeSteps-ends {lim = bounds (removesEdit n b) s} tt tt tt tt (c .tag) (c .strength) (editTerms n) (begin s) (begins (removesEdit n b) s)))
+
+suggest-answered : (n : ℕ) (x : Float) (b : ℕ) (s : State) → Answered (suggests n x b) s (suggest n x b s)
+unfolding suggest firstRefusal member begin
+suggest-answered n x b s = go (isFinite x) refl (findEdit n (s .edits)) refl
+  where
+    go : (f : Bool) → isFinite x ≡ f → (o : Option Edit) → findEdit n (s .edits) ≡ o → Answered (suggests n x b) s (suggest n x b s)
+    go false p o e = rw (p, suggest) (byTest 1 (rw p))
+    go true p none e = rw (p, e, suggest) (byTest 8 (rw (p, edit-test n s none e)))
+    go true p (some c) e =
+        rw (p, e, suggest) (concluded (suggests n x b) s _ _ _ (rw (p, edit-test n s (some c) e)) (c, e, refl, refl) (suggestSteps-ends {lim = bounds (suggests n x b) s} tt tt tt c x (begin s) refl (begins (suggests n x b) s)))
+
+-- every changing call answers in one of the three ways
+pub answered : (c : Changing) (s : State) → Answered c s (made c s)
+answered (adds n ts k r b) s = add-answered n ts k r b s
+answered (removes n b) s = remove-answered n b s
+answered (addsEdit n k b) s = addEdit-answered n k b s
+answered (removesEdit n b) s = removeEdit-answered n b s
+answered (suggests n x b) s = suggest-answered n x b s

@@ -1,0 +1,90 @@
+-- What queries, fetch and reset leave as it was. Assumes nothing.
+use Prim.Native.Nat.{ℕ}
+use mathlib.Core.Path.{_≡_, refl, sym, ap, _∙_, subst}
+use mathlib.Core.Bool.{Bool, true, false, cond}
+use mathlib.Core.List.{List, [], _∷_, map}
+use mathlib.Core.Option.{Option, none, some}
+use lib.Dec.{eqb}
+use lib.Ieee.{Float}
+use Rattle.steps.specs.Number.{zero64}
+use Rattle.steps.specs.Symbol.{Symbol}
+use Rattle.steps.specs.State.{Basic, Variable, State}
+use Rattle.steps.specs.Changes.{withFlag, clearChanged, findVariable, valueOf, value, isNews, newsOf, reported, fetchChanges}
+use Rattle.steps.specs.Tests.{findConstraint, findEdit, hasConstraint, hasEdit}
+use Rattle.steps.specs.Calls.{empty, reset}
+use Rattle.steps.specs.Session.{valueOf as asks, hasConstraints, hasEdits, turn}
+
+-- ---- queries
+
+-- a query's state afterwards is the state before
+pub queries-keep : (s : State) (n : ℕ) → (turn (asks n) s .state ≡ s) × (turn (hasConstraints n) s .state ≡ s) × (turn (hasEdits n) s .state ≡ s)
+unfolding turn
+queries-keep s n = (refl, refl, refl)
+
+-- "Queries give false or 0.0 for an unknown number, and beside 18."
+pub unknown-value : (s : State) (n : ℕ) → findVariable n (s .changes .variables) ≡ none → value n s ≡ zero64
+unfolding value
+unknown-value s n e = rw (e, value)
+
+pub unknown-constraint : (s : State) (n : ℕ) → findConstraint n (s .constraints) ≡ none → hasConstraint n s ≡ false
+unfolding hasConstraint
+unknown-constraint s n e = rw (e, hasConstraint)
+
+pub unknown-edit : (s : State) (n : ℕ) → findEdit n (s .edits) ≡ none → hasEdit n s ≡ false
+unfolding hasEdit
+unknown-edit s n e = rw (e, hasEdit)
+
+-- ---- reset
+
+-- "Reset refuses only wrong lengths.": it answers accepted, no pivot, yes, and leaves the empty state, whose mark is yes.
+pub reset-accepts : (s : State) → (reset s .answer ≡ record { number = 0; pivots = 0; whole = true }) × (reset s .state ≡ empty) × (empty .whole ≡ true)
+unfolding reset empty
+reset-accepts s = (refl, refl, refl)
+
+-- ---- fetch
+
+-- all but the variables' changed flags, their old values and the toggle stays
+pub fetch-keeps : (s : State) → (fetchChanges s .state .tableau ≡ s .tableau) × (fetchChanges s .state .constraints ≡ s .constraints) × (fetchChanges s .state .edits ≡ s .edits) × (fetchChanges s .state .whole ≡ s .whole)
+unfolding fetchChanges
+fetch-keeps s = (refl, refl, refl, refl)
+
+-- "a second straight after reports none": of variables that are out of the changed set nothing is listed
+no-news : (rows : List Basic) (vs : List Variable) → newsOf rows (clearChanged vs) ≡ []
+unfolding newsOf isNews clearChanged withFlag
+no-news rows [] = refl
+no-news rows (v ∷ vs) = no-news rows vs
+
+-- "Changes: `fetch_changes` toggles as in the crate: a first fetch reports, a second straight after reports none."
+pub second-fetch : (s : State) → s .changes .shouldClear ≡ false → fetchChanges (fetchChanges s .state) .list ≡ []
+unfolding fetchChanges
+second-fetch s e = rw e (no-news (s .tableau .rows) (map (reported (s .tableau .rows)) (s .changes .variables)))
+
+-- the value of a variable that was looked up
+found : List Basic → Option Variable → Float
+found rows o = elim o [ none ↦ zero64 | some v ↦ valueOf v rows ]
+
+-- what keeps number and symbol keeps the value
+kept-value : (f : Variable → Variable) → ((v : Variable) → f v .number ≡ v .number) → ((v : Variable) → f v .symbol ≡ v .symbol)
+    → (n : ℕ) (rows : List Basic) (vs : List Variable) → found rows (findVariable n (map f vs)) ≡ found rows (findVariable n vs)
+unfolding found findVariable valueOf
+kept-value f same-number same-symbol n rows [] = refl
+kept-value f same-number same-symbol n rows (v ∷ vs) =
+    subst (λ (k : ℕ). found rows (elim (eqb n k) [ true ↦ some (f v) | false ↦ findVariable n (map f vs) ]) ≡ found rows (findVariable n (v ∷ vs))) (sym (same-number v))
+    (go (eqb n (v .number)) (kept-value f same-number same-symbol n rows vs))
+  where
+    go : (b : Bool) → found rows (findVariable n (map f vs)) ≡ found rows (findVariable n vs)
+        → found rows (elim b [ true ↦ some (f v) | false ↦ findVariable n (map f vs) ]) ≡ found rows (elim b [ true ↦ some v | false ↦ findVariable n vs ])
+    go true on = ap (λ (x : Symbol). valueOf (record { number = v .number; symbol = x; old = v .old; uses = v .uses; changed = v .changed }) rows) (same-symbol v)
+    go false on = on
+
+-- so no value changes by a fetch
+pub fetch-keeps-values : (n : ℕ) (s : State) → value n (fetchChanges s .state) ≡ value n s
+unfolding value fetchChanges found reported withFlag clearChanged
+fetch-keeps-values n s = kept-value (reported rows) (λ v. refl) (λ v. refl) n rows _ ∙ go (s .changes .shouldClear)
+  where
+    rows : List Basic
+    rows = s .tableau .rows
+
+    go : (b : Bool) → found rows (findVariable n (cond b (clearChanged (s .changes .variables)) (s .changes .variables))) ≡ found rows (findVariable n (s .changes .variables))
+    go true = kept-value (withFlag false) (λ v. refl) (λ v. refl) n rows (s .changes .variables)
+    go false = refl

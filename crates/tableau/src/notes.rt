@@ -1,0 +1,73 @@
+// The changed set: a flag in each variable's record, and whether the set is to be cleared first.
+ghost use mathlib.Core.Path.{_≡_};
+ghost use mathlib.Core.Bool.{cond};
+ghost use Prim.Native.Nat.{_≤_, _<_, _/_};
+ghost use lib.ListN.{length, getD, set};
+ghost use Rattle.tableau.specs.Notes.{clearedRow, clearedNames, flaggedRow, flaggedNames, noted, varChangedIn, varChangedIf};
+
+fn clear_flag(name: &mut [u64; 20])
+    ensures { λ _. ⌜ now (name .exit) ≡ clearedRow (now (name .entry)) ⌝ }
+{
+    name[3] = 0;
+}
+
+fn clear_changed(names: &mut [[u64; 20]], count: usize)
+    requires { ⌜ count ≤ length (now names) ⌝ }
+    ensures { λ _. ⌜ now (names .exit) ≡ clearedNames count (now (names .entry)) ⌝ }
+{
+    let mut i = 0;
+    while i < count {
+        clear_flag(&mut names[i]);
+        i += 1;
+    }
+}
+
+fn clear_changed_if(on: bool, names: &mut [[u64; 20]], count: usize)
+    requires { ⌜ count ≤ length (now names) ⌝ }
+    ensures { λ _. ⌜ now (names .exit) ≡ cond on (clearedNames count (now (names .entry))) (now (names .entry)) ⌝ }
+{
+    if on {
+        clear_changed(names, count);
+    }
+}
+
+fn flag_if_symbol(name: &mut [u64; 20], id: u64)
+    ensures { λ _. ⌜ now (name .exit) ≡ flaggedRow id (now (name .entry)) ⌝ }
+{
+    if id == name[1] / 4 {
+        name[3] = 1;
+    }
+}
+
+fn flag_symbol(names: &mut [[u64; 20]], count: usize, id: u64)
+    requires { ⌜ count ≤ length (now names) ⌝ }
+    ensures { λ _. ⌜ now (names .exit) ≡ flaggedNames count id (now (names .entry)) ⌝ }
+{
+    let mut i = 0;
+    while i < count {
+        flag_if_symbol(&mut names[i], id);
+        i += 1;
+    }
+}
+
+// A set that a fetch has reported is cleared first.
+pub fn var_changed(head: &mut [u64], names: &mut [[u64; 20]], id: u64)
+    requires { ⌜ length (now head) ≡ 326 ⌝ }
+    requires { ⌜ getD (now head) 4 0 ≤ length (now names) ⌝ }
+    ensures { λ _. ⌜ noted (now (head .exit)) (now (names .exit)) ≡ varChangedIn id (noted (now (head .entry)) (now (names .entry))) ⌝ }
+{
+    let count = head[4] as usize;
+    clear_changed_if(head[7] == 1, names, count);
+    head[7] = 0;
+    flag_symbol(names, count, id);
+}
+
+pub fn var_changed_if(on: bool, head: &mut [u64], names: &mut [[u64; 20]], id: u64)
+    requires { ⌜ length (now head) ≡ 326 ⌝ }
+    requires { ⌜ getD (now head) 4 0 ≤ length (now names) ⌝ }
+    ensures { λ _. ⌜ noted (now (head .exit)) (now (names .exit)) ≡ varChangedIf on id (noted (now (head .entry)) (now (names .entry))) ⌝ }
+{
+    if on {
+        var_changed(head, names, id);
+    }
+}
