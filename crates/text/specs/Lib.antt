@@ -10,3 +10,5 @@ pub mod Format
 pub mod Lines
 pub mod LineLaws
 pub mod FormatLaws
+pub mod Answers
+pub mod Stream

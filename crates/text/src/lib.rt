@@ -3,5 +3,7 @@ pub mod calls;
 pub mod digits;
 pub mod floats;
 pub mod reading;
+pub mod stream;
 pub mod terms;
 pub mod words;
+pub mod writing;
