@@ -1,0 +1,83 @@
+-- `text::reading::read_five` meets its contract.
+-- Assumes nothing.
+use borrow.Author.Needs.{needs}
+use Prim.Native.Nat.{ℕ}
+use mathlib.Core.Path.{_≡_, refl, sym, ap, _∙_}
+use mathlib.Core.List.{List}
+use Rattle.steps.specs.Session.{valueOf, hasConstraints, hasEdits, clips, removes, removesEdit, addsEdit, suggests}
+use Rattle.text.specs.declared.floats.Id.{Id}
+use Rattle.text.specs.declared.floats.Budget.{Budget}
+use Rattle.text.specs.declared.floats.Real.{Real}
+use Rattle.text.specs.Choices.{yes-in, no-in, ap2, ap3, ap4}
+use Rattle.text.specs.Digits.{sameBytes}
+use Rattle.text.specs.Floats.{idOf, budgetOf, floatOf}
+use Rattle.text.specs.Names.{resetName, fetchName, valueName, hasconName, haseditName, clipName, removeName, removeeditName, addeditName, suggestName, createName}
+use Rattle.text.specs.Format.{fiveWords, ofId, ofReal, ofIdBudget, ofEdit, ofReals}
+use Rattle.text.specs.Lines.{asCall}
+use Rattle.text.proofs.reading.read_five.Statement.{statement}
+use Rattle.text.proofs.reading.read_five.Tie as tie
+
+word-at-requires : tie.Need-word-at-requires
+word-at-requires c κs = search needs
+
+word-at-requires-2 : tie.Need-word-at-requires-2
+word-at-requires-2 c κs = search needs
+
+word-at-requires-3 : tie.Need-word-at-requires-3
+word-at-requires-3 c κs = search needs
+
+word-at-requires-4 : tie.Need-word-at-requires-4
+word-at-requires-4 c κs = search needs
+
+word-at-requires-5 : tie.Need-word-at-requires-5
+word-at-requires-5 c κs = search needs
+
+slice-aggregate-same : tie.Need-slice-aggregate-same
+slice-aggregate-same c = search needs
+
+same-requires : tie.Need-same-requires
+same-requires c κs = search needs
+
+float-word-requires : tie.Need-float-word-requires
+float-word-requires c κs = search needs
+
+float-word-requires-2 : tie.Need-float-word-requires-2
+float-word-requires-2 c κs = search needs
+
+float-word-requires-3 : tie.Need-float-word-requires-3
+float-word-requires-3 c κs = search needs
+
+float-word-requires-4 : tie.Need-float-word-requires-4
+float-word-requires-4 c κs = search needs
+
+create-call-requires : tie.Need-create-call-requires
+create-call-requires c κs = search needs
+
+returns : tie.Need-returns
+unfolding fiveWords
+returns c =
+    (yes-in asCall _ _ (sym (ap (λ (w : List ℕ). sameBytes w createName) (c .before .before .before .before .before .before .before .before .before .before .before .before .word-at .ensures)) ∙ sym (c .before .before .before .before .before .before .same .ensures) ∙ c .before .before .before .before .before .if1 .taken) (c .create-call .ensures ∙ ap4 (λ (x : Real) (y : Real) (z : Real) (w : Real). asCall (ofReals x y z w)) (c .before .before .before .before .float-word .ensures ∙ ap floatOf (c .before .before .before .before .before .before .before .before .before .before .before .word-at2 .ensures)) (c .before .before .before .float-word2 .ensures ∙ ap floatOf (c .before .before .before .before .before .before .before .before .before .before .word-at3 .ensures)) (c .before .before .float-word3 .ensures ∙ ap floatOf (c .before .before .before .before .before .before .before .before .before .word-at4 .ensures)) (c .before .float-word4 .ensures ∙ ap floatOf (c .before .before .before .before .before .before .before .before .word-at5 .ensures))))
+
+returns-2 : tie.Need-returns-2
+unfolding fiveWords
+returns-2 c =
+    (no-in asCall _ _ (sym (ap (λ (w : List ℕ). sameBytes w createName) (c .before .before .before .before .before .before .before .word-at .ensures)) ∙ sym (c .before .same .ensures) ∙ c .if1 .left) refl)
+
+pub read-five-spec : {M : Type 1} → statement M
+read-five-spec =
+    tie.close
+    (tie.spec
+    word-at-requires
+    word-at-requires-2
+    word-at-requires-3
+    word-at-requires-4
+    word-at-requires-5
+    slice-aggregate-same
+    same-requires
+    float-word-requires
+    float-word-requires-2
+    float-word-requires-3
+    float-word-requires-4
+    create-call-requires
+    returns
+    returns-2)

@@ -1,0 +1,63 @@
+-- `text::reading::read_one` meets its contract.
+-- Assumes nothing.
+use borrow.Author.Needs.{needs}
+use Prim.Native.Nat.{ℕ}
+use mathlib.Core.Path.{_≡_, refl, sym, ap, _∙_}
+use mathlib.Core.List.{List}
+use Rattle.steps.specs.Session.{valueOf, hasConstraints, hasEdits, clips, removes, removesEdit, addsEdit, suggests}
+use Rattle.text.specs.declared.floats.Id.{Id}
+use Rattle.text.specs.declared.floats.Budget.{Budget}
+use Rattle.text.specs.declared.floats.Real.{Real}
+use Rattle.text.specs.Choices.{yes-in, no-in, ap2, ap3, ap4}
+use Rattle.text.specs.Digits.{sameBytes}
+use Rattle.text.specs.Floats.{idOf, budgetOf, floatOf}
+use Rattle.text.specs.Names.{resetName, fetchName, valueName, hasconName, haseditName, clipName, removeName, removeeditName, addeditName, suggestName, createName}
+use Rattle.text.specs.Format.{oneWord, ofId, ofReal, ofIdBudget, ofEdit, ofReals}
+use Rattle.text.specs.Lines.{asCall}
+use Rattle.text.proofs.reading.read_one.Statement.{statement}
+use Rattle.text.proofs.reading.read_one.Tie as tie
+
+word-at-requires : tie.Need-word-at-requires
+word-at-requires c κs = search needs
+
+slice-aggregate-same : tie.Need-slice-aggregate-same
+slice-aggregate-same c = search needs
+
+same-requires : tie.Need-same-requires
+same-requires c κs = search needs
+
+returns : tie.Need-returns
+unfolding oneWord
+returns c =
+    (yes-in asCall _ _ (sym (ap (λ (w : List ℕ). sameBytes w resetName) (c .before .before .before .word-at .ensures)) ∙ sym (c .before .same .ensures) ∙ c .if1 .taken) refl)
+
+slice-aggregate-same-2 : tie.Need-slice-aggregate-same-2
+slice-aggregate-same-2 c = search needs
+
+same-requires-2 : tie.Need-same-requires-2
+same-requires-2 c κs = search needs
+
+returns-2 : tie.Need-returns-2
+unfolding oneWord
+returns-2 c =
+    (no-in asCall _ _ (sym (ap (λ (w : List ℕ). sameBytes w resetName) (c .before .before .before .before .before .before .word-at .ensures)) ∙ sym (c .before .before .before .before .same .ensures) ∙ c .before .before .before .if1 .left)
+    (yes-in asCall _ _ (sym (ap (λ (w : List ℕ). sameBytes w fetchName) (c .before .before .before .before .before .before .word-at .ensures)) ∙ sym (c .before .same2 .ensures) ∙ c .if2 .taken) refl))
+
+returns-3 : tie.Need-returns-3
+unfolding oneWord
+returns-3 c =
+    (no-in asCall _ _ (sym (ap (λ (w : List ℕ). sameBytes w resetName) (c .before .before .before .before .before .before .word-at .ensures)) ∙ sym (c .before .before .before .before .same .ensures) ∙ c .before .before .before .if1 .left)
+    (no-in asCall _ _ (sym (ap (λ (w : List ℕ). sameBytes w fetchName) (c .before .before .before .before .before .before .word-at .ensures)) ∙ sym (c .before .same2 .ensures) ∙ c .if2 .left) refl))
+
+pub read-one-spec : {M : Type 1} → statement M
+read-one-spec =
+    tie.close
+    (tie.spec
+    word-at-requires
+    slice-aggregate-same
+    same-requires
+    returns
+    slice-aggregate-same-2
+    same-requires-2
+    returns-2
+    returns-3)

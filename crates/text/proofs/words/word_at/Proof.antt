@@ -1,0 +1,48 @@
+-- `text::words::word_at` meets its contract.
+-- Assumes nothing.
+use borrow.Author.Needs.{needs}
+use Prim.Native.Nat.{ℕ}
+use mathlib.Core.Path.{_≡_, sym, ap, _∙_}
+use mathlib.Core.List.{List}
+use lib.Seq.{length-take-le}
+use Rattle.text.specs.DigitLaws.{rest}
+use Rattle.text.specs.Words.{wordsOf, word}
+use Rattle.text.proofs.words.word_at.Statement.{statement}
+use Rattle.text.proofs.words.word_at.Tie as tie
+
+word-start-requires : tie.Need-word-start-requires
+word-start-requires c κs = search needs
+
+sub-t : tie.Need-sub-t
+sub-t c = search needs
+
+part-t-start : tie.Need-part-t-start
+part-t-start c = search needs
+
+part-t-end : tie.Need-part-t-end
+part-t-end c = search needs
+
+word-length-requires : tie.Need-word-length-requires
+word-length-requires c κs = search needs
+
+slice-aggregate-result : tie.Need-slice-aggregate-result
+slice-aggregate-result c = sym (length-take-le (c .before .word-length .result) _ (c .before .word-length .ensures .0))
+
+returns : tie.Need-returns
+returns c =
+    let a = c .before .before .before .word-start in
+    c .before .word-length .ensures .1
+    ∙ ap (λ (t : List ℕ). word (wordsOf t) 0) (rest (a .result) (c .before .before .before .before .before .args .s .now))
+    ∙ a .ensures .1
+
+pub word-at-spec : {M : Type 1} → statement M
+word-at-spec =
+    tie.close
+    (tie.spec
+    word-start-requires
+    sub-t
+    part-t-start
+    part-t-end
+    word-length-requires
+    slice-aggregate-result
+    returns)

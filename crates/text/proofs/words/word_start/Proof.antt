@@ -1,0 +1,67 @@
+-- `text::words::word_start` meets its contract. The invariant: the word asked for is one of those that are left.
+-- Assumes nothing.
+use borrow.Author.Needs.{needs}
+use Prim.Native.Nat.{_≤_, _-_, _+_}
+use mathlib.Core.Path.{_≡_, refl, sym, ap, _∙_}
+use mathlib.Core.List.{_++_}
+use mathlib.Core.Logic.{⊎-elim}
+use native.Mathlib.Omega.{arith}
+use lib.ListN.{length, take, drop}
+use Rattle.text.specs.Words.{wordsOf, word, skip-space, skip-other, skip-last}
+use Rattle.text.proofs.words.word_start.Statement.{statement}
+use Rattle.text.proofs.words.word_start.Tie as tie
+
+abbrev Inv-loop : tie.InvT-loop
+Inv-loop s k left₀ i₀ left i = (i ≤ length s) × (word (wordsOf (drop i s)) left ≡ word (wordsOf s) k)
+
+abbrev μ-loop : tie.MeasureT-loop
+μ-loop s k left₀ i₀ left i = length s - i
+
+loop-holds : tie.Need-loop-holds Inv-loop μ-loop
+loop-holds c = search needs
+
+returns : tie.Need-returns Inv-loop μ-loop
+returns c =
+    let l = c .before .before .loop in
+    (l .inv .0, rw (c .if1 .taken) at (l .inv .1))
+
+shared-slice-read-if2 : tie.Need-shared-slice-read-if2 Inv-loop μ-loop
+shared-slice-read-if2 c = search needs
+
+sub-left : tie.Need-sub-left Inv-loop μ-loop
+sub-left c = search needs
+
+add-i : tie.Need-add-i Inv-loop μ-loop
+add-i c = search needs
+
+loop-less : tie.Need-loop-less Inv-loop μ-loop
+loop-less c = search needs
+
+loop-again : tie.Need-loop-again Inv-loop μ-loop
+loop-again c =
+    let l = c .before .before .before .before .loop in
+    let s = c .before .before .before .before .before .args .s .now in
+    ⊎-elim
+    (λ w. (omega arith, rw (w .1) (skip-space s (l .i) (l .left) (omega arith) (omega arith) (w .0 .taken) (l .inv .1))))
+    (λ w. (omega arith, rw (w .1) (skip-other s (l .i) (l .left) (omega arith) (omega arith) (w .0 .left) (l .inv .1))))
+    (c .if2 .came)
+
+returns-2 : tie.Need-returns-2 Inv-loop μ-loop
+returns-2 c =
+    let l = c .before .loop in
+    (l .inv .0, skip-last (c .before .before .args .s .now) (l .i) (l .left) (omega arith) (l .inv .1))
+
+pub word-start-spec : {M : Type 1} → statement M
+word-start-spec =
+    tie.close
+    (tie.spec
+    Inv-loop
+    μ-loop
+    loop-holds
+    returns
+    shared-slice-read-if2
+    sub-left
+    add-i
+    loop-less
+    loop-again
+    returns-2)

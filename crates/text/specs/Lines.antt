@@ -1,0 +1,135 @@
+-- A line as the code holds it: the call by value, and the terms of an add beside it.
+use Prim.Native.Nat.{ℕ, _+_}
+use mathlib.Core.Bool.{Bool, true, false, cond, _&&_}
+use mathlib.Core.List.{List, [], _∷_}
+use mathlib.Core.Option.{Option, none, some}
+use lib.Dec.{ltb}
+use lib.Ieee.{Float, binary64, ofBits}
+use lib.ListN.{set, replicate}
+use Rattle.steps.specs.Number.{isFinite}
+use Rattle.text.specs.Words.{word}
+use Rattle.text.specs.Floats.{idOf, budgetOf, floatOf}
+use Rattle.text.specs.Format.{relationOf}
+use Rattle.steps.specs.State.{Term, atMost, equal, atLeast}
+use Rattle.steps.specs.State as steps
+use Rattle.steps.specs.Session as session
+use Rattle.steps.specs.Session.{resets, adds, removes, addsEdit, removesEdit, suggests, valueOf, fetches, hasConstraints, hasEdits, creates, clips, reads, dumps, setsNext}
+use Rattle.text.specs.declared.floats.Id.{Id}
+use Rattle.text.specs.declared.floats.Id.the-variants.{Is32, No32}
+use Rattle.text.specs.declared.floats.Budget.{Budget}
+use Rattle.text.specs.declared.floats.Budget.the-variants.{Is16, No16}
+use Rattle.text.specs.declared.floats.Real.{Real}
+use Rattle.text.specs.declared.floats.Real.the-variants.{Number, NoReal}
+use Rattle.text.specs.declared.calls.Relation.{Relation}
+use Rattle.text.specs.declared.calls.Relation.the-variants.{AtMost, Equal, AtLeast}
+use Rattle.text.specs.declared.calls.Related.{Related}
+use Rattle.text.specs.declared.calls.Related.the-variants.{By, NoRelation}
+use Rattle.text.specs.declared.calls.Call.{Call}
+use Rattle.text.specs.declared.calls.Call.the-variants.{Reset, Add, Remove, AddEdit, RemoveEdit, Suggest, Value, HasCon, HasEdit, Fetch, Create, Clip, Bad}
+use Rattle.text.specs.declared.calls.Head.{Head}
+use Rattle.text.specs.declared.calls.Head.the-variants.{Of, NoHead}
+use Rattle.text.specs.declared.terms.Terms.{Terms}
+use Rattle.text.specs.declared.terms.Packed.{Packed}
+use Rattle.text.specs.declared.calls.Line.{Line}
+
+abbrev pub asRelation : steps.Relation → Relation
+asRelation (atMost s) = AtMost s
+asRelation (equal s) = Equal s
+asRelation (atLeast s) = AtLeast s
+
+abbrev pub asRelated : Option steps.Relation → Related
+asRelated (some r) = By (asRelation r)
+asRelated none = NoRelation
+
+abbrev pub asCall : Option session.Call → Call
+asCall none = Bad
+asCall (some resets) = Reset
+asCall (some (adds n ts k r b)) = Add n b (asRelation r) k
+asCall (some (removes n b)) = Remove n b
+asCall (some (addsEdit v x b)) = AddEdit v x b
+asCall (some (removesEdit v b)) = RemoveEdit v b
+asCall (some (suggests v x b)) = Suggest v x b
+asCall (some (valueOf v)) = Value v
+asCall (some fetches) = Fetch
+asCall (some (hasConstraints n)) = HasCon n
+asCall (some (hasEdits v)) = HasEdit v
+asCall (some (creates a b c w)) = Create a b c w
+asCall (some (clips x)) = Clip x
+asCall (some reads) = Bad
+asCall (some dumps) = Bad
+asCall (some (setsNext n)) = Bad
+
+-- an add without its terms
+abbrev pub headOf : Id → Budget → Related → Real → Head
+headOf (Is32 n) (Is16 b) (By r) (Number k) = Of n b r k
+headOf (Is32 n) (Is16 b) (By r) NoReal = NoHead
+headOf (Is32 n) (Is16 b) NoRelation k = NoHead
+headOf (Is32 n) No16 r k = NoHead
+headOf No32 b r k = NoHead
+
+-- ---- terms
+
+-- no terms
+abbrev pub noTerms : Terms
+noTerms = record { count = 0; finite = true; vars = replicate 16 0; coefs = replicate 16 (ofBits binary64 0) }
+
+-- One more: the first 16 are kept, the count stops at 17, and of every coefficient it is kept whether it is finite.
+unfoldable pub pushed : Terms → Term → Terms
+pushed t x =
+    cond (ltb (t .count) 16)
+    record {
+      count = t .count + 1;
+      finite = t .finite && isFinite (x .coefficient);
+      vars = set (t .vars) (t .count) (x .variable);
+      coefs = set (t .coefs) (t .count) (x .coefficient);
+    }
+    record { count = 17; finite = t .finite && isFinite (x .coefficient); vars = t .vars; coefs = t .coefs }
+
+unfoldable pub packFrom : Terms → List Term → Terms
+unfolding pushed
+packFrom t [] = t
+packFrom t (x ∷ xs) = packFrom (pushed t x) xs
+
+abbrev pub packed : Bool → Terms → Packed
+packed ok t = record { ok = ok; terms = t }
+
+-- the terms that follow those in t, if they could be read
+unfoldable pub packedFrom : Terms → Option (List Term) → Packed
+unfolding packFrom
+packedFrom t none = packed false noTerms
+packedFrom t (some ts) = packed true (packFrom t ts)
+
+abbrev pub asTerms : Option session.Call → Terms
+asTerms none = noTerms
+asTerms (some resets) = noTerms
+asTerms (some (adds n ts k r b)) = packFrom noTerms ts
+asTerms (some (removes n b)) = noTerms
+asTerms (some (addsEdit v x b)) = noTerms
+asTerms (some (removesEdit v b)) = noTerms
+asTerms (some (suggests v x b)) = noTerms
+asTerms (some (valueOf v)) = noTerms
+asTerms (some fetches) = noTerms
+asTerms (some (hasConstraints n)) = noTerms
+asTerms (some (hasEdits v)) = noTerms
+asTerms (some (creates a b c w)) = noTerms
+asTerms (some (clips x)) = noTerms
+asTerms (some reads) = noTerms
+asTerms (some dumps) = noTerms
+asTerms (some (setsNext n)) = noTerms
+
+abbrev pub lineOf : Option session.Call → Line
+lineOf o = record { call = asCall o; terms = asTerms o }
+
+-- ---- an add, of its words before the terms and its terms
+
+unfoldable pub headAt : List (List ℕ) → Head
+headAt ws = headOf (idOf (word ws 1)) (budgetOf (word ws 2)) (asRelated (relationOf (word ws 3) (floatOf (word ws 4)))) (floatOf (word ws 5))
+
+-- no line unless both could be read
+abbrev pub lineIf : Bool → Line → Line
+lineIf true l = l
+lineIf false l = lineOf none
+
+abbrev pub lineWith : Head → Packed → Line
+lineWith (Of n b r k) p = lineIf (p .ok) (record { call = Add n b r k; terms = p .terms })
+lineWith NoHead p = lineOf none

@@ -1,0 +1,199 @@
+// What the words of a line must be for each call.
+ghost use mathlib.Core.Path.{_≡_};
+ghost use mathlib.Core.Option.{Option, some};
+ghost use mathlib.Core.List.{[]};
+ghost use Rattle.steps.specs.Session.{valueOf, hasConstraints, hasEdits, clips, removes, removesEdit, addsEdit, suggests};
+ghost use Rattle.text.specs.Format.{ofId, ofReal, ofIdBudget, ofEdit, ofReals, relationOf};
+ghost use Rattle.text.specs.Lines.{asCall, asRelated, headOf};
+use crate::digits;
+use crate::floats::Budget;
+use crate::floats::Id;
+use crate::floats::Real;
+use crate::terms::Terms;
+
+// "A relation carries its strength: at most, equal, or at least, each with an f64."
+pub enum Relation {
+    AtMost(f64),
+    Equal(f64),
+    AtLeast(f64),
+}
+
+pub enum Related {
+    By(Relation),
+    NoRelation,
+}
+
+// Every call of document 01; the terms of an add stand beside it. Bad is a line that is no call.
+pub enum Call {
+    Reset,
+    // number, budget, relation, constant
+    Add(u32, u16, Relation, f64),
+    Remove(u32, u16),
+    AddEdit(u32, f64, u16),
+    RemoveEdit(u32, u16),
+    Suggest(u32, f64, u16),
+    Value(u32),
+    HasCon(u32),
+    HasEdit(u32),
+    Fetch,
+    Create(f64, f64, f64, f64),
+    Clip(f64),
+    Bad,
+}
+
+// An add without its terms: number, budget, relation, constant.
+pub enum Head {
+    Of(u32, u16, Relation, f64),
+    NoHead,
+}
+
+pub struct Line {
+    pub call: Call,
+    pub terms: Terms,
+}
+
+pub fn value_call(v: Id) -> Call
+    ensures { λ r. ⌜ r ≡ asCall (ofId valueOf v) ⌝ }
+{
+    match v {
+        Id::Is32(n) => Call::Value(n),
+        Id::No32 => Call::Bad,
+    }
+}
+
+pub fn has_con_call(c: Id) -> Call
+    ensures { λ r. ⌜ r ≡ asCall (ofId hasConstraints c) ⌝ }
+{
+    match c {
+        Id::Is32(n) => Call::HasCon(n),
+        Id::No32 => Call::Bad,
+    }
+}
+
+pub fn has_edit_call(v: Id) -> Call
+    ensures { λ r. ⌜ r ≡ asCall (ofId hasEdits v) ⌝ }
+{
+    match v {
+        Id::Is32(n) => Call::HasEdit(n),
+        Id::No32 => Call::Bad,
+    }
+}
+
+pub fn clip_call(s: Real) -> Call
+    ensures { λ r. ⌜ r ≡ asCall (ofReal clips s) ⌝ }
+{
+    match s {
+        Real::Number(x) => Call::Clip(x),
+        Real::NoReal => Call::Bad,
+    }
+}
+
+pub fn remove_call(c: Id, budget: Budget) -> Call
+    ensures { λ r. ⌜ r ≡ asCall (ofIdBudget removes c budget) ⌝ }
+{
+    match c {
+        Id::Is32(n) => match budget {
+            Budget::Is16(b) => Call::Remove(n, b),
+            Budget::No16 => Call::Bad,
+        },
+        Id::No32 => Call::Bad,
+    }
+}
+
+pub fn remove_edit_call(v: Id, budget: Budget) -> Call
+    ensures { λ r. ⌜ r ≡ asCall (ofIdBudget removesEdit v budget) ⌝ }
+{
+    match v {
+        Id::Is32(n) => match budget {
+            Budget::Is16(b) => Call::RemoveEdit(n, b),
+            Budget::No16 => Call::Bad,
+        },
+        Id::No32 => Call::Bad,
+    }
+}
+
+pub fn add_edit_call(v: Id, strength: Real, budget: Budget) -> Call
+    ensures { λ r. ⌜ r ≡ asCall (ofEdit addsEdit v strength budget) ⌝ }
+{
+    match v {
+        Id::Is32(n) => match strength {
+            Real::Number(x) => match budget {
+                Budget::Is16(b) => Call::AddEdit(n, x, b),
+                Budget::No16 => Call::Bad,
+            },
+            Real::NoReal => Call::Bad,
+        },
+        Id::No32 => Call::Bad,
+    }
+}
+
+pub fn suggest_call(v: Id, value: Real, budget: Budget) -> Call
+    ensures { λ r. ⌜ r ≡ asCall (ofEdit suggests v value budget) ⌝ }
+{
+    match v {
+        Id::Is32(n) => match value {
+            Real::Number(x) => match budget {
+                Budget::Is16(b) => Call::Suggest(n, x, b),
+                Budget::No16 => Call::Bad,
+            },
+            Real::NoReal => Call::Bad,
+        },
+        Id::No32 => Call::Bad,
+    }
+}
+
+pub fn create_call(a: Real, b: Real, c: Real, w: Real) -> Call
+    ensures { λ r. ⌜ r ≡ asCall (ofReals a b c w) ⌝ }
+{
+    match a {
+        Real::Number(x) => match b {
+            Real::Number(y) => match c {
+                Real::Number(z) => match w {
+                    Real::Number(k) => Call::Create(x, y, z, k),
+                    Real::NoReal => Call::Bad,
+                },
+                Real::NoReal => Call::Bad,
+            },
+            Real::NoReal => Call::Bad,
+        },
+        Real::NoReal => Call::Bad,
+    }
+}
+
+// The relation that a word names, with its strength.
+pub fn relation_word(w: &[u8], strength: Real) -> Related
+    ensures { λ r. ⌜ r ≡ asRelated (relationOf (now (w .entry)) strength) ⌝ }
+{
+    let Real::Number(s) = strength else {
+        return Related::NoRelation;
+    };
+    if digits::same(w, b"le") {
+        return Related::By(Relation::AtMost(s));
+    }
+    if digits::same(w, b"eq") {
+        return Related::By(Relation::Equal(s));
+    }
+    if digits::same(w, b"ge") {
+        return Related::By(Relation::AtLeast(s));
+    }
+    Related::NoRelation
+}
+
+// An add without its terms.
+pub fn add_call(c: Id, budget: Budget, relation: Related, constant: Real) -> Head
+    ensures { λ r. ⌜ r ≡ headOf c budget relation constant ⌝ }
+{
+    match c {
+        Id::Is32(n) => match budget {
+            Budget::Is16(b) => match relation {
+                Related::By(r) => match constant {
+                    Real::Number(k) => Head::Of(n, b, r, k),
+                    Real::NoReal => Head::NoHead,
+                },
+                Related::NoRelation => Head::NoHead,
+            },
+            Budget::No16 => Head::NoHead,
+        },
+        Id::No32 => Head::NoHead,
+    }
+}

@@ -1,0 +1,9 @@
+// The text format of calls: a line read as a call, answers written as a line, and a stream cut into lines.
+pub mod calls;
+pub mod digits;
+pub mod floats;
+pub mod reading;
+pub mod stream;
+pub mod terms;
+pub mod words;
+pub mod writing;

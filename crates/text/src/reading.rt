@@ -1,0 +1,204 @@
+// A line read as a call.
+ghost use mathlib.Core.Path.{_≡_};
+ghost use mathlib.Core.Option.{none};
+ghost use Prim.Native.Nat.{_≤_};
+ghost use lib.ListN.{length};
+ghost use Rattle.text.specs.Words.{wordsOf, word};
+ghost use Rattle.text.specs.Format.{oneWord, twoWords, threeWords, fourWords, fiveWords, callOf};
+ghost use Rattle.text.specs.Lines.{asCall, lineOf, headAt, lineWith};
+use crate::calls;
+use crate::calls::Call;
+use crate::calls::Head;
+use crate::calls::Line;
+use crate::digits;
+use crate::digits::Whole;
+use crate::floats;
+use crate::terms;
+use crate::terms::Packed;
+use crate::words;
+
+fn read_one(s: &[u8]) -> Call
+    ensures { λ r. ⌜ r ≡ asCall (oneWord (word (wordsOf (now (s .entry))) 0)) ⌝ }
+{
+    let name = words::word_at(s, 0);
+    if digits::same(name, b"reset") {
+        return Call::Reset;
+    }
+    if digits::same(name, b"fetch") {
+        return Call::Fetch;
+    }
+    Call::Bad
+}
+
+fn read_two(s: &[u8]) -> Call
+    ensures { λ r. ⌜ r ≡ asCall (twoWords (word (wordsOf (now (s .entry))) 0) (word (wordsOf (now (s .entry))) 1)) ⌝ }
+{
+    let name = words::word_at(s, 0);
+    let a = words::word_at(s, 1);
+    if digits::same(name, b"value") {
+        return calls::value_call(floats::id_word(a));
+    }
+    if digits::same(name, b"hascon") {
+        return calls::has_con_call(floats::id_word(a));
+    }
+    if digits::same(name, b"hasedit") {
+        return calls::has_edit_call(floats::id_word(a));
+    }
+    if digits::same(name, b"clip") {
+        return calls::clip_call(floats::float_word(a));
+    }
+    Call::Bad
+}
+
+fn read_three(s: &[u8]) -> Call
+    ensures { λ r. ⌜ r ≡ asCall (threeWords (word (wordsOf (now (s .entry))) 0) (word (wordsOf (now (s .entry))) 1) (word (wordsOf (now (s .entry))) 2)) ⌝ }
+{
+    let name = words::word_at(s, 0);
+    let a = words::word_at(s, 1);
+    let b = words::word_at(s, 2);
+    if digits::same(name, b"remove") {
+        return calls::remove_call(floats::id_word(a), floats::budget_word(b));
+    }
+    if digits::same(name, b"removeedit") {
+        return calls::remove_edit_call(floats::id_word(a), floats::budget_word(b));
+    }
+    Call::Bad
+}
+
+fn read_four(s: &[u8]) -> Call
+    ensures { λ r. ⌜ r ≡ asCall (fourWords (word (wordsOf (now (s .entry))) 0) (word (wordsOf (now (s .entry))) 1) (word (wordsOf (now (s .entry))) 2) (word (wordsOf (now (s .entry))) 3)) ⌝ }
+{
+    let name = words::word_at(s, 0);
+    let a = words::word_at(s, 1);
+    let b = words::word_at(s, 2);
+    let c = words::word_at(s, 3);
+    if digits::same(name, b"addedit") {
+        return calls::add_edit_call(
+            floats::id_word(a),
+            floats::float_word(b),
+            floats::budget_word(c),
+        );
+    }
+    if digits::same(name, b"suggest") {
+        return calls::suggest_call(
+            floats::id_word(a),
+            floats::float_word(b),
+            floats::budget_word(c),
+        );
+    }
+    Call::Bad
+}
+
+fn read_five(s: &[u8]) -> Call
+    ensures { λ r. ⌜ r ≡ asCall (fiveWords (word (wordsOf (now (s .entry))) 0) (word (wordsOf (now (s .entry))) 1) (word (wordsOf (now (s .entry))) 2) (word (wordsOf (now (s .entry))) 3) (word (wordsOf (now (s .entry))) 4)) ⌝ }
+{
+    let name = words::word_at(s, 0);
+    let a = words::word_at(s, 1);
+    let b = words::word_at(s, 2);
+    let c = words::word_at(s, 3);
+    let d = words::word_at(s, 4);
+    if digits::same(name, b"create") {
+        return calls::create_call(
+            floats::float_word(a),
+            floats::float_word(b),
+            floats::float_word(c),
+            floats::float_word(d),
+        );
+    }
+    Call::Bad
+}
+
+// A line of n words, fewer than an add has.
+fn read_short(s: &[u8], n: usize) -> Call
+    requires { ⌜ n ≡ length (wordsOf (now s)) ⌝ }
+    requires { ⌜ n ≤ 6 ⌝ }
+    ensures { λ r. ⌜ r ≡ asCall (callOf (wordsOf (now (s .entry)))) ⌝ }
+{
+    if n == 1 {
+        return read_one(s);
+    }
+    if n == 2 {
+        return read_two(s);
+    }
+    if n == 3 {
+        return read_three(s);
+    }
+    if n == 4 {
+        return read_four(s);
+    }
+    if n == 5 {
+        return read_five(s);
+    }
+    Call::Bad
+}
+
+fn no_line() -> Line
+    ensures { λ r. ⌜ r ≡ lineOf none ⌝ }
+{
+    let t = terms::no_terms();
+    Line {
+        call: Call::Bad,
+        terms: t,
+    }
+}
+
+// The words of an add before its terms.
+fn read_head(s: &[u8]) -> Head
+    ensures { λ r. ⌜ r ≡ headAt (wordsOf (now (s .entry))) ⌝ }
+{
+    let strength = floats::float_word(words::word_at(s, 4));
+    let relation = calls::relation_word(words::word_at(s, 3), strength);
+    let c = floats::id_word(words::word_at(s, 1));
+    let b = floats::budget_word(words::word_at(s, 2));
+    let k = floats::float_word(words::word_at(s, 5));
+    calls::add_call(c, b, relation, k)
+}
+
+fn line_with(head: Head, p: Packed) -> Line
+    ensures { λ r. ⌜ r ≡ lineWith head p ⌝ }
+{
+    let Head::Of(n, b, r, k) = head else {
+        return no_line();
+    };
+    let t = p.terms;
+    if p.ok {
+        Line {
+            call: Call::Add(n, b, r, k),
+            terms: t,
+        }
+    } else {
+        no_line()
+    }
+}
+
+// A line of n words, as many as an add has, or more.
+fn read_add(s: &[u8], n: usize) -> Line
+    requires { ⌜ n ≡ length (wordsOf (now s)) ⌝ }
+    requires { ⌜ 7 ≤ n ⌝ }
+    ensures { λ r. ⌜ r ≡ lineOf (callOf (wordsOf (now (s .entry)))) ⌝ }
+{
+    if !digits::same(words::word_at(s, 0), b"add") {
+        return no_line();
+    }
+    let Whole::Is(m) = digits::decimal(words::word_at(s, 6), 4294967295) else {
+        return no_line();
+    };
+    let m = m as usize;
+    if 2 * m != n - 7 {
+        return no_line();
+    }
+    line_with(read_head(s), terms::read_terms(s, m))
+}
+
+// The call that a line names, if it is one.
+pub fn read_line(s: &[u8]) -> Line
+    ensures { λ r. ⌜ r ≡ lineOf (callOf (wordsOf (now (s .entry)))) ⌝ }
+{
+    let n = words::count_words(s);
+    if 7 <= n {
+        return read_add(s, n);
+    }
+    let c = read_short(s, n);
+    let t = terms::no_terms();
+    Line { call: c, terms: t }
+}
