@@ -101,7 +101,7 @@ count-many p (t ∷ ts) h k = go (ltb (p .count) 16) refl (count-many (pushed p 
         let c : pushed p t .count ≡ 17 = ap (λ (q : Pack). q .count) (pushed-full p t l) in
         next (omega (arith, c)) (omega (arith, c))
 
-length-terms : (ts : List Term) → length (termsIn ts) ≡ length ts
+pub length-terms : (ts : List Term) → length (termsIn ts) ≡ length ts
 unfolding termsIn
 length-terms [] = refl
 length-terms (t ∷ ts) = ap suc (length-terms ts)
