@@ -1,10 +1,10 @@
 -- A list of terms, gathered into two rows of sixteen; and what is read from the pack.
 use Prim.Native.Nat.{ℕ, _+_}
-use mathlib.Core.Bool.{Bool, true, false, _&&_, cond}
+use mathlib.Core.Bool.{Bool, true, _&&_, cond}
 use mathlib.Core.List.{List, [], _∷_, map}
 use lib.Dec.{ltb}
 use lib.ListN.{getD, set, replicate}
-use lib.Ieee.{Float, nan}
+use lib.Ieee.{nan}
 use Rattle.steps.specs.Number.{zero64, cellBound, nearZero, isFinite}
 use Rattle.steps.specs.State as steps
 use Rattle.steps.specs.Add.{wholeWithin}

@@ -1,6 +1,6 @@
 -- New variables: the count over a pack's places is the length of the steps' list of them.
 -- Assumes nothing.
-use Prim.Native.Nat.{ℕ, zero, suc, _+_, _-_, _≤_, _<_}
+use Prim.Native.Nat.{ℕ, zero, suc, _+_, _-_}
 use mathlib.Core.Path.{_≡_, refl, sym, ap, _∙_, subst}
 use mathlib.Core.Bool.{Bool, true, false, not, _&&_, _||_, cond}
 use mathlib.Core.List.{List, [], _∷_, map}
@@ -11,7 +11,7 @@ use native.Mathlib.Omega.{arith}
 use lib.Dec.{T, eqb, ltb}
 use lib.ListN.{length, getD}
 use borrow.Author.Tests.{eqb-true, ne-eqb, not-true, not-false}
-use Rattle.steps.specs.State.{Term, Variable, State}
+use Rattle.steps.specs.State.{Term, Variable}
 use Rattle.steps.specs.Changes.{findVariable}
 use Rattle.steps.specs.Tests.{member, newVariables}
 use Rattle.laws.specs.Lists.{tab, listOf, allFrom, allIn, sumFrom, sumIn}

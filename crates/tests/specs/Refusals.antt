@@ -1,6 +1,6 @@
 -- The tests before the steps, of the head, the names and a pack of terms, as the code runs them: the number of the first that fails, 0 if none does.
 use Prim.Native.Nat.{ℕ, _+_}
-use mathlib.Core.Bool.{Bool, true, false, not, _&&_, cond}
+use mathlib.Core.Bool.{Bool, not, _&&_, cond}
 use mathlib.Core.List.{List, [], _∷_}
 use lib.Dec.{eqb, leb, ltb}
 use lib.ListN.{getD}
@@ -11,7 +11,6 @@ use Rattle.laws.specs.Lists.{allIn, sumIn}
 use Rattle.layout.specs.Layout.{constraintsAt, editsAt, nextIdOf, variableCount, constraintCount, editCount, bitOf}
 use Rattle.layout.specs.Copy.{most16}
 use Rattle.items.specs.Items.{nameAt}
-use Rattle.terms.specs.declared.Term.{Term}
 use Rattle.terms.specs.declared.Pack.{Pack}
 use Rattle.terms.specs.Terms.{packOf, keptOf}
 
@@ -67,3 +66,15 @@ editPack x = packOf (record { variable = x; coefficient = one64 } ∷ [])
 -- "Add edit: 18, 6, 7, 10, 9, 11." The strength comes clipped.
 unfoldable pub addEditRefusal : ℕ → Float → List ℕ → List (List ℕ) → ℕ
 addEditRefusal x strength h n = cond (liveIn n editsAt (editCount h) x) 6 (cond (eq strength required) 7 (roomRefusal h n (editPack x)))
+
+-- "Suggest: 18, 1, 8."
+unfoldable pub suggestRefusal : ℕ → Float → List ℕ → List (List ℕ) → ℕ
+suggestRefusal x new h n = cond (not (isFinite new)) 1 (cond (not (liveIn n editsAt (editCount h) x)) 8 0)
+
+-- "Remove: 18, 5."
+unfoldable pub removeRefusal : ℕ → List ℕ → List (List ℕ) → ℕ
+removeRefusal x h n = cond (not (liveIn n constraintsAt (constraintCount h) x)) 5 0
+
+-- "Remove edit: 18, 8."
+unfoldable pub removeEditRefusal : ℕ → List ℕ → List (List ℕ) → ℕ
+removeEditRefusal x h n = cond (not (liveIn n editsAt (editCount h) x)) 8 0

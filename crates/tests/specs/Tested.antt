@@ -14,7 +14,7 @@ use Rattle.steps.specs.Number.{one64, belowZero, isFinite}
 use Rattle.steps.specs.Strength.{required}
 use Rattle.steps.specs.State as steps
 use Rattle.steps.specs.Edit.{editTerms}
-use Rattle.steps.specs.Tests.{Test, _if_, firstRefusal, finiteTerms, keptTerms, newVariables, hasConstraint, hasEdit, constraintsFull, variablesFull, idsUsed, addTests, addEditTests}
+use Rattle.steps.specs.Tests.{Test, _if_, firstRefusal, newVariables, hasConstraint, hasEdit, constraintsFull, variablesFull, idsUsed, addTests, addEditTests}
 use Rattle.laws.specs.Lists.{listOf, length-tab}
 use Rattle.layout.specs.Layout.{Tables, constraintsAt, editsAt, variableCount, constraintCount, editCount, variablesOf, constraintsOf, editsOf, read}
 use Rattle.asking.specs.Asked.{has-constraint, has-edit}
@@ -41,7 +41,8 @@ none-left : numberOr0 (firstRefusal []) ≡ 0
 unfolding firstRefusal numberOr0
 none-left = refl
 
-few-terms : (ts : List Term) → eqb (packOf ts .count) 17 ≡ false → length ts ≤ 16
+-- the lent list had at most 16 terms, so that its pack reads as it
+pub few-terms : (ts : List Term) → eqb (packOf ts .count) 17 ≡ false → length ts ≤ 16
 few-terms ts e = let k = ltb-false 16 (length (termsIn ts)) (pack-many ts ∙ e) in rw (length-terms ts) at k
 
 one-term : (x : ℕ) → termsIn (record { variable = x; coefficient = one64 } ∷ []) ≡ record { variable = x; coefficient = one64 } ∷ []
@@ -53,11 +54,11 @@ unfolding editPack editTerms
 edit-terms x = pack-terms _ (omega arith) ∙ one-term x
 
 module _ (t : Tables) where
-  live-constraint : (x : ℕ) → hasConstraint x (read t) ≡ liveIn (t .names) constraintsAt (constraintCount (t .head)) x
+  pub live-constraint : (x : ℕ) → hasConstraint x (read t) ≡ liveIn (t .names) constraintsAt (constraintCount (t .head)) x
   unfolding liveIn
   live-constraint x = has-constraint t x
 
-  live-edit : (x : ℕ) → hasEdit x (read t) ≡ liveIn (t .names) editsAt (editCount (t .head)) x
+  pub live-edit : (x : ℕ) → hasEdit x (read t) ≡ liveIn (t .names) editsAt (editCount (t .head)) x
   unfolding liveIn
   live-edit x = has-edit t x
 

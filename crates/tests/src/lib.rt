@@ -5,7 +5,7 @@ ghost use mathlib.Core.List.{List, []};
 ghost use Prim.Native.Nat.{ℕ, _+_, _-_, _<_, _≤_};
 ghost use lib.ListN.{getD, length};
 ghost use Rattle.layout.specs.Layout.{headSize, itemsSize, variableCount, constraintCount, editCount};
-ghost use Rattle.tests.specs.Refusals.{liveIn, firstOf, newAt, newIn, constraintsFullIn, variablesFullIn, idsUsedIn, roomRefusal, inputRefusal, addRefusal, editPack, addEditRefusal};
+ghost use Rattle.tests.specs.Refusals.{liveIn, firstOf, newAt, newIn, constraintsFullIn, variablesFullIn, idsUsedIn, roomRefusal, inputRefusal, addRefusal, editPack, addEditRefusal, suggestRefusal, removeRefusal, removeEditRefusal};
 
 // A test that fails gives its number, one that passes what the tests after it give.
 fn refusal(fails: bool, number: u64, rest: u64) -> u64
@@ -171,4 +171,37 @@ pub fn add_edit_tests(head: &[u64], names: &[[u64; 20]], n: u32, strength: f64) 
     let required = refusal(strength == rows::strength::REQUIRED, 7, room);
     let e = head[6] as usize;
     refusal(is_live(names, layout::EDITS, e, n as u64), 6, required)
+}
+
+// "Suggest: 18, 1, 8."
+pub fn suggest_tests(head: &[u64], names: &[[u64; 20]], n: u32, new: f64) -> u64
+    requires { ⌜ length (now head) ≡ headSize ⌝ }
+    requires { ⌜ length (now names) ≡ itemsSize ⌝ }
+    requires { ⌜ editCount (now head) ≤ 48 ⌝ }
+    ensures { λ r. ⌜ r ≡ suggestRefusal n new (now (head .entry)) (now (names .entry)) ⌝ }
+{
+    let known = remove_edit_tests(head, names, n);
+    refusal(!rows::number::is_finite(new), 1, known)
+}
+
+// "Remove: 18, 5."
+pub fn remove_tests(head: &[u64], names: &[[u64; 20]], n: u32) -> u64
+    requires { ⌜ length (now head) ≡ headSize ⌝ }
+    requires { ⌜ length (now names) ≡ itemsSize ⌝ }
+    requires { ⌜ constraintCount (now head) ≤ 48 ⌝ }
+    ensures { λ r. ⌜ r ≡ removeRefusal n (now (head .entry)) (now (names .entry)) ⌝ }
+{
+    let c = head[5] as usize;
+    refusal(!is_live(names, layout::CONSTRAINTS, c, n as u64), 5, 0)
+}
+
+// "Remove edit: 18, 8."
+pub fn remove_edit_tests(head: &[u64], names: &[[u64; 20]], n: u32) -> u64
+    requires { ⌜ length (now head) ≡ headSize ⌝ }
+    requires { ⌜ length (now names) ≡ itemsSize ⌝ }
+    requires { ⌜ editCount (now head) ≤ 48 ⌝ }
+    ensures { λ r. ⌜ r ≡ removeEditRefusal n (now (head .entry)) (now (names .entry)) ⌝ }
+{
+    let e = head[6] as usize;
+    refusal(!is_live(names, layout::EDITS, e, n as u64), 8, 0)
 }

@@ -1,5 +1,5 @@
 -- `terms::push_kept` meets its contract. Assumes nothing.
-use mathlib.Core.Path.{refl, _∙_}
+use mathlib.Core.Path.{refl}
 use borrow.Author.Needs.{needs}
 use Rattle.terms.specs.Terms.{pushedKept}
 use Rattle.terms.proofs.push_kept.Statement.{statement}

@@ -1,5 +1,5 @@
 -- `tests::first_of` meets its contract. Assumes nothing.
-use Prim.Native.Nat.{ℕ, _-_, _<_, _≤_}
+use Prim.Native.Nat.{ℕ, _-_, _<_}
 use mathlib.Core.Path.{_≡_, refl}
 use mathlib.Core.Bool.{Bool, not}
 use mathlib.Core.List.{List}
