@@ -1,20 +1,20 @@
 -- The terms of a pack that count, and the whole ones: what the functions over a pack are of the terms that it reads as.
 -- Assumes nothing.
-use Prim.Native.Nat.{ℕ, zero, suc, _+_, _≤_}
+use Prim.Native.Nat.{ℕ, zero, suc, _+_, _≤_, _<_}
 use mathlib.Core.Path.{_≡_, refl, sym, ap, _∙_}
 use mathlib.Core.Bool.{Bool, true, false, _&&_, cond}
 use mathlib.Core.List.{List, [], _∷_, _++_, append-assoc, append-nil}
-use native.Mathlib.Nat.{sub-zero}
+use native.Mathlib.Nat.{sub-zero, zero-add}
 use native.Mathlib.Omega.{arith}
 use lib.Dec.{leb}
-use lib.ListN.{length}
+use lib.ListN.{length, getD}
 use borrow.Author.Tests.{leb-true}
 use Rattle.steps.specs.Number.{cellBound, nearZero}
 use Rattle.steps.specs.State as steps
 use Rattle.steps.specs.Add.{wholeWithin, wholeTerms}
 use Rattle.steps.specs.Tests.{keptTerms}
 use Rattle.laws.specs.Loops.{turns, run}
-use Rattle.laws.specs.Lists.{tab, listOf, length-tab, allFrom, allIn}
+use Rattle.laws.specs.Lists.{tab, listOf, length-tab, getD-tab, allFrom, allIn}
 use Rattle.layout.specs.Copy.{most16}
 use Rattle.terms.specs.declared.Term.{Term}
 use Rattle.terms.specs.declared.Pack.{Pack}
@@ -44,6 +44,10 @@ kept-cons t ts = go (nearZero (t .coefficient))
     go : (b : Bool) → elim b [ true ↦ keptTerms ts | false ↦ t ∷ keptTerms ts ] ≡ elim b [ true ↦ [] | false ↦ t ∷ [] ] ++ keptTerms ts
     go true = refl
     go false = refl
+
+pub term-at : (p : Pack) (j : ℕ) (d : steps.Term) → j < most16 (p .count) → getD (termsOf p) j d ≡ termOf (termIn p j)
+unfolding termsOf listOf
+term-at p j d h = getD-tab (λ i. termOf (termIn p i)) 0 (most16 (p .count)) j d h ∙ ap (λ (i : ℕ). termOf (termIn p i)) (zero-add j)
 
 -- ---- whole
 

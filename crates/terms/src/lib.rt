@@ -5,7 +5,7 @@ ghost use lib.ListN.{length, getD};
 ghost use Rattle.layout.specs.Copy.{most16};
 ghost use Rattle.terms.specs.Terms.{noTerm, noPack, pushed, packOf, termIn, wholePack, pushedKept, keptOf};
 
-// "A term is one record, a variable number and an f64 coefficient"
+// "A term is one record, a variable number and an f64 coefficient, and the terms of a constraint come as a lent list of such records."
 #[repr(C)]
 pub struct Term {
     pub variable: u32,
@@ -55,7 +55,7 @@ pub fn push(p: Pack, t: Term) -> Pack
     }
 }
 
-// Every term of the list goes to `push`, in order.
+// "A thin entry over a slice of term structs that hands variable and coefficient to covered functions.": every term goes to `push`, in order.
 pub fn collect(terms: &[Term]) -> Pack
     ensures { λ r. ⌜ r ≡ packOf (now (terms .entry)) ⌝ }
 {
@@ -72,7 +72,7 @@ pub fn collect(terms: &[Term]) -> Pack
 // ---- over a pack
 
 // The term at place i.
-fn packed(p: Pack, i: usize) -> Term
+pub fn packed(p: Pack, i: usize) -> Term
     requires { ⌜ i < 16 ⌝ }
     ensures { λ r. ⌜ r ≡ termIn p i ⌝ }
 {
