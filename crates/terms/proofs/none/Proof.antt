@@ -1,0 +1,13 @@
+-- `terms::none` meets its contract. Assumes nothing.
+use mathlib.Core.Path.{refl}
+use Rattle.steps.specs.Number.{zero64}
+use Rattle.terms.specs.Terms.{noPack}
+use Rattle.terms.proofs.none.Statement.{statement}
+use Rattle.terms.proofs.none.Tie as tie
+
+returns : tie.Need-returns
+unfolding noPack zero64
+returns c = refl
+
+pub none-spec : {M : Type 1} → statement M
+none-spec = tie.close (tie.spec returns)

@@ -1,0 +1,13 @@
+-- `terms::packed` meets its contract. Assumes nothing.
+use mathlib.Core.Path.{refl}
+use borrow.Author.Needs.{needs}
+use Rattle.terms.specs.Terms.{termIn}
+use Rattle.terms.proofs.packed.Statement.{statement}
+use Rattle.terms.proofs.packed.Tie as tie
+
+returns : tie.Need-returns
+unfolding termIn
+returns c = refl
+
+pub packed-spec : {M : Type 1} → statement M
+packed-spec = tie.close (tie.spec (λ c. search needs) (λ c. search needs) (λ c. search needs) (λ c. search needs) returns)

@@ -1,0 +1,133 @@
+// The terms that a caller hands in: a lent list of records, gathered into a pack that goes by value. `term_at` and `collect` have a `&[Term]` and are proved by hand.
+ghost use mathlib.Core.Path.{_≡_};
+ghost use Prim.Native.Nat.{_+_, _<_, _≤_};
+ghost use lib.ListN.{length, getD};
+ghost use Rattle.layout.specs.Copy.{most16};
+ghost use Rattle.terms.specs.Terms.{noTerm, noPack, pushed, packOf, termIn, wholePack, pushedKept, keptOf};
+
+// "A term is one record, a variable number and an f64 coefficient, and the terms of a constraint come as a lent list of such records."
+#[repr(C)]
+pub struct Term {
+    pub variable: u32,
+    pub coefficient: f64,
+}
+
+// The first sixteen terms of a list; how many there are, 17 for more than 16; and whether every coefficient is finite, those past the sixteenth too.
+pub struct Pack {
+    pub count: usize,
+    pub finite: bool,
+    pub vars: [u32; 16],
+    pub coefs: [f64; 16],
+}
+
+pub fn term_at(terms: &[Term], i: usize) -> Term
+    requires { ⌜ i < length (now terms) ⌝ }
+    ensures { λ r. ⌜ r ≡ getD (now (terms .entry)) i noTerm ⌝ }
+{
+    terms[i]
+}
+
+pub fn none() -> Pack
+    ensures { λ r. ⌜ r ≡ noPack ⌝ }
+{
+    Pack {
+        count: 0,
+        finite: true,
+        vars: [0u32; 16],
+        coefs: [0.0f64; 16],
+    }
+}
+
+pub fn push(p: Pack, t: Term) -> Pack
+    ensures { λ r. ⌜ r ≡ pushed p t ⌝ }
+{
+    let n = p.count;
+    let mut q = p;
+    q.finite = p.finite & rows::number::is_finite(t.coefficient);
+    if n < 16 {
+        q.vars[n] = t.variable;
+        q.coefs[n] = t.coefficient;
+        q.count = n + 1;
+        q
+    } else {
+        q.count = 17;
+        q
+    }
+}
+
+// "A thin entry over a slice of term structs that hands variable and coefficient to covered functions.": every term goes to `push`, in order.
+pub fn collect(terms: &[Term]) -> Pack
+    ensures { λ r. ⌜ r ≡ packOf (now (terms .entry)) ⌝ }
+{
+    let mut p = none();
+    let mut i: usize = 0;
+    while i < terms.len() {
+        let t = term_at(terms, i);
+        p = push(p, t);
+        i += 1;
+    }
+    p
+}
+
+// ---- over a pack
+
+// The term at place i.
+pub fn packed(p: Pack, i: usize) -> Term
+    requires { ⌜ i < 16 ⌝ }
+    ensures { λ r. ⌜ r ≡ termIn p i ⌝ }
+{
+    let vars = p.vars;
+    let coefs = p.coefs;
+    Term {
+        variable: vars[i],
+        coefficient: coefs[i],
+    }
+}
+
+// How many terms the pack shows.
+pub fn shown(p: Pack) -> usize
+    ensures { λ r. ⌜ r ≡ most16 (p .count) ⌝ }
+    ensures { λ r. ⌜ r ≤ 16 ⌝ }
+{
+    let n = p.count;
+    if n <= 16 { n } else { 16 }
+}
+
+pub fn whole_terms(p: Pack) -> bool
+    ensures { λ r. ⌜ r ≡ wholePack p ⌝ }
+{
+    let n = shown(p);
+    let mut ok = true;
+    let mut i = 0;
+    while i < n {
+        let t = packed(p, i);
+        ok = ok & rows::number::whole_within(rows::number::CELL_BOUND, t.coefficient);
+        i += 1;
+    }
+    ok
+}
+
+fn push_kept(p: Pack, t: Term) -> Pack
+    ensures { λ r. ⌜ r ≡ pushedKept p t ⌝ }
+{
+    if rows::number::near_zero(t.coefficient) {
+        p
+    } else {
+        push(p, t)
+    }
+}
+
+// The terms that are not near zero.
+pub fn kept(p: Pack) -> Pack
+    ensures { λ r. ⌜ r ≡ keptOf p ⌝ }
+{
+    let n = shown(p);
+    let mut q = none();
+    let mut i = 0;
+    while i < n {
+        let t = packed(p, i);
+        q = push_kept(q, t);
+        i += 1;
+    }
+    q
+}
