@@ -16,7 +16,7 @@ use Rattle.laws.specs.Z.{_≼_, _≺_, P}
 use Rattle.laws.specs.Ring.{ring, v, k as κ, _⊠_, ⊟_}
 use Rattle.simplex.specs.Ord.{0ℤ, 1ℤ, ≼-of-eq, ≼-trans, ≺→≼, ≺-irrefl}
 use Rattle.simplex.specs.Lin.{Vec}
-use Rattle.simplex.specs.Choose.{All}
+use Rattle.simplex.specs.Choose.{All, all-map-of as all-map, all-zip-of as all-zip}
 use Rattle.simplex.specs.Basis.{Mask}
 use Rattle.simplex.specs.Opt.{Kind as KindZ, external, slack, dummy, slack≢external, dummy≢slack}
 use Rattle.steps.specs.Number.{belowZero, _/₆₄_}
@@ -234,14 +234,6 @@ all-mem : (Q : Candidate → Type 0) (cs : List Candidate) (w : Candidate) → A
 all-mem Q [] w a m = absurd m
 all-mem Q (c ∷ cs) w a (inl e) = subst Q (sym e) (a .0)
 all-mem Q (c ∷ cs) w a (inr m) = all-mem Q cs w (a .1) m
-
-all-map : {A : Type 0} (P Q : A → Type 0) → ((x : A) → P x → Q x) → (l : List A) → All P l → All Q l
-all-map P Q f [] a = tt
-all-map P Q f (x ∷ l) a = (f x (a .0), all-map P Q f l (a .1))
-
-all-zip : {A : Type 0} (P Q C : A → Type 0) → ((x : A) → P x → Q x → C x) → (l : List A) → All P l → All Q l → All C l
-all-zip P Q C f [] a b = tt
-all-zip P Q C f (x ∷ l) a b = (f x (a .0) (b .0), all-zip P Q C f l (a .1) (b .1))
 
 -- ---- what the walk over the rows found
 module _ (kind : ℕ → KindZ) (xs : List Symbol) (bs : List Basic) (cs : List Float) (art : Option Row) (B : Mask) (R : ℕ → Vec) (o a : Vec) (H : ReadsTable kind xs bs cs art B R o a) (e : ℕ) (e≢0 : e ≢ 0) where

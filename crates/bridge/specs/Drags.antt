@@ -13,7 +13,7 @@ use Rattle.laws.specs.Z.{_≼_, _≺_}
 use Rattle.laws.specs.Ring.{ring, v, k as κ, _⊞_, _⊠_, ⊟_}
 use Rattle.simplex.specs.Ord.{0ℤ, 1ℤ, ≼-of-eq, ≺→≼, clash, ≺-or-≼, neg-pos}
 use Rattle.simplex.specs.Lin.{Vec, δ, δ-same, δ-other}
-use Rattle.simplex.specs.Choose.{All}
+use Rattle.simplex.specs.Choose.{All, all-map-of as all-map}
 use Rattle.simplex.specs.Basis.{swap}
 use Rattle.simplex.specs.Tab.{pivoted, pivot as pivotZ}
 use Rattle.simplex.specs.Opt.{Kind as KindZ, const, external, slack, dummy, slack≢external, slack≢const}
@@ -68,10 +68,6 @@ pivot-lists l e w row q =
     let s : Written = solveForSymbols l (e .id) (w .tableau .symbols) row in
     let v : Work = marking (s .mark) (withRows (dropRow l (w .tableau .rows)) w) in
     record { list = ap (λ (x : Work). x .tableau .infeasible) (pivot-is l e w row q) ∙ enter-list e (s .row) v; rows = ap (λ (x : Work). x .tableau .rows) (pivot-is l e w row q) ∙ enter-parts e (s .row) v .rows }
-
-all-map : {A : Type 0} (P Q : A → Type 0) → ((x : A) → P x → Q x) → (l : List A) → All P l → All Q l
-all-map P Q f [] a = tt
-all-map P Q f (x ∷ l) a = (f x (a .0), all-map P Q f l (a .1))
 
 dummy≢external : dummy ≢ external
 dummy≢external e = slack≢external (ap turn e)

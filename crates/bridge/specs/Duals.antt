@@ -11,12 +11,13 @@ use lib.Dec.{T}
 use lib.IntN.{ℤ, pos, negsuc, natAbs, _*ℤ_}
 use lib.Signed.{ltZ, ltZ-yes}
 use lib.Ieee.{Float, lt}
-use Rattle.exact.specs.Whole.{IsZ, lt-z}
+use Rattle.exact.specs.Whole.{IsZ}
+use Rattle.exact.specs.Compare.{lt-z}
 use Rattle.laws.specs.Z.{_≼_, _≺_}
 use Rattle.laws.specs.Ring.{ring, v, k as κ, _⊠_}
 use Rattle.simplex.specs.Ord.{0ℤ, 1ℤ, ≼-of-eq, ≼-trans, clash, ≺-irrefl}
 use Rattle.simplex.specs.Lin.{Vec}
-use Rattle.simplex.specs.Choose.{All}
+use Rattle.simplex.specs.Choose.{All, all-map-of as all-map, all-zip-of as all-zip}
 use Rattle.simplex.specs.Tab.{pivoted}
 use Rattle.simplex.specs.Opt.{Kind as KindZ, external, slack, slack≢external, slack≢const}
 use Rattle.simplex.specs.Pass.{State, step}
@@ -38,14 +39,6 @@ use Rattle.bridge.specs.Looks.{is-live, in-or-not, all-in}
 both : (a b : Bool) → a && b ≡ true → (a ≡ true) × (b ≡ true)
 both true b e = (refl, e)
 both false b e = absurd (true≢false (sym e))
-
-all-zip : {A : Type 0} (P Q C : A → Type 0) → ((x : A) → P x → Q x → C x) → (l : List A) → All P l → All Q l → All C l
-all-zip P Q C f [] a b = tt
-all-zip P Q C f (x ∷ l) a b = (f x (a .0) (b .0), all-zip P Q C f l (a .1) (b .1))
-
-all-map : {A : Type 0} (P Q : A → Type 0) → ((x : A) → P x → Q x) → (l : List A) → All P l → All Q l
-all-map P Q f [] a = tt
-all-map P Q f (x ∷ l) a = (f x (a .0), all-map P Q f l (a .1))
 
 all-mem : (Q : Candidate → Type 0) (cs : List Candidate) (w : Candidate) → All Q cs → MemC w cs → Q w
 all-mem Q [] w a m = absurd m

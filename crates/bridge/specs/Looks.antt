@@ -12,7 +12,7 @@ use lib.IntN.{ℤ, pos, negsuc, natAbs, _*ℤ_}
 use Rattle.laws.specs.Z.{_≼_, _≺_}
 use Rattle.simplex.specs.Ord.{0ℤ, 1ℤ, ≼-of-eq, ≼-antisym, clash}
 use Rattle.simplex.specs.Lin.{Vec}
-use Rattle.simplex.specs.Choose.{All}
+use Rattle.simplex.specs.Choose.{All, all-zip-of as all-zip}
 use Rattle.simplex.specs.Basis.{Mask}
 use Rattle.simplex.specs.Opt.{Kind as KindZ, external, slack, dummy, slack≢external, slack≢const}
 use Rattle.simplex.specs.Pass.{State, Good, Choice}
@@ -40,10 +40,6 @@ pub all-in : (Q : ℕ → Type 0) (j : ℕ) (xs : List Symbol) → All (λ (x : 
 all-in Q j [] a m = absurd m
 all-in Q j (x ∷ xs) a (inl e) = subst Q (sym e) (a .0)
 all-in Q j (x ∷ xs) a (inr m) = all-in Q j xs (a .1) m
-
-all-zip : {A : Type 0} (P Q C : A → Type 0) → ((x : A) → P x → Q x → C x) → (l : List A) → All P l → All Q l → All C l
-all-zip P Q C f [] a b = tt
-all-zip P Q C f (x ∷ l) a b = (f x (a .0) (b .0), all-zip P Q C f l (a .1) (b .1))
 
 pub is-live : (kind : ℕ → KindZ) (e : Symbol) (xs : List Symbol) → All (λ (x : Symbol). kind (x .id) ≡ kindOf (x .kind)) xs → MemS e xs → Live kind xs e
 is-live kind e [] a m = absurd m

@@ -8,7 +8,8 @@ use lib.IntN.{ℤ, pos, negsuc, negℤ, natAbs, _*ℤ_}
 use lib.Signed.{ltZ}
 use lib.Ieee.{Float, nan, inf, fin, binary64, neg, div, lt, le, eq, ofBits}
 use Rattle.laws.specs.Z.{eqZb, eqZb→, ≡→eqZb}
-use Rattle.exact.specs.Whole.{IsZ, val, int, lit-z, lt-z, le-z, eq-z, neg-z, isz-to, minus-one-over, bool-ext}
+use Rattle.exact.specs.Whole.{IsZ, val, int, lit-z, neg-z, isz-to, minus-one-over}
+use Rattle.exact.specs.Compare.{lt-z, le-z, eq-z, bool-ext}
 use Rattle.exact.specs.Near.{lt-small}
 use Rattle.steps.specs.Number.{zero64, one64, minusOne64, cutoff, cellBound, constantBound, objectiveBound, magnitude, nearZero, belowZero, isFinite, within, Mark, allWhole, notWhole, notFinite, worse, wholeIf, saysWhole, markWrite}
 use Rattle.steps.specs.Symbol.{absent}

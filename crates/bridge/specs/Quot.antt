@@ -17,7 +17,8 @@ use lib.Ieee.Order.{round-mono, transfer, kept, drop}
 use lib.Ieee.Fits.{down-pos, round-is}
 use lib.Ieee.Bits.{is-true}
 use Rattle.laws.specs.Z.{P, N, at, _⊗_, ⊖_, p, n, _≼_, _≺_, eqZ, ltZ↑, ltN, lt→N, N→lt, N→le}
-use Rattle.exact.specs.Whole.{IsZ, sgn, bool-ext, below-z}
+use Rattle.exact.specs.Whole.{IsZ, sgn}
+use Rattle.exact.specs.Compare.{bool-ext, below-z}
 
 -- ---- the unit: 2 ^ 1074 of the format's smallest values are 1
 unfoldable pub D : ℕ

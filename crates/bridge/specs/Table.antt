@@ -11,7 +11,7 @@ use lib.Ieee.{Float, ne}
 use Rattle.laws.specs.Ring.{ring, v, k as κ, _⊞_, _⊠_, ⊟_}
 use Rattle.simplex.specs.Ord.{0ℤ, 1ℤ}
 use Rattle.simplex.specs.Lin.{Vec, δ, δ-other, plus}
-use Rattle.simplex.specs.Choose.{All}
+use Rattle.simplex.specs.Choose.{All, all-map-of as all-map}
 use Rattle.simplex.specs.Tab.{eqn, pivoted, pivot as pivotZ}
 use Rattle.simplex.specs.Basis.{Mask, swap, Swapped, enters, leaves, stays, swapped}
 use Rattle.simplex.specs.Opt.{Kind as KindZ, external, slack, dummy}
@@ -84,10 +84,6 @@ found-in Q j (b ∷ bs) r a f = go (sym? j (b .symbol)) (found-in Q j bs r (a .1
     go : Sym? j (b .symbol) → (findRow j bs ≡ some r → Q j) → Q j
     go (is e p d) ih = subst Q (sym p) (a .0)
     go (isnt e p d) ih = ih (sym (find-miss j b bs e) ∙ f)
-
-all-map : {A : Type 0} (P Q : A → Type 0) → ((x : A) → P x → Q x) → (l : List A) → All P l → All Q l
-all-map P Q f [] a = tt
-all-map P Q f (x ∷ l) a = (f x (a .0), all-map P Q f l (a .1))
 
 clash-bool : {X : Type 0} {a : Bool} → a ≡ true → a ≡ false → X
 clash-bool p q = absurd (true≢false (sym p ∙ q))

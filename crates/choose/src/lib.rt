@@ -1,14 +1,17 @@
 // Which symbol or row a step takes: functions that read the tables and answer a place.
+pub mod list;
+pub mod subject;
+
 ghost use mathlib.Core.Path.{_≡_};
 ghost use mathlib.Core.Bool.{true, not, _&&_};
 ghost use Prim.Native.Nat.{ℕ, _+_, _<_, _≤_};
 ghost use lib.ListN.{getD, length};
 ghost use lib.Ieee.{lt, neg};
 ghost use Rattle.steps.specs.Number.{zero64, _/₆₄_, belowZero};
-ghost use Rattle.steps.specs.Symbol.{isExternal, isRestricted, isDummy, isPivotable, holds};
+ghost use Rattle.steps.specs.Symbol.{isExternal, isRestricted, isDummy, holds};
 ghost use Rattle.layout.specs.Layout.{symbolOf};
 ghost use Rattle.choose.specs.declared.Want.the-variants.{Pivotable, NonDummy, Any};
-ghost use Rattle.choose.specs.Choose.{Within, idAt, placeOf, rowOf, enteringOf, wants, heldOf, isNothing, noBest, betterOf, foundOf, leavingOf, positiveOf, dualEnteringOf, dummyRowOf, externalRowOf, markerLeavingOf, negativeOf, subjectOf, isBelowOf, popBelowOf};
+ghost use Rattle.choose.specs.Choose.{Within, idAt, placeOf, rowOf, enteringOf, wants, heldOf, isNothing, noBest, betterOf, foundOf, leavingOf, positiveOf, dualEnteringOf, dummyRowOf, externalRowOf, markerLeavingOf};
 
 // A place: of a cell in its row, of a row in the table, or of an entry in the infeasible list, each from 1 on.
 pub enum Found {
@@ -355,84 +358,4 @@ pub fn get_marker_leaving_row(head: &[u64], rows: &[[f64; 130]], at: usize) -> F
         return p;
     };
     last_external_row(head, rows, at)
-}
-
-// ---- Add's subject
-
-fn negative_pivotable(code: u64, x: f64) -> bool
-    ensures { λ r. ⌜ r ≡ isPivotable (symbolOf code) && belowZero x ⌝ }
-{
-    let kind = code % 4;
-    ((kind == 1) | (kind == 2)) & (x < 0.0)
-}
-
-fn negative_tag(head: &[u64], row: &[f64; 130], code: u64) -> Found
-    requires { ⌜ length (now head) ≡ 326 ⌝ }
-    requires { ⌜ getD (now head) 1 0 ≤ 129 ⌝ }
-    ensures { λ r. ⌜ r ≡ negativeOf code (now (head .entry)) (now (row .entry)) ⌝ }
-    ensures { λ r. ⌜ Within (getD (now (head .entry)) 1 0) r ⌝ }
-{
-    let f = place_of(head, code / 4);
-    let Found::At(p) = f else {
-        return Found::Nothing;
-    };
-    if negative_pivotable(code, row[p]) {
-        return Found::At(p);
-    }
-    Found::Nothing
-}
-
-// "first External; else marker if slack or Error with negative cell; else other likewise"; 0 is no other.
-pub fn choose_subject(head: &[u64], row: &[f64; 130], marker: u64, other: u64) -> Found
-    requires { ⌜ length (now head) ≡ 326 ⌝ }
-    requires { ⌜ getD (now head) 1 0 ≤ 129 ⌝ }
-    ensures { λ r. ⌜ r ≡ subjectOf marker other (now (head .entry)) (now (row .entry)) ⌝ }
-    ensures { λ r. ⌜ Within (getD (now (head .entry)) 1 0) r ⌝ }
-{
-    let f = first_held(Want::External, head, row);
-    let Found::Nothing = f else {
-        return f;
-    };
-    let m = negative_tag(head, row, marker);
-    let Found::Nothing = m else {
-        return m;
-    };
-    if other == 0 {
-        return Found::Nothing;
-    }
-    negative_tag(head, row, other)
-}
-
-// ---- the infeasible list
-
-pub fn is_below(head: &[u64], rows: &[[f64; 130]], id: u64) -> bool
-    requires { ⌜ length (now head) ≡ 326 ⌝ }
-    requires { ⌜ getD (now head) 2 0 ≤ 49 ⌝ }
-    requires { ⌜ length (now rows) ≡ 51 ⌝ }
-    ensures { λ r. ⌜ r ≡ isBelowOf id (now (head .entry)) (now (rows .entry)) ⌝ }
-{
-    let f = row_of(head, id);
-    let Found::At(i) = f else {
-        return false;
-    };
-    rows[i][0] < 0.0
-}
-
-// "pop the last entry; skip it unless that row exists and is below 0"
-pub fn pop_below(head: &[u64], rows: &[[f64; 130]]) -> Found
-    requires { ⌜ length (now head) ≡ 326 ⌝ }
-    requires { ⌜ getD (now head) 2 0 ≤ 49 ⌝ }
-    requires { ⌜ getD (now head) 3 0 ≤ 130 ⌝ }
-    requires { ⌜ length (now rows) ≡ 51 ⌝ }
-    ensures { λ r. ⌜ r ≡ popBelowOf (now (head .entry)) (now (rows .entry)) ⌝ }
-    ensures { λ r. ⌜ Within (getD (now (head .entry)) 3 0) r ⌝ }
-{
-    let mut j = head[3] as usize;
-    while 0 < j {
-        if is_below(head, rows, head[195 + j]) {
-            return Found::At(j);
-        }
-        j -= 1;
-    }
-    Found::Nothing
 }

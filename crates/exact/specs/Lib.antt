@@ -1,3 +1,4 @@
--- Floats that are whole numbers: each operation of binary64 on them is the integers' operation.
+-- Floats that are whole numbers: each operation and each test of binary64 on them is the integers'.
 pub mod Whole
+pub mod Compare
 pub mod Near

@@ -10,7 +10,8 @@ use lib.Signed.{ltZ}
 use lib.Ieee.{Float, nan, inf, fin, up, down, lt, below}
 use lib.Ieee.Bits.{is-true}
 use lib.Ieee.Fits.{down-pos}
-use Rattle.exact.specs.Whole.{IsZ, sgn, bool-ext}
+use Rattle.exact.specs.Whole.{IsZ, sgn}
+use Rattle.exact.specs.Compare.{bool-ext}
 
 -- ---- against a constant between 0 and 1: x < ε exactly when the integer is below 1
 module _ (m : ℕ) (e : ℤ) (above : 0 < m * up e) (under : m * up e < down e) where

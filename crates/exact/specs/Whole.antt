@@ -2,18 +2,17 @@
 -- floats are exact while the result's magnitude is at most 2 ^ 53, and the comparisons decide the order of ℤ. Assumes nothing.
 use mathlib.Core.Path.{_≡_, refl, sym, ap, _∙_, subst}
 use Prim.Native.Nat.{ℕ, zero, suc, _+_, _*_, _-_, _/_, _%_, _^_, _≤_, _<_}
-use native.Mathlib.Nat.{mul-one, mul-assoc, mul-right-comm, mul-mul-mul-comm, mul-pos, mul-sub, mul-comm, mul-div-cancel, le-of-mul-le-mul-right, lt-of-mul-lt-mul-right, mul-lt-mul-of-pos-right, mul-le-mul-right, mul-le-mul, eq-of-mul-eq-mul-right, zero-mul, div-add-mod', add-zero, mul-mod-left}
+use native.Mathlib.Nat.{mul-one, mul-assoc, mul-mul-mul-comm, mul-pos, mul-sub, mul-comm, mul-div-cancel, le-of-mul-le-mul-right, lt-of-mul-lt-mul-right, mul-le-mul, zero-mul, div-add-mod', add-zero, mul-mod-left}
 use native.Mathlib.Omega.{arith}
-use mathlib.Core.Bool.{Bool, true, false, not, _&&_, _||_, Bool·beq, cond}
-use lib.Dec.{T, ltb, leb, eqb, ltb→lt, nltb→le, lt→ltb, leb→le, le→leb, eqb→eq, eqb-refl, lit<, lit≤, leb·suc-zero, leb·suc-suc, leb·zero}
-use lib.Signed.{ltZ, leZ, ltZ-yes, ltZ-no}
+use mathlib.Core.Bool.{Bool, true, false, not, cond}
+use lib.Dec.{T, ltb, eqb, ltb→lt, nltb→le, eqb→eq, lit<}
 use lib.IntN.{ℤ, pos, negsuc, negℤ, natAbs, _+ℤ_, _-ℤ_, _*ℤ_}
-use lib.Ieee.{Float, nan, inf, fin, Format, binary64, up, down, round, neg, sum, add, sub, mul, div, lt, le, eq, ofBits, ofInt, unlike, below, level}
+use lib.Ieee.{Float, nan, inf, fin, binary64, up, down, round, neg, sum, add, sub, mul, div, eq, ofInt, unlike}
 use lib.Ieee.Exact.{HasValue}
 use lib.Ieee.Back.{round-whole}
 use lib.Ieee.Scale.{round-same}
-use lib.Ieee.Fits.{down-pos, and-i, and-l, and-r, eq→eqb}
-use Rattle.laws.specs.Z.{P, N, Ex, at, _⊕_, _⊗_, ⊖_, _⊝_, ev, p, n, eqZ, eqZb, eqZb→, ≡→eqZb, _≼_, _≺_, mul-cancel, ≺→≼, ≼-refl, ≼-antisym, abs-mul, abs-add, abs-sub, abs-neg}
+use lib.Ieee.Fits.{down-pos, eq→eqb}
+use Rattle.laws.specs.Z.{at, _⊕_, _⊗_, ⊖_, _⊝_, eqZ, eqZb, eqZb→, mul-cancel, abs-mul, abs-add, abs-sub, abs-neg}
 
 abbrev pub sgn : Bool → ℕ → ℤ
 sgn false k = pos k
@@ -47,7 +46,7 @@ pub isz-to : {x : Float} {a b : ℤ} → IsZ x a → a ≡ b → IsZ x b
 isz-to h e = record { sign = h .sign; size = h .size; has = h .has; is = h .is ∙ e }
 
 -- ---- rounding
-abs-sgn : (s : Bool) (k : ℕ) → natAbs (sgn s k) ≡ k
+pub abs-sgn : (s : Bool) (k : ℕ) → natAbs (sgn s k) ≡ k
 abs-sgn false k = refl
 abs-sgn true zero = refl
 abs-sgn true (suc k) = refl
@@ -112,7 +111,7 @@ sum-z true false i j c a b cp ea eb l = go (ltb a b) (ltb→lt a b) (nltb→le a
         mk false (a - b) c (i - j) (negℤ (pos i) +ℤ pos j) cp (less c b a j i cp eb ea) (eqZ (at (pos (i - j))) ((⊖ at (pos i)) ⊕ at (pos j)) (omega arith)) l
 
 -- a fraction over down e, over a common denominator
-scaled : (m u k d g : ℕ) → m * u * 1 ≡ k * d → m * u * g ≡ k * (d * g)
+pub scaled : (m u k d g : ℕ) → m * u * 1 ≡ k * d → m * u * g ≡ k * (d * g)
 scaled m u k d g h = ap (λ (x : ℕ). x * g) (sym (mul-one (m * u)) ∙ h) ∙ mul-assoc k d g
 
 pub add-z : {x y : Float} {a b : ℤ} → IsZ x a → IsZ y b → natAbs (a +ℤ b) ≤ 2 ^ 53 → IsZ (add binary64 x y) (a +ℤ b)
@@ -168,141 +167,19 @@ mul-z {x = fin s m e} {y = fin t k d} {a} {b} h g l =
     (mul-sgn s t (h .size) (g .size) ∙ ap (λ (z : ℤ). z *ℤ sgn t (g .size)) ha ∙ ap (λ (z : ℤ). a *ℤ z) gb)
     l
 
--- ---- comparisons: the test on floats is the test on integers
-pub bool-ext : (b c : Bool) → (T b → T c) → (T c → T b) → b ≡ c
-bool-ext true true f g = refl
-bool-ext true false f g = absurd (f tt)
-bool-ext false true f g = absurd (g tt)
-bool-ext false false f g = refl
-
-below-scaled : (i j c : ℕ) → 0 < c → ltb (i * c) (j * c) ≡ ltb i j
-below-scaled i j c cp = bool-ext (ltb (i * c) (j * c)) (ltb i j)
-    (λ t. lt→ltb i j (lt-of-mul-lt-mul-right c (ltb→lt (i * c) (j * c) t)))
-    (λ t. lt→ltb (i * c) (j * c) (mul-lt-mul-of-pos-right (ltb→lt i j t) cp))
-
-level-scaled : (i j c : ℕ) → 0 < c → eqb (i * c) (j * c) ≡ eqb i j
-level-scaled i j c cp = bool-ext (eqb (i * c) (j * c)) (eqb i j)
-    (λ t. eq→eqb (eq-of-mul-eq-mul-right c cp i j (eqb→eq (i * c) (j * c) t)))
-    (λ t. eq→eqb (ap (λ (x : ℕ). x * c) (eqb→eq i j t)))
-
-sum-pos : (i j c : ℕ) → 0 < c → ltb 0 (i * c + j * c) ≡ ltb 0 (i + j)
-sum-pos i j c cp = ap (ltb 0) (sym (e i j c)) ∙ ap (λ (x : ℕ). ltb x ((i + j) * c)) (sym (zero-mul c)) ∙ below-scaled 0 (i + j) c cp
-  where
-    e : (i j c : ℕ) → (i + j) * c ≡ i * c + j * c
-    e i j c = omega arith
-
-pub below-z : (s t : Bool) (i j c : ℕ) → 0 < c → below s (i * c) t (j * c) ≡ ltZ (sgn s i) (sgn t j)
-below-z false false i j c cp = below-scaled i j c cp
-below-z false true i zero c cp = sym (leb·suc-zero i)
-below-z false true i (suc j) c cp = refl
-below-z true false zero j c cp = sum-pos 0 j c cp ∙ ap (ltb 0) (e j)
-  where
-    e : (j : ℕ) → 0 + j ≡ j
-    e j = omega arith
-below-z true false (suc i) j c cp = sum-pos (suc i) j c cp ∙ ap (ltb 0) (e i j) ∙ leb·suc-suc 0 (i + j) ∙ leb·zero (i + j)
-  where
-    e : (i j : ℕ) → suc i + j ≡ suc (i + j)
-    e i j = omega arith
-below-z true true zero zero c cp = below-scaled 0 0 c cp
-below-z true true zero (suc j) c cp = below-scaled (suc j) 0 c cp ∙ leb·suc-zero (suc j)
-below-z true true (suc i) zero c cp = below-scaled 0 (suc i) c cp ∙ leb·suc-suc 0 i ∙ leb·zero i
-below-z true true (suc i) (suc j) c cp = below-scaled (suc j) (suc i) c cp ∙ leb·suc-suc (suc j) i
-
-level-sgn : (s t : Bool) (i j : ℕ) → level s i t j ≡ eqZb (sgn s i) (sgn t j)
-level-sgn s t i j = bool-ext (level s i t j) (eqZb (sgn s i) (sgn t j))
-    (λ u. ≡→eqZb (to s t (eqb→eq i j (and-l (eqb i j) (Bool·beq s t || eqb i 0) u)) (and-r (eqb i j) (Bool·beq s t || eqb i 0) u)))
-    (λ u. from s t i j (eqZb→ (sgn s i) (sgn t j) u))
-  where
-    none : (k : ℕ) → k ≡ 0 → negℤ (pos k) ≡ pos k
-    none k h = ap (λ (x : ℕ). negℤ (pos x)) h ∙ sym (ap pos h)
-
-    to : (s t : Bool) → i ≡ j → T (Bool·beq s t || eqb i 0) → sgn s i ≡ sgn t j
-    to false false h u = ap pos h
-    to true true h u = ap (λ (x : ℕ). negℤ (pos x)) h
-    to true false h u = none i (eqb→eq i 0 u) ∙ ap pos h
-    to false true h u = ap pos h ∙ sym (none j (sym h ∙ eqb→eq i 0 u))
-
-    size-is : (s t : Bool) (i j : ℕ) → sgn s i ≡ sgn t j → i ≡ j
-    size-is s t i j h = sym (abs-sgn s i) ∙ ap natAbs h ∙ abs-sgn t j
-
-    or-r : (a b : Bool) → T b → T (a || b)
-    or-r true b u = tt
-    or-r false b u = u
-
-    zero-of : (i j : ℕ) → pos i ≡ negℤ (pos j) → i ≡ 0
-    zero-of i zero h = ap natAbs h
-    zero-of i (suc j) h = absurd (subst (λ (z : ℤ). T (leZ (pos 0) z)) h (leb·0 i))
-      where
-        leb·0 : (i : ℕ) → T (leb 0 i)
-        leb·0 i = le→leb 0 i (omega arith)
-
-    from : (s t : Bool) (i j : ℕ) → sgn s i ≡ sgn t j → T (level s i t j)
-    from false false i j h = and-i (eqb i j) (true || eqb i 0) (eq→eqb (size-is false false i j h)) tt
-    from true true i j h = and-i (eqb i j) (true || eqb i 0) (eq→eqb (size-is true true i j h)) tt
-    from false true i j h = and-i (eqb i j) (false || eqb i 0) (eq→eqb (size-is false true i j h)) (eq→eqb (zero-of i j h))
-    from true false i j h = and-i (eqb i j) (false || eqb i 0) (eq→eqb (size-is true false i j h)) (eq→eqb (size-is true false i j h ∙ zero-of j i (sym h)))
-
-level-z : (s t : Bool) (i j c : ℕ) → 0 < c → level s (i * c) t (j * c) ≡ eqZb (sgn s i) (sgn t j)
-level-z s t i j c cp =
-    ap (λ (b : Bool). b && (Bool·beq s t || eqb (i * c) 0)) (level-scaled i j c cp)
-    ∙ ap (λ (b : Bool). eqb i j && (Bool·beq s t || b)) (ap (eqb (i * c)) (sym (zero-mul c)) ∙ level-scaled i 0 c cp)
-    ∙ level-sgn s t i j
-
--- two finite values over a common denominator
+-- ---- two floats over one denominator
 module _ (s t : Bool) (m k : ℕ) (e d : ℤ) (a b : ℤ) (h : IsZ (fin s m e) a) (g : IsZ (fin t k d) b) where
-  first-is : sgn s (h .size) ≡ a
+  pub first-is : sgn s (h .size) ≡ a
   first-is = ap (λ (o : Bool). sgn o (h .size)) (h .has .0) ∙ h .is
 
-  second-is : sgn t (g .size) ≡ b
+  pub second-is : sgn t (g .size) ≡ b
   second-is = ap (λ (o : Bool). sgn o (g .size)) (g .has .0) ∙ g .is
 
-  left-is : m * up e * down d ≡ h .size * (down e * down d)
+  pub left-is : m * up e * down d ≡ h .size * (down e * down d)
   left-is = scaled m (up e) (h .size) (down e) (down d) (h .has .1)
 
-  right-is : k * up d * down e ≡ g .size * (down e * down d)
+  pub right-is : k * up d * down e ≡ g .size * (down e * down d)
   right-is = scaled k (up d) (g .size) (down d) (down e) (g .has .1) ∙ ap (λ (x : ℕ). g .size * x) (mul-comm (down d) (down e))
-
-pub lt-z : {x y : Float} {a b : ℤ} → IsZ x a → IsZ y b → lt x y ≡ ltZ a b
-unfolding lt
-lt-z {x = nan} h g = absurd (h .has)
-lt-z {x = inf s} h g = absurd (h .has)
-lt-z {x = fin s m e} {y = nan} h g = absurd (g .has)
-lt-z {x = fin s m e} {y = inf t} h g = absurd (g .has)
-lt-z {x = fin s m e} {y = fin t k d} {a} {b} h g =
-    ap (λ (x : ℕ). below s x t (k * up d * down e)) (left-is s t m k e d a b h g)
-    ∙ ap (λ (x : ℕ). below s (h .size * (down e * down d)) t x) (right-is s t m k e d a b h g)
-    ∙ below-z s t (h .size) (g .size) (down e * down d) (mul-pos (down-pos e) (down-pos d))
-    ∙ ap (λ (z : ℤ). ltZ z (sgn t (g .size))) (first-is s t m k e d a b h g) ∙ ap (ltZ a) (second-is s t m k e d a b h g)
-
-pub eq-z : {x y : Float} {a b : ℤ} → IsZ x a → IsZ y b → eq x y ≡ eqZb a b
-unfolding eq
-eq-z {x = nan} h g = absurd (h .has)
-eq-z {x = inf s} h g = absurd (h .has)
-eq-z {x = fin s m e} {y = nan} h g = absurd (g .has)
-eq-z {x = fin s m e} {y = inf t} h g = absurd (g .has)
-eq-z {x = fin s m e} {y = fin t k d} {a} {b} h g =
-    ap (λ (x : ℕ). level s x t (k * up d * down e)) (left-is s t m k e d a b h g)
-    ∙ ap (λ (x : ℕ). level s (h .size * (down e * down d)) t x) (right-is s t m k e d a b h g)
-    ∙ level-z s t (h .size) (g .size) (down e * down d) (mul-pos (down-pos e) (down-pos d))
-    ∙ ap (λ (z : ℤ). eqZb z (sgn t (g .size))) (first-is s t m k e d a b h g) ∙ ap (eqZb a) (second-is s t m k e d a b h g)
-
-or-le : (a b : ℤ) → ltZ a b || eqZb a b ≡ leZ a b
-or-le a b = bool-ext (ltZ a b || eqZb a b) (leZ a b) (λ t. to (ltZ a b) (eqZb a b) (λ u. ≺→≼ {a = a} {b = b} (ltZ-yes u) .le) (λ u. same (eqZb→ a b u)) t) (λ t. from (ltZ a b) (λ u. ltZ-no {a = a} {b = b} u) (record { le = t }))
-  where
-    same : a ≡ b → T (leZ a b)
-    same h = subst (λ (z : ℤ). T (leZ a z)) h (≼-refl a .le)
-
-    to : (o r : Bool) → (T o → T (leZ a b)) → (T r → T (leZ a b)) → T (o || r) → T (leZ a b)
-    to true r f g t = f tt
-    to false r f g t = g t
-
-    from : (o : Bool) → (T (not o) → b ≼ a) → a ≼ b → T (o || eqZb a b)
-    from true f h = tt
-    from false f h = ≡→eqZb (≼-antisym h (f tt))
-
-pub le-z : {x y : Float} {a b : ℤ} → IsZ x a → IsZ y b → le x y ≡ leZ a b
-unfolding le
-le-z {a} {b} h g = rw (lt-z h g, eq-z h g) (or-le a b)
 
 -- ---- an exact quotient
 unlike-twice : (s t : Bool) → unlike (unlike s t) t ≡ s
@@ -329,10 +206,10 @@ div-z {x = fin s m e} {y = fin t k d} {a} {b} q h g w nz l = past (eqb k 0) (λ 
     c = down e * down d
 
     ha : sgn s (h .size) ≡ a
-    ha = first-is s t m k e d a b h g
+    ha = ap (λ (o : Bool). sgn o (h .size)) (h .has .0) ∙ h .is
 
     gb : sgn t (g .size) ≡ b
-    gb = second-is s t m k e d a b h g
+    gb = ap (λ (o : Bool). sgn o (g .size)) (g .has .0) ∙ g .is
 
     j-pos : 0 < g .size
     j-pos = subst (λ (x : ℕ). 0 < x) (sym (ap natAbs gb) ∙ abs-sgn t (g .size)) (abs-pos b nz)

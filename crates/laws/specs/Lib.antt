@@ -2,6 +2,6 @@
 pub mod Z
 pub mod Ring
 pub mod Loops
-pub mod Places
 pub mod Lists
+pub mod Places
 pub mod Budget

@@ -12,13 +12,14 @@ use lib.Seq.{getD-set-same, getD-set-other}
 use lib.Ieee.{Float, nan}
 use Rattle.steps.specs.Number.{zero64}
 use Rattle.steps.specs.Symbol.{Kind, External, Slack, Error, Dummy, Symbol, isSymbol, deleteCell, deleteSymbol}
+use Rattle.steps.specs.Readable.{kindCode}
 use Rattle.steps.specs.Row.{Row, appendCell}
 use Rattle.steps.specs.State.{Basic, Tableau}
 use Rattle.steps.specs.Work.{Work, withTableau, appendSymbol}
 use Rattle.laws.specs.Loops.{first, mapIn}
 use Rattle.laws.specs.Places.{mapIn-at, length-mapIn}
 use Rattle.laws.specs.Lists.{tab, listOf, tab-ext, map-tab}
-use Rattle.layout.specs.Layout.{symbolOf, kindOf, kindCode, cellsOf, basicOf}
+use Rattle.layout.specs.Layout.{symbolOf, kindOf, cellsOf, basicOf}
 use Rattle.choose.specs.declared.Found.{Found}
 use Rattle.choose.specs.declared.Found.the-variants.{At, Nothing}
 use Rattle.choose.specs.Choose.{Within, onFound, idAt, placeOf}

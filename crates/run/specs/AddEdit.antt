@@ -10,7 +10,8 @@ use lib.Dec.{T, eqb, eqb→eq, eqb-refl}
 use lib.ListN.{length}
 use lib.Signed.{ltZ, ltZ-yes}
 use lib.Ieee.{Float, neg, lt, le, eq}
-use Rattle.exact.specs.Whole.{IsZ, val, isz-val, neg-z, le-z, lt-z, eq-z}
+use Rattle.exact.specs.Whole.{IsZ, val, isz-val, neg-z}
+use Rattle.exact.specs.Compare.{le-z, lt-z, eq-z}
 use Rattle.simplex.specs.Ord.{0ℤ, ≺→≼}
 use Rattle.simplex.specs.Choose.{All}
 use Rattle.steps.specs.Number.{zero64, constantBound, belowZero, isWhole, within}

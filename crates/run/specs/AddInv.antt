@@ -15,7 +15,7 @@ use Rattle.exact.specs.Whole.{val}
 use Rattle.simplex.specs.Ord.{0ℤ}
 use Rattle.simplex.specs.Lin.{Vec}
 use Rattle.simplex.specs.At.{at, at-here, at-there}
-use Rattle.simplex.specs.Choose.{All}
+use Rattle.simplex.specs.Choose.{All, all-map}
 use Rattle.simplex.specs.Opt.{const, external}
 use Rattle.simplex.specs.Problem.{Con, Models}
 use Rattle.steps.specs.Number.{belowZero, allWhole, wholeIf, saysWhole}
@@ -33,7 +33,6 @@ use Rattle.run.specs.Inv.{columns, Held, exprOf, otherId, conOf, formOf,
 use Rattle.run.specs.Words.{Agrees, meets-from}
 use Rattle.run.specs.Vars.{Same, same-kept, at-same, known-same, known-back}
 use Rattle.run.specs.Perm.{found-hit, found-miss}
-use Rattle.run.specs.Steady.{all-map}
 use Rattle.run.specs.Passes.{none-below}
 use Rattle.run.specs.Inputs.{both, inputs-z}
 use Rattle.run.specs.Build.{KnownIn, newHeld, Built}

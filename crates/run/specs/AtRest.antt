@@ -14,7 +14,7 @@ use Rattle.exact.specs.Whole.{IsZ, val, int, isz-val, z-int}
 use Rattle.simplex.specs.Ord.{0ℤ, 1ℤ}
 use Rattle.simplex.specs.Lin.{Vec, δ, δ-same}
 use Rattle.simplex.specs.At.{at, at-here, at-there}
-use Rattle.simplex.specs.Choose.{All}
+use Rattle.simplex.specs.Choose.{All, all-map}
 use Rattle.simplex.specs.Opt.{Kind as KindZ, const, external, slack}
 use Rattle.simplex.specs.Pass.{State as StateZ, Good}
 use Rattle.simplex.specs.Problem.{Con, error}
@@ -32,10 +32,6 @@ use Rattle.bridge.specs.Ends.{valueAt, value-z}
 use Rattle.run.specs.Demand.{Demand, Moment, Meets, weighted, values, Best}
 use Rattle.run.specs.Inv.{columns, Held, conOf, VarAt, WholeDemand, Inv}
 use Rattle.run.specs.Words.{Agrees, WholeTerms, meets-to, meets-from, error-to}
-
-pub all-map : {A : Type 0} {P Q : A → Type 0} → ((x : A) → P x → Q x) → (l : List A) → All P l → All Q l
-all-map f [] a = tt
-all-map f (x ∷ l) a = (f x (a .0), all-map f l (a .1))
 
 whole-of-z : {x : Float} {z : ℤ} → IsZ x z → isWhole x ≡ true
 unfolding int isWhole

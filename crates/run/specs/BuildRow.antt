@@ -14,7 +14,7 @@ use Rattle.exact.specs.Whole.{val}
 use Rattle.simplex.specs.Ord.{0ℤ, 1ℤ, ≺→≼, neg-nonneg}
 use Rattle.simplex.specs.Lin.{Vec, δ, δ-same, δ-other, dot, plus}
 use Rattle.simplex.specs.Tab.{Solves}
-use Rattle.simplex.specs.Choose.{All}
+use Rattle.simplex.specs.Choose.{All, all-map}
 use Rattle.simplex.specs.Opt.{Kind as KindZ, const, external, slack}
 use Rattle.simplex.specs.Pass.{State as StateZ, Good}
 use Rattle.simplex.specs.Form.{soft, resid, cost}
@@ -34,7 +34,6 @@ use Rattle.bridge.specs.Table.{ReadsWork, in-nonzero}
 use Rattle.bridge.specs.Enter.{reverse-z}
 use Rattle.run.specs.Demand.{Demand, sumOf}
 use Rattle.run.specs.Inv.{Held, exprOf, otherId, conOf, formOf, VarAt}
-use Rattle.run.specs.Steady.{all-map}
 use Rattle.run.specs.Inputs.{Inputs, nonneg-z, below-z}
 use Rattle.run.specs.Build.{KnownIn, NewTag, newHeld, Built}
 use Rattle.run.specs.BuildVars.{stays-known, LiveAt, columnIn, AgreesAt, Agrees, own-columns, agrees-back}

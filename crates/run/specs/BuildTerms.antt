@@ -30,7 +30,7 @@ use Rattle.bridge.specs.Finds.{none≢some}
 use Rattle.bridge.specs.Table.{kindOf, RowAt, ReadsWork, found-in}
 use Rattle.bridge.specs.Enter.{append-z, append-row, append-in, append-new, term-z}
 use Rattle.bridge.specs.Looks.{in-or-not}
-use Rattle.run.specs.Steady.{all-map}
+use Rattle.simplex.specs.Choose.{all-map}
 use Rattle.run.specs.BuildVars.{find-kept, find-kept-other, usedAt, find-used, StaysAll, stays-refl, stays-trans, stays-used, stays-kept, LiveAt}
 
 -- ---- kinds that agree everywhere

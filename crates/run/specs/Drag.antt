@@ -13,7 +13,7 @@ use Rattle.laws.specs.Z.{_≼_, _≺_}
 use Rattle.exact.specs.Whole.{IsZ, Zb}
 use Rattle.simplex.specs.Ord.{0ℤ, clash}
 use Rattle.simplex.specs.Lin.{Vec, δ, plus}
-use Rattle.simplex.specs.Choose.{All}
+use Rattle.simplex.specs.Choose.{All, all-map}
 use Rattle.simplex.specs.Basis.{Mask}
 use Rattle.simplex.specs.Opt.{Kind as KindZ, external, slack}
 use Rattle.simplex.specs.Pass.{State, Good}
@@ -37,7 +37,7 @@ use Rattle.bridge.specs.Table.{RowAt, Live, ReadsTable, ReadsWork, in-nonzero}
 use Rattle.bridge.specs.Infeasible.{pushed-all, pushed-found}
 use Rattle.bridge.specs.Drags.{Drag as Dragging, turned}
 use Rattle.run.specs.Shift.{these, Found, no-row, a-row, find-shift, these-all, Amount, shift-table}
-use Rattle.run.specs.Steady.{all-noted-variables, Kinded, restricted-kind, Kept, kept-refl, kept-trans, pivot-kept, IfGoing, all-map}
+use Rattle.run.specs.Steady.{all-noted-variables, Kinded, restricted-kind, Kept, kept-refl, kept-trans, pivot-kept, IfGoing}
 use Rattle.run.specs.Aims.{Aimed, aimed-good, aimed-no-var, unshifted}
 use Rattle.run.specs.Drawn.{Drawn, drawn}
 

@@ -9,7 +9,8 @@ use lib.IntN.{ℤ, pos, negsuc, natAbs}
 use lib.Signed.{ltZ-yes, ltZ-no}
 use lib.Ieee.{Float, nan, inf, fin, le, lt, ofBits}
 use Rattle.laws.specs.Z.{_≼_, _≺_, lt→N}
-use Rattle.exact.specs.Whole.{IsZ, Zb, val, int, lit-z, le-z, lt-z}
+use Rattle.exact.specs.Whole.{IsZ, Zb, val, int, lit-z}
+use Rattle.exact.specs.Compare.{le-z, lt-z}
 use Rattle.simplex.specs.Ord.{0ℤ}
 use Rattle.simplex.specs.Choose.{All}
 use Rattle.steps.specs.Number.{cellBound, constantBound, isWhole, within, belowZero, Mark, allWhole, notWhole, wholeIf, saysWhole}

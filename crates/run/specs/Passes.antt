@@ -13,7 +13,7 @@ use lib.Signed.{ltZ, ltZ-yes}
 use Rattle.laws.specs.Z.{_≼_}
 use Rattle.simplex.specs.Ord.{0ℤ, clash, ≼-of-eq}
 use Rattle.simplex.specs.Lin.{Vec}
-use Rattle.simplex.specs.Choose.{All, Distinct, choose, trues}
+use Rattle.simplex.specs.Choose.{All, Distinct, choose, trues, all-map}
 use Rattle.simplex.specs.Basis.{Mask}
 use Rattle.simplex.specs.Opt.{Kind as KindZ, const, external, slack, dummy, slack≢external, slack≢const}
 use Rattle.simplex.specs.Pass.{State as StateZ, Good, differ}
@@ -37,7 +37,7 @@ use Rattle.bridge.specs.Table.{kindOf, RowAt, ArtAt, ReadsWork, found-in}
 use Rattle.bridge.specs.Looks.{in-or-not}
 use Rattle.bridge.specs.Runs.{markOf, carried, Ran, rests, run}
 use Rattle.bridge.specs.Ends.{Verdict, optimise-whole}
-use Rattle.run.specs.Steady.{all-map, Kinded, Calm, Steady, IfGoing, optimise-steady}
+use Rattle.run.specs.Steady.{Kinded, Calm, Steady, IfGoing, optimise-steady}
 
 -- ---- the ids of the live symbols, and of the restricted ones: demand 3's n is how many these are
 unfoldable pub idsOf : List Symbol → List ℕ

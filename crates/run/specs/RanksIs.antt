@@ -11,11 +11,10 @@ use lib.IntN.{ℤ, pos, negsuc, natAbs, _*ℤ_}
 use Rattle.laws.specs.Z.{_≼_, _≺_}
 use Rattle.simplex.specs.Ord.{0ℤ, 1ℤ, ≼-antisym, ≺-irrefl, ≺-or-≼}
 use Rattle.simplex.specs.Lin.{Vec, δ-other}
-use Rattle.simplex.specs.Choose.{All}
+use Rattle.simplex.specs.Choose.{All, all-zip}
 use Rattle.simplex.specs.Basis.{Mask}
 use Rattle.simplex.specs.Opt.{Kind as KindZ, const, external, slack, dummy, slack≢external, slack≢dummy}
 use Rattle.simplex.specs.Pass.{State as StateZ, Good}
-use Rattle.simplex.specs.Problem.{all-zip}
 use Rattle.simplex.specs.Gone.{dummy≢external, const≢external}
 use Rattle.simplex.specs.Remove.{Rank, keep-dummy, keep-negative, keep-positive, keep-external}
 use Rattle.steps.specs.Symbol.{Kind, External, Slack, Error, Dummy, Symbol, isExternal, isDummy, absent, holds, coefficientFor}
@@ -169,7 +168,7 @@ module _ (n : ℕ) (kind : ℕ → KindZ) (w : Work) (S : StateZ) (a : Vec) (G :
 
   known : All (λ (b : Basic). Live kind xs (b .symbol) × ((S .B (b .symbol .id) ≡ true) × ReadsRow xs (b .row) (S .R (b .symbol .id)))) bs
   known =
-      all-zip {Q = λ (b : Basic). Live kind xs (b .symbol)} {W = λ (b : Basic). (S .B (b .symbol .id) ≡ true) × ReadsRow xs (b .row) (S .R (b .symbol .id))} (λ b x y. (x, y)) bs (H .rows-live) (listed xs (S .B) (S .R) 0 bs (H .rows-up) (λ j _. H .rows j))
+      all-zip {P = λ (b : Basic). Live kind xs (b .symbol)} {Q = λ (b : Basic). (S .B (b .symbol .id) ≡ true) × ReadsRow xs (b .row) (S .R (b .symbol .id))} (λ b x y. (x, y)) bs (H .rows-live) (listed xs (S .B) (S .R) 0 bs (H .rows-up) (λ j _. H .rows j))
 
   -- a fact of the rows of a kind, by column
   empty : (t : KindZ) → All (λ (b : Basic). kind (b .symbol .id) ≡ t → S .R (b .symbol .id) e ≡ 0ℤ) bs → (j : ℕ) → kind j ≡ t → j ≢ e → S .R j e ≡ 0ℤ

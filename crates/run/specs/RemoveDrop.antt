@@ -13,11 +13,11 @@ use Rattle.laws.specs.Z.{_≼_}
 use Rattle.simplex.specs.Ord.{0ℤ, ≼-of-eq, clash}
 use Rattle.simplex.specs.Lin.{Vec}
 use Rattle.simplex.specs.At.{at}
-use Rattle.simplex.specs.Choose.{All}
+use Rattle.simplex.specs.Choose.{All, all-zip}
 use Rattle.simplex.specs.Basis.{swap, Swapped, enters, leaves, stays, swapped}
 use Rattle.simplex.specs.Opt.{Kind as KindZ, const, external, slack, dummy}
 use Rattle.simplex.specs.Form.{soft}
-use Rattle.simplex.specs.Problem.{Con, Sound, Apart, Models, all-zip}
+use Rattle.simplex.specs.Problem.{Con, Sound, Apart, Models}
 use Rattle.simplex.specs.Tab.{pivoted, pivot as pivotZ}
 use Rattle.simplex.specs.Change.{dropped}
 use Rattle.simplex.specs.Pass.{State as StateZ, Good}
@@ -57,7 +57,7 @@ pushed-none (b ∷ bs) l a = ap (pushBelow bs) (go (isRestricted (b .symbol)) (b
 good-rows : (n : ℕ) (kind : ℕ → KindZ) (xs : List Symbol) (bs : List Basic) (cs : List Float) (art : Option Row) (S : StateZ) (a : Vec) → Good n kind S → ReadsTable kind xs bs cs art (S .B) (S .R) (S .o) a
     → All (λ (b : Basic). isRestricted (b .symbol) ≡ true → belowZero (b .row .constant) ≡ false) bs
 good-rows n kind xs bs cs art S a G H =
-    all-zip {Q = λ (b : Basic). Live kind xs (b .symbol)} {W = λ (b : Basic). (S .B (b .symbol .id) ≡ true) × ReadsRow xs (b .row) (S .R (b .symbol .id))} one bs (H .rows-live) (listed xs (S .B) (S .R) 0 bs (H .rows-up) (λ j _. H .rows j))
+    all-zip {P = λ (b : Basic). Live kind xs (b .symbol)} {Q = λ (b : Basic). (S .B (b .symbol .id) ≡ true) × ReadsRow xs (b .row) (S .R (b .symbol .id))} one bs (H .rows-live) (listed xs (S .B) (S .R) 0 bs (H .rows-up) (λ j _. H .rows j))
   where
     nonneg : (j : ℕ) → kind j ≢ external → S .B j ≡ true → (t : KindZ) → kind j ≡ t → 0ℤ ≼ S .R j 0
     nonneg j ne b const k = absurd (true≢false (sym b ∙ ap (S .B) (G .consts j k) ∙ G .shape .const))
@@ -155,7 +155,7 @@ module _ (n : ℕ) (kind : ℕ → KindZ) (w : Work) (S : StateZ) (c : Con) (cs 
   cost : ((j : ℕ) → kind j ≢ external → j ≢ m .id → S .R j (m .id) ≡ 0ℤ) → S .B (m .id) ≡ false → S .o (m .id) ≡ 0ℤ
   cost empty free =
       free-of-marker n (S .B) (S .R) (S .o) (m .id) cs (D .shape) (D .clear) free in-n (D .worth)
-      (all-zip {Q = Apart c} {W = Sound n kind} one cs (D .sounds .1) (sounds-each n kind cs (D .sounds .2)))
+      (all-zip {P = Apart c} {Q = Sound n kind} one cs (D .sounds .1) (sounds-each n kind cs (D .sounds .2)))
     where
       one : (d : Con) → Apart c d → Sound n kind d → (S .R (d .marker) (m .id) ≡ 0ℤ) × (soft (d .form) ≡ true → S .R (d .other) (m .id) ≡ 0ℤ)
       one d a s = (

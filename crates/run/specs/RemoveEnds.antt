@@ -5,7 +5,7 @@ use mathlib.Core.List.{List, [], map}
 use mathlib.Core.Option.{Option, none, some}
 use Prim.Native.Nat.{ℕ, _+_, _-_, _≤_, _<_}
 use native.Mathlib.Omega.{arith}
-use Rattle.simplex.specs.Choose.{All}
+use Rattle.simplex.specs.Choose.{All, all-map}
 use Rattle.simplex.specs.Opt.{Kind as KindZ, external}
 use Rattle.simplex.specs.Problem.{Tag as TagOf}
 use Rattle.simplex.specs.Pass.{State as StateZ}
@@ -27,7 +27,6 @@ use Rattle.bridge.specs.Runs.{markOf, optimise-mark}
 use Rattle.bridge.specs.Ranks.{Goes}
 use Rattle.run.specs.Demand.{Key, Moment}
 use Rattle.run.specs.Inv.{columns, Held, conOf, findHeld, VarAt, Inv}
-use Rattle.run.specs.Steady.{all-map}
 use Rattle.run.specs.Vars.{AlikeAt, Same, same-kept, at-same, known-same, known-back}
 use Rattle.run.specs.Passes.{waysOf, Rested, Optimised}
 use Rattle.run.specs.Perm.{withoutHeld, all-out}

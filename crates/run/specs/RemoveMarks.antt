@@ -10,7 +10,8 @@ use lib.IntN.{ℤ, pos, negsuc, natAbs}
 use lib.Signed.{ltZ-yes}
 use lib.Ieee.{Float, lt}
 use Rattle.laws.specs.Z.{_≼_, _≺_, lt→N}
-use Rattle.exact.specs.Whole.{IsZ, Zb, val, lt-z}
+use Rattle.exact.specs.Whole.{IsZ, Zb, val}
+use Rattle.exact.specs.Compare.{lt-z}
 use Rattle.simplex.specs.Ord.{0ℤ}
 use Rattle.simplex.specs.Form.{Form, le!, eq!, ge!, le, eq, ge, soft}
 use Rattle.steps.specs.Number.{Mark, allWhole, notWhole, notFinite, belowZero}

@@ -7,8 +7,7 @@ use Prim.Native.Nat.{ℕ, _+_}
 use native.Mathlib.Omega.{arith}
 use mathlib.Core.Bool.{Bool, true, false, cond}
 use lib.Dec.{T, eqb, eqb-refl}
-use Rattle.simplex.specs.Choose.{All}
-use Rattle.simplex.specs.Problem.{all-map}
+use Rattle.simplex.specs.Choose.{All, all-map}
 use Rattle.steps.specs.Number.{one64}
 use Rattle.steps.specs.State.{Term, Constraint, Edit}
 use Rattle.steps.specs.Edit.{editTerms}

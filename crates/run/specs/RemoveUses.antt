@@ -14,9 +14,9 @@ use Rattle.laws.specs.Ring.{ring, v, k as κ, _⊞_, _⊠_}
 use Rattle.simplex.specs.Ord.{0ℤ}
 use Rattle.simplex.specs.Lin.{δ-other}
 use Rattle.simplex.specs.At.{at, At, here, there, at?, at-there}
-use Rattle.simplex.specs.Choose.{All}
+use Rattle.simplex.specs.Choose.{All, all-zip, all-map}
 use Rattle.simplex.specs.Opt.{Kind as KindZ, external, slack}
-use Rattle.simplex.specs.Problem.{Sounds, all-zip, all-map}
+use Rattle.simplex.specs.Problem.{Sounds}
 use Rattle.simplex.specs.Pass.{State as StateZ}
 use Rattle.simplex.specs.Run.{Foreign}
 use Rattle.simplex.specs.Gone.{tag-kind, not-variable}
@@ -125,7 +125,7 @@ module _ (sym name : ℕ → ℕ) (held : List Held) (K : ℕ → ℕ) (S : Stat
     purge-using = record {
       read = purged columns kind S (map (conOf sym) held) w (U .read) c in-n c≢0 F;
       rest = λ j e. U .rest j (was-slack kind c j e);
-      listed = subst (All (λ j. at c external kind j ≢ external)) (back (X .list)) (all-map {Q = λ j. kind j ≢ external} still (w .tableau .infeasible) (U .listed));
+      listed = subst (All (λ j. at c external kind j ≢ external)) (back (X .list)) (all-map {P = λ j. kind j ≢ external} still (w .tableau .infeasible) (U .listed));
       room = subst (λ (m : ℕ). m ≤ columns) (back (X .nextId)) (U .room);
       ids = λ j m. subst (λ (y : ℕ). j < y) (back (X .nextId)) (U .ids j (X .old j m));
       vars = λ x. subst (λ (y : Changes). VarAt (at c external kind) (purge c w .tableau .symbols) (findVariable x (y .variables)) (sym x)) (back (X .changes)) (here-too x (findVariable x (w .changes .variables)) refl (U .vars x));
@@ -228,8 +228,8 @@ module _ (sym name : ℕ → ℕ) (held : List Held) (K : ℕ → ℕ) (S : Stat
 
         kn : All (λ (h : Held). All (λ (t : Term). findVariable (t .variable) ws ≢ none) (keptTerms (h .demand .terms))) held
         kn =
-            all-zip {Q = λ (h : Held). All (λ (t : Term). findVariable (t .variable) us ≢ none) (keptTerms (h .demand .terms))}
-            (λ (h : Held) a b. all-zip {Q = λ (t : Term). findVariable (t .variable) us ≢ none} (λ (t : Term) k m q. k (back (L .others (t .variable) m) ∙ q)) (keptTerms (h .demand .terms)) a b) held (U .known) unnamed
+            all-zip {P = λ (h : Held). All (λ (t : Term). findVariable (t .variable) us ≢ none) (keptTerms (h .demand .terms))}
+            (λ (h : Held) a b. all-zip {P = λ (t : Term). findVariable (t .variable) us ≢ none} (λ (t : Term) k m q. k (back (L .others (t .variable) m) ∙ q)) (keptTerms (h .demand .terms)) a b) held (U .known) unnamed
 
         W : Using sym name held K S kind ts (withVariables ws w)
         W = renamed kind t ts w U ws none L tt tt (λ ne. absurd (ne refl)) kn

@@ -11,7 +11,7 @@ use lib.IntN.{ℤ}
 use Rattle.simplex.specs.Ord.{0ℤ, ≼-refl}
 use Rattle.simplex.specs.Lin.{Vec, δ, δ-other, dot, dot-δ}
 use Rattle.simplex.specs.At.{at, At, here, there, at?, at-here}
-use Rattle.simplex.specs.Choose.{All}
+use Rattle.simplex.specs.Choose.{All, all-map}
 use Rattle.simplex.specs.Opt.{Kind as KindZ, const, external, slack, dummy}
 use Rattle.simplex.specs.Pass.{State as StateZ, Good}
 use Rattle.simplex.specs.Steps.{dot-nil}
@@ -25,7 +25,6 @@ use Rattle.bridge.specs.Table.{ReadsWork}
 use Rattle.bridge.specs.Columns.{reset-z}
 use Rattle.run.specs.Demand.{Moment, start, next, make, liveAfter, accepted, resets, fetches}
 use Rattle.run.specs.Inv.{columns, Held, findHeld, Inv}
-use Rattle.run.specs.AtRest.{all-map}
 use Rattle.run.specs.Vars.{Same, same-refl, same-trans, same-cond, same-clear, same-reported, at-same, known-same, known-back}
 
 -- ---- the empty tableau: column 0 is the constant's, every other is free

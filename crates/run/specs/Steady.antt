@@ -7,7 +7,7 @@ use Prim.Native.Nat.{ℕ, zero, suc}
 use native.Mathlib.Omega.{arith}
 use mathlib.Core.Bool.{Bool, true, false, _&&_, cond, not}
 use lib.Ieee.{Float, ne}
-use Rattle.simplex.specs.Choose.{All}
+use Rattle.simplex.specs.Choose.{All, all-map}
 use Rattle.simplex.specs.Opt.{Kind as KindZ, external, slack, dummy, slack≢external}
 use Rattle.steps.specs.Number.{zero64, belowZero, Mark, allWhole, notWhole, notFinite}
 use Rattle.steps.specs.Symbol.{Symbol, isExternal, isRestricted, isDummy, firstSymbol}
@@ -119,10 +119,6 @@ enter-list s r w = go (isExternal s && ne (r .constant) zero64)
         ≡ pushBelow (rowsOf (substituteInRows (s .id) (w .tableau .symbols) r (w .tableau .rows))) (w .tableau .infeasible)
     go true = refl
     go false = refl
-
-pub all-map : {A : Type 0} {P Q : A → Type 0} → ((x : A) → P x → Q x) → (l : List A) → All P l → All Q l
-all-map f [] a = tt
-all-map f (x ∷ l) a = (f x (a .0), all-map f l (a .1))
 
 pub enter-calm : (kind : ℕ → KindZ) (s : Symbol) (r : Row) (w : Work) → Kinded kind s → Calm kind w → Calm kind (enterBasis s r w)
 enter-calm kind s r w k c = record {

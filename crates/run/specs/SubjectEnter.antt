@@ -12,7 +12,7 @@ use Rattle.laws.specs.Z.{_≼_, _≺_, mul-cancel, ≡→eqZb}
 use Rattle.laws.specs.Ring.{ring, v as ν, k as lit, _⊠_, ⊟_}
 use Rattle.simplex.specs.Ord.{0ℤ, 1ℤ, ≼-of-eq, ≼-trans, ≺-irrefl}
 use Rattle.simplex.specs.Lin.{dot}
-use Rattle.simplex.specs.Choose.{All}
+use Rattle.simplex.specs.Choose.{All, all-map}
 use Rattle.simplex.specs.Opt.{Kind as KindZ, const, external, slack, dummy, slack≢external, slack≢dummy}
 use Rattle.simplex.specs.Pass.{State as StateZ}
 use Rattle.simplex.specs.Problem.{Con, Equation, full, full-plain, full-feasible, full-equations, const-plain, dummies-only}
@@ -34,7 +34,7 @@ use Rattle.bridge.specs.Runs.{markOf}
 use Rattle.bridge.specs.Ranks.{Entered, Goes, subject-z}
 use Rattle.run.specs.Demand.{Demand}
 use Rattle.run.specs.Inv.{Held, conOf}
-use Rattle.run.specs.Steady.{Calm, Kept, all-map, enter-kept, enter-calm}
+use Rattle.run.specs.Steady.{Calm, Kept, enter-kept, enter-calm}
 use Rattle.run.specs.Passes.{other-artificial}
 use Rattle.run.specs.Build.{NewTag, Built, newHeld}
 use Rattle.bridge.specs.Finds.{none≢some, some-injective}

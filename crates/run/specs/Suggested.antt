@@ -11,10 +11,11 @@ use lib.IntN.{ℤ, pos, negℤ, natAbs, _-ℤ_}
 use lib.Signed.{leZ}
 use lib.Ieee.{Float, neg, lt, le}
 use Rattle.laws.specs.Z.{abs-neg}
-use Rattle.exact.specs.Whole.{IsZ, Zb, val, neg-z, le-z}
+use Rattle.exact.specs.Whole.{IsZ, Zb, val, neg-z}
+use Rattle.exact.specs.Compare.{le-z}
 use Rattle.simplex.specs.Ord.{0ℤ}
 use Rattle.simplex.specs.Lin.{Vec, δ, plus}
-use Rattle.simplex.specs.Choose.{All}
+use Rattle.simplex.specs.Choose.{All, all-map}
 use Rattle.simplex.specs.Form.{Form, eq}
 use Rattle.simplex.specs.Problem.{Con, Models}
 use Rattle.simplex.specs.Drag.{edit}
@@ -37,7 +38,6 @@ use Rattle.bridge.specs.Runs.{markOf}
 use Rattle.bridge.specs.Finds.{none≢some, some-injective}
 use Rattle.run.specs.Demand.{Key, ofConstraint, ofEdit, sameKey, Demand, moved, Call, suggests, make, accepted, liveAfter, Moment, next}
 use Rattle.run.specs.Inv.{columns, Held, exprOf, formOf, otherId, conOf, findHeld, Shaped, StoredAs, ConstraintAt, EditedAs, EditAt, VarAt, WholeDemand, Once, Inv}
-use Rattle.run.specs.AtRest.{all-map}
 use Rattle.run.specs.Lookup.{find-keep-same, find-keep-other, find-drop-same, find-drop-other}
 use Rattle.run.specs.Vars.{Same, same-kept, at-same, known-same, known-back}
 use Rattle.run.specs.Perm.{withoutHeld, found-key, own-key}

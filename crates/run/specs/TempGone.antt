@@ -12,7 +12,7 @@ use Rattle.laws.specs.Ring.{ring, v, k as κ, _⊠_}
 use Rattle.simplex.specs.Ord.{0ℤ}
 use Rattle.simplex.specs.Lin.{Vec, δ, dot, dot-cong}
 use Rattle.simplex.specs.At.{at, At, here, there, at?, at-here, at-there}
-use Rattle.simplex.specs.Choose.{All}
+use Rattle.simplex.specs.Choose.{All, all-map}
 use Rattle.simplex.specs.Tab.{Solves}
 use Rattle.simplex.specs.Basis.{Mask}
 use Rattle.simplex.specs.Opt.{Kind as KindZ, const, external, slack, dummy, slack≢dummy}
@@ -32,7 +32,6 @@ use Rattle.bridge.specs.Columns.{purge-z}
 use Rattle.run.specs.Demand.{Demand}
 use Rattle.run.specs.Inv.{Held, conOf}
 use Rattle.run.specs.Build.{newHeld, Built}
-use Rattle.run.specs.Steady.{all-map}
 use Rattle.run.specs.TempStart.{tid≢0, fresh}
 use Rattle.run.specs.TempEnd.{foreigns}
 

@@ -12,7 +12,7 @@ use Rattle.laws.specs.Z.{_≼_, _≺_}
 use Rattle.simplex.specs.Ord.{0ℤ, clash, ≼-of-eq, ≼-trans}
 use Rattle.simplex.specs.Lin.{Vec, dot}
 use Rattle.simplex.specs.At.{at, At, here, there, at?, at-here}
-use Rattle.simplex.specs.Choose.{All}
+use Rattle.simplex.specs.Choose.{All, all-map}
 use Rattle.simplex.specs.Basis.{Mask, Clear}
 use Rattle.simplex.specs.Tab.{Solves}
 use Rattle.simplex.specs.Opt.{Kind as KindZ, external, slack}
@@ -40,7 +40,7 @@ use Rattle.bridge.specs.Quiet.{Quiet, optimise-quiet}
 use Rattle.run.specs.Demand.{Demand}
 use Rattle.run.specs.Inv.{Held}
 use Rattle.run.specs.Build.{Built}
-use Rattle.run.specs.Steady.{all-map, Calm, Steady, IfGoing, optimise-steady}
+use Rattle.run.specs.Steady.{Calm, Steady, IfGoing, optimise-steady}
 use Rattle.run.specs.Passes.{idsOf, restrictedIds, waysOf, live-asc, live-cover, live-inside, live-once, live-basics, live-slacks, resting}
 use Rattle.run.specs.TempStart.{standing, S₁, kind₁, tid≢0, fresh, dead, no-t, good₀, good₁, reads₁}
 

@@ -13,9 +13,9 @@ use Rattle.simplex.specs.At.{at, At, here, there, at?, at-here, at-there
 use Rattle.simplex.specs.Tab.{Solves, pivoted, pivot, pivot-solves, pivot-objective}
 use Rattle.simplex.specs.Basis.{Mask, Shape, Clear, swap, pivot-clear, pivot-shape}
 use Rattle.simplex.specs.Opt.{Kind, const, external, slack, dummy, slack≢external}
-use Rattle.simplex.specs.Choose.{All}
+use Rattle.simplex.specs.Choose.{All, all-zip}
 use Rattle.simplex.specs.Form.{Form, le!, eq!, ge!, le, eq, ge, resid, cost}
-use Rattle.simplex.specs.Problem.{Con, Equation, total, markerKind, Sound, Tag, Apart, Sounds, Models, cost-other, resid-other, all-zip}
+use Rattle.simplex.specs.Problem.{Con, Equation, total, markerKind, Sound, Tag, Apart, Sounds, Models, cost-other, resid-other}
 use Rattle.simplex.specs.Change.{dot-at, dropped, drop-shape, drop-solves}
 use Rattle.simplex.specs.Pass.{State, Good}
 use Rattle.simplex.specs.Temp.{rekind}
@@ -86,7 +86,7 @@ sounds-each n kind (c ∷ cs) h = (h .0, sounds-each n kind cs (h .2))
 
 pub tag-foreign : (n : ℕ) (kind : ℕ → Kind) (c : Con) (cs : List Con) → Sounds n kind (c ∷ cs) → (j : ℕ) → Tag j c → All (Foreign j) cs
 tag-foreign n kind c cs S j t =
-    all-zip {Q = Apart c} {W = Sound n kind} {X = Foreign j} (λ d a s. (a j t, s .plain j (tag-kind n kind c (S .0) j t))) cs (S .1) (sounds-each n kind cs (S .2))
+    all-zip {P = Apart c} {Q = Sound n kind} {C = Foreign j} (λ d a s. (a j t, s .plain j (tag-kind n kind c (S .0) j t))) cs (S .1) (sounds-each n kind cs (S .2))
 
 -- ---- a column that no constraint holds
 module _ (n : ℕ) (kind : ℕ → Kind) (B : Mask) (R : ℕ → Vec) (o : Vec) (cs : List Con) (D : Models n kind B R o cs) (s : ℕ) (in-n : s < n) (F : All (Foreign s) cs) where

@@ -7,14 +7,15 @@ use native.Mathlib.Omega.{arith}
 use mathlib.Core.Bool.{Bool, true, false, cond, true≢false}
 use lib.Dec.{T, eqb, eqb→eq, eqb-refl}
 use lib.IntN.{ℤ, _+ℤ_, _-ℤ_, _*ℤ_, *ℤ-comm}
-use Rattle.laws.specs.Z.{_≼_, _≺_, at, _⊕_, ⊖_, leZ↑, leN}
+use Rattle.laws.specs.Z.{_≼_, _≺_, at as num, _⊕_, ⊖_, leZ↑, leN}
 use Rattle.laws.specs.Ring.{ring, v, k, _⊞_, _⊠_, ⊟_, _⊟⊟_}
 use Rattle.simplex.specs.Ord.{0ℤ, 1ℤ, ≼-refl, ≼-of-eq, ≼-trans, ≺→≼, mul-nonneg, sub-nonneg}
 use Rattle.simplex.specs.Lin.{Vec, δ, Same?, same, other, same?, dot, dot-cong, dot-δ}
+use Rattle.simplex.specs.At.{at, At, here, there, at?}
 use Rattle.simplex.specs.Tab.{Solves}
 use Rattle.simplex.specs.Basis.{Mask, Shape, Clear, at-column, basic-solves}
 use Rattle.simplex.specs.Opt.{Kind, const, external, slack, dummy, slack≢dummy, Feasible, Lowest, at-least, no-feasible}
-use Rattle.simplex.specs.Choose.{All}
+use Rattle.simplex.specs.Choose.{All, all-zip}
 use Rattle.simplex.specs.Form.{Form, le!, eq!, ge!, le, eq, ge, soft, resid, cost, viol, Holds, fit-s, fit-t, fit-resid, fit-s-nonneg, fit-t-nonneg, fit-cost, viol-least, holds, add-mono}
 
 -- a constraint: its expression (place 0 is the constant), form, strength, marker and other symbol (not used where it is required)
@@ -71,23 +72,8 @@ Sounds n kind [] = Unit
 Sounds n kind (c ∷ cs) = Sound n kind c × All (Apart c) cs × Sounds n kind cs
 
 -- ---- an assignment of the variables, with the least values of the symbols
-set : ℕ → ℤ → Vec → Vec
-set p x τ j = cond (eqb j p) x (τ j)
-
-data Set (p : ℕ) (x : ℤ) (τ : Vec) (j : ℕ) : Type 0 where
-  here : j ≡ p → set p x τ j ≡ x → Set p x τ j
-  there : j ≢ p → set p x τ j ≡ τ j → Set p x τ j
-
-set? : (p : ℕ) (x : ℤ) (τ : Vec) (j : ℕ) → Set p x τ j
-unfolding set
-set? p x τ j = go (eqb j p) refl
-  where
-    go : (b : Bool) → eqb j p ≡ b → Set p x τ j
-    go true e = here (eqb→eq j p (subst T (sym e) tt)) (ap (λ b. cond b x (τ j)) e)
-    go false e = there (λ q. subst T e (subst (λ (y : ℕ). T (eqb j y)) q (eqb-refl j))) (ap (λ b. cond b x (τ j)) e)
-
 set-if : Bool → ℕ → ℤ → Vec → Vec
-set-if true p x τ = set p x τ
+set-if true p x τ = at p x τ
 set-if false p x τ = τ
 
 bareAt : Kind → ℤ → ℤ
@@ -114,14 +100,6 @@ const-plain kind j e (inr p) = let z : _≡_ {A = ℕ} 0 1 = cc in omega arith
 external-plain : (kind : ℕ → Kind) (j : ℕ) → kind j ≡ external → Plain kind j
 external-plain kind j e (inl p) = let z : _≡_ {A = ℕ} 0 1 = cc in omega arith
 external-plain kind j e (inr p) = let z : _≡_ {A = ℕ} 0 1 = cc in omega arith
-
-pub all-map : {A : Type 0} {Q W : A → Type 0} → ((a : A) → Q a → W a) → (l : List A) → All Q l → All W l
-all-map f [] h = tt
-all-map f (a ∷ l) h = (f a (h .0), all-map f l (h .1))
-
-pub all-zip : {A : Type 0} {Q W X : A → Type 0} → ((a : A) → Q a → W a → X a) → (l : List A) → All Q l → All W l → All X l
-all-zip f [] h g = tt
-all-zip f (a ∷ l) h g = (f a (h .0) (g .0), all-zip f l (h .1) (g .1))
 
 sounds-all : (n : ℕ) (kind : ℕ → Kind) (cs : List Con) → Sounds n kind cs → All (Sound n kind) cs
 sounds-all n kind [] h = tt
@@ -166,7 +144,7 @@ module _ (n : ℕ) (kind : ℕ → Kind) (x : Vec) where
   val c = dot n (c .expr) x
 
   put : Con → Vec → Vec
-  put c τ = set (c .marker) (fit-s (c .form) (val c)) (set-if (soft (c .form)) (c .other) (fit-t (c .form) (val c)) τ)
+  put c τ = at (c .marker) (fit-s (c .form) (val c)) (set-if (soft (c .form)) (c .other) (fit-t (c .form) (val c)) τ)
 
   pub full : List Con → Vec
   full [] = λ j. bareAt (kind j) (x j)
@@ -196,18 +174,18 @@ module _ (n : ℕ) (kind : ℕ → Kind) (x : Vec) where
       no-tag′ b h (inl e) = h e
       no-tag′ b h (inr e) = b (e .1)
 
-      fall : soft (c .form) ≡ false → Set (c .marker) s τ j → Put c τ j
-      fall b (here p e) = at-marker p (ap (λ d. set (c .marker) s (set-if d (c .other) t τ) j) b ∙ e)
-      fall b (there p e) = elsewhere (no-tag b p) (ap (λ d. set (c .marker) s (set-if d (c .other) t τ) j) b ∙ e)
+      fall : soft (c .form) ≡ false → At (c .marker) s τ j → Put c τ j
+      fall b (here p e) = at-marker p (ap (λ d. at (c .marker) s (set-if d (c .other) t τ) j) b ∙ e)
+      fall b (there p e) = elsewhere (no-tag b p) (ap (λ d. at (c .marker) s (set-if d (c .other) t τ) j) b ∙ e)
 
-      both : soft (c .form) ≡ true → Set (c .marker) s (set (c .other) t τ) j → Set (c .other) t τ j → Put c τ j
-      both b (here p e) g = at-marker p (ap (λ d. set (c .marker) s (set-if d (c .other) t τ) j) b ∙ e)
-      both b (there p e) (here q g) = at-other b q (ap (λ d. set (c .marker) s (set-if d (c .other) t τ) j) b ∙ e ∙ g)
-      both b (there p e) (there q g) = elsewhere (no-tag′ q p) (ap (λ d. set (c .marker) s (set-if d (c .other) t τ) j) b ∙ e ∙ g)
+      both : soft (c .form) ≡ true → At (c .marker) s (at (c .other) t τ) j → At (c .other) t τ j → Put c τ j
+      both b (here p e) g = at-marker p (ap (λ d. at (c .marker) s (set-if d (c .other) t τ) j) b ∙ e)
+      both b (there p e) (here q g) = at-other b q (ap (λ d. at (c .marker) s (set-if d (c .other) t τ) j) b ∙ e ∙ g)
+      both b (there p e) (there q g) = elsewhere (no-tag′ q p) (ap (λ d. at (c .marker) s (set-if d (c .other) t τ) j) b ∙ e ∙ g)
 
       go : (b : Bool) → soft (c .form) ≡ b → Put c τ j
-      go false b = fall b (set? (c .marker) s τ j)
-      go true b = both b (set? (c .marker) s (set (c .other) t τ) j) (set? (c .other) t τ j)
+      go false b = fall b (at? (c .marker) s τ j)
+      go true b = both b (at? (c .marker) s (at (c .other) t τ) j) (at? (c .other) t τ j)
 
   -- the variables keep their values
   pub full-plain : (cs : List Con) → Sounds n kind cs → (j : ℕ) → Plain kind j → full cs j ≡ x j
@@ -265,7 +243,7 @@ module _ (n : ℕ) (kind : ℕ → Kind) (x : Vec) where
   full-fits : (cs : List Con) → Sounds n kind cs → All (Fits (full cs)) cs
   unfolding full Fits
   full-fits [] S = tt
-  full-fits (c ∷ cs) S = (own, all-zip {Q = Apart c} {W = Fits (full cs)} keep cs (S .1) (full-fits cs (S .2)))
+  full-fits (c ∷ cs) S = (own, all-zip {P = Apart c} {Q = Fits (full cs)} keep cs (S .1) (full-fits cs (S .2)))
     where
       own-marker : Put c (full cs) (c .marker) → put c (full cs) (c .marker) ≡ fit-s (c .form) (val c)
       own-marker (at-marker p e) = e
@@ -310,7 +288,7 @@ module _ (n : ℕ) (kind : ℕ → Kind) (x : Vec) where
 
   pub full-equations : (cs : List Con) → Sounds n kind cs → All (Meets n x) cs → All (Equation n (full cs)) cs
   unfolding Fits val
-  full-equations cs S M = all-zip one cs (all-zip {Q = Sound n kind} {W = Meets n x} {X = λ c. Sound n kind c × Meets n x c} (λ c a b. (a, b)) cs (sounds-all n kind cs S) M) (full-fits cs S)
+  full-equations cs S M = all-zip one cs (all-zip {P = Sound n kind} {Q = Meets n x} {C = λ c. Sound n kind c × Meets n x c} (λ c a b. (a, b)) cs (sounds-all n kind cs S) M) (full-fits cs S)
     where
       one : (c : Con) → Sound n kind c × Meets n x c → Fits (full cs) c → Equation n (full cs) c
       one c h f =
@@ -330,7 +308,7 @@ module _ (n : ℕ) (kind : ℕ → Kind) (x : Vec) where
 -- ---- a feasible solution meets the required constraints, and pays at least the error
 mul-mono : {w a b : ℤ} → 0ℤ ≼ w → a ≼ b → w *ℤ a ≼ w *ℤ b
 mul-mono {w} {a} {b} hw h =
-    leZ↑ (at (w *ℤ a)) (at (w *ℤ b)) (omega (arith, leN (at 0ℤ) (at (w *ℤ b) ⊕ (⊖ at (w *ℤ a))) (≼-trans (mul-nonneg hw (sub-nonneg h)) (≼-of-eq (ring (w ∷ a ∷ b ∷ []) (v 0 ⊠ (v 2 ⊞ ⊟ v 1)) (v 0 ⊠ v 2 ⊟⊟ v 0 ⊠ v 1) tt)))))
+    leZ↑ (num (w *ℤ a)) (num (w *ℤ b)) (omega (arith, leN (num 0ℤ) (num (w *ℤ b) ⊕ (⊖ num (w *ℤ a))) (≼-trans (mul-nonneg hw (sub-nonneg h)) (≼-of-eq (ring (w ∷ a ∷ b ∷ []) (v 0 ⊠ (v 2 ⊞ ⊟ v 1)) (v 0 ⊠ v 2 ⊟⊟ v 0 ⊠ v 1) tt)))))
 
 mul-mono-r : {w a b : ℤ} → 0ℤ ≼ w → a ≼ b → a *ℤ w ≼ b *ℤ w
 mul-mono-r {w} {a} {b} hw h = ≼-trans (≼-of-eq (*ℤ-comm a w)) (≼-trans (mul-mono hw h) (≼-of-eq (*ℤ-comm w b)))
@@ -347,7 +325,7 @@ module _ (n : ℕ) (kind : ℕ → Kind) (σ : Vec) (F : Feasible n kind σ) whe
   one-met c S E = holds (c .form) (dot n (c .expr) σ) (σ (c .marker)) (σ (c .other)) (marker-nonneg c S) (λ e. F .dummies (c .marker) (S .marker-in) (S .marker-kind ∙ ap markerKind e)) E
 
   pub met : (cs : List Con) → Sounds n kind cs → All (Equation n σ) cs → All (Meets n σ) cs
-  met cs S E = all-zip {Q = Sound n kind} one-met cs (sounds-all n kind cs S) E
+  met cs S E = all-zip {P = Sound n kind} one-met cs (sounds-all n kind cs S) E
 
   pub error-total : (cs : List Con) → Sounds n kind cs → All (Equation n σ) cs → error n cs σ ≼ total cs σ
   error-total [] S E = ≼-refl 0ℤ

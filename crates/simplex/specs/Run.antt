@@ -12,9 +12,9 @@ use Rattle.simplex.specs.At.{at, at-here, at-there}
 use Rattle.simplex.specs.Tab.{Solves, out, out-dot, pivoted, pivot, pivot-solves, pivot-objective}
 use Rattle.simplex.specs.Basis.{Mask, Shape, Clear, swap, pivot-clear, pivot-shape}
 use Rattle.simplex.specs.Opt.{Kind}
-use Rattle.simplex.specs.Choose.{All}
+use Rattle.simplex.specs.Choose.{All, all-zip}
 use Rattle.simplex.specs.Form.{Form, le!, eq!, ge!, le, eq, ge, soft, resid}
-use Rattle.simplex.specs.Problem.{Con, Equation, total, Tag, Sounds, Models, all-zip, resid-other}
+use Rattle.simplex.specs.Problem.{Con, Equation, total, Tag, Sounds, Models, resid-other}
 use Rattle.simplex.specs.Change.{add-clear, add-shape, add-solves, dot-at, dropped, drop-solves, killed, kill-solves}
 
 -- ---- a pivot keeps it
@@ -76,7 +76,7 @@ same-left n p y σ c f =
 
 pub foreign : (n p : ℕ) (y : ℤ) (σ : Vec) (cs : List Con) → All (Foreign p) cs → All (Equation n (at p y σ)) cs ↔ All (Equation n σ) cs
 foreign n p y σ cs F =
-    ((λ E. all-zip {Q = Foreign p} (λ c f e. sym (same-left n p y σ c f) ∙ e) cs F E), (λ E. all-zip {Q = Foreign p} (λ c f e. same-left n p y σ c f ∙ e) cs F E))
+    ((λ E. all-zip {P = Foreign p} (λ c f e. sym (same-left n p y σ c f) ∙ e) cs F E), (λ E. all-zip {P = Foreign p} (λ c f e. same-left n p y σ c f ∙ e) cs F E))
 
 -- ---- a temporary slack, or a removed constraint's other symbol, goes: enough that the tableau models the constraints where it is 0
 pub models-kill : (n : ℕ) (R : ℕ → Vec) (cs : List Con) (p : ℕ) → p < n → ((i : ℕ) → R p i ≡ δ p i) → All (Foreign p) cs

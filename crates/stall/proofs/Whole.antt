@@ -9,7 +9,8 @@ use lib.Dec.{T}
 use lib.ListN.{length}
 use lib.Signed.{ltZ, ltZ-yes}
 use lib.Ieee.{Float, lt, le}
-use Rattle.exact.specs.Whole.{IsZ, val, le-z}
+use Rattle.exact.specs.Whole.{IsZ, val}
+use Rattle.exact.specs.Compare.{le-z}
 use Rattle.simplex.specs.Ord.{0ℤ, ≺→≼}
 use Rattle.simplex.specs.Choose.{All}
 use Rattle.steps.specs.Number.{zero64, constantBound, belowZero, isWhole, allWhole}

@@ -129,3 +129,6 @@ noted-fits at count pivot rows s e =
 pub pushed-calls : (h : List ℕ) (n : List (List ℕ)) (w : List (List Float)) (m : Mark) {g : List ℕ} {s : Substitution} → substitution h n w m ≡ s → g ≡ pushBelowOf w h → substitution g n w m ≡ pushedOf s
 unfolding pushedOf
 pushed-calls h n w m e q = rw (← e, q) refl
+
+pub noted-variables : (at count : ℕ) (pivot : List Float) (rows : List (List Float)) (s : Noted) {t : Noted} → t ≡ noteRows at count pivot rows s → getD (t .head) 4 0 ≡ getD (s .head) 4 0
+noted-variables at count pivot rows s e = rw e (noteRows-head at count pivot rows s 4 (omega arith))

@@ -59,35 +59,35 @@ work-parts art a v h n reals w = refl
 
 -- ---- heads that agree where a part is read
 
-symbols-by : (g h : List ℕ) → getD g 1 0 ≡ getD h 1 0 → ((i : ℕ) → i < getD h 1 0 → getD g (16 + i) 0 ≡ getD h (16 + i) 0) → symbolsIn g ≡ symbolsIn h
+pub symbols-by : (g h : List ℕ) → getD g 1 0 ≡ getD h 1 0 → ((i : ℕ) → i < getD h 1 0 → getD g (16 + i) 0 ≡ getD h (16 + i) 0) → symbolsIn g ≡ symbolsIn h
 unfolding symbolsIn listOf
 symbols-by g h e q = rw e (tab-ext (λ i. symbolOf (getD g (16 + i) 0)) (λ i. symbolOf (getD h (16 + i) 0)) 0 (getD h 1 0) λ i a b. ap symbolOf (q i (omega (arith, b))))
 
-basics-by : (g h : List ℕ) (w : List (List Float)) → getD g 1 0 ≡ getD h 1 0 → getD g 2 0 ≡ getD h 2 0 → ((i : ℕ) → i < getD h 2 0 → getD g (146 + i) 0 ≡ getD h (146 + i) 0) → basicsIn g w ≡ basicsIn h w
+pub basics-by : (g h : List ℕ) (w : List (List Float)) → getD g 1 0 ≡ getD h 1 0 → getD g 2 0 ≡ getD h 2 0 → ((i : ℕ) → i < getD h 2 0 → getD g (146 + i) 0 ≡ getD h (146 + i) 0) → basicsIn g w ≡ basicsIn h w
 unfolding basicsIn listOf
 basics-by g h w e e₁ q =
     rw (e₁, e)
     (tab-ext (λ i. basicOf (getD h 1 0) (getD g (146 + i) 0) (getD w (1 + i) [])) (λ i. basicOf (getD h 1 0) (getD h (146 + i) 0) (getD w (1 + i) [])) 0 (getD h 2 0)
     λ i a b. ap (λ (c : ℕ). basicOf (getD h 1 0) c (getD w (1 + i) [])) (q i (omega (arith, b))))
 
-artificial-by : (art : Bool) (g h : List ℕ) (w : List (List Float)) → getD g 1 0 ≡ getD h 1 0 → artificialIn art g w ≡ artificialIn art h w
+pub artificial-by : (art : Bool) (g h : List ℕ) (w : List (List Float)) → getD g 1 0 ≡ getD h 1 0 → artificialIn art g w ≡ artificialIn art h w
 unfolding artificialIn
 artificial-by art g h w e = rw e refl
 
-changes-by : (reals : List (List Float)) (n : List (List ℕ)) (g h : List ℕ) → getD g 4 0 ≡ getD h 4 0 → getD g 7 0 ≡ getD h 7 0 → changesIn reals (noted g n) ≡ changesIn reals (noted h n)
+pub changes-by : (reals : List (List Float)) (n : List (List ℕ)) (g h : List ℕ) → getD g 4 0 ≡ getD h 4 0 → getD g 7 0 ≡ getD h 7 0 → changesIn reals (noted g n) ≡ changesIn reals (noted h n)
 unfolding changesIn
 changes-by reals n g h e e₁ = rw (e, e₁) refl
 
 -- but for place 7, the notes' own
 module _ (g h : List ℕ) (same : (q : ℕ) → (q ≡ 7 → ⊥) → getD g q 0 ≡ getD h q 0) where
-  symbols-same : symbolsIn g ≡ symbolsIn h
+  pub symbols-same : symbolsIn g ≡ symbolsIn h
   symbols-same = symbols-by g h (same 1 (omega arith)) λ i b. same (16 + i) (omega arith)
 
-  entries-same : entriesIn g ≡ entriesIn h
+  pub entries-same : entriesIn g ≡ entriesIn h
   unfolding entriesIn listOf
   entries-same = rw (same 3 (omega arith)) (tab-ext (λ i. getD g (196 + i) 0) (λ i. getD h (196 + i) 0) 0 (getD h 3 0) λ i a b. same (196 + i) (omega arith))
 
-  basics-same : (w : List (List Float)) → basicsIn g w ≡ basicsIn h w
+  pub basics-same : (w : List (List Float)) → basicsIn g w ≡ basicsIn h w
   basics-same w = basics-by g h w (same 1 (omega arith)) (same 2 (omega arith)) λ i b. same (146 + i) (omega arith)
 
 -- but for the infeasible list

@@ -129,6 +129,7 @@ fn substitute_and_note(
     requires { ⌜ at < 130 ⌝ }
     ensures { λ r. ⌜ substitution (now (head .exit)) (now (names .exit)) (now (rows .exit)) (markOf r) ≡ substituteOf art at (now (pivot .entry)) (noted (now (head .entry)) (now (names .entry))) (now (rows .entry)) ⌝ }
     ensures { λ _. ⌜ Fits (now (head .exit)) (getD (now (head .entry)) 1 0) (getD (now (head .entry)) 2 0) (getD (now (head .entry)) 3 0) ⌝ }
+    ensures { λ _. ⌜ getD (now (head .exit)) 4 0 ≡ getD (now (head .entry)) 4 0 ⌝ }
 {
     let width = head[1] as usize;
     let count = head[2] as usize;
@@ -156,6 +157,7 @@ pub fn substitute(
     requires { ⌜ at < 130 ⌝ }
     ensures { λ r. ⌜ substitution (now (head .exit)) (now (names .exit)) (now (rows .exit)) (markOf r) ≡ pushedOf (substituteOf art at (now (pivot .entry)) (noted (now (head .entry)) (now (names .entry))) (now (rows .entry))) ⌝ }
     ensures { λ _. ⌜ Fits (now (head .exit)) (getD (now (head .entry)) 1 0) (getD (now (head .entry)) 2 0) 130 ⌝ }
+    ensures { λ _. ⌜ getD (now (head .exit)) 4 0 ≡ getD (now (head .entry)) 4 0 ⌝ }
 {
     let w = substitute_and_note(art, head, names, rows, at, pivot);
     push_below(head, rows);

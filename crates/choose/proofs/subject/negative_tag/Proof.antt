@@ -1,10 +1,10 @@
--- `choose::negative_tag` meets its contract.
+-- `choose::subject::negative_tag` meets its contract.
 -- Assumes nothing.
 use native.Mathlib.Omega.{arith}
 use Rattle.choose.specs.Better.{within, tag-absent, tag-taken, tag-left}
 use borrow.Author.Needs.{needs}
-use Rattle.choose.proofs.negative_tag.Statement.{statement}
-use Rattle.choose.proofs.negative_tag.Tie as tie
+use Rattle.choose.proofs.subject.negative_tag.Statement.{statement}
+use Rattle.choose.proofs.subject.negative_tag.Tie as tie
 
 returns : tie.Need-returns
 returns c = (tag-absent _ _ (c .before .before .before .before .args .row .now) (c .before .before .place-of .ensures .0) (c .enum-told .given .1), tt)

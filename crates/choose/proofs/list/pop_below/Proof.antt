@@ -1,4 +1,4 @@
--- `choose::pop_below` meets its contract.
+-- `choose::list::pop_below` meets its contract.
 -- Assumes nothing.
 use Prim.Native.Nat.{_+_, _≤_}
 use mathlib.Core.Path.{_≡_, refl}
@@ -8,8 +8,8 @@ use Rattle.choose.specs.Back.{back, back-next, back-here, back-last}
 use Rattle.choose.specs.declared.Found.the-variants.{At, Nothing}
 use Rattle.choose.specs.Choose.{popBelowOf, isBelowOf}
 use borrow.Author.Needs.{needs}
-use Rattle.choose.proofs.pop_below.Statement.{statement}
-use Rattle.choose.proofs.pop_below.Tie as tie
+use Rattle.choose.proofs.list.pop_below.Statement.{statement}
+use Rattle.choose.proofs.list.pop_below.Tie as tie
 
 abbrev Inv-loop : tie.InvT-loop
 Inv-loop head rows j₀ j = (back (λ j. isBelowOf (getD head (195 + j) 0) head rows) At Nothing j ≡ popBelowOf head rows) × (j ≤ getD head 3 0)

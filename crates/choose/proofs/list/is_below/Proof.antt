@@ -1,11 +1,11 @@
--- `choose::is_below` meets its contract.
+-- `choose::list::is_below` meets its contract.
 -- Assumes nothing.
 use native.Mathlib.Omega.{arith}
 use Rattle.steps.specs.Number.{zero64, belowZero}
 use Rattle.choose.specs.Better.{within, below-absent, below-found}
 use borrow.Author.Needs.{needs}
-use Rattle.choose.proofs.is_below.Statement.{statement}
-use Rattle.choose.proofs.is_below.Tie as tie
+use Rattle.choose.proofs.list.is_below.Statement.{statement}
+use Rattle.choose.proofs.list.is_below.Tie as tie
 
 returns : tie.Need-returns
 returns c = below-absent _ _ (c .before .before .before .before .args .rows .now) (c .before .before .row-of .ensures .0) (c .enum-told .given .1)

@@ -1,10 +1,10 @@
--- `choose::choose_subject` meets its contract.
+-- `choose::subject::choose_subject` meets its contract.
 -- Assumes nothing.
 use borrow.Author.Tests.{eq-eqb, ne-eqb}
 use Rattle.choose.specs.Better.{subject-external, subject-marker, subject-none, subject-other}
 use borrow.Author.Needs.{needs}
-use Rattle.choose.proofs.choose_subject.Statement.{statement}
-use Rattle.choose.proofs.choose_subject.Tie as tie
+use Rattle.choose.proofs.subject.choose_subject.Statement.{statement}
+use Rattle.choose.proofs.subject.choose_subject.Tie as tie
 
 returns : tie.Need-returns
 returns c = (subject-external _ _ _ _ (c .before .before .first-held .ensures .0) (c .enum-told2 .given .1), c .before .before .first-held .ensures .1)

@@ -1,0 +1,51 @@
+-- `records::open_names` meets its contract.
+-- Assumes nothing.
+use Prim.Native.Nat.{_≤_}
+use mathlib.Core.Path.{_≡_, refl, ap, _∙_}
+use mathlib.Core.List.{[]}
+use native.Mathlib.Omega.{arith}
+use lib.ListN.{length, length-set}
+use Rattle.laws.specs.Loops.{delete, insertAt, delete-down, put}
+use Rattle.moves.specs.Close.{opened}
+use borrow.Author.Needs.{needs}
+use Rattle.records.proofs.open_names.Statement.{statement}
+use Rattle.records.proofs.open_names.Tie as tie
+
+abbrev Inv-loop : tie.InvT-loop
+Inv-loop names₀ i e item j₀ names j = (delete j names ≡ delete e names₀) × (length names ≡ length names₀) × (j ≤ e) × (i ≤ j)
+
+abbrev μ-loop : tie.MeasureT-loop
+μ-loop names₀ i e item j₀ names j = j
+
+loop-holds : tie.Need-loop-holds Inv-loop μ-loop
+loop-holds c = (refl, refl, search needs, search needs)
+
+loop-again : tie.Need-loop-again Inv-loop μ-loop
+loop-again c = (delete-down _ _ [] (omega arith) (omega arith) ∙ c .before .before .loop .inv .0, simp length-set (omega arith), omega arith, omega arith)
+
+same-length : tie.Need-same-length Inv-loop μ-loop
+same-length c = simp length-set (omega arith)
+
+returns : tie.Need-returns Inv-loop μ-loop
+unfolding opened
+returns c = let q : c .before .before .loop .j ≡ c .before .before .before .args .i = omega arith in put _ _ _ (omega arith) ∙ ap (insertAt _ _) (rw q at (c .before .before .loop .inv .0))
+
+pub open-names-spec : {M : Type 1} → statement M
+open-names-spec =
+    tie.close
+    (tie.spec
+    Inv-loop
+    μ-loop
+    loop-holds
+    (λ c. search needs)
+    (λ c. search needs)
+    (λ c. search needs)
+    (λ c. search needs)
+    (λ c. search needs)
+    (λ c. search needs)
+    (λ c. search needs)
+    loop-again
+    (λ c. search needs)
+    (λ c. search needs)
+    same-length
+    returns)
