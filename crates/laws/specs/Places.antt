@@ -189,3 +189,33 @@ module _ {A : Type 0} where
   lengths-set (x ∷ w) zero r h (suc q) = refl
   lengths-set (x ∷ w) (suc p) r h zero = refl
   lengths-set (x ∷ w) (suc p) r h (suc q) = lengths-set w p r h q
+
+-- ---- a fact of every element, kept by the moves
+
+module _ {A : Type 0} (P : A → Type 0) where
+  unfoldable pub Every : List A → Type 0
+  Every [] = Unit {0}
+  Every (x ∷ l) = P x × Every l
+
+  pub every-at : (l : List A) (d : A) → Every l → (q : ℕ) → q < length l → P (getD l q d)
+  unfolding Every
+  every-at [] d h q k = absurd (not-suc-le-zero k)
+  every-at (x ∷ l) d h zero k = h .0
+  every-at (x ∷ l) d h (suc q) k = every-at l d (h .1) q (le-of-suc-le-suc k)
+
+  pub at-every : (l : List A) (d : A) → ((q : ℕ) → q < length l → P (getD l q d)) → Every l
+  unfolding Every
+  at-every [] d h = tt
+  at-every (x ∷ l) d h = (h 0 (omega arith), at-every l d λ q k. h (suc q) (omega (arith, k)))
+
+  pub every-delete : (i : ℕ) (l : List A) → Every l → Every (delete i l)
+  unfolding Every delete
+  every-delete i [] h = h
+  every-delete zero (x ∷ l) h = h .1
+  every-delete (suc i) (x ∷ l) h = (h .0, every-delete i l (h .1))
+
+  pub every-insertAt : (i : ℕ) (y : A) (l : List A) → P y → Every l → Every (insertAt i y l)
+  unfolding Every insertAt
+  every-insertAt zero y l k h = (k, h)
+  every-insertAt (suc i) y [] k h = (k, h)
+  every-insertAt (suc i) y (x ∷ l) k h = (h .0, every-insertAt i y l k (h .1))

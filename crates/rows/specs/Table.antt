@@ -1,18 +1,14 @@
 -- The operations on one row, place by place: place 0 the constant, places 1 to `width` the cells. A place past the width is left as it is.
-use Prim.Native.Nat.{ℕ, _+_, _<_}
+use Prim.Native.Nat.{ℕ, _+_}
 use mathlib.Core.Path.{_≡_}
 use mathlib.Core.Bool.{Bool, false, cond}
-use mathlib.Core.List.{List, []}
-use lib.ListN.{length, getD, set}
+use mathlib.Core.List.{List}
+use lib.ListN.{getD, set}
 use lib.Ieee.{Float, nan, ne, neg}
 use Rattle.steps.specs.Number.{zero64, minusOne64, cellBound, constantBound, _+₆₄_, _*₆₄_, _/₆₄_, Mark, allWhole, worse, markWrite}
 use Rattle.steps.specs.Symbol.{absent}
 use Rattle.steps.specs.Row.{Cell, stored, cellValue, cellMark, insertCell, insertTimes, scaleCell, factorMark}
 use Rattle.laws.specs.Loops.{mapIn, zipIn, foldIn, fold2In}
-
--- each row of a table of them has its 130 places
-pub record Wide (w : List (List Float)) : Type 0 where
-  pub wide : (i : ℕ) → i < length w → length (getD w i []) ≡ 130
 
 -- ---- a cell's new value, and the mark so far with it
 

@@ -6,7 +6,7 @@ ghost use lib.ListN.{length, getD, set};
 ghost use lib.Ieee.{nan, ne};
 ghost use Rattle.steps.specs.Number.{zero64};
 ghost use Rattle.rows.specs.Marks.{markOf};
-ghost use Rattle.rows.specs.Table.{Wide, insertSymbolAt, insertSymbolMark, insertCellsIn, insertCellsMark, insertRowIn, insertRowMark, insertRowChanged, scaleCellsIn, scaleCellsMark, solveRowIn, solveRowMark, solveForSymbolsIn, solveForSymbolsMark, reverseSignIn, substituteRowIn, substituteRowMark, substituteRowChanged, substituteCellsIn, substituteCellsMark, shiftConstantIn, shiftConstantMark};
+ghost use Rattle.rows.specs.Table.{insertSymbolAt, insertSymbolMark, insertCellsIn, insertCellsMark, insertRowIn, insertRowMark, insertRowChanged, scaleCellsIn, scaleCellsMark, solveRowIn, solveRowMark, solveForSymbolsIn, solveForSymbolsMark, reverseSignIn, substituteRowIn, substituteRowMark, substituteRowChanged, substituteCellsIn, substituteCellsMark, shiftConstantIn, shiftConstantMark};
 use crate::cell::cell_mark;
 use crate::cell::cell_value;
 use crate::cell::factor_mark;
@@ -31,17 +31,6 @@ pub fn wide(row: &[f64; 130])
     ensures { λ _. ⌜ length (now (row .entry)) ≡ 130 ⌝ }
 {
     told(*row);
-}
-
-// The compiler drops the loop: nothing comes of it but the fact.
-pub fn wide_rows(rows: &[[f64; 130]])
-    ensures { λ _. ⌜ Wide (now (rows .entry)) ⌝ }
-{
-    let mut i = 0;
-    while i < rows.len() {
-        wide(&rows[i]);
-        i += 1;
-    }
 }
 
 // What an insertion wrote, and whether it changed the constant.

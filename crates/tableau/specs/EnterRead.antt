@@ -7,32 +7,35 @@ use mathlib.Core.Option.{Option}
 use native.Mathlib.Omega.{arith}
 use lib.ListN.{length, getD}
 use lib.Ieee.{Float, nan, ne}
+use Rattle.laws.specs.Places.{every-delete, every-insertAt}
 use Rattle.steps.specs.Number.{Mark, worse}
 use Rattle.steps.specs.Row.{Row}
 use Rattle.steps.specs.State.{Basic, Tableau, Changes}
 use Rattle.steps.specs.Work.{Work, withTableau, withRows, withChanges, keepRow}
 use Rattle.steps.specs.Changes.{varChanged, note}
 use Rattle.steps.specs.Substitute.{substitute, enterBasis}
-use Rattle.layout.specs.Layout.{tables, symbolOf, basicOf, basicsOf, variablesOf, read}
+use Rattle.layout.specs.Layout.{tables, symbolOf, basicOf, basicsOf, variablesOf, read, symbolsOf, entriesOf}
+use Rattle.moves.specs.Columns.{Wide}
 use Rattle.rows.specs.Place.{PlaceOf}
 use Rattle.rows.specs.Reading.{rowOf}
 use Rattle.choose.specs.Reading.{symbolsIn, basicsIn, entriesIn, tableauIn}
 use Rattle.moves.specs.Moves.{board, keptRow, rowPlace}
-use Rattle.moves.specs.Counts.{row-place-between, kept-same}
-use Rattle.moves.specs.Moved.{opened-after}
+use Rattle.moves.specs.Counts.{row-place-between, kept-same, kept-length, kept-rows}
+use Rattle.moves.specs.Close.{opened}
+use Rattle.moves.specs.Moved.{opened-after, length-opened}
 use Rattle.moves.specs.Rows.{kept-tableau}
 use Rattle.tableau.specs.Notes.{Noted, noted, varChangedIf, changed-if-head}
-use Rattle.tableau.specs.NotesRead.{changesIn, Flags, changed-if-read, changed-if-length}
+use Rattle.tableau.specs.NotesRead.{changesIn, Flags, changed-if-read, changed-if-flags, changed-if-length}
 use Rattle.tableau.specs.Substituting.{Substitution, substituteOf, pushedOf}
 use Rattle.tableau.specs.Pivoting.{entersNoted, noteEntering, keepEntering, enterOf}
 use Rattle.tableau.specs.Working.{workOf, work-parts, artificialIn, artificial-by, changes-by, symbols-same, entries-same, basics-same, Ready}
-use Rattle.tableau.specs.Pushed.{Room, substitute-whole, ready-whole, whole-head}
+use Rattle.tableau.specs.Pushed.{wide-row, wide-every, every-wide, Room, substitute-whole, ready-whole, whole-head}
 
 unfoldable pub workBy : Tableau → Changes → Option Row → Mark → ℕ → Work
 workBy t c r a v = record { tableau = t; changes = c; artificial = r; mark = a; pivots = v }
 
 pub work-is : (art : Bool) (a : Mark) (v : ℕ) (h : List ℕ) (n : List (List ℕ)) (reals w : List (List Float)) → workOf art a v (tables h n reals w) ≡ workBy (tableauIn h w) (changesIn reals (noted h n)) (artificialIn art h w) a v
-unfolding workBy workOf read basicsOf variablesOf tableauIn symbolsIn basicsIn entriesIn changesIn artificialIn
+unfolding workBy workOf read symbolsOf entriesOf basicsOf variablesOf tableauIn symbolsIn basicsIn entriesIn changesIn artificialIn
 work-is art a v h n reals w = refl
 
 -- ---- a note
@@ -50,13 +53,23 @@ noted-work on id art a v s reals w h f =
 pub note-read : (on : Bool) (id : ℕ) (art : Bool) (a : Mark) (v : ℕ) (s : Noted) (reals w : List (List Float)) → 7 < length (s .head) → Flags (getD (s .head) 4 0) (s .names)
     → workOf art a v (tables (varChangedIf on id s .head) (varChangedIf on id s .names) reals w)
     ≡ cond on (note id (workOf art a v (tables (s .head) (s .names) reals w))) (workOf art a v (tables (s .head) (s .names) reals w))
-unfolding note withChanges workOf read variablesOf changesIn
+unfolding note withChanges workOf read symbolsOf entriesOf basicsOf variablesOf changesIn
 note-read on id art a v s reals w h f = noted-work on id art a v s reals w h f ∙ by on
   where
     by : (on : Bool) → withChanges (cond on (varChanged id (changesIn reals s)) (changesIn reals s)) (workOf art a v (tables (s .head) (s .names) reals w))
         ≡ cond on (note id (workOf art a v (tables (s .head) (s .names) reals w))) (workOf art a v (tables (s .head) (s .names) reals w))
     by true = refl
     by false = refl
+
+pub ready-noted : (on : Bool) (id : ℕ) (s : Noted) (w : List (List Float)) → Ready (s .head) (s .names) w → Ready (varChangedIf on id s .head) (varChangedIf on id s .names) w
+ready-noted on id s w r = record {
+  head-long = changed-if-length on id s ∙ r .head-long;
+  few-symbols = rw (changed-if-head on id s 1 (omega arith)) (r .few-symbols);
+  few-rows = rw (changed-if-head on id s 2 (omega arith)) (r .few-rows);
+  rows-stand = r .rows-stand;
+  rows-wide = r .rows-wide;
+  flags = changed-if-flags on id s (r .flags);
+}
 
 -- ---- a row kept
 
@@ -75,6 +88,16 @@ module _ (code : ℕ) (row : List Float) (h : List ℕ) (w : List (List Float)) 
       let e = row-place-between (board h w) len (code / 4) in
       opened-after (rowPlace (code / 4) h) (1 + getD h 2 0) row w (omega arith) (omega arith) [] 50 (omega arith)
 
+  kept-stand : length (keptRow code row (board h w) .rows) ≡ 51
+  unfolding keptRow
+  kept-stand =
+      let e = row-place-between (board h w) len (code / 4) in
+      length-opened (rowPlace (code / 4) h) (1 + getD h 2 0) row w (omega arith) (omega arith) [] ∙ size
+
+  kept-wide : Wide w 51 → length row ≡ 130 → Wide (keptRow code row (board h w) .rows) 51
+  unfolding keptRow opened
+  kept-wide f long = every-wide _ kept-stand (every-insertAt wide-row (rowPlace (code / 4) h) row _ long (every-delete wide-row (1 + getD h 2 0) w (wide-every w size f)))
+
   kept-artificial : (art : Bool) → artificialIn art (keptRow code row (board h w) .head) (keptRow code row (board h w) .rows) ≡ artificialIn art h w
   unfolding artificialIn
   kept-artificial art = rw (kept-place 1 (omega arith) (omega arith), kept-50) refl
@@ -90,6 +113,16 @@ module _ (code : ℕ) (row : List Float) (h : List ℕ) (w : List (List Float)) 
         kept-artificial art,
       ) refl
       ∙ sym (ap (kept (basicOf (getD h 1 0) code row)) (work-is art a v h n reals w))
+
+  pub ready-kept : (n : List (List ℕ)) → Ready h n w → length row ≡ 130 → Ready (keptRow code row (board h w) .head) n (keptRow code row (board h w) .rows)
+  ready-kept n r long = record {
+    head-long = kept-length (board h w) len code row fit;
+    few-symbols = rw (kept-place 1 (omega arith) (omega arith)) (r .few-symbols);
+    few-rows = rw (kept-rows (board h w) len code row fit) (omega (arith, fit));
+    rows-stand = kept-stand;
+    rows-wide = kept-wide (r .rows-wide) long;
+    flags = rw (kept-place 4 (omega arith) (omega arith)) (r .flags);
+  }
 
 -- ---- the theorem
 
@@ -112,6 +145,10 @@ module _ (code j : ℕ) (row : List Float) (h : List ℕ) (n : List (List ℕ)) 
   t-long : length (t .head) ≡ 326
   unfolding noteEntering
   t-long = changed-if-length (entersNoted code (getD row 0 nan)) (code / 4) (noted (o .head) (o .names)) ∙ o-ready .head-long
+
+  t-ready : Ready (t .head) (t .names) (o .rows)
+  unfolding noteEntering
+  t-ready = ready-noted (entersNoted code (getD row 0 nan)) (code / 4) (noted (o .head) (o .names)) (o .rows) o-ready
 
   -- the note, after the substitution
   noted-are : (a : Mark) (v : ℕ) → workOf art (worse a (o .mark)) v (tables (t .head) (t .names) reals (o .rows))
@@ -136,3 +173,9 @@ module _ (code j : ℕ) (row : List Float) (h : List ℕ) (n : List (List ℕ)) 
       let fits : getD (t .head) 2 0 ≡ getD h 2 0 = t-head 2 (omega arith) (omega arith) (omega arith) in
       keep-read code row (t .head) (o .rows) t-long (o-ready .rows-stand) (rw fits fit) art (worse a (o .mark)) v (t .names) reals (rw few (ready .few-symbols))
       ∙ rw few (ap (kept (basicOf (getD h 1 0) code row)) (noted-are a v) ∙ entered (workOf art a v (tables h n reals w)))
+
+  pub ready-entered : Ready (enterOf art code (1 + j) row (noted h n) w .head) (enterOf art code (1 + j) row (noted h n) w .names) (enterOf art code (1 + j) row (noted h n) w .rows)
+  unfolding enterOf keepEntering
+  ready-entered =
+      let fits : getD (t .head) 2 0 ≡ getD h 2 0 = t-head 2 (omega arith) (omega arith) (omega arith) in
+      ready-kept code row (t .head) (o .rows) t-long (o-ready .rows-stand) (rw fits fit) (t .names) t-ready long

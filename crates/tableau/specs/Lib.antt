@@ -7,3 +7,4 @@ pub mod SubstituteRead
 pub mod Working
 pub mod Pushed
 pub mod EnterRead
+pub mod PivotRead

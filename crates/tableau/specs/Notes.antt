@@ -1,13 +1,17 @@
 -- The notes of changed variables, over the head and the variables' records.
-use Prim.Native.Nat.{ℕ, _/_}
+use Prim.Native.Nat.{ℕ, _/_, _<_}
 use mathlib.Core.Path.{_≡_, refl}
 use mathlib.Core.Bool.{Bool, true, false, cond}
-use mathlib.Core.List.{List}
+use mathlib.Core.List.{List, []}
 use native.Mathlib.Omega.{arith}
 use lib.Dec.{eqb}
-use lib.ListN.{getD, set}
+use lib.ListN.{length, getD, set}
 use lib.Seq.{getD-set-other}
 use Rattle.laws.specs.Loops.{mapIn}
+
+-- each record of a table of them has its 20 places
+pub record WideNames (names : List (List ℕ)) : Type 0 where
+  pub wide : (i : ℕ) → i < length names → length (getD names i []) ≡ 20
 
 unfoldable pub clearedRow : List ℕ → List ℕ
 clearedRow r = set r 3 0

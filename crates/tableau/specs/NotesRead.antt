@@ -14,7 +14,7 @@ use Rattle.laws.specs.Places.{length-mapIn, mapIn-at}
 use Rattle.steps.specs.State.{Variable, Changes}
 use Rattle.steps.specs.Changes.{withFlag, clearChanged, flagSymbol, varChanged}
 use Rattle.layout.specs.Layout.{symbolOf, variableOf}
-use Rattle.tableau.specs.Notes.{clearedRow, flaggedRow, clearedNames, flaggedNames, Noted, varChangedIn, varChangedIf}
+use Rattle.tableau.specs.Notes.{WideNames, clearedRow, flaggedRow, clearedNames, flaggedNames, Noted, varChangedIn, varChangedIf}
 
 unfoldable pub changesIn : List (List Float) → Noted → Changes
 changesIn reals s =
@@ -27,6 +27,9 @@ changesIn reals s =
 pub record Flags (n : ℕ) (names : List (List ℕ)) : Type 0 where
   pub stand : n ≤ length names
   pub wide : (i : ℕ) → i < n → 3 < length (getD names i [])
+
+pub flags-of : (n : ℕ) (names : List (List ℕ)) → WideNames names → n ≤ length names → Flags n names
+flags-of n names w h = record { stand = h; wide = λ i k. omega (arith, w .wide i (omega (arith, k, h))) }
 
 -- ---- one record
 

@@ -2,14 +2,16 @@
 use Prim.Native.Nat.{ℕ, _+_, _≤_, _<_}
 use mathlib.Core.Path.{_≡_, _∙_}
 use mathlib.Core.Bool.{Bool}
-use mathlib.Core.List.{List}
+use mathlib.Core.List.{List, []}
 use native.Mathlib.Omega.{arith}
 use lib.ListN.{length, getD}
 use lib.Ieee.{Float}
 use Rattle.laws.specs.Loops.{turns, run-keeps}
+use Rattle.laws.specs.Places.{Every, every-at, at-every}
 use Rattle.steps.specs.Number.{Mark, worse}
 use Rattle.steps.specs.Substitute.{substitute}
 use Rattle.layout.specs.Layout.{tables}
+use Rattle.moves.specs.Columns.{Wide}
 use Rattle.rows.specs.Place.{PlaceOf}
 use Rattle.rows.specs.Reading.{rowOf}
 use Rattle.choose.specs.Reading.{symbolsIn}
@@ -19,6 +21,15 @@ use Rattle.moves.specs.Entries.{pushed-below, pushed-below-same}
 use Rattle.tableau.specs.Notes.{noted}
 use Rattle.tableau.specs.Substituting.{Substitution, substituteOf, pushedOf, noteRows-head}
 use Rattle.tableau.specs.Working.{workOf, Ready, substitute-pushed-read, ready-after}
+
+abbrev pub wide-row : List Float → Type 0
+wide-row r = length r ≡ 130
+
+pub wide-every : (w : List (List Float)) → length w ≡ 51 → Wide w 51 → Every wide-row w
+wide-every w e h = at-every wide-row w [] λ q k. h q (omega (arith, k, e))
+
+pub every-wide : (w : List (List Float)) → length w ≡ 51 → Every wide-row w → Wide w 51
+every-wide w e h q k = every-at wide-row w [] h q (omega (arith, k, e))
 
 -- the list has room for each push
 pub record Room (h : List ℕ) (w : List (List Float)) : Type 0 where

@@ -17,9 +17,10 @@ use Rattle.steps.specs.State.{Basic, Changes}
 use Rattle.steps.specs.Work.{Work, withTableau, withRows, withObjective, withInfeasible, withArtificial, withChanges, marking}
 use Rattle.steps.specs.Changes.{allChanged}
 use Rattle.steps.specs.Substitute.{substituteInRow, substituteInCells, Substituted, substituteInRows, rowsOf, marksOf, notedOf, pushBelow, substitute}
-use Rattle.layout.specs.Layout.{Tables, tables, symbolOf, cellsOf, basicOf, basicsOf, variablesOf, read}
+use Rattle.layout.specs.Layout.{Tables, tables, symbolOf, cellsOf, basicOf, basicsOf, variablesOf, read, symbolsOf, entriesOf}
 use Rattle.choose.specs.Reading.{symbolsIn, basicsIn, entriesIn}
-use Rattle.rows.specs.Table.{Wide, substituteRowIn, substituteRowChanged, substituteRowMark, substituteCellsIn}
+use Rattle.moves.specs.Columns.{Wide}
+use Rattle.rows.specs.Table.{substituteRowIn, substituteRowChanged, substituteRowMark, substituteCellsIn}
 use Rattle.rows.specs.Stays.{length-substituteRowIn, length-substituteCellsIn}
 use Rattle.rows.specs.Place.{PlaceOf}
 use Rattle.rows.specs.Reading.{rowOf, writtenOf, substitute-row-read, substitute-cells-read, substitute-cells-marks}
@@ -54,7 +55,7 @@ artificialIn art h w = cond art (some (rowOf (getD h 1 0) (getD w 50 []))) none
 
 pub work-parts : (art : Bool) (a : Mark) (v : ℕ) (h : List ℕ) (n : List (List ℕ)) (reals w : List (List Float))
     → workOf art a v (tables h n reals w) ≡ work (symbolsIn h) (getD h 0 0) (basicsIn h w) (cellsOf (getD h 1 0) (getD w 0 [])) (entriesIn h) (changesIn reals (noted h n)) (artificialIn art h w) a v
-unfolding workOf read basicsOf variablesOf symbolsIn basicsIn entriesIn changesIn artificialIn
+unfolding workOf read symbolsOf entriesOf basicsOf variablesOf symbolsIn basicsIn entriesIn changesIn artificialIn
 work-parts art a v h n reals w = refl
 
 -- ---- heads that agree where a part is read
@@ -119,7 +120,7 @@ pub record Ready (h : List ℕ) (n : List (List ℕ)) (w : List (List Float)) : 
   pub few-symbols : getD h 1 0 ≤ 129
   pub few-rows : getD h 2 0 ≤ 49
   pub rows-stand : length w ≡ 51
-  pub rows-wide : Wide w
+  pub rows-wide : Wide w 51
   pub flags : Flags (getD h 4 0) n
 
 module _ (s j : ℕ) (pivot : List Float) (h : List ℕ) (n : List (List ℕ)) (reals w : List (List Float)) (ready : Ready h n w) (long : length pivot ≡ 130) (p : PlaceOf s (symbolsIn h) j) where
@@ -130,7 +131,7 @@ module _ (s j : ℕ) (pivot : List Float) (h : List ℕ) (n : List (List ℕ)) (
   in-table = omega (arith, ready .few-rows, ready .rows-stand)
 
   in-row : (i : ℕ) → i < 51 → getD h 1 0 < length (getD w i [])
-  in-row i b = omega (arith, ready .few-symbols, ready .rows-wide .wide i (omega (arith, b, ready .rows-stand)))
+  in-row i b = omega (arith, ready .few-symbols, ready .rows-wide i b)
 
   in-rows : (i : ℕ) → i < getD h 2 0 → getD h 1 0 < length (getD w (1 + i) [])
   in-rows i b = in-row (1 + i) (omega (arith, b, ready .few-rows))
@@ -200,7 +201,7 @@ module _ (s j : ℕ) (pivot : List Float) (h : List ℕ) (n : List (List ℕ)) (
   done-lengths false q = below-lengths q
 
   done-wide : (art : Bool) (q : ℕ) → q < 51 → length (getD (done art) q []) ≡ 130
-  done-wide art q b = done-lengths art q ∙ ready .rows-wide .wide q (omega (arith, b, ready .rows-stand))
+  done-wide art q b = done-lengths art q ∙ ready .rows-wide q b
 
   -- ---- the parts of the work, after
 
@@ -331,6 +332,6 @@ module _ (s j : ℕ) (pivot : List Float) (h : List ℕ) (n : List (List ℕ)) (
     few-symbols = rw (same 1 (omega arith)) (ready .few-symbols);
     few-rows = rw (same 2 (omega arith)) (ready .few-rows);
     rows-stand = done-long art;
-    rows-wide = record { wide = λ i b. done-wide art i (omega (arith, b, done-long art)) };
+    rows-wide = done-wide art;
     flags = notes-heads s (symbolsIn h) j (getD h 1 0) p (length-symbols h) pivot in-pivot (getD h 2 0) (λ i. getD h (146 + i) 0) w in-table in-rows (noted h n) heads .flags;
   }

@@ -3,7 +3,28 @@ ghost use mathlib.Core.Path.{_≡_};
 ghost use mathlib.Core.Bool.{cond};
 ghost use Prim.Native.Nat.{_≤_, _<_, _/_};
 ghost use lib.ListN.{length, getD, set};
-ghost use Rattle.tableau.specs.Notes.{clearedRow, clearedNames, flaggedRow, flaggedNames, noted, varChangedIn, varChangedIf};
+ghost use Rattle.tableau.specs.Notes.{WideNames, clearedRow, clearedNames, flaggedRow, flaggedNames, noted, varChangedIn, varChangedIf};
+
+// An array by value tells its length, and one behind a reference does not: these hand it over, at no cost.
+fn told(name: [u64; 20])
+    ensures { λ _. ⌜ length name ≡ 20 ⌝ }
+{}
+
+fn wide_name(name: &[u64; 20])
+    ensures { λ _. ⌜ length (now (name .entry)) ≡ 20 ⌝ }
+{
+    told(*name);
+}
+
+pub fn wide_names(names: &[[u64; 20]])
+    ensures { λ _. ⌜ WideNames (now (names .entry)) ⌝ }
+{
+    let mut i = 0;
+    while i < names.len() {
+        wide_name(&names[i]);
+        i += 1;
+    }
+}
 
 fn clear_flag(name: &mut [u64; 20])
     ensures { λ _. ⌜ now (name .exit) ≡ clearedRow (now (name .entry)) ⌝ }
