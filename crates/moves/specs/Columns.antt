@@ -191,7 +191,7 @@ module _ (b : Board) (len : length (b .head) ≡ 326) (size : length (b .rows) �
       closed-constant : (row : List Float) → length row ≡ 130 → getD (closed nan p k row) 0 nan ≡ getD row 0 nan
       closed-constant row l = closed-before nan p k row high (omega arith) nan 0 (omega arith)
 
-      column-code-inside : (j : ℕ) → 15 + p ≤ j → j < 15 + k → getD h₂ j 0 ≡ getD h (suc j) 0
+      pub column-code-inside : (j : ℕ) → 15 + p ≤ j → j < 15 + k → getD h₂ j 0 ≡ getD h (suc j) 0
       unfolding closedColumn
       column-code-inside j a c =
           getD-set-other (less b len p fit low high) 1 j (k - 1) 0 (λ z. omega arith) ∙ closed-inside 0 (15 + p) (15 + k) h (omega arith) (omega arith) 0 j a c

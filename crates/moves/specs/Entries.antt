@@ -118,7 +118,7 @@ module _ (h : List ℕ) (len : length h ≡ 326) (fit : getD h 3 0 ≤ 130) (id 
 
 module _ (h₀ : List ℕ) (w : List (List Float)) where
   -- the head is as it was but for the list
-  abbrev Agrees : List ℕ → Type 0
+  abbrev pub Agrees : List ℕ → Type 0
   Agrees h = (m : ℕ) → (m ≡ 3 → ⊥) → m < 196 → getD h m 0 ≡ getD h₀ m 0
 
   if-pushed : (h : List ℕ) → length h ≡ 326 → getD h 3 0 < 130 → (id : ℕ) (on : Bool) → entriesIn (pushIf on id h) ≡ cond on (push (entriesIn h) id) (entriesIn h)
@@ -127,7 +127,7 @@ module _ (h₀ : List ℕ) (w : List (List Float)) where
   if-pushed h len room id false = refl
 
   -- row i + 1, as it was read at first
-  turn-pushed : (h : List ℕ) → length h ≡ 326 → getD h 3 0 < 130 → Agrees h → (i : ℕ) → i < 49
+  pub turn-pushed : (h : List ℕ) → length h ≡ 326 → getD h 3 0 < 130 → Agrees h → (i : ℕ) → i < 49
       → entriesIn (pushRow w (suc i) h) ≡ cond (isRestricted (basicIn h₀ w i .symbol) && belowZero (basicIn h₀ w i .row .constant)) (push (entriesIn h) (basicIn h₀ w i .symbol .id)) (entriesIn h)
   unfolding pushRow basicOf symbolOf
   turn-pushed h len room agrees i low =
@@ -138,15 +138,15 @@ module _ (h₀ : List ℕ) (w : List (List Float)) where
       if-pushed h len room (getD h (145 + suc i) 0 / 4) (isRestricted (basicAt h (suc i)) && belowZero (cellAt w 0 (suc i))) ∙ (rw (e, c) refl)
 
   module _ (h : List ℕ) (len : length h ≡ 326) (fit : getD h 3 0 ≤ 130) where
-    row-length : (i : ℕ) → length (pushRow w i h) ≡ 326
+    pub row-length : (i : ℕ) → length (pushRow w i h) ≡ 326
     unfolding pushRow
     row-length i = push-if-length h len fit _ _
 
-    row-count : (i : ℕ) → getD (pushRow w i h) 3 0 ≤ 130
+    pub row-count : (i : ℕ) → getD (pushRow w i h) 3 0 ≤ 130
     unfolding pushRow
     row-count i = push-if-count h len fit _ _
 
-    row-agrees : Agrees h → (i : ℕ) → Agrees (pushRow w i h)
+    pub row-agrees : Agrees h → (i : ℕ) → Agrees (pushRow w i h)
     unfolding pushRow
     row-agrees agrees i m ne low = push-if-same h len fit _ _ m ne low ∙ agrees m ne low
 

@@ -10,3 +10,7 @@ pub mod Columns
 pub mod Purge
 pub mod Entries
 pub mod Prune
+pub mod Room
+pub mod Held
+pub mod Listed
+pub mod Ascent

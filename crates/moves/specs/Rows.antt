@@ -84,13 +84,13 @@ module _ (b : Board) (len : length (b .head) ≡ 326) (size : length (b .rows) �
         let e = row-place-between b len (code / 4) in
         opened-inside p (1 + r) row w (omega arith) (omega arith) [] j a c
 
-    kept-code-at : getD h₁ (145 + p) 0 ≡ code
+    pub kept-code-at : getD h₁ (145 + p) 0 ≡ code
     unfolding keptRow
     kept-code-at =
         let e = row-place-between b len (code / 4) in
         getD-set-other (wide b len code row fit) 2 (145 + p) (r + 1) 0 (λ z. omega arith) ∙ opened-at (145 + p) (146 + r) code h (omega arith) (omega arith) 0
 
-    kept-code-inside : (j : ℕ) → 145 + p ≤ j → j < 146 + r → getD h₁ (suc j) 0 ≡ getD h j 0
+    pub kept-code-inside : (j : ℕ) → 145 + p ≤ j → j < 146 + r → getD h₁ (suc j) 0 ≡ getD h j 0
     unfolding keptRow
     kept-code-inside j a c =
         let e = row-place-between b len (code / 4) in
@@ -154,7 +154,7 @@ module _ (b : Board) (len : length (b .head) ≡ 326) (size : length (b .rows) �
     unfolding droppedRow
     dropped-row-inside j a c = closed-inside [] i r w high (omega arith) [] j a c
 
-    dropped-code-inside : (j : ℕ) → 145 + i ≤ j → j < 145 + r → getD h₂ j 0 ≡ getD h (suc j) 0
+    pub dropped-code-inside : (j : ℕ) → 145 + i ≤ j → j < 145 + r → getD h₂ j 0 ≡ getD h (suc j) 0
     unfolding droppedRow
     dropped-code-inside j a c =
         getD-set-other (shut b len i fit low high) 2 j (r - 1) 0 (λ z. omega arith) ∙ closed-inside 0 (145 + i) (145 + r) h (omega arith) (omega arith) 0 j a c

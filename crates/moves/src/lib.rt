@@ -316,7 +316,7 @@ pub fn push(head: &mut [u64], id: u64)
     }
 }
 
-fn push_if(on: bool, head: &mut [u64], id: u64)
+pub fn push_if(on: bool, head: &mut [u64], id: u64)
     requires { ⌜ length (now head) ≡ 326 ⌝ }
     requires { ⌜ getD (now head) 3 0 ≤ 130 ⌝ }
     ensures { λ _. ⌜ now (head .exit) ≡ pushIf on id (now (head .entry)) ⌝ }

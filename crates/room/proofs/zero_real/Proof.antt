@@ -1,0 +1,13 @@
+-- `room::zero_real` meets its contract.
+-- Assumes nothing.
+use mathlib.Core.Path.{refl}
+use Rattle.room.specs.Room.{zeroReals}
+use Rattle.room.proofs.zero_real.Statement.{statement}
+use Rattle.room.proofs.zero_real.Tie as tie
+
+returns : tie.Need-returns
+unfolding zeroReals
+returns c = refl
+
+pub zero-real-spec : {M : Type 1} → statement M
+zero-real-spec = tie.close (tie.spec returns)

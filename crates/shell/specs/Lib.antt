@@ -1,0 +1,3 @@
+-- What a changing call answers and leaves, for any call of the steps.
+pub mod Shell
+pub mod Reset
