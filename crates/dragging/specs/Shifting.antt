@@ -1,10 +1,11 @@
 -- The constants that a suggestion shifts, the notes of the Externals among them, and the pushes of the rows that fall below 0.
-use Prim.Native.Nat.{ℕ, _+_, _/_}
+use Prim.Native.Nat.{ℕ, _+_, _/_, _≤_, _<_}
 use mathlib.Core.Path.{_≡_, refl, ap, _∙_}
 use mathlib.Core.Bool.{Bool, false, _&&_}
 use mathlib.Core.List.{List, []}
 use mathlib.Core.Option.{Option, none, some}
-use lib.ListN.{getD, set}
+use native.Mathlib.Omega.{arith}
+use lib.ListN.{length, getD, set}
 use lib.Ieee.{Float, nan, ne}
 use Rattle.laws.specs.Loops.{run}
 use Rattle.steps.specs.Number.{zero64, belowZero, Mark, allWhole, worse}
@@ -12,9 +13,14 @@ use Rattle.steps.specs.Symbol.{isExternal, isRestricted}
 use Rattle.layout.specs.Layout.{symbolOf}
 use Rattle.rows.specs.Table.{shiftConstantIn, shiftConstantMark}
 use Rattle.moves.specs.Moves.{pushIf}
+use Rattle.moves.specs.Counts.{push-if-same}
 use Rattle.tableau.specs.Notes.{Noted, varChangedIf, changed-if-head}
 use Rattle.dragging.specs.declared.drag.Drag.{Drag}
 use Rattle.dragging.specs.Drag.{shiftBy, dragOf}
+
+-- the counts of symbols, rows and variables stay
+abbrev pub Keeps : List ℕ → List ℕ → Type 0
+Keeps g h = (getD g 1 0 ≡ getD h 1 0) × (getD g 2 0 ≡ getD h 2 0) × (getD g 4 0 ≡ getD h 4 0)
 
 -- ---- one row, by what it gets
 
@@ -107,6 +113,22 @@ note-turn d rows i s h h₁ h₂ = rw (← h, ← h₁) h₂
 -- a note leaves every place of the head but one
 pub note-keeps : (on : Bool) (id : ℕ) (s : Noted) (q : ℕ) {t : Noted} {x : ℕ} → (q ≡ 7 → ⊥) → t ≡ varChangedIf on id s → getD (s .head) q 0 ≡ x → getD (t .head) q 0 ≡ x
 note-keeps on id s q ne h e = ap (λ (v : Noted). getD (v .head) q 0) h ∙ changed-if-head on id s q ne ∙ e
+
+-- three counts, as `Keeps` has them
+abbrev pub Counts : List ℕ → ℕ → ℕ → ℕ → Type 0
+Counts g x y z = (getD g 1 0 ≡ x) × (getD g 2 0 ≡ y) × (getD g 4 0 ≡ z)
+
+pub note-counts : (on : Bool) (id : ℕ) (s : Noted) {t : Noted} {x y z : ℕ} → t ≡ varChangedIf on id s → Counts (s .head) x y z → Counts (t .head) x y z
+note-counts on id s e k = (note-keeps on id s 1 (λ z. omega (arith, z)) e (k .0), note-keeps on id s 2 (λ z. omega (arith, z)) e (k .1), note-keeps on id s 4 (λ z. omega (arith, z)) e (k .2))
+
+pub push-counts : (on : Bool) (id : ℕ) (g : List ℕ) {r : List ℕ} {x y z : ℕ} → r ≡ pushIf on id g → length g ≡ 326 → getD g 3 0 ≤ 130 → Counts g x y z → Counts r x y z
+push-counts on id g {r} e len fit k = (at 1 (λ z. omega (arith, z)) (omega arith) ∙ k .0, at 2 (λ z. omega (arith, z)) (omega arith) ∙ k .1, at 4 (λ z. omega (arith, z)) (omega arith) ∙ k .2)
+  where
+    at : (q : ℕ) → (q ≡ 3 → ⊥) → q < 196 → getD r q 0 ≡ getD g q 0
+    at q ne low = ap (λ (x : List ℕ). getD x q 0) e ∙ push-if-same g len fit id on q ne low
+
+pub both-keep : {a b c x y z p q r : ℕ} → (a ≡ x) × (b ≡ y) × (c ≡ z) → (x ≡ p) × (y ≡ q) × (z ≡ r) → (a ≡ p) × (b ≡ q) × (c ≡ r)
+both-keep k l = (k .0 ∙ l .0, k .1 ∙ l .1, k .2 ∙ l .2)
 
 pub shift-turn : (d : Drag) (h : List ℕ) (i : ℕ) (s : Shifting) {o : Option Float} {row : List Float} {m w : Mark}
     → o ≡ shiftBy d (codeAt h i) (getD (s .rows) i [])

@@ -23,34 +23,13 @@ use Rattle.choose.specs.Reading.{symbolsIn, basicsIn, entriesIn}
 use Rattle.rows.specs.Reading.{rowOf}
 use Rattle.tableau.specs.Notes.{Noted, noted}
 use Rattle.tableau.specs.NotesRead.{changesIn}
-use Rattle.tableau.specs.Working.{workOf, work, artificialIn, work-parts, list-changed, Ready}
+use Rattle.tableau.specs.Working.{workOf, work, artificialIn, work-parts, symbols-same, entries-same, basics-same, artificial-by, list-changed, Ready}
 use Rattle.dragging.specs.declared.drag.Drag.{Drag}
 use Rattle.dragging.specs.Drag.{dragOf}
 use Rattle.dragging.specs.DragRead.{tagFrom, shift-is}
 use Rattle.dragging.specs.Shifting.{shiftRowIn, noteShifts, Shifting, shifting, shiftRowsOf, pushShifts, draggedBy, shiftConstantsIn}
 use Rattle.dragging.specs.ShiftRead.{row, gotten, basic, shiftedAt, rows-tab, written-at, Left, left, Notes, notes-left}
 use Rattle.dragging.specs.PushRead.{Pushed, pushed}
-
--- heads that agree but for place 7, which is the notes' own
-module _ (g h : List ℕ) (same : (q : ℕ) → (q ≡ 7 → ⊥) → getD g q 0 ≡ getD h q 0) where
-  symbols-same : symbolsIn g ≡ symbolsIn h
-  unfolding symbolsIn listOf
-  symbols-same = rw (same 1 (λ e. omega (arith, e))) (tab-ext (λ i. symbolOf (getD g (16 + i) 0)) (λ i. symbolOf (getD h (16 + i) 0)) 0 (getD h 1 0) λ i a b. ap symbolOf (same (16 + i) (λ e. omega (arith, e))))
-
-  entries-same : entriesIn g ≡ entriesIn h
-  unfolding entriesIn listOf
-  entries-same = rw (same 3 (λ e. omega (arith, e))) (tab-ext (λ i. getD g (196 + i) 0) (λ i. getD h (196 + i) 0) 0 (getD h 3 0) λ i a b. same (196 + i) (λ e. omega (arith, e)))
-
-  basics-same : (w : List (List Float)) → basicsIn g w ≡ basicsIn h w
-  unfolding basicsIn listOf
-  basics-same w =
-      rw (same 2 (λ e. omega (arith, e)), same 1 (λ e. omega (arith, e)))
-      (tab-ext (λ i. basicOf (getD h 1 0) (getD g (146 + i) 0) (getD w (1 + i) [])) (λ i. basicOf (getD h 1 0) (getD h (146 + i) 0) (getD w (1 + i) [])) 0 (getD h 2 0)
-      λ i a b. ap (λ (c : ℕ). basicOf (getD h 1 0) c (getD w (1 + i) [])) (same (146 + i) (λ e. omega (arith, e))))
-
-  artificial-same : (art : Bool) (w : List (List Float)) → artificialIn art g w ≡ artificialIn art h w
-  unfolding artificialIn
-  artificial-same art w = rw (same 1 (λ e. omega (arith, e))) refl
 
 module _ (h : List ℕ) (n : List (List ℕ)) (reals w : List (List Float)) (ready : Ready h n w) (d : Drag) where
   abbrev k : ℕ
@@ -66,7 +45,7 @@ module _ (h : List ℕ) (n : List (List ℕ)) (reals w : List (List Float)) (rea
   stand = omega (arith, ready .few-rows, ready .rows-stand)
 
   wide : (i : ℕ) → i < count → k < length (row k count code d w i)
-  wide i b = omega (arith, ready .few-symbols, ready .rows-wide .wide (1 + i) (omega (arith, b, ready .few-rows, ready .rows-stand)))
+  wide i b = omega (arith, ready .few-symbols, ready .rows-wide (1 + i) (omega (arith, b, ready .few-rows)))
 
   abbrev sub : ℕ → Substituted
   sub = shiftedAt k count code d w
@@ -139,7 +118,7 @@ module _ (h : List ℕ) (n : List (List ℕ)) (reals w : List (List Float)) (rea
         objective-after a,
         entries-same g h same,
         notes-are .changed reals,
-        artificial-same g h same art (rows a .rows),
+        artificial-by art g h (rows a .rows) (same 1 (λ e. omega (arith, e))),
         artificial-after art a,
         rows-are a .marked,
       ) refl
@@ -176,7 +155,7 @@ module _ (h : List ℕ) (n : List (List ℕ)) (reals w : List (List Float)) (rea
       few-symbols = rw (pushes-are a .same 1 (λ e. omega (arith, e)) (omega arith) ∙ same 1 (λ e. omega (arith, e))) (ready .few-symbols);
       few-rows = rw (pushes-are a .same 2 (λ e. omega (arith, e)) (omega arith) ∙ same 2 (λ e. omega (arith, e))) (ready .few-rows);
       rows-stand = rows-are a .long ∙ ready .rows-stand;
-      rows-wide = record { wide = λ i b. rows-are a .lengths i ∙ ready .rows-wide .wide i (omega (arith, b, rows-are a .long)) };
+      rows-wide = λ i b. rows-are a .lengths i ∙ ready .rows-wide i b;
       flags = rw (pushes-are a .same 4 (λ e. omega (arith, e)) (omega arith)) (notes-are .heads .flags);
     }
 

@@ -9,7 +9,7 @@ ghost use Rattle.rows.specs.Marks.{markOf};
 ghost use Rattle.moves.specs.Moves.{pushIf};
 ghost use Rattle.tableau.specs.Notes.{noted};
 ghost use Rattle.dragging.specs.Drag.{optional};
-ghost use Rattle.dragging.specs.Shifting.{changesBy, pushesBy, shiftRowIn, shiftRowMark, noteShifts, shifting, shiftRowsOf, pushShifts, dragged, shiftConstantsIn};
+ghost use Rattle.dragging.specs.Shifting.{Keeps, changesBy, pushesBy, shiftRowIn, shiftRowMark, noteShifts, shifting, shiftRowsOf, pushShifts, dragged, shiftConstantsIn};
 use crate::drag::Drag;
 use crate::drag::Shift;
 use crate::drag::drag_of;
@@ -42,6 +42,7 @@ pub fn note_shifts(
     requires { ⌜ d .at < 130 ⌝ }
     ensures { λ _. ⌜ noted (now (head .exit)) (now (names .exit)) ≡ noteShifts d count (now (rows .entry)) (noted (now (head .entry)) (now (names .entry))) ⌝ }
     ensures { λ _. ⌜ getD (now (head .exit)) 3 0 ≡ getD (now (head .entry)) 3 0 ⌝ }
+    ensures { λ _. ⌜ Keeps (now (head .exit)) (now (head .entry)) ⌝ }
 {
     let mut i = 1;
     while i <= count {
@@ -115,6 +116,7 @@ pub fn push_shifts(head: &mut [u64], rows: &[[f64; 130]], count: usize, d: Drag)
     requires { ⌜ d .at < 130 ⌝ }
     ensures { λ _. ⌜ now (head .exit) ≡ pushShifts d count (now (rows .entry)) (now (head .entry)) ⌝ }
     ensures { λ _. ⌜ getD (now (head .exit)) 3 0 ≤ 130 ⌝ }
+    ensures { λ _. ⌜ Keeps (now (head .exit)) (now (head .entry)) ⌝ }
 {
     let mut i = 1;
     while i <= count {
@@ -142,6 +144,7 @@ pub fn shift_constants(
     requires { ⌜ length (now rows) ≡ 51 ⌝ }
     ensures { λ r. ⌜ dragged (now (head .exit)) (now (names .exit)) (now (rows .exit)) (markOf r) ≡ shiftConstantsIn marker other delta (markOf before) (noted (now (head .entry)) (now (names .entry))) (now (rows .entry)) ⌝ }
     ensures { λ _. ⌜ getD (now (head .exit)) 3 0 ≤ 130 ⌝ }
+    ensures { λ _. ⌜ Keeps (now (head .exit)) (now (head .entry)) ⌝ }
 {
     let d = drag_of(head, marker, other, delta);
     let count = head[2] as usize;

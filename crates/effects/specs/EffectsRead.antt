@@ -94,7 +94,7 @@ module _ (h : List ℕ) (n : List (List ℕ)) (reals w : List (List Float)) (rea
     few-symbols = ready .few-symbols;
     few-rows = ready .few-rows;
     rows-stand = length-set w 0 row ∙ ready .rows-stand;
-    rows-wide = record { wide = λ i b. lengths-set w 0 row l i ∙ ready .rows-wide .wide i (omega (arith, b, length-set w 0 row)) };
+    rows-wide = λ i b. lengths-set w 0 row l i ∙ ready .rows-wide i b;
     flags = ready .flags;
   }
 
@@ -119,7 +119,7 @@ module _ (h : List ℕ) (n : List (List ℕ)) (reals w : List (List Float)) (rea
     rows-are = ap (λ (x : Work). x .tableau .rows) (work-parts art a v h n reals w)
 
     in-row : (i : ℕ) → i < 51 → width < length (getD w i [])
-    in-row i b = omega (arith, ready .few-symbols, ready .rows-wide .wide i (omega (arith, b, ready .rows-stand)))
+    in-row i b = omega (arith, ready .few-symbols, ready .rows-wide i b)
 
     abbrev read-as : Effected → Work
     read-as s = workOf art (s .mark) v (tables h n reals (s .rows))

@@ -8,14 +8,13 @@ use mathlib.Core.Option.{Option, none, some}
 use native.Mathlib.Omega.{arith}
 use lib.ListN.{getD}
 use lib.Ieee.{Float, nan, ne}
-use Rattle.laws.specs.Lists.{listOf, tab-ext}
 use Rattle.steps.specs.Number.{zero64, Mark}
 use Rattle.steps.specs.Symbol.{isExternal}
 use Rattle.steps.specs.Row.{Row}
 use Rattle.steps.specs.Work.{Work, withChanges, findRow}
 use Rattle.steps.specs.Changes.{varChanged, note}
 use Rattle.steps.specs.Remove.{noteLeaving}
-use Rattle.layout.specs.Layout.{tables, symbolOf, basicOf, cellsOf}
+use Rattle.layout.specs.Layout.{tables, symbolOf, cellsOf}
 use Rattle.choose.specs.Choose.{onFound, basicAt, rowOf}
 use Rattle.choose.specs.Reading.{symbolsIn, basicsIn, entriesIn, rowIn}
 use Rattle.choose.specs.Chosen.{row-found}
@@ -23,29 +22,8 @@ use Rattle.choose.specs.declared.Found.{Found}
 use Rattle.choose.specs.declared.Found.the-variants.{At}
 use Rattle.tableau.specs.Notes.{Noted, noted, varChangedIf, changed-if-head}
 use Rattle.tableau.specs.NotesRead.{changesIn, changed-if-read}
-use Rattle.tableau.specs.Working.{workOf, work, artificialIn, work-parts, Ready}
+use Rattle.tableau.specs.Working.{workOf, work, artificialIn, work-parts, symbols-same, entries-same, basics-same, artificial-by, Ready}
 use Rattle.effects.specs.Effects.{noteLeavingIn}
-
--- heads that agree but for place 7, which is the notes' own
-module _ (g h : List ℕ) (same : (q : ℕ) → (q ≡ 7 → ⊥) → getD g q 0 ≡ getD h q 0) where
-  symbols-same : symbolsIn g ≡ symbolsIn h
-  unfolding symbolsIn listOf
-  symbols-same = rw (same 1 (λ e. omega (arith, e))) (tab-ext (λ i. symbolOf (getD g (16 + i) 0)) (λ i. symbolOf (getD h (16 + i) 0)) 0 (getD h 1 0) λ i a b. ap symbolOf (same (16 + i) (λ e. omega (arith, e))))
-
-  entries-same : entriesIn g ≡ entriesIn h
-  unfolding entriesIn listOf
-  entries-same = rw (same 3 (λ e. omega (arith, e))) (tab-ext (λ i. getD g (196 + i) 0) (λ i. getD h (196 + i) 0) 0 (getD h 3 0) λ i a b. same (196 + i) (λ e. omega (arith, e)))
-
-  basics-same : (w : List (List Float)) → basicsIn g w ≡ basicsIn h w
-  unfolding basicsIn listOf
-  basics-same w =
-      rw (same 2 (λ e. omega (arith, e)), same 1 (λ e. omega (arith, e)))
-      (tab-ext (λ i. basicOf (getD h 1 0) (getD g (146 + i) 0) (getD w (1 + i) [])) (λ i. basicOf (getD h 1 0) (getD h (146 + i) 0) (getD w (1 + i) [])) 0 (getD h 2 0)
-      λ i a b. ap (λ (c : ℕ). basicOf (getD h 1 0) c (getD w (1 + i) [])) (same (146 + i) (λ e. omega (arith, e))))
-
-  artificial-same : (art : Bool) (w : List (List Float)) → artificialIn art g w ≡ artificialIn art h w
-  unfolding artificialIn
-  artificial-same art w = rw (same 1 (λ e. omega (arith, e))) refl
 
 module _ (h : List ℕ) (n : List (List ℕ)) (reals w : List (List Float)) (ready : Ready h n w) where
   -- one note
@@ -63,7 +41,7 @@ module _ (h : List ℕ) (n : List (List ℕ)) (reals w : List (List Float)) (rea
         same 1 (λ e. omega (arith, e)),
         entries-same (s .head) h same,
         changed-if-read on id reals (noted h n) (omega (arith, ready .head-long)) (ready .flags),
-        artificial-same (s .head) h same art w,
+        artificial-by art (s .head) h w (same 1 (λ e. omega (arith, e))),
       ) (go on)
       ∙ sym (ap (λ (x : Work). cond on (note id x) x) (work-parts art a v h n reals w))
     where
