@@ -2,6 +2,7 @@
 pub mod Drag
 pub mod DragRead
 pub mod Record
+pub mod Stored
 pub mod Shifting
 pub mod ShiftRead
 pub mod PushRead
