@@ -1,0 +1,9 @@
+-- What the contracts of `dragging` cite, and the laws that its definitions read as the steps' suggestion.
+pub mod Drag
+pub mod DragRead
+pub mod Record
+pub mod Stored
+pub mod Shifting
+pub mod ShiftRead
+pub mod PushRead
+pub mod Suggest
