@@ -11,7 +11,12 @@ ghost use Rattle.tableau.specs.Pivoting.{pivotOf};
 use rows::number::Wrote;
 
 #[no_mangle]
-pub extern "C" fn timed_insert_row(row: &mut [f64; 130], other: &[f64; 130], k: f64, width: usize) -> Wrote
+pub extern "C" fn timed_insert_row(
+    row: &mut [f64; 130],
+    other: &[f64; 130],
+    k: f64,
+    width: usize,
+) -> Wrote
     requires { ⌜ width < 130 ⌝ }
     ensures { λ r. ⌜ markOf r ≡ insertRowMark k width (now (other .entry)) (now (row .entry)) ⌝ }
     ensures { λ _. ⌜ now (row .exit) ≡ insertRowIn k width (now (other .entry)) (now (row .entry)) ⌝ }
