@@ -5,3 +5,4 @@ pub mod Region
 pub mod Read
 pub mod Kept
 pub mod Dropped
+pub mod Uses
