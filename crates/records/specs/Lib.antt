@@ -6,3 +6,4 @@ pub mod Read
 pub mod Kept
 pub mod Dropped
 pub mod Uses
+pub mod Less
