@@ -1,3 +1,5 @@
 -- Add's steps 1 to 3: over the tables' places, and that the tables then read as the steps say.
 pub mod Tags
+pub mod Terms
+pub mod Parts
 pub mod Turns
