@@ -2,4 +2,5 @@
 pub mod Tags
 pub mod Terms
 pub mod Parts
+pub mod Create
 pub mod Turns
