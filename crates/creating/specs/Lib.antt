@@ -3,4 +3,6 @@ pub mod Tags
 pub mod Terms
 pub mod Parts
 pub mod Create
+pub mod Read
+pub mod Errors
 pub mod Turns
