@@ -5,4 +5,5 @@ pub mod Parts
 pub mod Create
 pub mod Read
 pub mod Errors
+pub mod Opens
 pub mod Turns
