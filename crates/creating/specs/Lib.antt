@@ -6,4 +6,5 @@ pub mod Create
 pub mod Read
 pub mod Errors
 pub mod Opens
+pub mod TagsRead
 pub mod Turns
