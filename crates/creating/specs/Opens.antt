@@ -81,3 +81,19 @@ module _ (f : Frame) (o : Open f) where
   add-error-read v n r k strength =
       objective-after f o 2 (omega arith) k v n r strength
       ∙ ap (λ (b : Building). record { work = insertInObjective (symbolOf (getD (f .head) 0 0 * 4 + 2) .id) strength (b .work); row = b .row }) (add-symbol-read f o 2 (omega arith) v n r k)
+
+  pub error-open : (k strength : Float) → getD (f .head) 1 0 < 128 → Open (addErrorIn k strength f)
+  unfolding addErrorIn insertInObjectiveAt
+  error-open k strength more =
+      let q : Open (addSymbolIn 2 k f) = open-after f o 2 (omega arith) k more in
+      let g : Frame = addSymbolIn 2 k f in
+      let x : List Float = insertSymbolAt (newPlace f) strength (getD (g .rows) 0 []) in
+      record {
+        head-long = q .head-long;
+        rows-stand = length-set (g .rows) 0 x ∙ q .rows-stand;
+        rows-wide = λ i a. lengths-set (g .rows) 0 x (length-insertSymbolAt (newPlace f) strength (getD (g .rows) 0 [])) i ∙ q .rows-wide i a;
+        row-wide = q .row-wide;
+        room = q .room;
+        few-rows = q .few-rows;
+        fresh = q .fresh;
+      }

@@ -24,7 +24,7 @@ use Rattle.moves.specs.Counts.{appended-id}
 use Rattle.moves.specs.Columns.{new-symbol}
 use Rattle.creating.specs.Tags.{Frame, frame, appendIn, insertAtPlace, addSymbolIn, insertInObjectiveAt, addErrorIn, Tags, tags, nextCode, secondCode, inequalityIn, softEqualityIn, requiredEqualityIn, equalityIn, addTagIn}
 use Rattle.creating.specs.Read.{workIn, readFrame, Open, add-symbol-read}
-use Rattle.creating.specs.Opens.{symbol-head, open-after, add-error-read}
+use Rattle.creating.specs.Opens.{open-after, error-open, add-error-read}
 
 inequality-is : (sign strength : Float) (b : Building) → inequality sign strength b
     ≡ cond (lt strength required)
@@ -83,3 +83,27 @@ module _ (v : ℕ) (n : List (List ℕ)) (r : List (List Float)) where
       second-error : (k strength : Float) → getD (addErrorIn k strength f .head) 0 0 ≡ getD (f .head) 0 0 + 1
       unfolding addErrorIn insertInObjectiveAt
       second-error k strength = second 2 k
+
+      soft-read : (strength : Float) → readTags v n r (softEqualityIn strength f) ≡ softEquality strength (readFrame v n r f)
+      unfolding softEqualityIn softEquality kindCode
+      soft-read strength =
+          let f₁ : Frame = addErrorIn minusOne64 strength f in
+          let o₁ : Open f₁ = error-open f o minusOne64 strength more in
+          rw (next-is Error f, ← add-error-read f o v n r minusOne64 strength, next-is Error f₁, ← add-error-read f₁ o₁ v n r one64 strength, second-error minusOne64 strength)
+          (with-other (addErrorIn one64 strength (addErrorIn minusOne64 strength f)) (nextCode 2 f) (secondCode 2 f) (omega arith))
+
+      equality-read : (strength : Float) → readTags v n r (equalityIn strength f) ≡ addTag (equal strength) (readFrame v n r f)
+      unfolding equalityIn addTag
+      equality-read strength = go (lt strength required) (soft-read strength) dummy-read
+        where
+          go : (t : Bool) → readTags v n r (softEqualityIn strength f) ≡ softEquality strength (readFrame v n r f) → readTags v n r (requiredEqualityIn f) ≡ requiredEquality (readFrame v n r f)
+              → readTags v n r (cond t (softEqualityIn strength f) (requiredEqualityIn f)) ≡ elim t [ true ↦ softEquality strength (readFrame v n r f) | false ↦ requiredEquality (readFrame v n r f) ]
+          go true a c = a
+          go false a c = c
+
+      -- step 2, by the relation
+      pub add-tag-read : (relation : Relation) → readTags v n r (addTagIn relation f) ≡ addTag relation (readFrame v n r f)
+      unfolding addTagIn addTag
+      add-tag-read (atMost s) = inequality-read one64 s
+      add-tag-read (equal s) = equality-read s
+      add-tag-read (atLeast s) = inequality-read minusOne64 s
