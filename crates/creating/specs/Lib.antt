@@ -7,4 +7,5 @@ pub mod Read
 pub mod Errors
 pub mod Opens
 pub mod TagsRead
+pub mod TermsRead
 pub mod Turns
