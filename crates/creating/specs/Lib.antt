@@ -8,4 +8,5 @@ pub mod Errors
 pub mod Opens
 pub mod TagsRead
 pub mod TermsRead
+pub mod NewRead
 pub mod Turns

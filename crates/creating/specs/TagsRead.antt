@@ -43,7 +43,7 @@ other-some c h = rw (ne-eqb c 0 (λ z. omega arith)) refl
 
 module _ (v : ℕ) (n : List (List ℕ)) (r : List (List Float)) where
   -- the symbol that takes the next id
-  next-is : (kind : Kind) (f : Frame) → newSymbol kind (readFrame v n r f .work) ≡ symbolOf (getD (f .head) 0 0 * 4 + kindCode kind)
+  pub next-is : (kind : Kind) (f : Frame) → newSymbol kind (readFrame v n r f .work) ≡ symbolOf (getD (f .head) 0 0 * 4 + kindCode kind)
   unfolding newSymbol readFrame workIn read
   next-is kind f = sym (new-symbol (getD (f .head) 0 0) kind)
 
