@@ -9,4 +9,5 @@ pub mod Opens
 pub mod TagsRead
 pub mod TermsRead
 pub mod NewRead
+pub mod CloseRead
 pub mod Turns
