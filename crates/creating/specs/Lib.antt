@@ -10,4 +10,5 @@ pub mod TagsRead
 pub mod TermsRead
 pub mod NewRead
 pub mod CloseRead
+pub mod StartRead
 pub mod Turns
