@@ -59,3 +59,26 @@ unfolding addTagIn equalityIn softEqualityIn requiredEqualityIn
 tag-row (atMost s) f = inequality-row one64 s f
 tag-row (equal s) f = either f (lt s required) (softEqualityIn s f) (requiredEqualityIn f) (error-row one64 s (addErrorIn minusOne64 s f) ∙ error-row minusOne64 s f) (symbol-row 3 one64 f)
 tag-row (atLeast s) f = inequality-row minusOne64 s f
+
+-- step 3 of the steps, after the tag
+abbrev pub turned : Created → Created
+turned c = elim (belowZero (c .row .constant)) [ false ↦ c | true ↦ record { work = c .work; row = reverseSign (c .row); tag = c .tag } ]
+
+-- "If the constant is below 0, reverse all signs."
+pub close-read : (v : ℕ) (n : List (List ℕ)) (r : List (List Float)) (relation : Relation) (f : Frame) → Open f → getD (f .head) 1 0 < 128 → readTags v n r (closedRow relation f) ≡ turned (addTag relation (readFrame v n r f))
+unfolding closedRow readTags readFrame
+close-read v n r relation f o more =
+    let t : Tags = addTagIn relation f in
+    let h : List ℕ = t .frame .head in
+    let few = tag-few f (o .head-long) more relation in
+    let l : getD h 1 0 < length (t .frame .row) = omega (arith, few, tag-row relation f, o .row-wide) in
+    rw (reversed-read h (t .frame .row) l) (go t (belowZero (getD (t .frame .row) 0 nan)))
+    ∙ ap turned (add-tag-read v n r f o more relation)
+  where
+    reversedBy : Bool → Created → Created
+    reversedBy b c = record { work = c .work; row = cond b (reverseSign (c .row)) (c .row); tag = c .tag }
+
+    go : (t : Tags) (b : Bool) → reversedBy b (readTags v n r t)
+        ≡ elim b [ false ↦ readTags v n r t | true ↦ record { work = readTags v n r t .work; row = reverseSign (readTags v n r t .row); tag = readTags v n r t .tag } ]
+    go t true = refl
+    go t false = refl
