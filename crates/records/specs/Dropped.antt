@@ -25,7 +25,7 @@ use Rattle.records.specs.Read.{read-regions, tableau-same, region-same, 
 use Rattle.records.specs.Kept.{withConstraintsIn, withEditsIn, readItems}
 
 -- a place that was found is in range
-seek-found : (q : ℕ → Bool) (n i a e : ℕ) → a ≤ i → i + n ≤ e → Between a e (seek q At Nothing n i)
+pub seek-found : (q : ℕ → Bool) (n i a e : ℕ) → a ≤ i → i + n ≤ e → Between a e (seek q At Nothing n i)
 unfolding seek
 seek-found q zero i a e h k = tt
 seek-found q (suc n) i a e h k = pick (q i) (seek q At Nothing n (suc i)) (seek-found q n (suc i) a e (omega arith) (omega arith))

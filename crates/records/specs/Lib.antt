@@ -5,3 +5,5 @@ pub mod Region
 pub mod Read
 pub mod Kept
 pub mod Dropped
+pub mod Uses
+pub mod Less
