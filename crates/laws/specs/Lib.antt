@@ -5,3 +5,4 @@ pub mod Loops
 pub mod Lists
 pub mod Places
 pub mod Budget
+pub mod Given

@@ -7,6 +7,7 @@ use mathlib.Core.List.{List, []}
 use lib.Dec.{T, eqb}
 use lib.ListN.{length, getD, replicate}
 use lib.Ieee.{Float}
+use Rattle.laws.specs.Given.{Then}
 use Rattle.steps.specs.State.{State}
 use Rattle.steps.specs.Calls.{Answer, Result}
 use Rattle.steps.specs.Readable.{readable}
@@ -43,11 +44,6 @@ callIn f t = called (f (read t) .answer) (write (f (read t) .state) t)
 -- a changing call on any tables and any working room
 unfoldable pub callOf : (State → Result) → Tables → Tables → Called
 callOf f work t = cond (reads t && lengthsRight work) (callIn f t) (called refused18 t)
-
--- by cases, not an implication
-abbrev pub Then : Bool → Type 0 → Type 0
-Then true X = X
-Then false X = Unit {0}
 
 -- a working room that holds the tables' state: what the steps of a call take for granted
 abbrev pub Ready : Tables → Type 0
@@ -102,9 +98,6 @@ whole-call f t w w₁ w₂ {t₂} {a} {ok} {on} keeps e₁ e₂ e₃ e₄ e₅ e
     go false false h i j k m n o = rw (← h, j, o) refl
 
 -- what a public call hands from `enter` to its steps, and from its steps to `leave`
-
-pub then-given : (X : Type 0) {b : Bool} → b ≡ true → Then b X → X
-then-given X e q = rw e at q
 
 -- what the steps leave in the room of an accepted call
 abbrev pub Left : Tables → Type 0

@@ -4,12 +4,13 @@ ghost use mathlib.Core.Bool.{true, false, _&&_, cond};
 ghost use mathlib.Core.List.{List, []};
 ghost use Prim.Native.Nat.{ℕ, _+_, _-_, _<_, _≤_};
 ghost use lib.ListN.{getD, length, set, replicate};
+ghost use Rattle.laws.specs.Given.{Then};
 ghost use Rattle.layout.specs.Layout.{tables, headSize, itemsSize, rowsSize};
 ghost use Rattle.layout.specs.Rooms.{lengthsRight, Lengths, Counts, Wide};
 ghost use Rattle.layout.specs.Copy.{putOver};
 ghost use Rattle.reading.specs.Reads.{reads};
 ghost use Rattle.room.specs.Room.{cleared};
-ghost use Rattle.shell.specs.Shell.{answerOf, called, refused18, Then, Entered};
+ghost use Rattle.shell.specs.Shell.{answerOf, called, refused18, Entered};
 ghost use Rattle.shell.specs.Reset.{resetOf, resetHead};
 
 // "Each changing call answers: accepted or a number below, pivots made, whole mark." 0 is accepted.

@@ -1,17 +1,13 @@
 -- `shell::put_back_if` meets its contract.
 -- Assumes nothing.
-use mathlib.Core.Path.{_≡_, refl}
-use mathlib.Core.Bool.{Bool, true}
-use Rattle.shell.specs.Shell.{Then}
+use mathlib.Core.Path.{refl}
+use Rattle.laws.specs.Given.{then-given}
 use borrow.Author.Needs.{needs}
 use Rattle.shell.proofs.put_back_if.Statement.{statement}
 use Rattle.shell.proofs.put_back_if.Tie as tie
 
-given : {X : Type 0} {b : Bool} → b ≡ true → Then b X → X
-given e q = rw e at q
-
 put-over-requires : tie.Need-put-over-requires
-put-over-requires c κs = let q = given (c .before .before .before .before .if1 .taken) (c .before .before .before .before .before .before .before .pre) in (q .0, (q .1, q .2))
+put-over-requires c κs = let q = then-given _ (c .before .before .before .before .if1 .taken) (c .before .before .before .before .before .before .before .pre) in (q .0, (q .1, q .2))
 
 returns : tie.Need-returns
 returns c = rw (c .before .before .before .before .before .before .before .before .before .before .if1 .taken) (c .before .before .before .before .before .put-over .ensures)

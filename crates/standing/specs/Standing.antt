@@ -1,0 +1,56 @@
+-- Tables on which the steps of a call may work: their lengths and counts, flags that are 0 or 1, the tableau's shape, and room on the infeasible list.
+-- Assumes nothing.
+use Prim.Native.Nat.{ℕ, _≤_}
+use mathlib.Core.Path.{_≡_, refl, _∙_}
+use mathlib.Core.Bool.{Bool}
+use mathlib.Core.List.{List}
+use native.Mathlib.Omega.{arith}
+use lib.ListN.{length}
+use Rattle.steps.specs.Number.{Mark}
+use Rattle.keeps.specs.Along.{ids}
+use Rattle.keeps.specs.Fits.{FitsW}
+use Rattle.layout.specs.Layout.{Tables, symbolCount, rowCount, entryCount, variableCount, constraintCount, editCount, constraintsOf, editsOf}
+use Rattle.layout.specs.Rooms.{Lengths, Wide, Coded, Counts}
+use Rattle.choose.specs.Reading.{symbolsIn, entriesIn}
+use Rattle.moves.specs.Room.{Among, Held}
+use Rattle.tableau.specs.Working.{workOf}
+
+-- the list's entries are distinct and, as the live symbols are, among at most 129 ids that were live in this call
+pub record Listed (h : List ℕ) : Type 0 where
+  pub seen : List ℕ
+  pub few : length seen ≤ 129
+  pub held : Held (entriesIn h) seen
+  pub live : Among (ids (symbolsIn h)) seen
+
+-- `art` says whether an artificial objective stands in row 50, `a` is the mark of what the call wrote so far
+pub record Standing (art : Bool) (a : Mark) (t : Tables) : Type 0 where
+  pub lengths : Lengths t
+  pub wide : Wide t
+  pub few-symbols : symbolCount (t .head) ≤ 129
+  pub few-rows : rowCount (t .head) ≤ 49
+  pub few-entries : entryCount (t .head) ≤ 130
+  pub few-variables : variableCount (t .head) ≤ 32
+  pub few-constraints : constraintCount (t .head) ≤ 48
+  pub few-edits : editCount (t .head) ≤ 48
+  pub coded : Coded t
+  pub fits : FitsW (workOf art a 0 t)
+  pub listed : Listed (t .head)
+
+-- what the steps leave alone of the tables: the stored constraints and edits
+pub record Beside (t u : Tables) : Type 0 where
+  pub constraints : constraintsOf u ≡ constraintsOf t
+  pub edits : editsOf u ≡ editsOf t
+
+pub beside-same : (t : Tables) → Beside t t
+beside-same t = record { constraints = refl; edits = refl }
+
+pub beside-then : {t u v : Tables} → Beside t u → Beside u v → Beside t v
+beside-then b c = record { constraints = c .constraints ∙ b .constraints; edits = c .edits ∙ b .edits }
+
+-- the shape does not know of the pivots made
+pub fits-any : (art : Bool) (a : Mark) (v u : ℕ) (t : Tables) → FitsW (workOf art a v t) → FitsW (workOf art a u t)
+unfolding workOf
+fits-any art a v u t f = f
+
+pub counts-of : (art : Bool) (a : Mark) (t : Tables) → Standing art a t → Counts (t .head)
+counts-of art a t s = (s .few-symbols, omega (arith, s .few-rows), s .few-entries, s .few-variables, s .few-constraints, s .few-edits)
