@@ -26,7 +26,7 @@ use Rattle.keeps.specs.Fits.{FitsW}
 use Rattle.keeps.specs.Reads.{Reads, conNumber, editNumber, tagCode, ownedBy, usedBy, tags-length, owned-total}
 use Rattle.keeps.specs.Tested.{reads-in}
 use Rattle.keeps.specs.Good.{Good, tagsBy, begin-good}
-use Rattle.layout.specs.Layout.{Tables, nextIdOf, wholeFlag, symbolCount, rowCount, variableCount, constraintCount, editCount, symbolsOf, basicsOf, entriesOf, variablesOf, constraintsOf, editsOf, read}
+use Rattle.layout.specs.Layout.{Tables, nextIdOf, wholeFlag, symbolCount, rowCount, entryCount, variableCount, constraintCount, editCount, symbolsOf, basicsOf, entriesOf, variablesOf, constraintsOf, editsOf, read}
 use Rattle.layout.specs.Rooms.{Wide}
 use Rattle.choose.specs.Reading.{symbolsIn, entriesIn}
 use Rattle.moves.specs.Room.{Held, no-more}
@@ -80,6 +80,32 @@ few-symbols s r =
           (λ n h. member-out n (owned s) (rw (owned-total n s, r .owns n) (member-in n (codes (s .tableau .symbols)) h))),
     )
 
+-- ---- the lengths of what is read are the counts
+
+pub variables-count : (t : Tables) → length (variablesOf t) ≡ variableCount (t .head)
+unfolding variablesOf listOf
+variables-count t = length-tab _ 0 (variableCount (t .head))
+
+pub constraints-count : (t : Tables) → length (constraintsOf t) ≡ constraintCount (t .head)
+unfolding constraintsOf listOf
+constraints-count t = length-tab _ 0 (constraintCount (t .head))
+
+pub edits-count : (t : Tables) → length (editsOf t) ≡ editCount (t .head)
+unfolding editsOf listOf
+edits-count t = length-tab _ 0 (editCount (t .head))
+
+pub symbols-count : (t : Tables) → length (symbolsOf t) ≡ symbolCount (t .head)
+unfolding symbolsOf listOf
+symbols-count t = length-tab _ 0 (symbolCount (t .head))
+
+pub rows-count : (t : Tables) → length (basicsOf t) ≡ rowCount (t .head)
+unfolding basicsOf listOf
+rows-count t = length-tab _ 0 (rowCount (t .head))
+
+pub entries-count : (t : Tables) → length (entriesOf t) ≡ entryCount (t .head)
+unfolding entriesOf listOf
+entries-count t = length-tab _ 0 (entryCount (t .head))
+
 -- ---- the steps' tables
 
 module _ (t : Tables) (ready : Ready t) where
@@ -107,38 +133,18 @@ module _ (t : Tables) (ready : Ready t) where
         live = λ x h. h;
       }
 
-  variables-count : length (variablesOf t) ≡ variableCount (t .head)
-  unfolding variablesOf listOf
-  variables-count = length-tab _ 0 (variableCount (t .head))
-
-  constraints-count : length (constraintsOf t) ≡ constraintCount (t .head)
-  unfolding constraintsOf listOf
-  constraints-count = length-tab _ 0 (constraintCount (t .head))
-
-  edits-count : length (editsOf t) ≡ editCount (t .head)
-  unfolding editsOf listOf
-  edits-count = length-tab _ 0 (editCount (t .head))
-
-  symbols-count : length (symbolsOf t) ≡ symbolCount (t .head)
-  unfolding symbolsOf listOf
-  symbols-count = length-tab _ 0 (symbolCount (t .head))
-
-  rows-count : length (basicsOf t) ≡ rowCount (t .head)
-  unfolding basicsOf listOf
-  rows-count = length-tab _ 0 (rowCount (t .head))
-
   -- "rows are no more than constraints"
   pub rows-at-start : rowCount (t .head) ≤ constraintCount (t .head) + editCount (t .head)
   unfolding read
-  rows-at-start = omega (arith, reads-at-start .few-rows, constraints-count, edits-count, rows-count)
+  rows-at-start = omega (arith, reads-at-start .few-rows, constraints-count t, edits-count t, rows-count t)
 
   pub tags-at-start : constraintCount (t .head) + editCount (t .head) ≤ 48
   unfolding read
-  tags-at-start = omega (arith, reads-at-start .few-tags, constraints-count, edits-count)
+  tags-at-start = omega (arith, reads-at-start .few-tags, constraints-count t, edits-count t)
 
   pub symbols-at-start : symbolCount (t .head) ≤ variableCount (t .head) + 2 * (constraintCount (t .head) + editCount (t .head))
   unfolding read
-  symbols-at-start = omega (arith, few-symbols (read t) reads-at-start, variables-count, constraints-count, edits-count, symbols-count)
+  symbols-at-start = omega (arith, few-symbols (read t) reads-at-start, variables-count t, constraints-count t, edits-count t, symbols-count t)
 
   pub standing-at-start : Wide t → Standing false (storedMark (t .head)) t
   standing-at-start wide =
@@ -170,7 +176,7 @@ module _ (t : Tables) (ready : Ready t) where
         finite = finite;
         few-terms = few;
         few-rows = omega (arith, rows-at-start);
-        few-variables = omega (arith, variables-count);
+        few-variables = omega (arith, variables-count t);
         few-symbols = omega (arith, symbols-at-start);
         few-ids = numbers;
       }

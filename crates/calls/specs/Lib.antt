@@ -1,2 +1,3 @@
 -- The changing calls: from the tables to the steps, and back.
 pub mod Begin
+pub mod Concluding
