@@ -92,8 +92,7 @@ counts-of t r =
     let a = few-symbols (read t) r in
     let b = entries-few (read t) r in
     let c = r .few-tags in
-    let d = r .few-variables in
-    (
+    let d = r .few-variables in (
       omega (arith, symbols-count t, variables-count t, constraints-count t, edits-count t),
       omega (arith, r .few-rows, rows-count t, constraints-count t, edits-count t),
       omega (arith, symbols-count t, entries-count t, variables-count t, constraints-count t, edits-count t),

@@ -1,3 +1,8 @@
 -- The changing calls: from the tables to the steps, and back.
 pub mod Begin
 pub mod Concluding
+pub mod Edits
+pub mod Numbers
+pub mod Whole
+pub mod Stub
+pub mod Suggesting

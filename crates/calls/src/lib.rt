@@ -1,1 +1,4 @@
-// The five changing calls over lent tables.
+// The five changing calls over lent tables: the tables are tested and copied into the working room, the steps run there, an accepted call's state goes back, the room is cleared.
+pub mod begin;
+pub mod stub;
+pub mod suggest;
