@@ -9,7 +9,7 @@ use native.Mathlib.Omega.{arith}
 use lib.Dec.{eqb}
 use lib.ListN.{length, getD, length-map}
 use borrow.Author.Tests.{eqb-true, eq-eqb, ne-eqb}
-use Rattle.laws.specs.Given.{Then}
+use Rattle.laws.specs.Given.{Then, then-given}
 use Rattle.laws.specs.Lists.{tab, listOf, length-tab}
 use Rattle.steps.specs.Number.{Mark, saysWhole}
 use Rattle.steps.specs.Symbol.{Symbol}
@@ -30,8 +30,9 @@ use Rattle.tableau.specs.Working.{workOf}
 use Rattle.standing.specs.declared.Ended.{Ended}
 use Rattle.standing.specs.Ending.{outcomeOf}
 use Rattle.finishing.specs.Closing.{Flagged}
+use Rattle.finishing.specs.Stored.{Ends}
 use Rattle.shell.specs.declared.Answer as code
-use Rattle.shell.specs.Shell.{answerOf, refused18, Left}
+use Rattle.shell.specs.Shell.{answerOf, refused18, Ready, Left}
 use Rattle.calls.specs.Begin.{few-symbols, symbols-count, rows-count, entries-count, variables-count, constraints-count, edits-count}
 
 -- ---- what a call's steps ensure, f being the steps' call
@@ -43,11 +44,15 @@ Done f r t u = (answerOf r ≡ f (read t) .answer) × (Then (eqb (r .number) 0) 
 abbrev pub DoneIf : Bool → (State → Result) → code.Answer → Tables → Tables → Type 0
 DoneIf ok f r t u = (answerOf r ≡ cond ok (f (read t) .answer) refused18) × (Then (ok && eqb (r .number) 0) (read u ≡ f (read t) .state)) × (Then (ok && eqb (r .number) 0) (Left u))
 
-pub if-not : (f : State → Result) (r : code.Answer) (t u : Tables) {ok : Bool} → ok ≡ false → answerOf r ≡ refused18 → DoneIf ok f r t u
-if-not f r t u e h = rw e (h, tt, tt)
+pub if-not : (f : State → Result) (r : code.Answer) (t u : Tables) (ok : Bool) → ok ≡ false → answerOf r ≡ refused18 → DoneIf ok f r t u
+if-not f r t u ok e h = rw e (h, tt, tt)
 
-pub if-done : (f : State → Result) (r : code.Answer) (t u : Tables) {ok : Bool} → ok ≡ true → Done f r t u → DoneIf ok f r t u
-if-done f r t u e h = rw e h
+pub if-done : (f : State → Result) (r : code.Answer) (t u : Tables) (ok : Bool) → ok ≡ true → Done f r t u → DoneIf ok f r t u
+if-done f r t u ok e h = rw e h
+
+-- the room may be worked on where the flag is set
+pub ready-if : (t : Tables) (ok : Bool) → ok ≡ true → Then ok (Ready t) → Ready t
+ready-if t ok e h = then-given (Ready t) e h
 
 -- ---- refused by a test: the stored mark is answered
 
@@ -167,3 +172,12 @@ module _ (f : State → Result) (t v : Tables) (a : code.Answer) (e : Ended) (u 
       let r : f (read t) ≡ concludeAdd (read t) (cond (eqb (e .number) 0) (going (record { work = workOf false (markOf (e .wrote)) (e .pivots) u; tag = tag })) (refused (e .number) (e .pivots) (markOf (e .wrote)))) next = q ∙ ap (λ (y : Outcome Added). concludeAdd (read t) y next) (sym p) in
       let d = settled (next (record { work = workOf false (markOf (e .wrote)) (e .pivots) u; tag = tag })) (eqb (e .number) 0) refl (λ z. ap (λ (y : Result). y .state) r ∙ x .1 z) h in
       (same ∙ x .0 ∙ sym (ap (λ (y : Result). y .answer) r), d .0, d .1)
+
+  pub done-refused : (o : Outcome Work) (next : Work → State) → f (read t) ≡ conclude (read t) o next → outcomeOf false e u ≡ o → (e .number ≡ 0 → ⊥) → Done f a t v
+  done-refused o next q p h = done-ended o next q p (rw (ne-eqb (e .number) 0 h) tt)
+
+  pub done-accepted : (o : Outcome Work) (cs : List Constraint) (es : List Edit) → f (read t) ≡ conclude (read t) o (λ w. finish w cs es) → outcomeOf false e u ≡ o → e .number ≡ 0
+      → {ds : List Constraint} {gs : List Edit} → Ends (e .wrote) u ds gs v → ds ≡ cs → gs ≡ es → Done f a t v
+  done-accepted o cs es q p h k i j =
+      done-ended o (λ w. finish w cs es) q p
+      (rw (eq-eqb (e .number) 0 h) (k .0 ∙ rw (i, j) (sym (finish-any (markOf (e .wrote)) (e .pivots) u cs es)), k .1))

@@ -6,3 +6,4 @@ pub mod Numbers
 pub mod Whole
 pub mod Stub
 pub mod Suggesting
+pub mod Removing

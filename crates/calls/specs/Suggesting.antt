@@ -9,7 +9,7 @@ use native.Mathlib.Omega.{arith}
 use lib.Dec.{eqb}
 use lib.ListN.{length, getD, set}
 use lib.Ieee.{Float}
-use borrow.Author.Tests.{eq-eqb, ne-eqb}
+use borrow.Author.Tests.{eq-eqb}
 use Rattle.laws.specs.Given.{Then, then-given}
 use Rattle.steps.specs.Number.{isFinite}
 use Rattle.steps.specs.State.{Constraint, Edit, State}
@@ -37,7 +37,7 @@ use Rattle.finishing.specs.Stored.{Ends}
 use Rattle.shell.specs.declared.Answer as code
 use Rattle.shell.specs.Shell.{answerOf, Ready}
 use Rattle.calls.specs.Begin.{storedMark, begin-is, reads-at-start, edits-count}
-use Rattle.calls.specs.Concluding.{Done, byTest, done-by-test, answered, finish-any, done-ended}
+use Rattle.calls.specs.Concluding.{Done, byTest, done-by-test, answered, done-refused, done-accepted}
 use Rattle.calls.specs.Edits.{up-ascending, edit-at, edit-counts, edit-same, editPlace, edit-placed, live-edit-found, edit-number}
 use Rattle.calls.specs.Stub.{editBy}
 
@@ -103,34 +103,30 @@ module _ (x budget : ℕ) (new : Float) (t : Tables) (ready : Ready t) (finite :
   again = suggest-reads x new budget (read t) (ready .3)
 
   module _ (before : Wrote) (begun : markOf before ≡ storedMark (t .head)) (k : ℕ) (placed : k ≡ j) (edit : EditRecord) (stood : edit ≡ editRecordAt (editsAt + k) (t .names) (t .reals)) (e : Ended) (u : Tables)
-      (ends : outcomeOf false e u ≡ suggestSteps budget (editBy edit) new (workOf false (markOf before) 0 t)) (a : code.Answer) (says : answerOf a ≡ answered e) where
+      (ends : outcomeOf false e u ≡ suggestSteps budget (editBy edit) new (workOf false (markOf before) 0 t)) where
     taken : edit ≡ kept
     taken = stood ∙ ap (λ (i : ℕ). editRecordAt (editsAt + i) (t .names) (t .reals)) placed
 
     outcome : outcomeOf false e u ≡ suggestSteps budget stored new (begin (read t))
     outcome = ends ∙ ap (λ (r : EditRecord). suggestSteps budget (editBy r) new (workOf false (markOf before) 0 t)) taken ∙ sym (steps-are before begun)
 
-    pub suggest-refused : (e .number ≡ 0 → ⊥) → (v : Tables) → Done (suggest x new budget) a t v
-    suggest-refused n v =
-        done-ended (suggest x new budget) t v a e u says again (suggestSteps budget stored new (begin (read t))) (λ w. finish w (constraintsOf t) (keepEdit next (dropEdit x (editsOf t)))) call-is outcome
-        (rw (ne-eqb (e .number) 0 n) tt)
+    went : Goes false e t u → e .number ≡ 0 → (Standing false (markOf (e .wrote)) u) × (Beside t u)
+    went goes on = then-given _ (eq-eqb (e .number) 0 on) goes
 
-    module _ (goes : Goes false e t u) (yes : e .number ≡ 0) where
-      went : (Standing false (markOf (e .wrote)) u) × (Beside t u)
-      went = then-given _ (eq-eqb (e .number) 0 yes) goes
+    -- for the call that puts the record
+    pub suggest-stands : Goes false e t u → e .number ≡ 0 → (Standing false (markOf (e .wrote)) u) × (k < editCount (u .head))
+    suggest-stands goes on = (went goes on .0, rw (placed, edit-counts t u (went goes on .1 .edits)) in-range)
 
-      -- for the call that puts the record
-      pub suggest-stands : (Standing false (markOf (e .wrote)) u) × (k < editCount (u .head))
-      suggest-stands = (went .0, rw (placed, edit-counts t u (went .1 .edits)) in-range)
+    module _ (a : code.Answer) (says : answerOf a ≡ answered e) where
+      pub suggest-refused : (e .number ≡ 0 → ⊥) → (v : Tables) → Done (suggest x new budget) a t v
+      suggest-refused n v =
+          done-refused (suggest x new budget) t v a e u says again (suggestSteps budget stored new (begin (read t))) (λ w. finish w (constraintsOf t) (keepEdit next (dropEdit x (editsOf t)))) call-is outcome n
 
-      pub suggest-accepted : (r : EditRecord) (v : Tables) → r ≡ withSuggestion new edit
+      pub suggest-accepted : Goes false e t u → e .number ≡ 0 → (r : EditRecord) (v : Tables) → r ≡ withSuggestion new edit
           → Ends (e .wrote) u (constraintsOf u) (set (editsOf u) k (withRecord r (editOf (getD (u .names) (editsAt + k) []) (getD (u .reals) (editsAt + k) [])))) v
           → Done (suggest x new budget) a t v
-      suggest-accepted r v p h =
-          let b = went .1 in
+      suggest-accepted goes on r v p h =
+          let b = went goes on .1 in
           let q : set (editsOf u) k (withRecord r (editOf (getD (u .names) (editsAt + k) []) (getD (u .reals) (editsAt + k) []))) ≡ keepEdit next (dropEdit x (editsOf t)) =
           rw (placed, put-is r (editOf (getD (u .names) (editsAt + j) []) (getD (u .reals) (editsAt + j) [])) (p ∙ ap (withSuggestion new) taken) (edit-same t u (b .edits) j in-range), b .edits) (sym in-place) in
-          let z : read v ≡ finish (workOf false (markOf (e .wrote)) (e .pivots) u) (constraintsOf t) (keepEdit next (dropEdit x (editsOf t))) =
-          h .0 ∙ rw (b .constraints, q) (sym (finish-any (markOf (e .wrote)) (e .pivots) u (constraintsOf t) (keepEdit next (dropEdit x (editsOf t))))) in
-          done-ended (suggest x new budget) t v a e u says again (suggestSteps budget stored new (begin (read t))) (λ w. finish w (constraintsOf t) (keepEdit next (dropEdit x (editsOf t)))) call-is outcome
-          (rw (eq-eqb (e .number) 0 yes) (z, h .1))
+          done-accepted (suggest x new budget) t v a e u says again (suggestSteps budget stored new (begin (read t))) (constraintsOf t) (keepEdit next (dropEdit x (editsOf t))) call-is outcome on h (b .constraints) q

@@ -1,8 +1,13 @@
 // Stand-ins for the steps.
 ghost use mathlib.Core.Path.{_≡_};
 ghost use mathlib.Core.Bool.{false};
+ghost use Rattle.laws.specs.Lists.{listOf};
 ghost use Rattle.steps.specs.Edit.{suggestSteps};
-ghost use Rattle.layout.specs.Layout.{tables};
+ghost use Rattle.steps.specs.Remove.{removeSteps};
+ghost use Rattle.keeps.specs.Along.{Mem};
+ghost use Rattle.choose.specs.Reading.{symbolsIn};
+ghost use Rattle.dragging.specs.DragRead.{tagFrom};
+ghost use Rattle.layout.specs.Layout.{tables, symbolOf, termCount, termOf};
 ghost use Rattle.rows.specs.Marks.{markOf};
 ghost use Rattle.tableau.specs.Working.{workOf};
 ghost use Rattle.standing.specs.Standing.{Standing};
@@ -24,6 +29,31 @@ pub fn suggest_steps(
 ) -> Ended
     requires { ⌜ Standing false (markOf before) (tables (now head) (now names) (now reals) (now rows)) ⌝ }
     ensures { λ r. ⌜ outcomeOf false r (tables (now (head .exit)) (now (names .exit)) (now (reals .exit)) (now (rows .exit))) ≡ suggestSteps budget (editBy edit) new (workOf false (markOf before) 0 (tables (now (head .entry)) (now (names .entry)) (now (reals .entry)) (now (rows .entry)))) ⌝ }
+    ensures { λ r. ⌜ Goes false r (tables (now (head .entry)) (now (names .entry)) (now (reals .entry)) (now (rows .entry))) (tables (now (head .exit)) (now (names .exit)) (now (reals .exit)) (now (rows .exit))) ⌝ }
+{
+    Ended {
+        number: 13,
+        pivots: 0,
+        wrote: before,
+    }
+}
+
+pub fn remove_steps(
+    head: &mut [u64],
+    names: &mut [[u64; 20]],
+    reals: &mut [[f64; 17]],
+    rows: &mut [[f64; 130]],
+    item: &[u64; 20],
+    real: &[f64; 17],
+    marker: u64,
+    other: u64,
+    strength: f64,
+    budget: u32,
+    before: Wrote,
+) -> Ended
+    requires { ⌜ Standing false (markOf before) (tables (now head) (now names) (now reals) (now rows)) ⌝ }
+    requires { ⌜ Mem (symbolOf marker) (symbolsIn (now head)) ⌝ }
+    ensures { λ r. ⌜ outcomeOf false r (tables (now (head .exit)) (now (names .exit)) (now (reals .exit)) (now (rows .exit))) ≡ removeSteps budget (tagFrom marker other) strength (listOf (termCount (now (item .entry))) (termOf (now (item .entry)) (now (real .entry)))) (workOf false (markOf before) 0 (tables (now (head .entry)) (now (names .entry)) (now (reals .entry)) (now (rows .entry)))) ⌝ }
     ensures { λ r. ⌜ Goes false r (tables (now (head .entry)) (now (names .entry)) (now (reals .entry)) (now (rows .entry))) (tables (now (head .exit)) (now (names .exit)) (now (reals .exit)) (now (rows .exit))) ⌝ }
 {
     Ended {
