@@ -1,24 +1,26 @@
 -- The start of a call: a room that reads as a state is one on which the steps may work.
 -- Assumes nothing.
-use Prim.Native.Nat.{ℕ, _+_, _*_, _≤_, _<_}
+use Prim.Native.Nat.{ℕ, suc, _+_, _*_, _≤_, _<_}
 use mathlib.Core.Path.{_≡_, refl, sym, ap, _∙_, subst}
 use mathlib.Core.Logic.{inl}
-use mathlib.Core.Bool.{Bool, true, false}
+use mathlib.Core.Bool.{Bool, true, false, cond}
 use mathlib.Core.List.{List, [], _∷_, _++_, map}
 use mathlib.Core.Option.{Option, none, some}
 use native.Mathlib.Omega.{arith}
 use lib.Dec.{eqb}
 use lib.ListN.{length, length-append, length-map}
 use lib.Ieee.{Float}
-use Rattle.steps.specs.Number.{Mark, wholeIf, isFinite}
+use Rattle.steps.specs.Number.{one64, Mark, wholeIf, isFinite}
 use Rattle.steps.specs.Symbol.{Symbol}
 use Rattle.steps.specs.State.{Term, Tag, Variable, Constraint, Edit, State}
 use Rattle.steps.specs.Work.{Work}
+use Rattle.steps.specs.Edit.{editTerms}
 use Rattle.steps.specs.Tests.{findConstraint, findEdit}
 use Rattle.steps.specs.Calls.{begin}
-use Rattle.steps.specs.Readable.{concat, code, tagSymbols, tags, owned}
+use Rattle.steps.specs.Readable.{concat, code, tagSymbols, tags, owned, usesIn}
 use Rattle.laws.specs.Lists.{listOf, length-tab}
-use Rattle.keeps.specs.Lists.{times, member-in, member-out, distinct-out}
+use Rattle.keeps.specs.Lists.{All, total, times, member-in, member-out, distinct-out}
+use Rattle.keeps.specs.Uses.{usesOf}
 use Rattle.keeps.specs.Keys.{drop-total, findConstraint-is, findEdit-is}
 use Rattle.keeps.specs.Along.{ids, Mem}
 use Rattle.keeps.specs.Codes.{codes, codes-mem, mem-codes, codes-once}
@@ -79,6 +81,30 @@ few-symbols s r =
       no-more (codes (s .tableau .symbols)) (owned s) (distinct-out (codes (s .tableau .symbols)) (λ n. codes-once 1 n (s .tableau .symbols) (r .fits .up)))
           (λ n h. member-out n (owned s) (rw (owned-total n s, r .owns n) (member-in n (codes (s .tableau .symbols)) h))),
     )
+
+-- ---- how often a variable is used: once in each term, each constraint and edit counted
+
+uses-few : (n : ℕ) (ts : List Term) → usesIn n ts ≤ length ts
+unfolding usesIn
+uses-few n [] = omega arith
+uses-few n (t ∷ ts) = go (eqb n (t .variable)) (uses-few n ts)
+  where
+    go : (b : Bool) → usesIn n ts ≤ length ts → cond b 1 0 + usesIn n ts ≤ suc (length ts)
+    go true h = omega arith
+    go false h = omega arith
+
+terms-few : (n : ℕ) (cs : List Constraint) → All (λ (c : Constraint). length (c .terms) ≤ 16) cs → total (λ (c : Constraint). usesIn n (c .terms)) cs ≤ 16 * length cs
+unfolding total
+terms-few n [] h = omega arith
+terms-few n (c ∷ cs) h = omega (arith, uses-few n (c .terms), h .0, terms-few n cs (h .1))
+
+edits-few : (n : ℕ) (es : List Edit) → total (λ (e : Edit). usesIn n (editTerms (e .variable))) es ≤ length es
+unfolding total editTerms
+edits-few n [] = omega arith
+edits-few n (e ∷ es) = omega (arith, uses-few n (record { variable = e .variable; coefficient = one64 } ∷ []), edits-few n es)
+
+pub uses-spare : (s : State) → Reads s → (n : ℕ) → usesOf n (s .changes .variables) ≤ 4_294_900_000
+uses-spare s r n = omega (arith, r .uses n, terms-few n (s .constraints) (r .few-terms), edits-few n (s .edits), r .few-tags)
 
 -- ---- the lengths of what is read are the counts
 
@@ -180,6 +206,10 @@ module _ (t : Tables) (ready : Ready t) where
         few-symbols = omega (arith, symbols-at-start);
         few-ids = numbers;
       }
+
+  pub spare-at-start : (n : ℕ) → usesOf n (variablesOf t) ≤ 4_294_900_000
+  unfolding read
+  spare-at-start = uses-spare (read t) reads-at-start
 
 -- ---- a stored marker is live
 

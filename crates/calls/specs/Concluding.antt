@@ -181,3 +181,16 @@ module _ (f : State → Result) (t v : Tables) (a : code.Answer) (e : Ended) (u 
   done-accepted o cs es q p h k i j =
       done-ended o (λ w. finish w cs es) q p
       (rw (eq-eqb (e .number) 0 h) (k .0 ∙ rw (i, j) (sym (finish-any (markOf (e .wrote)) (e .pivots) u cs es)), k .1))
+
+  pub added-refused : (tag : Tag) (o : Outcome Added) (next : Added → State) → f (read t) ≡ concludeAdd (read t) o next
+      → cond (eqb (e .number) 0) (going (record { work = workOf false (markOf (e .wrote)) (e .pivots) u; tag = tag })) (refused (e .number) (e .pivots) (markOf (e .wrote))) ≡ o
+      → (e .number ≡ 0 → ⊥) → Done f a t v
+  added-refused tag o next q p h = done-added tag o next q p (rw (ne-eqb (e .number) 0 h) tt)
+
+  -- the constraints and edits that are stored know of the tag
+  pub added-accepted : (tag : Tag) (o : Outcome Added) (cs : Tag → List Constraint) (es : Tag → List Edit) → f (read t) ≡ concludeAdd (read t) o (λ x. finish (x .work) (cs (x .tag)) (es (x .tag)))
+      → cond (eqb (e .number) 0) (going (record { work = workOf false (markOf (e .wrote)) (e .pivots) u; tag = tag })) (refused (e .number) (e .pivots) (markOf (e .wrote))) ≡ o
+      → e .number ≡ 0 → {ds : List Constraint} {gs : List Edit} → Ends (e .wrote) u ds gs v → ds ≡ cs tag → gs ≡ es tag → Done f a t v
+  added-accepted tag o cs es q p h k i j =
+      done-added tag o (λ x. finish (x .work) (cs (x .tag)) (es (x .tag))) q p
+      (rw (eq-eqb (e .number) 0 h) (k .0 ∙ rw (i, j) (sym (finish-any (markOf (e .wrote)) (e .pivots) u (cs tag) (es tag))), k .1))

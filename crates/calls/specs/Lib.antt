@@ -7,3 +7,4 @@ pub mod Whole
 pub mod Stub
 pub mod Suggesting
 pub mod Removing
+pub mod Adding
