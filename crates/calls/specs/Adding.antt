@@ -8,7 +8,7 @@ use mathlib.Core.Option.{Option, none, some}
 use native.Mathlib.Omega.{arith}
 use lib.Dec.{eqb}
 use lib.ListN.{length, getD, set, replicate}
-use lib.Ieee.{Float, ofBits}
+use lib.Ieee.{Float}
 use borrow.Author.Tests.{eq-eqb}
 use Rattle.laws.specs.Given.{then-given}
 use Rattle.laws.specs.Lists.{listOf}
@@ -21,6 +21,7 @@ use Rattle.steps.specs.Add.{Added, addSteps}
 use Rattle.steps.specs.Edit.{editTerms, addEditSteps}
 use Rattle.steps.specs.Tests.{firstRefusal, addEditTests, keptTerms, newVariables, keepEdit}
 use Rattle.steps.specs.Calls.{Answer, Result, begin, finish, refusedBy, concludeAdd, addEdit}
+use Rattle.keeps.specs.Cells.{zero-finite}
 use Rattle.keeps.specs.Keeps.{addEdit-reads}
 use Rattle.layout.specs.Layout.{Tables, nextIdOf, variableCount, constraintCount, editCount, termCount, termOf, editOf, tagOf, variablesOf, constraintsOf, editsOf, read}
 use Rattle.layout.specs.Rooms.{Wide}
@@ -34,6 +35,8 @@ use Rattle.standing.specs.Opening.{Opening, newIn}
 use Rattle.terms.specs.declared.Pack.{Pack}
 use Rattle.terms.specs.Terms.{keptOf, termsOf}
 use Rattle.terms.specs.Kept.{most-le, terms-length, kept-terms}
+use Rattle.creating.specs.declared.tag.Relation.the-variants.{Equal}
+use Rattle.creating.specs.Tags.{relationOf}
 use Rattle.dragging.specs.DragRead.{tagFrom}
 use Rattle.tests.specs.Refusals as refusals
 use Rattle.tests.specs.Refusals.{editPack, addEditRefusal}
@@ -55,7 +58,7 @@ pack-opens t ready wide p constant finite room =
     let new : newIn (termsOf p) t ≡ refusals.newIn (t .names) (variableCount (t .head)) (keptOf p) = ap (λ (l : List steps.Term). length (newVariables (variablesOf t) [] l)) (sym (kept-terms p)) ∙ new-is t (keptOf p) in
     opening-at-start t ready wide (termsOf p) constant finite (omega (arith, terms-length p, most-le (p .count))) (room .0) (rw new (room .1)) (room .2)
 
-went : (e : Ended) (t u : Tables) → Goes false e t u → e .number ≡ 0 → (Standing false (markOf (e .wrote)) u) × (Beside t u)
+pub went : (e : Ended) (t u : Tables) → Goes false e t u → e .number ≡ 0 → (Standing false (markOf (e .wrote)) u) × (Beside t u)
 went e t u goes on = then-given _ (eq-eqb (e .number) 0 on) goes
 
 -- ---- the record of a new edit
@@ -84,10 +87,6 @@ add-edit-by-test x budget strength t u a {k} q h says =
 
 -- ---- the tests passed
 
-finite-zero : isFinite zero64 ≡ true
-unfolding isFinite zero64 ofBits
-finite-zero = refl
-
 edit-passed : (x budget : ℕ) (strength : Float) (s : State) → firstRefusal (addEditTests x (clip strength) s) ≡ none
     → addEdit x strength budget s
     ≡ concludeAdd s (addSteps budget (editTerms x) zero64 (equal (clip strength)) (begin s)) (λ a. finish (a .work) (s .constraints) (keepEdit (record { variable = x; strength = clip strength; tag = a .tag; suggestion = zero64 }) (s .edits)))
@@ -103,7 +102,7 @@ module _ (x budget : ℕ) (strength : Float) (t : Tables) (ready : Ready t) (pas
   room = add-edit-passed x (clip strength) (t .head) (t .names) passes .2
 
   pub edit-opens : Wide t → Opening (markOf before) (listOf (termCount item) (termOf item real)) zero64 t
-  edit-opens wide = rw (begun, terms-are, ← edit-terms x) (pack-opens t ready wide (editPack x) zero64 finite-zero room)
+  edit-opens wide = rw (begun, terms-are, ← edit-terms x) (pack-opens t ready wide (editPack x) zero64 zero-finite room)
 
   abbrev stored : Tag → List Edit
   stored tag = keepEdit (record { variable = x; strength = clip strength; tag = tag; suggestion = zero64 }) (editsOf t)
@@ -114,9 +113,10 @@ module _ (x budget : ℕ) (strength : Float) (t : Tables) (ready : Ready t) (pas
 
   module _ (e : Ended) (marker other : ℕ) (u : Tables) (clipped : Float) (held : clipped ≡ clip strength)
       (ends : cond (eqb (e .number) 0) (going (record { work = workOf false (markOf (e .wrote)) (e .pivots) u; tag = tagFrom marker other })) (refused (e .number) (e .pivots) (markOf (e .wrote)))
-      ≡ addSteps budget (listOf (termCount item) (termOf item real)) zero64 (equal clipped) (workOf false (markOf before) 0 t)) where
+      ≡ addSteps budget (listOf (termCount item) (termOf item real)) zero64 (relationOf (Equal clipped)) (workOf false (markOf before) 0 t)) where
     outcome : cond (eqb (e .number) 0) (going (record { work = workOf false (markOf (e .wrote)) (e .pivots) u; tag = tagFrom marker other })) (refused (e .number) (e .pivots) (markOf (e .wrote)))
         ≡ addSteps budget (editTerms x) zero64 (equal (clip strength)) (begin (read t))
+    unfolding relationOf
     outcome = ends ∙ rw (terms-are, held, begun, ← begin-is t) refl
 
     -- for the call that keeps the record

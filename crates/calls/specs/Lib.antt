@@ -7,4 +7,7 @@ pub mod Whole
 pub mod Stub
 pub mod Suggesting
 pub mod Removing
+pub mod Leaving
 pub mod Adding
+pub mod Packing
+pub mod AddingIn
