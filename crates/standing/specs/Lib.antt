@@ -3,3 +3,4 @@ pub mod Standing
 pub mod Ending
 pub mod Opening
 pub mod Places
+pub mod Kept
