@@ -4,3 +4,5 @@ pub mod Ending
 pub mod Opening
 pub mod Places
 pub mod Kept
+pub mod Entered
+pub mod Pivoted
