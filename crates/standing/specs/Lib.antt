@@ -6,3 +6,4 @@ pub mod Places
 pub mod Kept
 pub mod Entered
 pub mod Pivoted
+pub mod Changed
