@@ -7,3 +7,4 @@ pub mod Kept
 pub mod Entered
 pub mod Pivoted
 pub mod Changed
+pub mod Purged
