@@ -3,6 +3,7 @@ pub mod Tags
 pub mod Terms
 pub mod Parts
 pub mod Create
+pub mod Created
 pub mod Read
 pub mod Errors
 pub mod Opens
