@@ -13,3 +13,5 @@ pub mod NewRead
 pub mod CloseRead
 pub mod StartRead
 pub mod Turns
+pub mod Leaves
+pub mod Left
