@@ -15,3 +15,5 @@ pub mod StartRead
 pub mod Turns
 pub mod Leaves
 pub mod Left
+pub mod Stands
+pub mod Live
