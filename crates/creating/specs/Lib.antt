@@ -17,3 +17,4 @@ pub mod Leaves
 pub mod Left
 pub mod Stands
 pub mod Live
+pub mod TermRead
