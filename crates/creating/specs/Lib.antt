@@ -18,3 +18,4 @@ pub mod Left
 pub mod Stands
 pub mod Live
 pub mod TermRead
+pub mod LoopRead

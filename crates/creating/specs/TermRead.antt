@@ -90,7 +90,7 @@ module _ (a₀ : Mark) (t : Tables) (s : Standing false a₀ t) (held : Held (en
     unfolding readFrame workIn read symbolsOf symbolsIn
     symbols-of = refl
 
-    variables-of : readDesk 0 d a .work .changes .variables ≡ tab (λ i. variableOf (getD (d .names) i []) (getD (d .reals) i [])) 0 (getD h 4 0)
+    pub variables-of : readDesk 0 d a .work .changes .variables ≡ tab (λ i. variableOf (getD (d .names) i []) (getD (d .reals) i [])) 0 (getD h 4 0)
     unfolding readFrame workIn read variablesOf listOf
     variables-of = refl
 
@@ -124,13 +124,13 @@ module _ (a₀ : Mark) (t : Tables) (s : Standing false a₀ t) (held : Held (en
       unfolding readFrame workIn
       found-is = variable-found h (d .names) (d .reals) (d .rows) n
 
+      pub new-found : numberAt 0 (getD h 4 0) n (d .names) ≡ Nothing → findVariable n (start .work .changes .variables) ≡ none
+      new-found e = rw (found-is, e) refl
+
       pub known-stage : Room → Knows (knownIn n d)
       unfolding knownIn
       known-stage room = by (numberAt 0 (getD h 4 0) n (d .names)) refl
         where
-          is-new : numberAt 0 (getD h 4 0) n (d .names) ≡ Nothing → findVariable n (start .work .changes .variables) ≡ none
-          is-new e = rw (found-is, e) refl
-
           new : numberAt 0 (getD h 4 0) n (d .names) ≡ Nothing → Knows (newVariableIn n d)
           new e =
               let r = room e in
@@ -139,11 +139,11 @@ module _ (a₀ : Mark) (t : Tables) (s : Standing false a₀ t) (held : Held (en
               record {
                 stage = record {
                   left = new-left t b d (g .left) n (omega (arith, r .1)) (r .2);
-                  built = rw q (addVariable-built K U N n start (live-none n (start .work .changes .variables) (is-new e)) (g .built));
+                  built = rw q (addVariable-built K U N n start (live-none n (start .work .changes .variables) (new-found e)) (g .built));
                   few-symbols = omega (arith, r .1, c .1);
                   few-variables = omega (arith, r .2, c .2);
                 };
-                reads = rw (is-new e) q;
+                reads = rw (new-found e) q;
                 ids = omega (arith, c .0);
                 grown = omega (arith, c .1, c .2);
               }
