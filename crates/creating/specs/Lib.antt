@@ -19,3 +19,4 @@ pub mod Stands
 pub mod Live
 pub mod TermRead
 pub mod LoopRead
+pub mod CreateRead
