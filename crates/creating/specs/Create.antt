@@ -1,6 +1,6 @@
 -- Steps 1 to 3 over the tables' places: the row of a constraint as it is added, with its tag and the mark of what was written.
 use Prim.Native.Nat.{ℕ, _+_, _≤_, _<_}
-use mathlib.Core.Path.{_≡_, refl, sym, ap, _∙_}
+use mathlib.Core.Path.{_≡_, refl}
 use mathlib.Core.Bool.{Bool, true, false, cond}
 use mathlib.Core.List.{List}
 use native.Mathlib.Omega.{arith}
@@ -12,7 +12,7 @@ use Rattle.steps.specs.State.{Relation, atMost, equal, atLeast}
 use Rattle.laws.specs.Loops.{mapIn}
 use Rattle.rows.specs.Marks.{markOf}
 use Rattle.rows.specs.Table.{reverseSignIn}
-use Rattle.moves.specs.Moves.{board, appendedHead}
+use Rattle.moves.specs.Moves.{board}
 use Rattle.moves.specs.Counts.{appended-length, appended-symbols}
 use Rattle.creating.specs.declared.tag.Tagged.{Tagged}
 use Rattle.creating.specs.Tags.{Frame, frame, appendIn, insertAtPlace, addSymbolIn, insertInObjectiveAt, addErrorIn, Tags, tags, nextCode, secondCode, inequalityIn, softEqualityIn, requiredEqualityIn, equalityIn, addTagIn}

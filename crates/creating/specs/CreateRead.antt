@@ -1,14 +1,14 @@
 -- The row of a new constraint, over tables on which one may be added, reads as the steps' `createRow`; and the tables stand after it.
 -- Assumes nothing.
-use Prim.Native.Nat.{ℕ, _+_, _≤_, _<_}
+use Prim.Native.Nat.{ℕ, _+_, _≤_}
 use mathlib.Core.Path.{_≡_, refl, sym, ap, _∙_, subst}
 use mathlib.Core.Bool.{false}
 use mathlib.Core.List.{List, [], map}
 use native.Mathlib.Omega.{arith}
-use lib.ListN.{length, getD, set, length-set}
+use lib.ListN.{length, getD, length-set}
 use lib.Ieee.{Float}
 use Rattle.steps.specs.Number.{zero64, Mark}
-use Rattle.steps.specs.State.{Term, Relation}
+use Rattle.steps.specs.State.{Relation}
 use Rattle.steps.specs.Work.{Work}
 use Rattle.steps.specs.CreateRow.{Building, Created, insertTerms, addTag, createRow}
 use Rattle.laws.specs.Loops.{mapIn}
@@ -27,7 +27,7 @@ use Rattle.moves.specs.Room.{Held}
 use Rattle.tableau.specs.Working.{workOf}
 use Rattle.standing.specs.Standing.{Standing, Beside}
 use Rattle.standing.specs.Opening.{newIn, Opening}
-use Rattle.creating.specs.Tags.{Frame, frame, Tags}
+use Rattle.creating.specs.Tags.{Frame, frame}
 use Rattle.creating.specs.Terms.{Desk, desk, Build, build, Roomy, insertTermsIn}
 use Rattle.creating.specs.Create.{startedRow, closedRow, Made, createRowIn}
 use Rattle.creating.specs.Created.{termsIn, tagBy, Spare}
@@ -35,11 +35,10 @@ use Rattle.creating.specs.Read.{workIn, readFrame}
 use Rattle.creating.specs.StartRead.{started-read, turned, close-read}
 use Rattle.creating.specs.TagsRead.{readTags}
 use Rattle.creating.specs.NewRead.{readDesk}
-use Rattle.creating.specs.Leaves.{HeadLeft, ItemsLeft, RowsLeft}
 use Rattle.creating.specs.Left.{Leaves, FrameLeft, closed-left}
 use Rattle.creating.specs.Stands.{tablesOf, held-left, stands-left, beside-left}
 use Rattle.creating.specs.Live.{uses-spare}
-use Rattle.creating.specs.TermRead.{Stage, stage-open}
+use Rattle.creating.specs.TermRead.{stage-open}
 use Rattle.creating.specs.LoopRead.{Going, readBuild, terms-read}
 
 -- what was made, read as the steps' Created

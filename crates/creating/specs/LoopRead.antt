@@ -1,7 +1,7 @@
 -- All terms over tables that stand read as the steps' `insertTerms`: there is room for each new variable.
 -- Assumes nothing.
 use Prim.Native.Nat.{ℕ, zero, suc, _+_, _-_, _≤_, _<_}
-use mathlib.Core.Path.{_≡_, refl, sym, ap, _∙_, subst}
+use mathlib.Core.Path.{_≡_, refl, ap, _∙_, subst}
 use mathlib.Core.Bool.{Bool, true, false, cond}
 use mathlib.Core.List.{List, [], _∷_}
 use mathlib.Core.Option.{Option, none, some}
@@ -17,13 +17,11 @@ use Rattle.laws.specs.Loops.{turns, run}
 use Rattle.laws.specs.Lists.{tab, listOf, length-tab}
 use Rattle.keeps.specs.Along.{ids}
 use Rattle.keeps.specs.Terms.{insertTerms-length}
-use Rattle.layout.specs.Layout.{Tables, termOf, termCount, variableOf}
-use Rattle.choose.specs.declared.Found.the-variants.{Nothing}
+use Rattle.layout.specs.Layout.{Tables, termOf, termCount}
 use Rattle.choose.specs.Reading.{symbolsIn, entriesIn}
 use Rattle.moves.specs.Room.{Held}
 use Rattle.standing.specs.Standing.{Standing}
-use Rattle.records.specs.Records.{numberAt}
-use Rattle.creating.specs.Terms.{Desk, Build, build, insertTermIn, insertKeptIn, insertTermsIn}
+use Rattle.creating.specs.Terms.{Build, insertTermIn, insertKeptIn, insertTermsIn}
 use Rattle.creating.specs.NewRead.{readDesk}
 use Rattle.creating.specs.Created.{termsIn}
 use Rattle.creating.specs.TermRead.{Stage, Room, new-found, variables-of, term-read, term-stage, term-ids, term-grown}

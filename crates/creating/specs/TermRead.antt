@@ -1,15 +1,15 @@
 -- One term over tables that stand reads as the steps' `insertTerm`.
 -- Assumes nothing.
 use Prim.Native.Nat.{ℕ, _+_, _-_, _/_, _≤_, _<_}
-use mathlib.Core.Path.{_≡_, refl, sym, ap, _∙_, subst}
-use mathlib.Core.Bool.{Bool, true, false, cond}
+use mathlib.Core.Path.{_≡_, refl, ap, _∙_}
+use mathlib.Core.Bool.{true, false, cond}
 use mathlib.Core.List.{List, []}
 use mathlib.Core.Option.{Option, none, some}
 use native.Mathlib.Nat.{zero-add}
 use native.Mathlib.Omega.{arith}
 use borrow.Author.Tests.{lt-ltb}
 use lib.Dec.{eqb}
-use lib.ListN.{length, getD}
+use lib.ListN.{getD}
 use lib.Seq.{getD-set-other}
 use lib.Ieee.{Float}
 use Rattle.steps.specs.Number.{Mark}
@@ -29,15 +29,14 @@ use Rattle.choose.specs.declared.Found.{Found}
 use Rattle.choose.specs.declared.Found.the-variants.{At, Nothing}
 use Rattle.choose.specs.Choose.{onFound, placeOf}
 use Rattle.choose.specs.Reading.{symbolsIn, entriesIn}
-use Rattle.rows.specs.Place.{PlaceOf}
 use Rattle.moves.specs.Room.{Held}
 use Rattle.tableau.specs.Working.{workOf}
 use Rattle.standing.specs.Standing.{Standing}
 use Rattle.standing.specs.Places.{Lives, lives-found, fits-parts, all-places, place-of-found, code-lives}
 use Rattle.records.specs.Records.{Between, numberAt, moreUses, usedOnce, countedUse}
-use Rattle.records.specs.Uses.{Counted, variable-found}
+use Rattle.records.specs.Uses.{variable-found}
 use Rattle.records.specs.Dropped.{at-between}
-use Rattle.creating.specs.Tags.{Frame, frame}
+use Rattle.creating.specs.Tags.{frame}
 use Rattle.creating.specs.Terms.{Desk, desk, hasRoom, newVariableIn, knownIn, Marked, marked, insertVariableIn, insertKnownIn, Build, build, insertTermIn}
 use Rattle.creating.specs.Read.{workIn, readFrame, Open}
 use Rattle.creating.specs.TermsRead.{insert-variable-read}
