@@ -29,7 +29,7 @@ use Rattle.dragging.specs.Drag.{dragOf}
 use Rattle.dragging.specs.DragRead.{tagFrom, shift-is}
 use Rattle.dragging.specs.Shifting.{shiftRowIn, noteShifts, Shifting, shifting, shiftRowsOf, pushShifts, draggedBy, shiftConstantsIn}
 use Rattle.dragging.specs.ShiftRead.{row, gotten, basic, shiftedAt, rows-tab, written-at, Left, left, Notes, notes-left}
-use Rattle.dragging.specs.PushRead.{Pushed, pushed}
+use Rattle.dragging.specs.PushRead.{Roomy, Pushed, pushed}
 
 module _ (h : List ℕ) (n : List (List ℕ)) (reals w : List (List Float)) (ready : Ready h n w) (d : Drag) where
   abbrev k : ℕ
@@ -125,15 +125,16 @@ module _ (h : List ℕ) (n : List (List ℕ)) (reals w : List (List Float)) (rea
 
   -- ---- with the pushes
 
-  module _ (shift : Basic → Option Float) (given : (i : ℕ) → shift (basic k count code d w i) ≡ gotten k count code d w i) (room : getD h 3 0 + count ≤ 130) where
+  module _ (shift : Basic → Option Float) (given : (i : ℕ) → shift (basic k count code d w i) ≡ gotten k count code d w i) (roomy : Roomy h) where
     abbrev pushes : Mark → List ℕ
     pushes a = pushShifts d count (rows a .rows) g
 
-    pushes-are : (a : Mark) → Pushed k count code d w stand wide (ready .few-rows) shift given (rows a .rows) (moved a) 0 count g (pushes a)
+    pushes-are : (a : Mark) → Pushed k count code d w stand wide (ready .few-rows) shift given (rows a .rows) (moved a) (roomy .seen) (roomy .few) (roomy .basic) 0 count g (pushes a)
     unfolding pushShifts run
     pushes-are a =
-        let l : getD g 3 0 ≡ getD h 3 0 = same 3 (λ e. omega (arith, e)) in
-        rw turns-of (pushed k count code d w stand wide (ready .few-rows) shift given (rows a .rows) (moved a) count 0 g (notes-are .heads .codes) (notes-are .long ∙ ready .head-long) (omega arith) (omega (arith, l, room)))
+        rw turns-of
+        (pushed k count code d w stand wide (ready .few-rows) shift given (rows a .rows) (moved a) (roomy .seen) (roomy .few) (roomy .basic) count 0 g
+        (notes-are .heads .codes) (notes-are .long ∙ ready .head-long) (omega arith) (rw (entries-same g h same) (roomy .held)))
 
     pushed-after : (art : Bool) (a : Mark) (v : ℕ)
         → workOf art (draggedBy d count a (noted h n) w .mark) v (tables (draggedBy d count a (noted h n) w .head) (draggedBy d count a (noted h n) w .names) reals (draggedBy d count a (noted h n) w .rows))
@@ -161,7 +162,7 @@ module _ (h : List ℕ) (n : List (List ℕ)) (reals w : List (List Float)) (rea
 
 -- ---- the theorem
 
-module _ (h : List ℕ) (n : List (List ℕ)) (reals w : List (List Float)) (ready : Ready h n w) (room : getD h 3 0 + getD h 2 0 ≤ 130) (marker other : ℕ) (delta : Float) where
+module _ (h : List ℕ) (n : List (List ℕ)) (reals w : List (List Float)) (ready : Ready h n w) (roomy : Roomy h) (marker other : ℕ) (delta : Float) where
   abbrev drag : Drag
   drag = dragOf marker other delta h
 
@@ -194,11 +195,11 @@ module _ (h : List ℕ) (n : List (List ℕ)) (reals w : List (List Float)) (rea
       ≡ shiftConstants (tagFrom marker other) delta (workOf art a v (tables h n reals w))
   unfolding shiftConstantsIn
   shift-constants-read art a v =
-      pushed-after h n reals w ready drag (by art a v) (by-is art a v) room art a v
+      pushed-after h n reals w ready drag (by art a v) (by-is art a v) roomy art a v
       ∙ ap (λ (l : List Basic). result h n reals w ready drag (pushBelow (rowsOf (shiftRows (by art a v) (shifted (by art a v) l))) (entriesIn h)) art a v) (sym basics-are)
       ∙ sym (ap (shiftConstants (tagFrom marker other) delta) (work-parts art a v h n reals w) ∙ steps-are art a v)
 
   pub ready-dragged : (a : Mark)
       → Ready (shiftConstantsIn marker other delta a (noted h n) w .head) (shiftConstantsIn marker other delta a (noted h n) w .names) (shiftConstantsIn marker other delta a (noted h n) w .rows)
   unfolding shiftConstantsIn
-  ready-dragged a = ready-after h n reals w ready drag (by false a 0) (by-is false a 0) room a
+  ready-dragged a = ready-after h n reals w ready drag (by false a 0) (by-is false a 0) roomy a
