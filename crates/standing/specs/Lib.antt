@@ -2,3 +2,4 @@
 pub mod Standing
 pub mod Ending
 pub mod Opening
+pub mod Places
