@@ -1,8 +1,8 @@
 -- Tables that stand, with a note more, other rows, or a shorter infeasible list: they read as the steps say, and stand.
 -- Assumes nothing.
-use Prim.Native.Nat.{ℕ, suc, _+_, _≤_, _<_}
+use Prim.Native.Nat.{ℕ, _+_, _≤_, _<_}
 use mathlib.Core.Path.{_≡_, refl, sym, ap, _∙_, subst}
-use mathlib.Core.Bool.{Bool, true, false, not, _&&_, _||_, cond}
+use mathlib.Core.Bool.{Bool, true, false, not, _||_, cond}
 use mathlib.Core.List.{List, [], _∷_}
 use native.Mathlib.Omega.{arith}
 use lib.Dec.{eqb}
@@ -23,7 +23,7 @@ use Rattle.laws.specs.Lists.{tab, listOf}
 use Rattle.keeps.specs.Fits.{FitsW}
 use Rattle.layout.specs.Layout.{tables}
 use Rattle.choose.specs.Choose.{isBelowOf}
-use Rattle.choose.specs.Reading.{symbolsIn, basicsIn, entriesIn, tableauIn}
+use Rattle.choose.specs.Reading.{basicsIn, entriesIn, tableauIn}
 use Rattle.moves.specs.Columns.{Wide}
 use Rattle.moves.specs.Moves.{Pruned, pruned, keepIf, pruneTurn, countKept, pruneOf}
 use Rattle.moves.specs.Prune.{pruned-entries, pruned-same}
@@ -33,7 +33,7 @@ use Rattle.tableau.specs.Notes.{Noted, noted, varChangedIf, changed-if-head}
 use Rattle.tableau.specs.NotesKept.{ItemsKept, items-by, items-same, note-kept}
 use Rattle.tableau.specs.Working.{workOf, Ready, symbols-by, symbols-same, entries-same, list-changed}
 use Rattle.tableau.specs.EnterRead.{note-read, ready-noted}
-use Rattle.standing.specs.Standing.{Listed, Standing, Beside}
+use Rattle.standing.specs.Standing.{Standing, Beside}
 use Rattle.standing.specs.Places.{ready-of}
 use Rattle.standing.specs.Kept.{standing-by, beside-by, listed-by, listed-same}
 
