@@ -1,11 +1,10 @@
 -- Tables that stand still do after a suggestion's shift, and read as the steps' shift of what was read.
 -- Assumes nothing.
-use Prim.Native.Nat.{ℕ, _+_, _≤_, _<_}
+use Prim.Native.Nat.{ℕ, _+_}
 use mathlib.Core.Path.{_≡_, subst, sym}
 use mathlib.Core.Bool.{Bool}
 use mathlib.Core.List.{List}
 use native.Mathlib.Omega.{arith}
-use lib.ListN.{getD}
 use lib.Ieee.{Float}
 use Rattle.steps.specs.Number.{Mark}
 use Rattle.steps.specs.Edit.{shiftConstants}
@@ -15,7 +14,7 @@ use Rattle.layout.specs.Layout.{Tables, tables}
 use Rattle.choose.specs.Reading.{symbolsIn}
 use Rattle.tableau.specs.Notes.{noted}
 use Rattle.tableau.specs.Working.{workOf, symbols-by, Ready}
-use Rattle.standing.specs.Standing.{Standing, Listed, Beside}
+use Rattle.standing.specs.Standing.{Standing, Beside}
 use Rattle.standing.specs.Places.{ready-of}
 use Rattle.standing.specs.Kept.{standing-by, beside-by, row-seen, listed-by}
 use Rattle.dragging.specs.DragRead.{tagFrom}

@@ -2,29 +2,31 @@
 -- Assumes nothing.
 use Prim.Native.Nat.{ℕ, _-_}
 use mathlib.Core.Path.{_≡_, refl, sym, ap, _∙_, subst}
-use mathlib.Core.Bool.{Bool, true, false, cond}
-use mathlib.Core.List.{List}
+use mathlib.Core.Bool.{true, false}
+use mathlib.Core.List.{List, []}
 use native.Mathlib.Nat.{sub-zero}
 use lib.Dec.{eqb}
+use lib.ListN.{getD}
 use lib.Ieee.{Float}
-use Rattle.laws.specs.Given.{Then, then-given, then-of}
 use Rattle.steps.specs.Number.{zero64, constantBound, _-₆₄_, Mark, worse, wholeIf}
 use Rattle.steps.specs.State.{Edit}
-use Rattle.steps.specs.Work.{Work, Outcome, refused, going, _>>=_, checkFinite, marking}
+use Rattle.steps.specs.Work.{Work, Outcome, _>>=_, checkFinite, marking}
 use Rattle.steps.specs.Optimise.{dualOptimise}
 use Rattle.steps.specs.Add.{wholeWithin}
 use Rattle.steps.specs.Edit.{shiftConstants, suggestSteps}
-use Rattle.layout.specs.Layout.{Tables, tables}
+use Rattle.layout.specs.Layout.{Tables, tables, editOf}
 use Rattle.rows.specs.declared.number.Wrote.{Wrote}
 use Rattle.rows.specs.Marks.{markOf}
 use Rattle.tableau.specs.Notes.{noted}
 use Rattle.tableau.specs.Working.{workOf}
 use Rattle.standing.specs.declared.Ended.{Ended}
-use Rattle.standing.specs.Standing.{Standing, Beside, beside-then}
+use Rattle.standing.specs.Standing.{Standing, Beside}
 use Rattle.standing.specs.Ending.{outcomeOf, Goes, checkedOf, checked-is}
+use Rattle.standing.specs.Next.{step-goes, step-ends, goes-after}
 use Rattle.standing.specs.Kept.{standing-worse}
 use Rattle.dragging.specs.declared.record.EditRecord.{EditRecord}
 use Rattle.dragging.specs.DragRead.{tagFrom}
+use Rattle.dragging.specs.Record.{editRecordAt, record-read}
 use Rattle.dragging.specs.Shifting.{Dragged, dragged, shiftConstantsIn}
 use Rattle.dragging.specs.Stands.{shift-read, shift-stands, shift-beside}
 
@@ -41,21 +43,12 @@ pub suggest-by : (budget : ℕ) (e : Edit) (r : EditRecord) (new : Float) (w : W
 unfolding suggestSteps
 suggest-by budget e r new w h k = rw (h, k) refl
 
--- ---- a step after one that ended, or that goes on
-
-module _ (art : Bool) (r : Ended) (t : Tables) (f : Work → Outcome Work) where
-  step-ends : eqb (r .number) 0 ≡ false → outcomeOf art r t ≡ (outcomeOf art r t >>= f)
-  unfolding outcomeOf _>>=_
-  step-ends e = rw e refl
-
-  step-goes : eqb (r .number) 0 ≡ true → (outcomeOf art r t >>= f) ≡ f (workOf art (markOf (r .wrote)) (r .pivots) t)
-  unfolding outcomeOf _>>=_
-  step-goes e = rw e refl
-
-goes-after : (art : Bool) (r : Ended) (t u v : Tables) → Beside t u → Goes art r u v → Goes art r t v
-goes-after art r t u v b g =
-    then-of ((Standing art (markOf (r .wrote)) v) × (Beside t v)) (eqb (r .number) 0)
-    (λ e. let q = then-given ((Standing art (markOf (r .wrote)) v) × (Beside u v)) e g in (q .0, beside-then b (q .1)))
+-- the edit stored at a place of the tables, by its record
+pub suggest-stored : (budget at : ℕ) (names : List (List ℕ)) (reals : List (List Float)) (new : Float) (w : Work)
+    → suggestSteps budget (editOf (getD names at []) (getD reals at [])) new w ≡ suggestSteps budget (editBy (editRecordAt at names reals)) new w
+suggest-stored budget at names reals new w =
+    let r = record-read at names reals in
+    suggest-by budget (editOf (getD names at []) (getD reals at [])) (editRecordAt at names reals) new w (r .0) (r .1)
 
 -- ---- the calls put together, over variables
 
@@ -108,7 +101,7 @@ module _ (h : List ℕ) (n : List (List ℕ)) (reals w : List (List Float)) (edi
         ∙ ap (λ (o : Outcome Work). o >>= dualOptimise budget) (checked-is false 0 wrote shifted ∙ ap checkFinite shift-reads)
 
     pub suggest-ends : eqb (checked .number) 0 ≡ false → (outcomeOf false checked shifted ≡ steps) × (Goes false checked entry shifted)
-    suggest-ends e = (step-ends false checked shifted (dualOptimise budget) e ∙ checked-reads, rw e tt)
+    suggest-ends e = (sym (step-ends false checked shifted (dualOptimise budget) e) ∙ checked-reads, rw e tt)
 
     -- the dual pass leaves the tables `u`
     pub suggest-goes : (r : Ended) (u : Tables) → eqb (checked .number) 0 ≡ true
