@@ -26,7 +26,7 @@ use Rattle.tableau.specs.Notes.{WideNames, clearedRow, clearedNames}
 use Rattle.tableau.specs.NotesRead.{flags-of, clear-names-read}
 use Rattle.fetching.specs.Fetch.{fetch, places, fetchIn, fetch18, fetchOf}
 use Rattle.fetching.specs.Listing.{Listing, listing, listAll, listed}
-use Rattle.fetching.specs.Relaid.{laid-again, laid-map, laid-map-same, laid-set, put-set, first-anew}
+use Rattle.layout.specs.Relaid.{laid-again, laid-map, laid-map-same, laid-set, put-set, first-anew}
 
 -- the toggle as a number
 toggled : (x : ℕ) → x ≤ 1 → bitOf (not (eqb x 1)) ≡ 1 - x
