@@ -1,14 +1,14 @@
 -- A list laid over a table anew: laws that know nothing of the solver.
 -- Assumes nothing.
-use Prim.Native.Nat.{ℕ, zero, suc, _+_, _≤_, _<_}
+use Prim.Native.Nat.{ℕ, zero, suc, _≤_, _<_}
 use mathlib.Core.Path.{_≡_, refl, sym, ap, _∙_}
 use mathlib.Core.List.{List, [], _∷_, map}
 use native.Mathlib.Nat.{not-suc-le-zero, le-of-suc-le-suc}
 use native.Mathlib.Omega.{arith}
-use lib.ListN.{length, getD, set}
+use lib.ListN.{length, set}
 use Rattle.laws.specs.Loops.{mapIn}
 use Rattle.laws.specs.Lists.{laid}
 use Rattle.layout.specs.Laying.{laid-nil}
 
 module _ {A B : Type 0} where
   -- laid again over the same places, each element on what it makes of any
