@@ -14,8 +14,6 @@ use Rattle.steps.specs.Symbol.{Symbol}
 use Rattle.steps.specs.Work.{Work, Outcome, going, _>>=_, refuse, checkFinite, withInfeasible, countPivot}
 use Rattle.steps.specs.Substitute.{pivot}
 use Rattle.steps.specs.Optimise.{DualChoice, feasible, noEntering, dualPivotOn, chooseDualPivot, countedDualPivot, dualOptimise}
-use Rattle.keeps.specs.Lists.{times}
-use Rattle.keeps.specs.Fits.{bids}
 use Rattle.keeps.specs.Passes.{dual-entering}
 use Rattle.layout.specs.Layout.{Tables, tables, symbolOf, basicsOf, read}
 use Rattle.rows.specs.declared.number.Wrote.{Wrote}
@@ -27,7 +25,7 @@ use Rattle.choose.specs.Reading.{basicsIn, tableauIn, tableau-read}
 use Rattle.choose.specs.Steps.{entries, dual-entering-is}
 use Rattle.choose.specs.Subject.{dualChoiceOf, dual-choice-is}
 use Rattle.tableau.specs.Working.{workOf, basics-by}
-use Rattle.standing.specs.Standing.{Standing, beside-same, beside-then}
+use Rattle.standing.specs.Standing.{Standing, beside-then}
 use Rattle.standing.specs.Ending.{goes-on}
 use Rattle.standing.specs.Places.{found-id}
 use Rattle.standing.specs.Changed.{cut-reads, cut-stands, cut-beside}
