@@ -1,0 +1,28 @@
+-- The mark of what a caller hands in, term by term.
+-- Assumes nothing.
+use Prim.Native.Nat.{ℕ, zero, suc, _+_, _-_}
+use mathlib.Core.Path.{_≡_, refl, ap}
+use mathlib.Core.Bool.{Bool, true, _&&_}
+use mathlib.Core.List.{List}
+use native.Mathlib.Omega.{arith}
+use lib.ListN.{getD}
+use lib.Ieee.{Float, nan}
+use Rattle.laws.specs.Lists.{tab, listOf, allFrom, allIn, allOn}
+use Rattle.steps.specs.Number.{cellBound}
+use Rattle.steps.specs.Add.{wholeWithin, wholeTerms}
+use Rattle.layout.specs.Layout.{termOf, termCount}
+use Rattle.adding.specs.Adding.{termsIn}
+
+abbrev pub wholeAt : List Float → ℕ → Bool
+wholeAt real i = wholeWithin cellBound (getD real (1 + i) nan)
+
+from : (item : List ℕ) (real : List Float) (n i : ℕ) → allFrom (wholeAt real) i n ≡ wholeTerms (tab (termOf item real) i n)
+unfolding allFrom tab wholeTerms termOf
+from item real zero i = refl
+from item real (suc n) i = ap (λ (b : Bool). wholeAt real i && b) (from item real n (suc i))
+
+pub whole-terms : (item : List ℕ) (real : List Float) → allOn (wholeAt real) 0 (termCount item) true ≡ wholeTerms (termsIn item real)
+unfolding allOn allIn listOf
+whole-terms item real =
+    let e : termCount item - 0 ≡ termCount item = omega arith in
+    rw e (from item real (termCount item) 0)

@@ -1,0 +1,4 @@
+-- Add's steps over the lent tables.
+pub mod Adding
+pub mod Inputs
+pub mod Stood
