@@ -3,3 +3,6 @@ pub mod Standing
 pub mod Ending
 pub mod Opening
 pub mod Places
+pub mod Kept
+pub mod Entered
+pub mod Pivoted

@@ -71,6 +71,14 @@ among s g i (suc n) (inr m) =
     let r = among s g (suc i) n m in
     record { at = r .at; low = omega (arith, r .low); high = omega (arith, r .high); is = r .is }
 
+mem-tab : (g : ℕ → Symbol) (i n q : ℕ) → i ≤ q → q < i + n → Mem (g q) (tab g i n)
+unfolding tab
+mem-tab g i zero q low high = absurd (omega (arith, low, high))
+mem-tab g i (suc n) q low high =
+    by-eqb (Mem (g q) (tab g i (suc n))) i q
+    (λ e. inl (ap g (sym e)))
+    (λ e. let ne = eqb-false i q e in inr (mem-tab g (suc i) n q (omega (arith, low, ne)) (omega (arith, high))))
+
 pub ids-are : (h : List ℕ) → ids (symbolsIn h) ≡ tab (λ i. getD h (16 + i) 0 / 4) 0 (getD h 1 0)
 unfolding symbolsIn listOf symbolOf
 ids-are h = map-tab (λ (x : Symbol). x .id) (λ i. symbolOf (getD h (16 + i) 0)) 0 (getD h 1 0)
@@ -144,6 +152,12 @@ module _ (h : List ℕ) (up : Ascends 15 (getD h 1 0) h) where
   place-by p low high =
       let e : 1 + (p - 1) ≡ p = omega arith in
       rw e at (place-at (p - 1) (omega arith))
+
+pub symbol-live : (h : List ℕ) (p : ℕ) → 1 ≤ p → p ≤ getD h 1 0 → Mem (symbolOf (getD h (15 + p) 0)) (symbolsIn h)
+unfolding symbolsIn listOf
+symbol-live h p low high =
+    let e : 16 + (p - 1) ≡ 15 + p = omega arith in
+    rw e at (mem-tab (λ i. symbolOf (getD h (16 + i) 0)) 0 (getD h 1 0) (p - 1) (omega arith) (omega arith))
 
 -- a live symbol: the place where it stands, and where its id is found
 pub record Lives (s : Symbol) (h : List ℕ) : Type 0 where
