@@ -6,11 +6,11 @@ use mathlib.Core.Bool.{Bool, true, false}
 use mathlib.Core.List.{List, []}
 use mathlib.Core.Option.{some}
 use native.Mathlib.Omega.{arith}
-use lib.ListN.{length, getD, set, length-set}
+use lib.ListN.{length, getD, set, length-set, length-map}
 use lib.Seq.{getD-set-same, getD-set-other}
 use lib.Ieee.{Float}
 use Rattle.laws.specs.Lists.{listOf, tab-ext}
-use Rattle.laws.specs.Places.{length-mapIn, lengths-mapIn}
+use Rattle.laws.specs.Places.{length-mapIn, lengths-mapIn, lengths-set}
 use Rattle.steps.specs.Number.{zero64, Mark}
 use Rattle.steps.specs.Symbol.{Slack, Symbol}
 use Rattle.steps.specs.Readable.{kindCode}
@@ -19,17 +19,29 @@ use Rattle.steps.specs.State.{Basic}
 use Rattle.steps.specs.Work.{Work, withTableau, withRows, withArtificial, keepRow, newSymbol}
 use Rattle.steps.specs.CreateRow.{Building, appendTo}
 use Rattle.steps.specs.Artificial.{standTemporary}
+use Rattle.keeps.specs.Along.{ids}
+use Rattle.keeps.specs.Cells.{Fine}
+use Rattle.keeps.specs.RowOps.{RowOk}
+use Rattle.keeps.specs.Fits.{IsBasic, FitsW}
+use Rattle.keeps.specs.Adding.{temporary-fits}
 use Rattle.layout.specs.Layout.{Tables, tables, symbolOf, cellsOf, basicOf, basicsOf, read, symbolsOf, entriesOf}
 use Rattle.rows.specs.Reading.{rowOf}
 use Rattle.choose.specs.Reading.{symbolsIn, basicsIn, entriesIn, rowIn}
 use Rattle.moves.specs.Moves.{Board, board, appendedHead, clearedColumn, appendedSymbol, keptRow}
+use Rattle.moves.specs.Room.{Held}
+use Rattle.moves.specs.Rows.{entries-same}
 use Rattle.moves.specs.Columns.{Wide, new-symbol}
-use Rattle.moves.specs.Counts.{appended-length, appended-same, appended-symbols, kept-length, kept-same, row-place-between}
-use Rattle.tableau.specs.Working.{workOf, artificialIn, work-parts, Ready}
+use Rattle.moves.specs.Counts.{appended-length, appended-same, appended-symbols, kept-length, kept-same, kept-past, row-place-between}
+use Rattle.tableau.specs.Notes.{noted}
+use Rattle.tableau.specs.NotesKept.{ItemsKept, items-by}
+use Rattle.tableau.specs.Working.{workOf, artificialIn, work-parts, symbols-by, length-symbols, Ready}
 use Rattle.tableau.specs.EnterRead.{keep-read, ready-kept}
 use Rattle.creating.specs.Tags.{Frame, frame, appendIn}
 use Rattle.creating.specs.Read.{workIn, readFrame, Open, append-read}
-use Rattle.standing.specs.Standing.{Standing}
+use Rattle.creating.specs.Leaves.{HeadLeft, symbol-head-left}
+use Rattle.creating.specs.Stands.{held-left}
+use Rattle.standing.specs.Standing.{Listed, Standing, Beside}
+use Rattle.standing.specs.Kept.{standing-by, beside-by}
 use Rattle.standing.specs.Places.{fits-parts, ready-of, all-places}
 use Rattle.adding.specs.Adding.{grownRow, temporaryCode, stoodOf}
 
@@ -162,3 +174,54 @@ module _ (a : Mark) (h : List ℕ) (n : List (List ℕ)) (reals w : List (List F
         ∙ ap (λ (r : Row). withArtificial (some r) (withRows (keepRow (record { symbol = symbolOf (temporaryCode h); row = rowIn h₁ grown }) (workOf false a v (tables h₁ n reals w₁) .tableau .rows)) (workOf false a v (tables h₁ n reals w₁)))) copy-is
         ∙ ap (stoodBy (symbolOf (temporaryCode h))) grown-read
         ∙ ap (λ (t : Symbol). stoodBy t (appendTo t (record { work = before; row = rowIn h row }))) temporary-is
+
+  -- ---- and the tables stand
+
+  same-items : (m : ℕ) → 4 ≤ m → m < 9 → getD h₂ m 0 ≡ getD h m 0
+  same-items m low high = same₂ m (omega (arith, low)) (omega (arith, high)) ∙ same₁ m (omega (arith, low)) (omega (arith, high))
+
+  kept : ItemsKept (noted h n) (noted h₂ n)
+  kept = items-by h h₂ n same-items
+
+  left-same : HeadLeft h h
+  left-same = record { long = ready .head-long; more = omega arith; below = λ m low ne high. refl; past = λ m low. refl }
+
+  -- the ids that were live and the temporary's: 129 at most
+  listed : Held (entriesIn h) (ids (symbolsIn h)) → Listed h₂
+  listed held =
+      let same : (m : ℕ) → (m ≡ 2 → ⊥) → m < 146 → getD h₂ m 0 ≡ getD h₁ m 0 = λ m ne high.
+      let e = row-place-between (board h₁ w₁) len (temporaryCode h / 4) in
+      kept-same (board h₁ w₁) len (temporaryCode h) grown fit m ne (omega (arith, e, high)) in
+      let held₁ : Held (entriesIn h₁) (ids (symbolsIn h₁)) = held-left h h₁ (symbol-head-left h h w left-same 1 (omega (arith, few))) held in
+      let symbols : symbolsIn h₂ ≡ symbolsIn h₁ = symbols-by h₂ h₁ (same 1 (omega arith) (omega arith)) (λ i k. same (16 + i) (omega arith) (omega (arith, k, ready₁ .few-symbols))) in
+      let entries : entriesIn h₂ ≡ entriesIn h₁ = entries-same h₁ h₂ (same 3 (omega arith) (omega arith)) (λ i k. kept-past (board h₁ w₁) len (temporaryCode h) grown fit (196 + i) (omega (arith, fit))) in
+      record {
+        seen = ids (symbolsIn h₁);
+        few = omega (arith, length-map (symbolsIn h₁) (λ (x : Symbol). x .id), length-symbols h₁, ready₁ .few-symbols);
+        held = rw entries held₁;
+        live = rw symbols (λ x e. e);
+      }
+
+  ready₃ : Ready h₂ n (set w₂ 50 grown)
+  ready₃ = record {
+    head-long = ready₂ .head-long;
+    few-symbols = ready₂ .few-symbols;
+    few-rows = ready₂ .few-rows;
+    rows-stand = length-set w₂ 50 grown ∙ ready₂ .rows-stand;
+    rows-wide = λ i k. lengths-set w₂ 50 grown (grown-long ∙ sym (ready₂ .rows-wide 50 (omega arith))) i ∙ ready₂ .rows-wide i k;
+    flags = ready₂ .flags;
+  }
+
+  abbrev before₀ : Work
+  before₀ = workOf false a 0 (tables h n reals w)
+
+  pub stood-stands : Held (entriesIn h) (ids (symbolsIn h)) → RowOk (IsBasic (before₀ .tableau .rows)) (Fine (before₀ .mark)) (before₀ .tableau .symbols) (rowIn h row)
+      → Standing true a (tables (stoodOf row b .head) n reals (stoodOf row b .rows))
+  unfolding stoodOf appendedSymbol
+  stood-stands held ok =
+      standing-by false a h n reals w s true a h₂ n (set w₂ 50 grown) ready₃ kept
+      (subst FitsW (sym (stood-read 0)) (temporary-fits before₀ (rowIn h row) (s .fits) ok)) (listed held)
+
+  pub stood-beside : Beside (tables h n reals w) (tables (stoodOf row b .head) n reals (stoodOf row b .rows))
+  unfolding stoodOf appendedSymbol
+  stood-beside = beside-by false a h n reals w s h₂ n (set w₂ 50 grown) kept
