@@ -1,9 +1,9 @@
 -- A solved row that enters the basis of tables that stand: it reads as the steps' enterBasis, and where the shape is kept the tables stand.
 -- Assumes nothing.
-use Prim.Native.Nat.{ℕ, _+_, _-_, _/_, _≤_, _<_}
-use mathlib.Core.Path.{_≡_, refl, sym, ap, _∙_, subst}
+use Prim.Native.Nat.{ℕ, _+_, _-_, _/_, _<_}
+use mathlib.Core.Path.{_≡_, sym, _∙_, subst}
 use mathlib.Core.Bool.{Bool}
-use mathlib.Core.List.{List, []}
+use mathlib.Core.List.{List}
 use native.Mathlib.Omega.{arith}
 use lib.ListN.{length, getD}
 use lib.Ieee.{Float, nan}
@@ -16,7 +16,7 @@ use Rattle.choose.specs.Choose.{placeOf}
 use Rattle.choose.specs.Reading.{symbolsIn, entriesIn}
 use Rattle.rows.specs.Place.{PlaceOf}
 use Rattle.rows.specs.Reading.{rowOf}
-use Rattle.moves.specs.Moves.{board, keptRow, pushBelowOf}
+use Rattle.moves.specs.Moves.{board}
 use Rattle.moves.specs.Counts.{row-place-between, kept-same, kept-past}
 use Rattle.moves.specs.Entries.{pushed-below-same}
 use Rattle.moves.specs.Rows as moved
@@ -29,7 +29,7 @@ use Rattle.tableau.specs.Pivoting.{entersNoted, noteEntering, keepEntering, ent
 use Rattle.tableau.specs.Working.{workOf, Ready, symbols-by, entries-same, ready-after}
 use Rattle.tableau.specs.Pushed.{Room, ready-whole, whole-head}
 use Rattle.tableau.specs.EnterRead.{enter-read, ready-entered}
-use Rattle.standing.specs.Standing.{Listed, Standing, Beside}
+use Rattle.standing.specs.Standing.{Standing, Beside}
 use Rattle.standing.specs.Places.{ready-of, place-of-found}
 use Rattle.standing.specs.Kept.{standing-by, beside-by, push-room, pushes-stay, listed-by}
 

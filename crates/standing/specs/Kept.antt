@@ -1,17 +1,16 @@
 -- What keeps tables standing: one law from the parts that changed, and the list's room for the pushes of a substitution.
 -- Assumes nothing.
 use Prim.Native.Nat.{ℕ, _+_, _-_, _/_, _≤_, _<_}
-use mathlib.Core.Path.{_≡_, refl, sym, ap, _∙_, subst}
+use mathlib.Core.Path.{_≡_, refl, ap, _∙_}
 use mathlib.Core.Bool.{Bool, true}
 use mathlib.Core.List.{List, []}
 use native.Mathlib.Omega.{arith}
 use lib.ListN.{length, getD}
 use lib.Ieee.{Float}
 use Rattle.steps.specs.Number.{Mark, worse}
-use Rattle.steps.specs.Work.{Work, marking}
 use Rattle.steps.specs.Tests.{member}
 use Rattle.laws.specs.Loops.{turns, run}
-use Rattle.laws.specs.Lists.{tab, listOf, tab-ext}
+use Rattle.laws.specs.Lists.{listOf, tab-ext}
 use Rattle.keeps.specs.Lists.{member-out}
 use Rattle.keeps.specs.Along.{ids, Mem}
 use Rattle.keeps.specs.Codes.{mem-ids}
@@ -19,9 +18,9 @@ use Rattle.keeps.specs.Fits.{FitsW, fits-worse}
 use Rattle.layout.specs.Layout.{tables, symbolOf, basicOf, constraintOf, constraintsOf, editOf, editsOf}
 use Rattle.choose.specs.Reading.{symbolsIn, entriesIn}
 use Rattle.moves.specs.Moves.{pushRow, pushBelowOf}
-use Rattle.moves.specs.Room.{Among, Held}
+use Rattle.moves.specs.Room.{Held}
 use Rattle.moves.specs.Held.{room, Rows, turns-held}
-use Rattle.tableau.specs.Notes.{Noted, noted}
+use Rattle.tableau.specs.Notes.{noted}
 use Rattle.tableau.specs.NotesKept.{ItemsKept}
 use Rattle.tableau.specs.Working.{workOf, Ready}
 use Rattle.tableau.specs.Pushed.{Room}

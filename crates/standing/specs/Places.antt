@@ -4,12 +4,11 @@ use Prim.Native.Nat.{ℕ, zero, suc, _+_, _-_, _/_, _≤_, _<_}
 use mathlib.Core.Path.{_≡_, refl, sym, ap, _∙_, subst}
 use mathlib.Core.Logic.{inl, inr}
 use mathlib.Core.Bool.{Bool, true, false, cond, false≢true}
-use mathlib.Core.List.{List, [], _∷_}
-use native.Mathlib.Nat.{add-zero}
+use mathlib.Core.List.{List, []}
 use native.Mathlib.Omega.{arith}
 use borrow.Author.Tests.{ltb-true, ltb-false, eqb-true, eqb-false, eq-eqb, ne-eqb}
 use lib.Dec.{eqb, ltb}
-use lib.ListN.{length, getD}
+use lib.ListN.{getD}
 use lib.Ieee.{Float}
 use Rattle.steps.specs.Number.{Mark}
 use Rattle.steps.specs.Symbol.{Symbol, isSymbol}
@@ -27,7 +26,6 @@ use Rattle.choose.specs.Own.{first-within, Ascends, own-place}
 use Rattle.choose.specs.Reading.{symbolsIn, basicsIn}
 use Rattle.rows.specs.Place.{PlaceOf, place-from}
 use Rattle.moves.specs.Room.{by-eqb}
-use Rattle.tableau.specs.NotesRead.{Flags}
 use Rattle.tableau.specs.Working.{artificialIn, work-parts, length-symbols, Ready}
 use Rattle.standing.specs.Standing.{Standing}
 

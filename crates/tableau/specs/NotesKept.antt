@@ -63,7 +63,7 @@ set-small [] i v h = omega arith
 set-small (x ∷ l) zero v h = h
 set-small (x ∷ l) (suc i) v h = set-small l i v h
 
-keeps-mapIn : {A : Type 0} (P : A → Type 0) (f : A → A) (i e : ℕ) (w : List A) (d : A) (q : ℕ) → ((r : A) → P r → P (f r)) → P (getD w q d) → P (getD (mapIn f i e w) q d)
+pub keeps-mapIn : {A : Type 0} (P : A → Type 0) (f : A → A) (i e : ℕ) (w : List A) (d : A) (q : ℕ) → ((r : A) → P r → P (f r)) → P (getD w q d) → P (getD (mapIn f i e w) q d)
 unfolding mapIn
 keeps-mapIn P f i e [] d q k h = h
 keeps-mapIn P f i zero (x ∷ w) d q k h = h
