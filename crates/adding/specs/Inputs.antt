@@ -11,7 +11,7 @@ use Rattle.laws.specs.Lists.{tab, listOf, allFrom, allIn, allOn}
 use Rattle.steps.specs.Number.{cellBound}
 use Rattle.steps.specs.Add.{wholeWithin, wholeTerms}
 use Rattle.layout.specs.Layout.{termOf, termCount}
-use Rattle.adding.specs.Adding.{termsIn}
+use Rattle.creating.specs.Created.{termsIn}
 
 abbrev pub wholeAt : List Float → ℕ → Bool
 wholeAt real i = wholeWithin cellBound (getD real (1 + i) nan)
@@ -22,7 +22,7 @@ from item real zero i = refl
 from item real (suc n) i = ap (λ (b : Bool). wholeAt real i && b) (from item real n (suc i))
 
 pub whole-terms : (item : List ℕ) (real : List Float) → allOn (wholeAt real) 0 (termCount item) true ≡ wholeTerms (termsIn item real)
-unfolding allOn allIn listOf
+unfolding allOn allIn listOf termsIn
 whole-terms item real =
     let e : termCount item - 0 ≡ termCount item = omega arith in
     rw e (from item real (termCount item) 0)

@@ -20,9 +20,7 @@ use Rattle.steps.specs.Work.{Work, withTableau, withRows, withArtificial, keepR
 use Rattle.steps.specs.CreateRow.{Building, appendTo}
 use Rattle.steps.specs.Artificial.{standTemporary}
 use Rattle.keeps.specs.Along.{ids}
-use Rattle.keeps.specs.Cells.{Fine}
-use Rattle.keeps.specs.RowOps.{RowOk}
-use Rattle.keeps.specs.Fits.{IsBasic, FitsW}
+use Rattle.keeps.specs.Fits.{FitsW}
 use Rattle.keeps.specs.Adding.{temporary-fits}
 use Rattle.layout.specs.Layout.{Tables, tables, symbolOf, cellsOf, basicOf, basicsOf, read, symbolsOf, entriesOf}
 use Rattle.rows.specs.Reading.{rowOf}
@@ -43,7 +41,7 @@ use Rattle.creating.specs.Stands.{held-left}
 use Rattle.standing.specs.Standing.{Listed, Standing, Beside}
 use Rattle.standing.specs.Kept.{standing-by, beside-by}
 use Rattle.standing.specs.Places.{fits-parts, ready-of, all-places}
-use Rattle.adding.specs.Adding.{grownRow, temporaryCode, stoodOf}
+use Rattle.adding.specs.Adding.{Holds, grownRow, temporaryCode, stoodOf}
 
 pub stood-calls : (row : List Float) (b : Board) {code : ℕ} {grown : List Float} {u v : Board}
     → code ≡ temporaryCode (b .head) → grown ≡ grownRow (b .head) row → u ≡ appendedSymbol 1 b → v ≡ keptRow code grown u
@@ -151,7 +149,7 @@ module _ (a : Mark) (h : List ℕ) (n : List (List ℕ)) (reals w : List (List F
     abbrev before : Work
     before = workOf false a v (tables h n reals w)
 
-    temporary-is : symbolOf (temporaryCode h) ≡ newSymbol Slack before
+    pub temporary-is : symbolOf (temporaryCode h) ≡ newSymbol Slack before
     unfolding newSymbol workOf read kindCode
     temporary-is = new-symbol (getD h 0 0) Slack
 
@@ -215,7 +213,7 @@ module _ (a : Mark) (h : List ℕ) (n : List (List ℕ)) (reals w : List (List F
   abbrev before₀ : Work
   before₀ = workOf false a 0 (tables h n reals w)
 
-  pub stood-stands : Held (entriesIn h) (ids (symbolsIn h)) → RowOk (IsBasic (before₀ .tableau .rows)) (Fine (before₀ .mark)) (before₀ .tableau .symbols) (rowIn h row)
+  pub stood-stands : Held (entriesIn h) (ids (symbolsIn h)) → Holds before₀ (rowIn h row)
       → Standing true a (tables (stoodOf row b .head) n reals (stoodOf row b .rows))
   unfolding stoodOf appendedSymbol
   stood-stands held ok =

@@ -5,7 +5,7 @@ ghost use lib.ListN.{getD};
 ghost use Rattle.steps.specs.State.{strengthOf};
 ghost use Rattle.steps.specs.Add.{wholeTerms, wholeInputs};
 ghost use Rattle.creating.specs.Tags.{relationOf};
-ghost use Rattle.adding.specs.Adding.{termsIn};
+ghost use Rattle.creating.specs.Created.{termsIn};
 use creating::tag::Relation;
 use rows::number::CELL_BOUND;
 use rows::number::CONSTANT_BOUND;

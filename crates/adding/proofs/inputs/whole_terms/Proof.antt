@@ -8,7 +8,7 @@ use borrow.Author.Needs.{needs}
 use Rattle.laws.specs.Lists.{allOn, all-next, all-last}
 use Rattle.steps.specs.Number.{cellBound}
 use Rattle.steps.specs.Add.{wholeTerms}
-use Rattle.adding.specs.Adding.{termsIn}
+use Rattle.creating.specs.Created.{termsIn}
 use Rattle.adding.specs.Inputs.{wholeAt, whole-terms}
 use Rattle.adding.proofs.inputs.whole_terms.Statement.{statement}
 use Rattle.adding.proofs.inputs.whole_terms.Tie as tie
