@@ -1,10 +1,9 @@
 -- What the row of a new constraint leaves of the tables that it began on: all but the new symbols, the new variables and the use counts.
 -- Assumes nothing.
 use Prim.Native.Nat.{ℕ, suc, _+_, _-_, _≤_, _<_}
-use mathlib.Core.Path.{_≡_, refl, sym, ap, _∙_}
+use mathlib.Core.Path.{_≡_, refl, _∙_}
 use mathlib.Core.Bool.{Bool, true, false, _&&_, cond}
 use mathlib.Core.List.{List, []}
-use native.Mathlib.Nat.{zero-add}
 use native.Mathlib.Omega.{arith}
 use borrow.Author.Tests.{ltb-true, ltb-false, eqb-false}
 use lib.Dec.{eqb, ltb}
@@ -21,8 +20,7 @@ use Rattle.moves.specs.Counts.{appended-length, appended-same, appended-symbols
 use Rattle.moves.specs.Close.{opened}
 use Rattle.moves.specs.Moved.{opened-before, opened-at, opened-inside, opened-after, length-opened}
 use Rattle.moves.specs.Room.{by-eqb}
-use Rattle.records.specs.Records.{numberPlace, variableItem, variableReal, moreUses, usedOnce, countedUse}
-use Rattle.records.specs.Region.{place-between}
+use Rattle.records.specs.Records.{variableItem, variableReal, moreUses, usedOnce, countedUse}
 
 -- ---- the parts
 

@@ -1,12 +1,12 @@
 -- What each step of a new row leaves of the tables, and what it makes of the counts.
 -- Assumes nothing.
 use Prim.Native.Nat.{ℕ, _+_, _*_, _/_, _≤_, _<_}
-use mathlib.Core.Path.{_≡_, refl, sym, ap, _∙_}
+use mathlib.Core.Path.{_≡_, refl, ap, _∙_}
 use mathlib.Core.Bool.{Bool, true, false, cond}
 use mathlib.Core.List.{List, []}
 use native.Mathlib.Nat.{zero-add}
 use native.Mathlib.Omega.{arith}
-use lib.ListN.{length, getD, set, length-set}
+use lib.ListN.{length, getD, set}
 use lib.Seq.{getD-set-same, getD-set-other}
 use lib.Ieee.{Float, nan, lt, neg}
 use Rattle.steps.specs.Number.{zero64, one64, minusOne64, belowZero}
@@ -18,13 +18,12 @@ use Rattle.rows.specs.Stays.{length-insertSymbolAt, length-insertRowIn, length-
 use Rattle.choose.specs.declared.Found.{Found}
 use Rattle.choose.specs.declared.Found.the-variants.{At, Nothing}
 use Rattle.choose.specs.Choose.{onFound, placeOf, rowOf}
-use Rattle.moves.specs.Moves.{Board, board, appendedHead, clearedColumn}
+use Rattle.moves.specs.Moves.{Board, board, appendedHead}
 use Rattle.moves.specs.Counts.{appended-length, appended-same, appended-id, appended-symbols}
-use Rattle.moves.specs.Close.{opened}
-use Rattle.records.specs.Records.{numberAt, numberPlace, variableItem, variableReal, keptItem, keptVariable, countedUse}
+use Rattle.records.specs.Records.{numberAt, numberPlace, variableItem, keptItem, keptVariable, countedUse}
 use Rattle.records.specs.Region.{place-between}
 use Rattle.creating.specs.Tags.{Frame, frame, newPlace, appendIn, insertAtPlace, addSymbolIn, insertInObjectiveAt, addErrorIn, Tags, tags, nextCode, secondCode, inequalityIn, softEqualityIn, requiredEqualityIn, equalityIn, addTagIn}
-use Rattle.creating.specs.Terms.{Desk, desk, newVariableIn, Marked, marked, insertPlaceIn, insertVariableIn, insertKnownIn}
+use Rattle.creating.specs.Terms.{Desk, desk, newVariableIn, Marked, insertPlaceIn, insertVariableIn, insertKnownIn}
 use Rattle.creating.specs.Create.{reversedIf, closedRow}
 use Rattle.creating.specs.Leaves.{HeadLeft, ItemsLeft, RowsLeft, symbol-head-left, symbol-rows-left, objective-left, variable-head-left, variable-items-left, count-items-left}
 

@@ -17,3 +17,6 @@ pub mod Leaves
 pub mod Left
 pub mod Stands
 pub mod Live
+pub mod TermRead
+pub mod LoopRead
+pub mod CreateRead

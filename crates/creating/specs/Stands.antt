@@ -1,21 +1,20 @@
 -- Where a row is being built on tables that stand, its tables stand; and what is stored beside the tableau is as it was.
 -- Assumes nothing.
 use Prim.Native.Nat.{ℕ, zero, suc, _+_, _/_, _≤_, _<_}
-use mathlib.Core.Path.{_≡_, refl, sym, ap, _∙_, subst}
-use mathlib.Core.Bool.{Bool, true, false, _||_, false≢true}
-use mathlib.Core.List.{List, [], _∷_}
+use mathlib.Core.Path.{_≡_, refl, ap}
+use mathlib.Core.Bool.{true, false, _||_, false≢true}
+use mathlib.Core.List.{List}
 use native.Mathlib.Omega.{arith}
 use borrow.Author.Tests.{eq-eqb}
 use lib.Dec.{eqb}
-use lib.ListN.{length, getD, length-map}
-use lib.Ieee.{Float}
+use lib.ListN.{getD, length-map}
 use Rattle.steps.specs.Number.{Mark}
 use Rattle.steps.specs.Symbol.{Symbol}
 use Rattle.steps.specs.Tests.{member}
 use Rattle.laws.specs.Lists.{tab, listOf, tab-ext}
 use Rattle.keeps.specs.Along.{ids}
 use Rattle.keeps.specs.Fits.{FitsW}
-use Rattle.layout.specs.Layout.{Tables, tables, constraintOf, editOf, constraintsOf, editsOf}
+use Rattle.layout.specs.Layout.{Tables, tables, constraintsOf, editsOf}
 use Rattle.choose.specs.Reading.{symbolsIn, entriesIn}
 use Rattle.moves.specs.Room.{Among, Held, or-left, or-right, or-other, by-eqb}
 use Rattle.moves.specs.Rows.{entries-same}
@@ -23,7 +22,7 @@ use Rattle.tableau.specs.Working.{workOf, length-symbols}
 use Rattle.standing.specs.Standing.{Listed, Standing, Beside}
 use Rattle.standing.specs.Places.{ids-are}
 use Rattle.creating.specs.Terms.{Desk}
-use Rattle.creating.specs.Leaves.{HeadLeft, ItemsLeft}
+use Rattle.creating.specs.Leaves.{HeadLeft}
 use Rattle.creating.specs.Left.{Leaves}
 
 abbrev pub tablesOf : Desk → Tables
