@@ -56,7 +56,7 @@ pub record Subject (a : Mark) (p : ℕ) (t : Tables) (row : List Float) : Type 0
 
 -- a row with its tag, as createRow leaves it
 pub record Made (a : Mark) (marker other : ℕ) (t : Tables) (row : List Float) : Type 0 where
-  pub spare : Fitting a t row
+  pub fitting : Fitting a t row
   pub K : ℕ → ℕ
   pub U : ℕ → ℕ
   pub N : ℕ

@@ -1,13 +1,13 @@
 -- The mark of what a caller hands in, term by term.
 -- Assumes nothing.
-use Prim.Native.Nat.{ℕ, zero, suc, _+_, _-_}
+use Prim.Native.Nat.{ℕ, zero, suc, _+_, _-_, _≤_}
 use mathlib.Core.Path.{_≡_, refl, ap}
 use mathlib.Core.Bool.{Bool, true, _&&_}
 use mathlib.Core.List.{List}
 use native.Mathlib.Omega.{arith}
-use lib.ListN.{getD}
+use lib.ListN.{getD, length}
 use lib.Ieee.{Float, nan}
-use Rattle.laws.specs.Lists.{tab, listOf, allFrom, allIn, allOn}
+use Rattle.laws.specs.Lists.{tab, listOf, length-tab, allFrom, allIn, allOn}
 use Rattle.steps.specs.Number.{cellBound}
 use Rattle.steps.specs.Add.{wholeWithin, wholeTerms}
 use Rattle.layout.specs.Layout.{termOf, termCount}
@@ -26,3 +26,7 @@ unfolding allOn allIn listOf termsIn
 whole-terms item real =
     let e : termCount item - 0 ≡ termCount item = omega arith in
     rw e (from item real (termCount item) 0)
+
+pub few-terms : (item : List ℕ) (real : List Float) → length (termsIn item real) ≤ 16 → termCount item ≤ 16
+unfolding termsIn listOf
+few-terms item real h = rw length-tab at h

@@ -4,6 +4,7 @@ pub mod Inputs
 pub mod Stood
 pub mod Entered
 pub mod Bound
-pub mod Others
 pub mod Removed
 pub mod Alone
+pub mod Chosen
+pub mod Stepped

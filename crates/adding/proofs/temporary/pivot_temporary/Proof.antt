@@ -30,10 +30,10 @@ pivot-on-requires c κs =
     (c .before .before .before .before .before .before .before .before .before .before .pre .0, (b .0, (b .1, (p .0, (p .1, pivotable-at _ 0 _ _ _ _ (c .before .before .before .before .before .before .before .before .before .before .pre .0) _ _ _ (c .before .before .before .before .before .before .before .before .before .before .pre .1) (sym (c .before .before .before .before .before .before .any-pivotable-symbol .ensures .0) ∙ c .before .before .before .before .f .given .1))))))
 
 returns-2 : tie.Need-returns-2
-returns-2 c = pivot-refused _ _ _ _ _ _ _ _ _ (c .before .before .before .before .before .before .before .before .before .before .before .before .before .before .before .before .before .before .pre .1) (c .before .before .before .before .before .before .before .before .before .before .before .before .before .before .any-pivotable-symbol .ensures .0) (c .before .before .before .before .before .before .before .before .before .before .before .before .f .given .1) _ _ _ _ (c .before .before .before .before .before .before .before .pivot-on .ensures .0) (c .before .before .check-finite .ensures) (ne-eqb _ _ (c .if1 .taken))
+returns-2 c = pivot-refused _ _ _ _ _ _ _ _ _ (c .before .before .before .before .before .before .before .before .before .before .before .before .before .before .before .before .before .before .pre .1) (c .before .before .before .before .before .before .before .before .before .before .before .before .before .before .any-pivotable-symbol .ensures .0) (c .before .before .before .before .before .before .before .before .before .before .before .before .f .given .1) _ _ _ _ (c .before .before .before .before .before .before .before .pivot-on .ensures .reads) (c .before .before .check-finite .ensures) (ne-eqb _ _ (c .if1 .taken))
 
 returns-3 : tie.Need-returns-3
-returns-3 c = pivot-gone _ _ _ _ _ _ _ _ _ (c .before .before .before .before .before .before .before .before .before .before .before .before .before .before .before .before .before .before .before .before .before .before .before .before .before .pre .1) (c .before .before .before .before .before .before .before .before .before .before .before .before .before .before .before .before .before .before .before .before .before .any-pivotable-symbol .ensures .0) (c .before .before .before .before .before .before .before .before .before .before .before .before .before .before .before .before .before .before .before .f .given .1) _ _ _ _ (c .before .before .before .before .before .before .before .before .before .before .before .before .before .before .pivot-on .ensures .0) (c .before .before .before .before .before .before .before .before .before .check-finite .ensures) (eq-eqb _ _ (c .before .before .before .before .before .before .before .if1 .left)) (c .before .before .before .before .before .before .before .before .before .before .before .before .before .before .pivot-on .ensures .1 .1) _ _ (c .before .before .before .purge-temporary .ensures .0) (c .before .before .before .purge-temporary .ensures .1)
+returns-3 c = pivot-gone _ _ _ _ _ _ _ _ _ (c .before .before .before .before .before .before .before .before .before .before .before .before .before .before .before .before .before .before .before .before .before .before .before .before .before .pre .1) (c .before .before .before .before .before .before .before .before .before .before .before .before .before .before .before .before .before .before .before .before .before .any-pivotable-symbol .ensures .0) (c .before .before .before .before .before .before .before .before .before .before .before .before .before .before .before .before .before .before .before .f .given .1) _ _ _ _ (c .before .before .before .before .before .before .before .before .before .before .before .before .before .before .pivot-on .ensures .reads) (c .before .before .before .before .before .before .before .before .before .check-finite .ensures) (eq-eqb _ _ (c .before .before .before .before .before .before .before .if1 .left)) (c .before .before .before .before .before .before .before .before .before .before .before .before .before .before .pivot-on .ensures .beside) _ _ (c .before .before .before .purge-temporary .ensures .0) (c .before .before .before .purge-temporary .ensures .1)
 
 pub pivot-temporary-spec : {M : Type 1} → statement M
 pivot-temporary-spec =
