@@ -1,7 +1,6 @@
 -- What Add's steps make of the tables, and what the tables with a new row read as.
 -- Assumes nothing.
 use Prim.Native.Nat.{ℕ, _+_, _*_, _≤_}
-use mathlib.Core.Path.{_≡_}
 use mathlib.Core.Bool.{false, cond}
 use mathlib.Core.List.{List}
 use lib.Dec.{eqb}

@@ -1,16 +1,15 @@
 -- A row without a subject: its calls together are the steps' addWithArtificialVariable.
 -- Assumes nothing.
 use Prim.Native.Nat.{ℕ, _-_}
-use mathlib.Core.Path.{_≡_, sym, ap, _∙_, subst}
+use mathlib.Core.Path.{_≡_, ap, _∙_}
 use mathlib.Core.Bool.{true, false}
 use mathlib.Core.List.{List}
-use native.Mathlib.Omega.{arith}
 use lib.Dec.{eqb}
 use lib.ListN.{length}
 use lib.Ieee.{Float}
 use Rattle.laws.specs.Given.{then-given}
 use Rattle.steps.specs.Symbol.{Slack, Symbol}
-use Rattle.steps.specs.Work.{Work, Outcome, _>>=_, newSymbol}
+use Rattle.steps.specs.Work.{Work, newSymbol}
 use Rattle.steps.specs.Optimise.{optimise, theArtificial}
 use Rattle.steps.specs.Artificial.{standTemporary, addWithArtificialVariable}
 use Rattle.layout.specs.Layout.{Tables, tables, symbolOf}

@@ -1,6 +1,6 @@
 -- Steps 4 to 6: a new row by its subject, and what each way to add it asks.
 -- Assumes nothing.
-use Prim.Native.Nat.{ℕ, suc, _+_, _/_, _≤_, _<_}
+use Prim.Native.Nat.{ℕ, suc, _/_, _≤_}
 use mathlib.Core.Path.{_≡_, refl, sym, ap, _∙_, subst}
 use mathlib.Core.Logic.{inl, inr}
 use mathlib.Core.Bool.{Bool, true, false}
@@ -13,14 +13,14 @@ use lib.ListN.{getD}
 use lib.Ieee.{Float, nan}
 use Rattle.steps.specs.Number.{nearZero, Mark}
 use Rattle.steps.specs.Symbol.{Symbol}
-use Rattle.steps.specs.Work.{Work, Outcome, refused, refuse}
+use Rattle.steps.specs.Work.{Work, Outcome, refuse}
 use Rattle.steps.specs.CreateRow.{Created, chooseSubject, allDummies}
 use Rattle.steps.specs.Artificial.{addWithArtificialVariable}
 use Rattle.steps.specs.Add.{addWithSubject, addCreated}
 use Rattle.keeps.specs.Lists.{Up}
 use Rattle.keeps.specs.Along.{ids, Mem}
 use Rattle.keeps.specs.Passes.{Free}
-use Rattle.keeps.specs.Creating.{Tagged, subject-free}
+use Rattle.keeps.specs.Creating.{subject-free}
 use Rattle.layout.specs.Layout.{Tables, tables, symbolOf, otherOf, read, symbolsOf}
 use Rattle.rows.specs.declared.number.Wrote.{Wrote}
 use Rattle.rows.specs.Marks.{markOf}
@@ -29,11 +29,10 @@ use Rattle.choose.specs.declared.Found.the-variants.{At, Nothing}
 use Rattle.choose.specs.declared.Want.the-variants.{NonDummy}
 use Rattle.choose.specs.Better.{within}
 use Rattle.choose.specs.Choose.{Within, onFound, symbolAt, placeOf, heldOf, isNothing, subjectOf}
-use Rattle.choose.specs.Reading.{symbolsIn, rowIn}
+use Rattle.choose.specs.Reading.{symbolsIn}
 use Rattle.choose.specs.Subject.{Own, subject-is, all-dummies-is}
 use Rattle.tableau.specs.Working.{workOf}
 use Rattle.standing.specs.declared.Ended.{Ended}
-use Rattle.standing.specs.Standing.{Standing}
 use Rattle.standing.specs.Ending.{outcomeOf, Goes, ended}
 use Rattle.standing.specs.Places.{found-id, found-within, symbol-live, fits-parts, code-of-live, code-not-nothing}
 use Rattle.creating.specs.Created.{tagBy}

@@ -1,6 +1,6 @@
 -- A row solved for its subject enters: the tables read as the steps' addWithSubject, and stand.
 -- Assumes nothing.
-use Prim.Native.Nat.{ℕ, _+_, _-_, _/_, _≤_, _<_}
+use Prim.Native.Nat.{ℕ, _+_, _-_, _/_, _<_}
 use mathlib.Core.Path.{_≡_, refl, sym, ap, _∙_, subst}
 use mathlib.Core.Bool.{false}
 use mathlib.Core.List.{List}
@@ -8,7 +8,7 @@ use native.Mathlib.Omega.{arith}
 use lib.Dec.{eqb}
 use lib.ListN.{length, getD}
 use lib.Ieee.{Float}
-use Rattle.laws.specs.Given.{Then, then-of}
+use Rattle.laws.specs.Given.{then-of}
 use Rattle.steps.specs.Number.{Mark, worse}
 use Rattle.steps.specs.Row.{Written, solveForSymbol}
 use Rattle.steps.specs.Work.{Work, checkFinite, marking}
@@ -16,7 +16,7 @@ use Rattle.steps.specs.Substitute.{enterBasis}
 use Rattle.steps.specs.Add.{addWithSubject}
 use Rattle.keeps.specs.Fits.{FitsW}
 use Rattle.keeps.specs.Adding.{subject-fits}
-use Rattle.layout.specs.Layout.{Tables, tables, symbolOf, read, symbolsOf}
+use Rattle.layout.specs.Layout.{tables, symbolOf, read, symbolsOf}
 use Rattle.rows.specs.declared.number.Wrote.{Wrote}
 use Rattle.rows.specs.Marks.{markOf, join, mark-join}
 use Rattle.rows.specs.Table.{solveRowIn, solveRowMark}

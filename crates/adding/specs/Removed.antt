@@ -1,6 +1,6 @@
 -- The temporary goes: the tables read as the steps' removeTemporary, and stand.
 -- Assumes nothing.
-use Prim.Native.Nat.{ℕ, _+_, _/_, _≤_}
+use Prim.Native.Nat.{ℕ, _+_, _/_}
 use mathlib.Core.Path.{_≡_, refl, sym, ap, _∙_, subst}
 use mathlib.Core.Bool.{Bool, true, false}
 use mathlib.Core.List.{List, []}
@@ -8,7 +8,6 @@ use mathlib.Core.Option.{Option, none, some}
 use lib.Dec.{eqb}
 use lib.ListN.{getD}
 use lib.Ieee.{Float, nan}
-use Rattle.laws.specs.Given.{Then, then-given}
 use Rattle.steps.specs.Number.{nearZero, Mark}
 use Rattle.steps.specs.Symbol.{Symbol, isPivotable, holds}
 use Rattle.steps.specs.Row.{Row}
@@ -21,7 +20,7 @@ use Rattle.keeps.specs.Keys.{rowId, find-all, Row?, no-row, a-row, row?}
 use Rattle.keeps.specs.Along.{first-chosen}
 use Rattle.keeps.specs.Cells.{Fine, holds-held}
 use Rattle.keeps.specs.RowOps.{RowOk}
-use Rattle.keeps.specs.Fits.{IsBasic, FitsW, bids, fits-plain}
+use Rattle.keeps.specs.Fits.{IsBasic, FitsW, bids}
 use Rattle.keeps.specs.Passes.{Free, held-free}
 use Rattle.layout.specs.Layout.{Tables, tables, symbolOf, basicsOf, read, symbolsOf, entriesOf}
 use Rattle.rows.specs.declared.number.Wrote.{Wrote}
@@ -32,13 +31,13 @@ use Rattle.choose.specs.declared.Found.the-variants.{At, Nothing}
 use Rattle.choose.specs.declared.Want.the-variants.{Pivotable, Any}
 use Rattle.choose.specs.Choose as choose
 use Rattle.choose.specs.Choose.{onFound, symbolAt, heldOf, isNothing}
-use Rattle.choose.specs.Reading.{symbolsIn, basicsIn, entriesIn, rowIn, tableauIn, tableau-read}
+use Rattle.choose.specs.Reading.{basicsIn, rowIn, tableauIn, tableau-read}
 use Rattle.choose.specs.Chosen.{row-found}
 use Rattle.choose.specs.Steps.{pivotable-is, empty-is}
 use Rattle.moves.specs.Moves.{Board, board, purgeOf}
 use Rattle.tableau.specs.Working.{workOf}
 use Rattle.standing.specs.declared.Ended.{Ended}
-use Rattle.standing.specs.Standing.{Standing, Beside, beside-then}
+use Rattle.standing.specs.Standing.{Standing, Beside}
 use Rattle.standing.specs.Ending.{outcomeOf, Goes, ended, goes-on, checkedOf, checked-is}
 use Rattle.standing.specs.Places.{found-id}
 use Rattle.standing.specs.Purged.{purge-reads, purge-stands, purge-beside}

@@ -4,12 +4,11 @@ use Prim.Native.Nat.{ℕ, _+_, _-_, _≤_}
 use mathlib.Core.Path.{_≡_, refl, sym, ap, _∙_, subst}
 use mathlib.Core.Bool.{Bool, true, false, cond}
 use mathlib.Core.List.{List, []}
-use mathlib.Core.Option.{none}
 use lib.Dec.{eqb}
-use lib.ListN.{getD, length}
+use lib.ListN.{length}
 use lib.Ieee.{Float}
 use Rattle.laws.specs.Given.{then-given}
-use Rattle.steps.specs.Number.{Mark, worse, wholeIf, isFinite}
+use Rattle.steps.specs.Number.{Mark, worse, wholeIf}
 use Rattle.steps.specs.State.{Term, Relation}
 use Rattle.steps.specs.Work.{Work, Outcome, refused, going, _>>=_, checkFinite, marking}
 use Rattle.steps.specs.CreateRow.{Created, createRow}
@@ -37,7 +36,7 @@ use Rattle.standing.specs.Kept.{standing-worse}
 use Rattle.creating.specs.declared.tag.Tagged.{Tagged as Tags}
 use Rattle.creating.specs.Created.{tagBy, createdOf}
 use Rattle.adding.specs.declared.add.Added.{Added}
-use Rattle.adding.specs.Adding.{createdBy, Fitting, Made, addedOf}
+use Rattle.adding.specs.Adding.{createdBy, Made, addedOf}
 use Rattle.adding.specs.Bound.{is-refused, refused-then, going-then, none-then, goes-after}
 
 -- ---- after the row is created
@@ -105,6 +104,10 @@ opening-first past first whole terms constant h n reals w e o = rw (marks-are pa
 
 -- ---- the row created
 
+created-by : (r : Tags) (t : Tables) (row : List Float) → createdBy (markOf (r .wrote)) (r .marker) (r .other) t row ≡ createdOf r t row
+unfolding createdOf
+created-by r t row = refl
+
 pub made-by : (first : Wrote) (terms : List Term) (constant : Float) (relation : Relation) (t : Tables) (r : Tags) (t₁ : Tables) (row : List Float)
     → Opening (markOf first) terms constant t → createdOf r t₁ row ≡ createRow terms constant relation (workOf false (markOf first) 0 t) → Standing false (markOf (r .wrote)) t₁
     → symbolCount (t₁ .head) ≤ 128 → rowCount (t₁ .head) ≤ 47 → nextIdOf (t₁ .head) ≤ 4294900018 → Held (entriesIn (t₁ .head)) (ids (symbolsIn (t₁ .head)))
@@ -130,8 +133,7 @@ made-by first terms constant relation t r t₁ row o e s k m i l =
 
     tagged : Tagged (o .K) U (length (before .tableau .rows)) L (createdBy (markOf (r .wrote)) (r .marker) (r .other) t₁ row)
     tagged =
-        unfold createdOf in
-        subst (Tagged (o .K) U (length (before .tableau .rows)) L) (sym e) (createRow-tagged (o .K) (o .U) terms constant relation before (o .good) (unfold workOf in refl) (o .finite))
+        subst (Tagged (o .K) U (length (before .tableau .rows)) L) (sym (created-by r t₁ row ∙ e)) (createRow-tagged (o .K) (o .U) terms constant relation before (o .good) (unfold workOf in refl) (o .finite))
 
 -- ---- the end
 
@@ -158,11 +160,11 @@ pub steps-are : (past first : Wrote) (whole : Bool) (budget : ℕ) (terms : List
     → (addedOf (record { ended = x; marker = r .marker; other = r .other }) z ≡ addSteps budget terms constant relation (workOf false (markOf past) 0 t)) × Goes false x t z
 unfolding addSteps
 steps-are past first whole budget terms constant relation t r t₁ row x z i j e b q g = (
-    added-outcome x (r .marker) (r .other) z
-    ∙ ap (λ (o : Outcome Work). o >>= (λ v. going (record { work = v; tag = tagBy (r .marker) (r .other) }))) q
-    ∙ ap (ending budget) created-is,
-    goes-after false x t t₁ z b g,
-  )
+  added-outcome x (r .marker) (r .other) z
+      ∙ ap (λ (o : Outcome Work). o >>= (λ v. going (record { work = v; tag = tagBy (r .marker) (r .other) }))) q
+      ∙ ap (ending budget) created-is,
+  goes-after false x t t₁ z b g,
+)
   where
     before : Work
     before = workOf false (markOf past) 0 t
@@ -174,4 +176,4 @@ steps-are past first whole budget terms constant relation t r t₁ row x z i j e
     first-is = ap (λ (k : Mark). workOf false k 0 t) (marks-are past first whole j) ∙ worked (wholeIf whole) ∙ ap (λ (y : Bool). marking (wholeIf y) before) i
 
     created-is : createdBy (markOf (r .wrote)) (r .marker) (r .other) t₁ row ≡ createRow terms constant relation (marking (wholeIf (wholeInputs terms constant relation)) before)
-    created-is = (unfold createdOf in e) ∙ ap (createRow terms constant relation) first-is
+    created-is = created-by r t₁ row ∙ e ∙ ap (createRow terms constant relation) first-is

@@ -1,8 +1,8 @@
 -- The temporary slack stands: the tables read as the steps' standTemporary, and stand with an artificial objective.
 -- Assumes nothing.
-use Prim.Native.Nat.{ℕ, _+_, _*_, _/_, _≤_, _<_}
+use Prim.Native.Nat.{ℕ, _+_, _/_, _≤_, _<_}
 use mathlib.Core.Path.{_≡_, refl, sym, ap, _∙_, subst}
-use mathlib.Core.Bool.{Bool, true, false}
+use mathlib.Core.Bool.{true, false}
 use mathlib.Core.List.{List, []}
 use mathlib.Core.Option.{some}
 use native.Mathlib.Omega.{arith}
@@ -15,26 +15,25 @@ use Rattle.steps.specs.Number.{zero64, Mark}
 use Rattle.steps.specs.Symbol.{Slack, Symbol}
 use Rattle.steps.specs.Readable.{kindCode}
 use Rattle.steps.specs.Row.{Row}
-use Rattle.steps.specs.State.{Basic}
-use Rattle.steps.specs.Work.{Work, withTableau, withRows, withArtificial, keepRow, newSymbol}
+use Rattle.steps.specs.Work.{Work, withRows, withArtificial, keepRow, newSymbol}
 use Rattle.steps.specs.CreateRow.{Building, appendTo}
 use Rattle.steps.specs.Artificial.{standTemporary}
 use Rattle.keeps.specs.Along.{ids}
 use Rattle.keeps.specs.Fits.{FitsW}
 use Rattle.keeps.specs.Adding.{temporary-fits}
-use Rattle.layout.specs.Layout.{Tables, tables, symbolOf, cellsOf, basicOf, basicsOf, read, symbolsOf, entriesOf}
+use Rattle.layout.specs.Layout.{tables, symbolOf, basicOf, read}
 use Rattle.rows.specs.Reading.{rowOf}
 use Rattle.choose.specs.Reading.{symbolsIn, basicsIn, entriesIn, rowIn}
 use Rattle.moves.specs.Moves.{Board, board, appendedHead, clearedColumn, appendedSymbol, keptRow}
 use Rattle.moves.specs.Room.{Held}
 use Rattle.moves.specs.Rows.{entries-same}
-use Rattle.moves.specs.Columns.{Wide, new-symbol}
-use Rattle.moves.specs.Counts.{appended-length, appended-same, appended-symbols, kept-length, kept-same, kept-past, row-place-between}
+use Rattle.moves.specs.Columns.{new-symbol}
+use Rattle.moves.specs.Counts.{appended-length, appended-same, appended-symbols, kept-same, kept-past, row-place-between}
 use Rattle.tableau.specs.Notes.{noted}
 use Rattle.tableau.specs.NotesKept.{ItemsKept, items-by}
 use Rattle.tableau.specs.Working.{workOf, artificialIn, work-parts, symbols-by, length-symbols, Ready}
 use Rattle.tableau.specs.EnterRead.{keep-read, ready-kept}
-use Rattle.creating.specs.Tags.{Frame, frame, appendIn}
+use Rattle.creating.specs.Tags.{frame, appendIn}
 use Rattle.creating.specs.Read.{workIn, readFrame, Open, append-read}
 use Rattle.creating.specs.Leaves.{HeadLeft, symbol-head-left}
 use Rattle.creating.specs.Stands.{held-left}

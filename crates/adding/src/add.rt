@@ -174,12 +174,29 @@ pub fn add_steps(
     );
     let mut row = zero_row();
     let made = create_row(
-        head, names, reals, rows, &mut row, item, real, constant, relation, first,
+        head,
+        names,
+        reals,
+        rows,
+        &mut row,
+        item,
+        real,
+        constant,
+        relation,
+        first,
     );
     let marker = made.marker;
     let other = made.other;
     let ended = add_row(
-        head, names, reals, rows, &mut row, marker, other, budget, made.wrote,
+        head,
+        names,
+        reals,
+        rows,
+        &mut row,
+        marker,
+        other,
+        budget,
+        made.wrote,
     );
     Added {
         ended,

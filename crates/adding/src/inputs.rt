@@ -37,12 +37,7 @@ fn strength_of(relation: Relation) -> f64
     }
 }
 
-pub fn whole_inputs(
-    item: &[u64; 20],
-    real: &[f64; 17],
-    constant: f64,
-    relation: Relation,
-) -> bool
+pub fn whole_inputs(item: &[u64; 20], real: &[f64; 17], constant: f64, relation: Relation) -> bool
     requires { ⌜ getD (now item) 3 0 ≤ 16 ⌝ }
     ensures { λ r. ⌜ r ≡ wholeInputs (termsIn (now (item .entry)) (now (real .entry))) constant (relationOf relation) ⌝ }
 {
