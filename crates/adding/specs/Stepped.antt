@@ -24,7 +24,7 @@ use Rattle.keeps.specs.Good.{Good, good-frame}
 use Rattle.keeps.specs.Creating.{Tagged, createRow-tagged}
 use Rattle.layout.specs.Layout.{Tables, tables, symbolCount, rowCount, nextIdOf}
 use Rattle.rows.specs.declared.number.Wrote.{Wrote}
-use Rattle.rows.specs.Marks.{markOf, join, mark-join}
+use Rattle.rows.specs.Marks.{markOf}
 use Rattle.choose.specs.Reading.{symbolsIn, entriesIn}
 use Rattle.moves.specs.Room.{Held}
 use Rattle.tableau.specs.Working.{workOf}
@@ -73,12 +73,6 @@ module _ (past : Wrote) (marker other : ℕ) (t : Tables) (row : List Float) (bu
 
 -- ---- what was handed in
 
-marks-are : (past first : Wrote) (whole : Bool) → first ≡ join past (record { finite = true; whole = whole }) → markOf first ≡ worse (markOf past) (wholeIf whole)
-marks-are past first whole e = ap markOf e ∙ mark-join past (record { finite = true; whole = whole }) ∙ ap (worse (markOf past)) finite
-  where
-    finite : markOf (record { finite = true; whole = whole }) ≡ wholeIf whole
-    finite = unfold markOf in refl
-
 opening-worse : (a m : Mark) (terms : List Term) (constant : Float) (h : List ℕ) (n : List (List ℕ)) (reals w : List (List Float)) → Opening a terms constant (tables h n reals w) → Opening (worse a m) terms constant (tables h n reals w)
 opening-worse a m terms constant h n reals w o =
     record {
@@ -98,9 +92,9 @@ opening-worse a m terms constant h n reals w o =
     good : Good (o .K) (o .U) (workOf false (worse a m) 0 (tables h n reals w))
     good = unfold workOf marking in good-frame (o .K) (o .U) (workOf false a 0 (tables h n reals w)) (marking m (workOf false a 0 (tables h n reals w))) (o .good) (fits-worse (o .good .fits) m) (mark-frame m (workOf false a 0 (tables h n reals w)))
 
-pub opening-first : (past first : Wrote) (whole : Bool) (terms : List Term) (constant : Float) (h : List ℕ) (n : List (List ℕ)) (reals w : List (List Float))
-    → first ≡ join past (record { finite = true; whole = whole }) → Opening (markOf past) terms constant (tables h n reals w) → Opening (markOf first) terms constant (tables h n reals w)
-opening-first past first whole terms constant h n reals w e o = rw (marks-are past first whole e) (opening-worse (markOf past) (wholeIf whole) terms constant h n reals w o)
+pub opening-first : (past first : Wrote) (m : Mark) (terms : List Term) (constant : Float) (h : List ℕ) (n : List (List ℕ)) (reals w : List (List Float))
+    → markOf first ≡ worse (markOf past) m → Opening (markOf past) terms constant (tables h n reals w) → Opening (markOf first) terms constant (tables h n reals w)
+opening-first past first m terms constant h n reals w e o = rw e (opening-worse (markOf past) m terms constant h n reals w o)
 
 -- ---- the row created
 
@@ -153,13 +147,13 @@ added-outcome x marker other z = by (eqb (x .number) 0)
     by true = refl
     by false = refl
 
-pub steps-are : (past first : Wrote) (whole : Bool) (budget : ℕ) (terms : List Term) (constant : Float) (relation : Relation) (t : Tables) (r : Tags) (t₁ : Tables) (row : List Float) (x : Ended) (z : Tables)
-    → whole ≡ wholeInputs terms constant relation → first ≡ join past (record { finite = true; whole = whole })
+pub steps-are : (past first : Wrote) (budget : ℕ) (terms : List Term) (constant : Float) (relation : Relation) (t : Tables) (r : Tags) (t₁ : Tables) (row : List Float) (x : Ended) (z : Tables)
+    → markOf first ≡ worse (markOf past) (wholeIf (wholeInputs terms constant relation))
     → createdOf r t₁ row ≡ createRow terms constant relation (workOf false (markOf first) 0 t) → Beside t t₁
     → outcomeOf false x z ≡ addedRow budget (createdBy (markOf (r .wrote)) (r .marker) (r .other) t₁ row) → Goes false x t₁ z
     → (addedOf (record { ended = x; marker = r .marker; other = r .other }) z ≡ addSteps budget terms constant relation (workOf false (markOf past) 0 t)) × Goes false x t z
 unfolding addSteps
-steps-are past first whole budget terms constant relation t r t₁ row x z i j e b q g = (
+steps-are past first budget terms constant relation t r t₁ row x z i e b q g = (
   added-outcome x (r .marker) (r .other) z
       ∙ ap (λ (o : Outcome Work). o >>= (λ v. going (record { work = v; tag = tagBy (r .marker) (r .other) }))) q
       ∙ ap (ending budget) created-is,
@@ -173,7 +167,7 @@ steps-are past first whole budget terms constant relation t r t₁ row x z i j e
     worked m = unfold workOf marking in refl
 
     first-is : workOf false (markOf first) 0 t ≡ marking (wholeIf (wholeInputs terms constant relation)) before
-    first-is = ap (λ (k : Mark). workOf false k 0 t) (marks-are past first whole j) ∙ worked (wholeIf whole) ∙ ap (λ (y : Bool). marking (wholeIf y) before) i
+    first-is = ap (λ (k : Mark). workOf false k 0 t) i ∙ worked (wholeIf (wholeInputs terms constant relation))
 
     created-is : createdBy (markOf (r .wrote)) (r .marker) (r .other) t₁ row ≡ createRow terms constant relation (marking (wholeIf (wholeInputs terms constant relation)) before)
     created-is = created-by r t₁ row ∙ e ∙ ap (createRow terms constant relation) first-is

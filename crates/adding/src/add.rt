@@ -14,7 +14,7 @@ ghost use Rattle.creating.specs.Created.{Spare, termsIn};
 ghost use Rattle.adding.specs.Adding.{createdBy, Fitting, Made, addedOf};
 ghost use Rattle.adding.specs.Chosen.{dummiesOf, unchosenOf};
 ghost use Rattle.adding.specs.Stepped.{addedRow};
-use crate::inputs::whole_inputs;
+use crate::inputs::mark_inputs;
 use crate::subject::add_with_subject;
 use crate::temporary::add_with_artificial;
 use choose::Found;
@@ -25,7 +25,6 @@ use creating::create::create_row;
 use creating::tag::Relation;
 use passes::optimise;
 use rows::number::Wrote;
-use rows::number::joined;
 use rows::number::near_zero;
 use standing::Ended;
 use standing::check_finite;
@@ -164,14 +163,7 @@ pub fn add_steps(
     ensures { λ r. ⌜ addedOf r (tables (now (head .exit)) (now (names .exit)) (now (reals .exit)) (now (rows .exit))) ≡ addSteps budget (termsIn (now (item .entry)) (now (real .entry))) constant (relationOf relation) (workOf false (markOf before) 0 (tables (now (head .entry)) (now (names .entry)) (now (reals .entry)) (now (rows .entry)))) ⌝ }
     ensures { λ r. ⌜ Goes false (r .ended) (tables (now (head .entry)) (now (names .entry)) (now (reals .entry)) (now (rows .entry))) (tables (now (head .exit)) (now (names .exit)) (now (reals .exit)) (now (rows .exit))) ⌝ }
 {
-    let whole = whole_inputs(item, real, constant, relation);
-    let first = joined(
-        before,
-        Wrote {
-            finite: true,
-            whole,
-        },
-    );
+    let first = mark_inputs(item, real, constant, relation, before);
     let mut row = zero_row();
     let made = create_row(
         head,
