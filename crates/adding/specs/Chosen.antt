@@ -34,10 +34,10 @@ use Rattle.choose.specs.Subject.{Own, subject-is, all-dummies-is}
 use Rattle.tableau.specs.Working.{workOf}
 use Rattle.standing.specs.declared.Ended.{Ended}
 use Rattle.standing.specs.Ending.{outcomeOf, Goes, ended}
+use Rattle.standing.specs.Bound.{is-refused}
 use Rattle.standing.specs.Places.{found-id, found-within, symbol-live, fits-parts, code-of-live, code-not-nothing}
 use Rattle.creating.specs.Created.{tagBy}
 use Rattle.adding.specs.Adding.{createdBy, Fitting, Subject, Made}
-use Rattle.adding.specs.Bound.{is-refused}
 
 -- ---- the steps, by what is chosen
 

@@ -3,7 +3,6 @@ pub mod Adding
 pub mod Inputs
 pub mod Stood
 pub mod Entered
-pub mod Bound
 pub mod Removed
 pub mod Alone
 pub mod Chosen

@@ -39,9 +39,9 @@ use Rattle.tableau.specs.Working.{workOf}
 use Rattle.standing.specs.declared.Ended.{Ended}
 use Rattle.standing.specs.Standing.{Standing, Beside}
 use Rattle.standing.specs.Ending.{outcomeOf, Goes, ended, goes-on, checkedOf, checked-is}
+use Rattle.standing.specs.Bound.{is-refused, refused-then, going-then, none-then, goes-after}
 use Rattle.standing.specs.Places.{found-id}
 use Rattle.standing.specs.Purged.{purge-reads, purge-stands, purge-beside}
-use Rattle.adding.specs.Bound.{is-refused, refused-then, going-then, none-then, goes-after}
 
 -- ---- the steps, by what is found
 

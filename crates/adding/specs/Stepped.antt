@@ -32,12 +32,12 @@ use Rattle.standing.specs.declared.Ended.{Ended}
 use Rattle.standing.specs.Standing.{Standing, Beside}
 use Rattle.standing.specs.Opening.{Opening}
 use Rattle.standing.specs.Ending.{outcomeOf, Goes, checkedOf, checked-is}
+use Rattle.standing.specs.Bound.{is-refused, refused-then, going-then, none-then, goes-after}
 use Rattle.standing.specs.Kept.{standing-worse}
 use Rattle.creating.specs.declared.tag.Tagged.{Tagged as Tags}
 use Rattle.creating.specs.Created.{tagBy, createdOf}
 use Rattle.adding.specs.declared.add.Added.{Added}
 use Rattle.adding.specs.Adding.{createdBy, Made, addedOf}
-use Rattle.adding.specs.Bound.{is-refused, refused-then, going-then, none-then, goes-after}
 
 -- ---- after the row is created
 

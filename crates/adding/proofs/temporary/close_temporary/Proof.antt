@@ -1,6 +1,6 @@
 -- `adding::temporary::close_temporary` meets its contract.
 -- Assumes nothing.
-use Rattle.adding.specs.Bound.{plain-stands}
+use Rattle.standing.specs.Bound.{plain-stands}
 use Rattle.adding.specs.Removed.{not-near, near}
 use borrow.Author.Needs.{needs}
 use Rattle.adding.proofs.temporary.close_temporary.Statement.{statement}
