@@ -31,7 +31,7 @@ fn whole_terms(item: &[u64; 20], real: &[f64; 17]) -> bool
     ok
 }
 
-fn strength_of(relation: Relation) -> f64
+pub fn strength_of(relation: Relation) -> f64
     ensures { λ r. ⌜ r ≡ strengthOf (relationOf relation) ⌝ }
 {
     match relation {

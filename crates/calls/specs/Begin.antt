@@ -1,10 +1,10 @@
 -- The start of a call: a room that reads as a state is one on which the steps may work.
 -- Assumes nothing.
 use Prim.Native.Nat.{ℕ, suc, _+_, _*_, _≤_, _<_}
-use mathlib.Core.Path.{_≡_, refl, sym, ap, _∙_, subst}
+use mathlib.Core.Path.{_≡_, refl, sym, _∙_, subst}
 use mathlib.Core.Logic.{inl}
 use mathlib.Core.Bool.{Bool, true, false, cond}
-use mathlib.Core.List.{List, [], _∷_, _++_, map}
+use mathlib.Core.List.{List, [], _∷_, map}
 use mathlib.Core.Option.{Option, none, some}
 use native.Mathlib.Omega.{arith}
 use lib.Dec.{eqb}
@@ -19,12 +19,11 @@ use Rattle.steps.specs.Tests.{findConstraint, findEdit}
 use Rattle.steps.specs.Calls.{begin}
 use Rattle.steps.specs.Readable.{concat, code, tagSymbols, tags, owned, usesIn}
 use Rattle.laws.specs.Lists.{listOf, length-tab}
-use Rattle.keeps.specs.Lists.{All, total, times, member-in, member-out, distinct-out}
+use Rattle.keeps.specs.Lists.{All, total, member-in, member-out, distinct-out}
 use Rattle.keeps.specs.Uses.{usesOf}
 use Rattle.keeps.specs.Keys.{drop-total, findConstraint-is, findEdit-is}
 use Rattle.keeps.specs.Along.{ids, Mem}
 use Rattle.keeps.specs.Codes.{codes, codes-mem, mem-codes, codes-once}
-use Rattle.keeps.specs.Fits.{FitsW}
 use Rattle.keeps.specs.Reads.{Reads, conNumber, editNumber, tagCode, ownedBy, usedBy, tags-length, owned-total}
 use Rattle.keeps.specs.Tested.{reads-in}
 use Rattle.keeps.specs.Good.{Good, tagsBy, begin-good}

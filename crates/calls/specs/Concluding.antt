@@ -1,9 +1,9 @@
 -- How a call ends: refused by a test, by the steps, or accepted, with what it answers and leaves.
 -- Assumes nothing.
-use Prim.Native.Nat.{ℕ, zero, suc, _+_, _*_, _≤_, _<_}
+use Prim.Native.Nat.{ℕ, zero, suc, _+_, _≤_, _<_}
 use mathlib.Core.Path.{_≡_, refl, sym, ap, _∙_}
 use mathlib.Core.Bool.{Bool, true, false, _&&_, cond, false≢true}
-use mathlib.Core.List.{List, [], _∷_}
+use mathlib.Core.List.{List, []}
 use native.Mathlib.Nat.{not-suc-le-zero, le-of-suc-le-suc, add-zero}
 use native.Mathlib.Omega.{arith}
 use lib.Dec.{eqb}
@@ -22,13 +22,14 @@ use Rattle.keeps.specs.Lists.{All, member-in, member-out, distinct-out}
 use Rattle.keeps.specs.Along.{ids}
 use Rattle.keeps.specs.Reads.{Reads}
 use Rattle.keeps.specs.Tested.{reads-in}
-use Rattle.layout.specs.Layout.{Tables, wholeFlag, symbolCount, rowCount, entryCount, variableCount, constraintCount, editCount, termCount, constraintsAt, symbolsOf, basicsOf, entriesOf, variablesOf, constraintsOf, editsOf, constraintOf, termOf, read}
-use Rattle.layout.specs.Rooms.{Counts, Coded}
+use Rattle.layout.specs.Layout.{Tables, wholeFlag, constraintCount, termCount, constraintsAt, constraintsOf, constraintOf, termOf, read}
+use Rattle.layout.specs.Rooms.{Counts}
 use Rattle.rows.specs.Marks.{markOf}
 use Rattle.moves.specs.Room.{no-more}
 use Rattle.tableau.specs.Working.{workOf}
 use Rattle.standing.specs.declared.Ended.{Ended}
-use Rattle.standing.specs.Ending.{outcomeOf}
+use Rattle.standing.specs.Standing.{Standing, Beside}
+use Rattle.standing.specs.Ending.{outcomeOf, Goes}
 use Rattle.finishing.specs.Closing.{Flagged}
 use Rattle.finishing.specs.Stored.{Ends}
 use Rattle.shell.specs.declared.Answer as code
@@ -111,6 +112,11 @@ unfolding read
 left-of t f e =
     let r : Reads (read t) = reads-in (read t) e in
     (f .lengths, counts-of t r, (f .clear, f .whole, f .changed, terms-few t (r .few-terms)))
+
+-- ---- where the steps go on
+
+pub went : (e : Ended) (t u : Tables) → Goes false e t u → e .number ≡ 0 → (Standing false (markOf (e .wrote)) u) × (Beside t u)
+went e t u goes on = then-given _ (eq-eqb (e .number) 0 on) goes
 
 -- ---- the answer of the steps
 

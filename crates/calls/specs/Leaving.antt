@@ -1,7 +1,7 @@
 -- What a call leaves once its steps stood and its records are stored: lengths, counts and flags in range.
 -- Assumes nothing.
 use Prim.Native.Nat.{ℕ, zero, suc, _+_, _≤_, _<_}
-use mathlib.Core.Path.{_≡_, refl, sym, ap, _∙_}
+use mathlib.Core.Path.{_≡_, ap}
 use mathlib.Core.Bool.{Bool, true, false}
 use mathlib.Core.List.{List, [], _∷_}
 use native.Mathlib.Nat.{add-zero}
@@ -17,12 +17,11 @@ use Rattle.steps.specs.Calls.{stillBelow, finish}
 use Rattle.keeps.specs.Lists.{All}
 use Rattle.keeps.specs.Keys.{keep-all, keep-length, keepConstraint-is}
 use Rattle.keeps.specs.Reads.{conNumber}
-use Rattle.layout.specs.Layout.{Tables, symbolCount, rowCount, entryCount, variableCount, constraintCount, editCount, termCount, termOf, constraintsAt, symbolsOf, basicsOf, entriesOf, variablesOf, constraintsOf, editsOf, constraintOf, read}
+use Rattle.layout.specs.Layout.{Tables, constraintCount, termCount, termOf, constraintsAt, symbolsOf, basicsOf, entriesOf, variablesOf, constraintsOf, editsOf, constraintOf, read}
 use Rattle.rows.specs.declared.number.Wrote.{Wrote}
 use Rattle.rows.specs.Marks.{markOf}
 use Rattle.tableau.specs.Working.{workOf}
 use Rattle.standing.specs.Standing.{Standing}
-use Rattle.finishing.specs.Closing.{Flagged}
 use Rattle.finishing.specs.Stored.{Ends}
 use Rattle.shell.specs.Shell.{Left}
 use Rattle.calls.specs.Begin.{symbols-count, rows-count, entries-count, variables-count, constraints-count, edits-count}

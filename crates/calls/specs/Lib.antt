@@ -1,13 +1,12 @@
 -- The changing calls: from the tables to the steps, and back.
 pub mod Begin
 pub mod Concluding
-pub mod Edits
+pub mod Leaving
+pub mod Placed
 pub mod Numbers
-pub mod Whole
-pub mod Stub
+pub mod Packing
 pub mod Suggesting
 pub mod Removing
-pub mod Leaving
+pub mod EditAdding
 pub mod Adding
-pub mod Packing
-pub mod AddingIn
+pub mod Whole

@@ -1,8 +1,8 @@
 -- A pack's terms as an item of the tables holds them, and the record of an added constraint.
 -- Assumes nothing.
 use Prim.Native.Nat.{ℕ, _+_, _≤_, _<_}
-use mathlib.Core.Path.{_≡_, refl, sym, ap, _∙_}
-use mathlib.Core.List.{List, []}
+use mathlib.Core.Path.{_≡_, refl, _∙_}
+use mathlib.Core.List.{List}
 use native.Mathlib.Omega.{arith}
 use mathlib.Core.Bool.{Bool, true, false}
 use lib.Dec.{ltb}
@@ -10,9 +10,8 @@ use lib.ListN.{length, getD, set, length-set}
 use lib.Seq.{getD-set-same, getD-set-other}
 use borrow.Author.Tests.{ltb-true, ltb-false}
 use lib.Ieee.{Float, nan}
-use Rattle.laws.specs.Lists.{tab, listOf, tab-ext}
+use Rattle.laws.specs.Lists.{listOf, tab-ext}
 use Rattle.steps.specs.State as steps
-use Rattle.steps.specs.State.{Constraint}
 use Rattle.steps.specs.Tests.{keptTerms}
 use Rattle.layout.specs.Layout.{numberOf, symbolCode, otherSymbol, termCount, strengthIn, tagOf, constraintOf, termOf}
 use Rattle.layout.specs.Copy.{most16}

@@ -1,23 +1,19 @@
 -- Remove and Remove edit: the calls put together, over variables.
 -- Assumes nothing.
 use Prim.Native.Nat.{ℕ, _+_, _≤_, _<_}
-use mathlib.Core.Path.{_≡_, refl, sym, ap, _∙_}
+use mathlib.Core.Path.{_≡_, refl, ap, _∙_}
 use mathlib.Core.Bool.{true, false}
 use mathlib.Core.List.{List, []}
 use mathlib.Core.Option.{some}
-use lib.Dec.{eqb}
-use lib.ListN.{length, getD, set, replicate}
-use lib.Ieee.{Float, nan}
-use borrow.Author.Tests.{eq-eqb}
-use Rattle.laws.specs.Given.{then-given}
+use lib.ListN.{getD, set, replicate}
+use lib.Ieee.{Float}
 use Rattle.laws.specs.Lists.{tab, listOf}
 use Rattle.steps.specs.Number.{zero64, one64}
 use Rattle.steps.specs.State.{Term, Tag, Constraint, Edit, State}
-use Rattle.steps.specs.Work.{Work, Outcome}
 use Rattle.steps.specs.Remove.{removeSteps}
 use Rattle.steps.specs.Edit.{editTerms}
 use Rattle.steps.specs.Tests.{findConstraint, dropConstraint, findEdit, dropEdit}
-use Rattle.steps.specs.Calls.{Answer, Result, begin, finish, conclude, remove, removeEdit}
+use Rattle.steps.specs.Calls.{Answer, begin, finish, conclude, remove, removeEdit}
 use Rattle.keeps.specs.Along.{Mem}
 use Rattle.keeps.specs.Keeps.{remove-reads, removeEdit-reads}
 use Rattle.layout.specs.Layout.{Tables, symbolCode, otherSymbol, termCount, strengthIn, symbolOf, termOf, tagOf, constraintsAt, editsAt, constraintCount, editCount, constraintOf, editOf, symbolsOf, constraintsOf, editsOf, read}
@@ -26,7 +22,7 @@ use Rattle.rows.specs.Marks.{markOf}
 use Rattle.choose.specs.Reading.{symbolsIn}
 use Rattle.tableau.specs.Working.{workOf}
 use Rattle.standing.specs.declared.Ended.{Ended}
-use Rattle.standing.specs.Standing.{Standing, Beside}
+use Rattle.standing.specs.Standing.{Standing}
 use Rattle.standing.specs.Ending.{outcomeOf, Goes}
 use Rattle.dragging.specs.DragRead.{tagFrom}
 use Rattle.tests.specs.Refusals.{liveIn, removeRefusal, removeEditRefusal}
@@ -35,8 +31,8 @@ use Rattle.finishing.specs.Stored.{Ends}
 use Rattle.shell.specs.declared.Answer as code
 use Rattle.shell.specs.Shell.{answerOf, Ready}
 use Rattle.calls.specs.Begin.{storedMark, begin-is, reads-at-start, constraint-live, edit-live}
-use Rattle.calls.specs.Concluding.{Done, byTest, done-by-test, answered, done-refused, done-accepted}
-use Rattle.calls.specs.Edits.{constraintPlace, constraint-placed, live-constraint-found, editPlace, edit-placed, live-edit-found}
+use Rattle.calls.specs.Concluding.{Done, went, byTest, done-by-test, answered, done-refused, done-accepted}
+use Rattle.calls.specs.Placed.{constraintPlace, constraint-placed, live-constraint-found, editPlace, live-edit-found}
 
 -- the one term of an edit, as a stored item has it: the variable times 1
 unfoldable pub oneItem : ℕ → List ℕ
@@ -68,9 +64,6 @@ remove-edit-known : (x budget : ℕ) (s : State) (c : Edit) → findEdit x (s .e
     → removeEdit x budget s ≡ conclude s (removeSteps budget (c .tag) (c .strength) (editTerms x) (begin s)) (λ w. finish w (s .constraints) (dropEdit x (s .edits)))
 unfolding removeEdit
 remove-edit-known x budget s c a = rw (a, removeEdit) refl
-
-went : (e : Ended) (t u : Tables) → Goes false e t u → e .number ≡ 0 → (Standing false (markOf (e .wrote)) u) × (Beside t u)
-went e t u goes on = then-given _ (eq-eqb (e .number) 0 on) goes
 
 module _ (x budget : ℕ) (t : Tables) (ready : Ready t) (k : ℕ) (before : Wrote) (begun : markOf before ≡ storedMark (t .head)) where
   started : (tag : Tag) (strength : Float) (terms : List Term) → removeSteps budget tag strength terms (workOf false (markOf before) 0 t) ≡ removeSteps budget tag strength terms (begin (read t))

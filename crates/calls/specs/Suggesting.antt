@@ -1,45 +1,41 @@
 -- Suggest: the calls put together, over variables.
 -- Assumes nothing.
-use Prim.Native.Nat.{ℕ, _+_, _≤_, _<_}
+use Prim.Native.Nat.{ℕ, _+_, _<_}
 use mathlib.Core.Path.{_≡_, refl, sym, ap, _∙_}
-use mathlib.Core.Bool.{Bool, true, false, not, cond}
-use mathlib.Core.List.{List, []}
+use mathlib.Core.Bool.{true, false, cond}
+use mathlib.Core.List.{[]}
 use mathlib.Core.Option.{some}
 use native.Mathlib.Omega.{arith}
 use lib.Dec.{eqb}
-use lib.ListN.{length, getD, set}
+use lib.ListN.{getD, set}
 use lib.Ieee.{Float}
 use borrow.Author.Tests.{eq-eqb}
-use Rattle.laws.specs.Given.{Then, then-given}
 use Rattle.steps.specs.Number.{isFinite}
-use Rattle.steps.specs.State.{Constraint, Edit, State}
-use Rattle.steps.specs.Work.{Work, Outcome}
+use Rattle.steps.specs.State.{Edit, State}
 use Rattle.steps.specs.Edit.{suggestSteps}
 use Rattle.steps.specs.Tests.{findEdit, keepEdit, dropEdit}
-use Rattle.steps.specs.Calls.{Answer, Result, begin, finish, conclude, suggest}
+use Rattle.steps.specs.Calls.{Answer, begin, finish, conclude, suggest}
 use Rattle.steps.specs.Readable.{readable}
-use Rattle.keeps.specs.Reads.{Reads}
 use Rattle.keeps.specs.Keeps.{suggest-reads}
-use Rattle.layout.specs.Layout.{Tables, numberOf, editsAt, editCount, editOf, constraintsOf, editsOf, read}
+use Rattle.layout.specs.Layout.{Tables, editsAt, editCount, editOf, constraintsOf, editsOf, read}
 use Rattle.rows.specs.declared.number.Wrote.{Wrote}
 use Rattle.rows.specs.Marks.{markOf}
 use Rattle.tableau.specs.Working.{workOf}
 use Rattle.standing.specs.declared.Ended.{Ended}
-use Rattle.standing.specs.Standing.{Standing, Beside}
+use Rattle.standing.specs.Standing.{Standing}
 use Rattle.standing.specs.Ending.{outcomeOf, Goes}
 use Rattle.dragging.specs.declared.record.EditRecord.{EditRecord}
-use Rattle.dragging.specs.DragRead.{tagFrom}
 use Rattle.dragging.specs.Record.{editRecordAt, withSuggestion, withRecord, record-read}
 use Rattle.dragging.specs.Stored.{stored-in-place}
+use Rattle.dragging.specs.Suggested.{editBy, suggest-stored}
 use Rattle.tests.specs.Refusals.{liveIn, suggestRefusal}
 use Rattle.tests.specs.Known as known
 use Rattle.finishing.specs.Stored.{Ends}
 use Rattle.shell.specs.declared.Answer as code
 use Rattle.shell.specs.Shell.{answerOf, Ready}
 use Rattle.calls.specs.Begin.{storedMark, begin-is, reads-at-start, edits-count}
-use Rattle.calls.specs.Concluding.{Done, byTest, done-by-test, answered, done-refused, done-accepted}
-use Rattle.calls.specs.Edits.{up-ascending, edit-at, edit-counts, edit-same, editPlace, edit-placed, live-edit-found, edit-number}
-use Rattle.calls.specs.Stub.{editBy}
+use Rattle.calls.specs.Concluding.{Done, went, byTest, done-by-test, answered, done-refused, done-accepted}
+use Rattle.calls.specs.Placed.{up-ascending, edit-at, edit-counts, edit-same, editPlace, edit-placed, live-edit-found, edit-number}
 
 suggest-known : (x budget : ℕ) (new : Float) (s : State) (e : Edit) → isFinite new ≡ true → findEdit x (s .edits) ≡ some e
     → suggest x new budget s
@@ -51,11 +47,6 @@ suggest-known x budget new s e a b = rw (a, b, suggest) refl
 pub suggest-by-test : (x budget : ℕ) (new : Float) (t u : Tables) (a : code.Answer) {k : ℕ} → k ≡ suggestRefusal x new (t .head) (t .names) → (k ≡ 0 → ⊥) → answerOf a ≡ byTest k (t .head)
     → Done (suggest x new budget) a t u
 suggest-by-test x budget new t u a {k} q h says = done-by-test (suggest x new budget) a t u k (known.suggest-refused t x new budget (λ z. h (q ∙ z)) ∙ rw (← q) refl) h says
-
--- the steps look at an edit's tag and last suggestion
-steps-by : (budget : ℕ) (d e : Edit) (new : Float) (w : Work) → d .tag ≡ e .tag → d .suggestion ≡ e .suggestion → suggestSteps budget d new w ≡ suggestSteps budget e new w
-unfolding suggestSteps
-steps-by budget d e new w h k = rw (h, k) refl
 
 module _ (x budget : ℕ) (new : Float) (t : Tables) (ready : Ready t) (finite : isFinite new ≡ true) (live : liveIn (t .names) editsAt (editCount (t .head)) x ≡ true) where
   abbrev j : ℕ
@@ -79,9 +70,7 @@ module _ (x budget : ℕ) (new : Float) (t : Tables) (ready : Ready t) (finite :
   stored-number = edit-number t x in-range
 
   steps-are : (before : Wrote) → markOf before ≡ storedMark (t .head) → suggestSteps budget stored new (begin (read t)) ≡ suggestSteps budget (editBy kept) new (workOf false (markOf before) 0 t)
-  steps-are before m =
-      let r = record-read (editsAt + j) (t .names) (t .reals) in
-      steps-by budget stored (editBy kept) new (begin (read t)) (r .0) (r .1) ∙ ap (suggestSteps budget (editBy kept) new) (begin-is t ∙ rw m refl)
+  steps-are before m = suggest-stored budget (editsAt + j) (t .names) (t .reals) new (begin (read t)) ∙ ap (suggestSteps budget (editBy kept) new) (begin-is t ∙ rw m refl)
 
   call-is : suggest x new budget (read t) ≡ conclude (read t) (suggestSteps budget stored new (begin (read t))) (λ w. finish w (constraintsOf t) (keepEdit next (dropEdit x (editsOf t))))
   unfolding read
@@ -110,23 +99,20 @@ module _ (x budget : ℕ) (new : Float) (t : Tables) (ready : Ready t) (finite :
     outcome : outcomeOf false e u ≡ suggestSteps budget stored new (begin (read t))
     outcome = ends ∙ ap (λ (r : EditRecord). suggestSteps budget (editBy r) new (workOf false (markOf before) 0 t)) taken ∙ sym (steps-are before begun)
 
-    went : Goes false e t u → e .number ≡ 0 → (Standing false (markOf (e .wrote)) u) × (Beside t u)
-    went goes on = then-given _ (eq-eqb (e .number) 0 on) goes
-
     -- for the call that puts the record
     pub suggest-stands : Goes false e t u → e .number ≡ 0 → (Standing false (markOf (e .wrote)) u) × (k < editCount (u .head))
-    suggest-stands goes on = (went goes on .0, rw (placed, edit-counts t u (went goes on .1 .edits)) in-range)
+    suggest-stands goes on = (went e t u goes on .0, rw (placed, edit-counts t u (went e t u goes on .1 .edits)) in-range)
 
     module _ (a : code.Answer) (says : answerOf a ≡ answered e) where
       pub suggest-refused : (e .number ≡ 0 → ⊥) → (v : Tables) → Done (suggest x new budget) a t v
       suggest-refused n v =
           done-refused (suggest x new budget) t v a e u says again (suggestSteps budget stored new (begin (read t))) (λ w. finish w (constraintsOf t) (keepEdit next (dropEdit x (editsOf t)))) call-is outcome n
 
-      pub suggest-accepted : Goes false e t u → e .number ≡ 0 → (r : EditRecord) (v : Tables) → r ≡ withSuggestion new edit
+      pub suggest-accepted : Goes false e t u → e .number ≡ 0 → (r : EditRecord) (v : Tables) → r ≡ cond (eqb (e .number) 0) (withSuggestion new edit) edit
           → Ends (e .wrote) u (constraintsOf u) (set (editsOf u) k (withRecord r (editOf (getD (u .names) (editsAt + k) []) (getD (u .reals) (editsAt + k) [])))) v
           → Done (suggest x new budget) a t v
       suggest-accepted goes on r v p h =
-          let b = went goes on .1 in
+          let b = went e t u goes on .1 in
           let q : set (editsOf u) k (withRecord r (editOf (getD (u .names) (editsAt + k) []) (getD (u .reals) (editsAt + k) []))) ≡ keepEdit next (dropEdit x (editsOf t)) =
-          rw (placed, put-is r (editOf (getD (u .names) (editsAt + j) []) (getD (u .reals) (editsAt + j) [])) (p ∙ ap (withSuggestion new) taken) (edit-same t u (b .edits) j in-range), b .edits) (sym in-place) in
+          rw (placed, put-is r (editOf (getD (u .names) (editsAt + j) []) (getD (u .reals) (editsAt + j) [])) (p ∙ rw (eq-eqb (e .number) 0 on) (ap (withSuggestion new) taken)) (edit-same t u (b .edits) j in-range), b .edits) (sym in-place) in
           done-accepted (suggest x new budget) t v a e u says again (suggestSteps budget stored new (begin (read t))) (constraintsOf t) (keepEdit next (dropEdit x (editsOf t))) call-is outcome on h (b .constraints) q

@@ -1,6 +1,5 @@
 -- A public call: the room is entered, the steps run there, and what they leave goes back.
 -- Assumes nothing.
-use Prim.Native.Nat.{ℕ}
 use mathlib.Core.Path.{_≡_, refl}
 use mathlib.Core.Bool.{Bool, false, _&&_, cond}
 use lib.Dec.{eqb}

@@ -1,6 +1,5 @@
 // Add edit.
 ghost use mathlib.Core.Path.{_≡_};
-ghost use lib.ListN.{length};
 ghost use Rattle.laws.specs.Given.{Then};
 ghost use Rattle.steps.specs.Strength.{clip};
 ghost use Rattle.steps.specs.Calls.{addEdit};
@@ -9,14 +8,14 @@ ghost use Rattle.room.specs.Room.{cleared};
 ghost use Rattle.tests.specs.Refusals.{addEditRefusal};
 ghost use Rattle.shell.specs.Shell.{answerOf, called, callOf, Ready};
 ghost use Rattle.calls.specs.Concluding.{Done, DoneIf};
-ghost use Rattle.calls.specs.Adding.{editItem, editReal};
+ghost use Rattle.calls.specs.EditAdding.{editItem, editReal};
 use crate::begin::answer_of;
 use crate::begin::by_test;
 use crate::begin::stored_mark;
 use crate::begin::widths;
 use crate::one::one_item;
 use crate::one::one_real;
-use crate::stub::add_steps;
+use adding::add::add_steps;
 use creating::tag::Relation;
 use shell::Answer;
 

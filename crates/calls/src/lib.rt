@@ -6,5 +6,4 @@ pub mod one;
 pub mod pack;
 pub mod remove;
 pub mod remove_edit;
-pub mod stub;
 pub mod suggest;

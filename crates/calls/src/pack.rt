@@ -1,9 +1,5 @@
 // The terms of a pack as an item of the tables holds them, and the record of an added constraint.
-ghost use mathlib.Core.Path.{_≡_};
-ghost use Rattle.steps.specs.State.{strengthOf};
-ghost use Rattle.creating.specs.Tags.{relationOf};
 ghost use Rattle.calls.specs.Packing.{Names, Reals, Recorded, Weighed};
-use creating::tag::Relation;
 use terms::Pack;
 
 pub fn term_item(p: Pack) -> [u64; 20]
@@ -52,14 +48,4 @@ pub fn constraint_real(p: Pack, strength: f64) -> [f64; 17]
     let mut real = term_real(kept);
     real[0] = strength;
     real
-}
-
-pub fn strength_of(relation: Relation) -> f64
-    ensures { λ r. ⌜ r ≡ strengthOf (relationOf relation) ⌝ }
-{
-    match relation {
-        Relation::AtMost(s) => s,
-        Relation::Equal(s) => s,
-        Relation::AtLeast(s) => s,
-    }
 }

@@ -1,7 +1,6 @@
 // Remove.
 ghost use mathlib.Core.Path.{_≡_};
 ghost use mathlib.Core.Bool.{true};
-ghost use lib.ListN.{length};
 ghost use Rattle.laws.specs.Given.{Then};
 ghost use Rattle.steps.specs.Calls.{remove};
 ghost use Rattle.layout.specs.Layout.{tables, constraintsAt, constraintCount};
@@ -13,7 +12,7 @@ use crate::begin::answer_of;
 use crate::begin::by_test;
 use crate::begin::stored_mark;
 use crate::begin::widths;
-use crate::stub::remove_steps;
+use removing::remove_steps;
 use shell::Answer;
 
 // The test passed: the constraint is live.

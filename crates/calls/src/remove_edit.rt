@@ -1,7 +1,6 @@
 // Remove edit.
 ghost use mathlib.Core.Path.{_≡_};
 ghost use mathlib.Core.Bool.{true};
-ghost use lib.ListN.{length};
 ghost use Rattle.laws.specs.Given.{Then};
 ghost use Rattle.steps.specs.Calls.{removeEdit};
 ghost use Rattle.layout.specs.Layout.{tables, editsAt, editCount};
@@ -15,7 +14,7 @@ use crate::begin::stored_mark;
 use crate::begin::widths;
 use crate::one::one_item;
 use crate::one::one_real;
-use crate::stub::remove_steps;
+use removing::remove_steps;
 use shell::Answer;
 
 // The test passed: the variable has an edit.

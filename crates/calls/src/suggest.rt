@@ -1,7 +1,6 @@
 // Suggest.
 ghost use mathlib.Core.Path.{_≡_};
 ghost use mathlib.Core.Bool.{true};
-ghost use lib.ListN.{length};
 ghost use Rattle.laws.specs.Given.{Then};
 ghost use Rattle.steps.specs.Number.{isFinite};
 ghost use Rattle.steps.specs.Calls.{suggest};
@@ -14,9 +13,9 @@ use crate::begin::answer_of;
 use crate::begin::by_test;
 use crate::begin::stored_mark;
 use crate::begin::widths;
-use crate::stub::suggest_steps;
-use dragging::record::EditRecord;
 use dragging::record::edit_record;
+use dragging::record::suggested_if;
+use dragging::suggest::suggest_steps;
 use shell::Answer;
 
 // The tests passed: the variable has an edit, and the suggestion is finite.
@@ -39,15 +38,11 @@ fn suggest_known(
     let j = items::name_at(names, layout::EDITS, head[6] as usize, n as u64);
     let edit = edit_record(names, reals, layout::EDITS + j);
     let e = suggest_steps(head, names, reals, rows, edit, new, budget, before);
+    let next = suggested_if(e.number == 0, edit, new);
     if e.number != 0 {
         return answer_of(e);
     }
     let wrote = e.wrote;
-    let next = EditRecord {
-        marker: edit.marker,
-        other: edit.other,
-        suggestion: new,
-    };
     finishing::with_record(head, names, reals, rows, j, next, wrote);
     answer_of(e)
 }

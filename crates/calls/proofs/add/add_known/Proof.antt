@@ -1,14 +1,11 @@
 -- `calls::add::add_known` meets its contract.
 -- Assumes nothing.
-use Prim.Native.Nat.{ℕ, _+_}
-use mathlib.Core.Path.{_≡_, refl, sym, ap, _∙_}
-use native.Mathlib.Omega.{arith}
-use borrow.Author.Tests.{not-true, not-false}
 use Rattle.layout.specs.Layout.{tables}
-use Rattle.calls.specs.Stub.{addedOf}
+use Rattle.creating.specs.Created.{tagBy, termsIn}
+use Rattle.adding.specs.Adding.{addedOf}
 use Rattle.creating.specs.Tags.{relationOf}
 use Rattle.calls.specs.Begin.{spare-at-start}
-use Rattle.calls.specs.AddingIn.{add-opens, add-stands, addition-refused, addition-accepted, refused-left, accepted-left}
+use Rattle.calls.specs.Adding.{add-opens, add-stands, addition-refused, addition-accepted, refused-left, accepted-left}
 use borrow.Author.Needs.{needs}
 use Rattle.calls.proofs.add.add_known.Statement.{statement}
 use Rattle.calls.proofs.add.add_known.Tie as tie
@@ -17,19 +14,53 @@ stored-mark-requires : tie.Need-stored-mark-requires
 stored-mark-requires c κs = c .before .before .before .before .before .before .pre .0 .0 .0
 
 add-steps-requires : tie.Need-add-steps-requires
-add-steps-requires c κs = (add-opens (c .before .before .before .before .before .before .before .before .before .before .before .before .before .before .before .args .n) (c .before .before .before .before .before .before .before .before .before .before .before .before .before .before .before .args .budget) (c .before .before .before .before .before .before .before .before .before .before .before .before .before .before .before .args .p) (c .before .before .before .before .before .before .before .before .before .before .before .before .before .before .before .args .constant) (relationOf (c .before .before .before .before .before .before .before .before .before .before .before .before .before .before .before .args .relation)) (tables (c .before .before .before .before .before .before .before .before .before .before .before .before .before .before .before .args .head .now) (c .before .before .before .before .before .before .before .before .before .before .before .before .before .before .before .args .names .now) (c .before .before .before .before .before .before .before .before .before .before .before .before .before .before .before .args .reals .now) (c .before .before .before .before .before .before .before .before .before .before .before .before .before .before .before .args .rows .now)) (c .before .before .before .before .before .before .before .before .before .before .before .before .before .before .before .pre .0) (c .before .before .before .before .before .before .before .before .before .before .before .before .before .before .before .pre .1) (c .before .before .before .before .before .before .before .before .stored-mark .result) (c .before .before .before .before .before .before .before .before .stored-mark .ensures) (c .before .before .before .before .before .before .before .term-item .result) (c .before .before .before .before .before .before .term-real .result) (c .before .before .before .before .before .before .before .term-item .ensures) (c .before .before .before .before .before .before .term-real .ensures) (c .before .before .before .before .before .before .before .before .before .before .widths .ensures), spare-at-start (tables (c .before .before .before .before .before .before .before .before .before .before .before .before .before .before .before .args .head .now) (c .before .before .before .before .before .before .before .before .before .before .before .before .before .before .before .args .names .now) (c .before .before .before .before .before .before .before .before .before .before .before .before .before .before .before .args .reals .now) (c .before .before .before .before .before .before .before .before .before .before .before .before .before .before .before .args .rows .now)) (c .before .before .before .before .before .before .before .before .before .before .before .before .before .before .before .pre .0))
+unfolding termsIn
+add-steps-requires c κs =
+    let start = c .before .before .before .before .before .before .before .before .before .before .before .before .before .before .before in
+    let at-stored-mark = c .before .before .before .before .before .before .before .before in
+    let at-term-item = c .before .before .before .before .before .before .before in
+    let at-term-real = c .before .before .before .before .before .before in
+    let t = tables (start .args .head .now) (start .args .names .now) (start .args .reals .now) (start .args .rows .now) in
+    (add-opens (start .args .n) (start .args .budget) (start .args .p) (start .args .constant) (relationOf (start .args .relation)) t (start .pre .0) (start .pre .1) (at-stored-mark .stored-mark .result) (at-stored-mark .stored-mark .ensures) (at-term-item .term-item .result) (at-term-real .term-real .result) (at-term-item .term-item .ensures) (at-term-real .term-real .ensures) (c .before .before .before .before .before .before .before .before .before .before .widths .ensures), spare-at-start t (start .pre .0))
 
 returns : tie.Need-returns
-unfolding addedOf
-returns c = (addition-refused (c .before .before .before .before .before .before .before .before .before .before .before .before .before .before .before .before .before .before .before .before .before .before .before .before .before .args .n) (c .before .before .before .before .before .before .before .before .before .before .before .before .before .before .before .before .before .before .before .before .before .before .before .before .before .args .budget) (c .before .before .before .before .before .before .before .before .before .before .before .before .before .before .before .before .before .before .before .before .before .before .before .before .before .args .p) (c .before .before .before .before .before .before .before .before .before .before .before .before .before .before .before .before .before .before .before .before .before .before .before .before .before .args .constant) (relationOf (c .before .before .before .before .before .before .before .before .before .before .before .before .before .before .before .before .before .before .before .before .before .before .before .before .before .args .relation)) (tables (c .before .before .before .before .before .before .before .before .before .before .before .before .before .before .before .before .before .before .before .before .before .before .before .before .before .args .head .now) (c .before .before .before .before .before .before .before .before .before .before .before .before .before .before .before .before .before .before .before .before .before .before .before .before .before .args .names .now) (c .before .before .before .before .before .before .before .before .before .before .before .before .before .before .before .before .before .before .before .before .before .before .before .before .before .args .reals .now) (c .before .before .before .before .before .before .before .before .before .before .before .before .before .before .before .before .before .before .before .before .before .before .before .before .before .args .rows .now)) (c .before .before .before .before .before .before .before .before .before .before .before .before .before .before .before .before .before .before .before .before .before .before .before .before .before .pre .0) (c .before .before .before .before .before .before .before .before .before .before .before .before .before .before .before .before .before .before .before .before .before .before .before .before .before .pre .1) (c .before .before .before .before .before .before .before .before .before .before .before .before .before .before .before .before .before .before .stored-mark .result) (c .before .before .before .before .before .before .before .before .before .before .before .before .before .before .before .before .before .before .stored-mark .ensures) (c .before .before .before .before .before .before .before .before .before .before .before .before .before .before .before .before .before .term-item .result) (c .before .before .before .before .before .before .before .before .before .before .before .before .before .before .before .before .term-real .result) (c .before .before .before .before .before .before .before .before .before .before .before .before .before .before .before .before .before .term-item .ensures) (c .before .before .before .before .before .before .before .before .before .before .before .before .before .before .before .before .term-real .ensures) (c .before .before .before .before .before .before .before .before .before .add-steps .result .ended) (c .before .before .before .before .before .before .before .before .before .add-steps .result .marker) (c .before .before .before .before .before .before .before .before .before .add-steps .result .other) (tables (c .before .before .before .before .before .before .before .before .before .add-steps .last .0) (c .before .before .before .before .before .before .before .before .before .add-steps .last .1 .0) (c .before .before .before .before .before .before .before .before .before .add-steps .last .1 .1 .0) (c .before .before .before .before .before .before .before .before .before .add-steps .last .1 .1 .1 .0)) (c .before .before .before .before .before .before .before .before .before .add-steps .ensures .0) (c .answer-of .result) (c .answer-of .ensures) (c .before .if1 .taken) (tables (c .before .before .before .before .before .before .before .before .before .add-steps .last .0) (c .before .before .before .before .before .before .before .before .before .add-steps .last .1 .0) (c .before .before .before .before .before .before .before .before .before .add-steps .last .1 .1 .0) (c .before .before .before .before .before .before .before .before .before .add-steps .last .1 .1 .1 .0)), refused-left (c .before .before .before .before .before .before .before .before .before .before .before .before .before .before .before .before .before .before .before .before .before .before .before .before .before .args .n) (c .before .before .before .before .before .before .before .before .before .before .before .before .before .before .before .before .before .before .before .before .before .before .before .before .before .args .budget) (c .before .before .before .before .before .before .before .before .before .before .before .before .before .before .before .before .before .before .before .before .before .before .before .before .before .args .p) (c .before .before .before .before .before .before .before .before .before .before .before .before .before .before .before .before .before .before .before .before .before .before .before .before .before .args .constant) (relationOf (c .before .before .before .before .before .before .before .before .before .before .before .before .before .before .before .before .before .before .before .before .before .before .before .before .before .args .relation)) (tables (c .before .before .before .before .before .before .before .before .before .before .before .before .before .before .before .before .before .before .before .before .before .before .before .before .before .args .head .now) (c .before .before .before .before .before .before .before .before .before .before .before .before .before .before .before .before .before .before .before .before .before .before .before .before .before .args .names .now) (c .before .before .before .before .before .before .before .before .before .before .before .before .before .before .before .before .before .before .before .before .before .before .before .before .before .args .reals .now) (c .before .before .before .before .before .before .before .before .before .before .before .before .before .before .before .before .before .before .before .before .before .before .before .before .before .args .rows .now)) (c .before .before .before .before .before .before .before .before .before .before .before .before .before .before .before .before .before .before .before .before .before .before .before .before .before .pre .0) (c .before .before .before .before .before .before .before .before .before .before .before .before .before .before .before .before .before .before .before .before .before .before .before .before .before .pre .1) (c .before .before .before .before .before .before .before .before .before .before .before .before .before .before .before .before .before .before .stored-mark .result) (c .before .before .before .before .before .before .before .before .before .before .before .before .before .before .before .before .before .before .stored-mark .ensures) (c .before .before .before .before .before .before .before .before .before .before .before .before .before .before .before .before .before .term-item .result) (c .before .before .before .before .before .before .before .before .before .before .before .before .before .before .before .before .term-real .result) (c .before .before .before .before .before .before .before .before .before .before .before .before .before .before .before .before .before .term-item .ensures) (c .before .before .before .before .before .before .before .before .before .before .before .before .before .before .before .before .term-real .ensures) (c .before .before .before .before .before .before .before .before .before .add-steps .result .ended) (c .before .before .before .before .before .before .before .before .before .add-steps .result .marker) (c .before .before .before .before .before .before .before .before .before .add-steps .result .other) (tables (c .before .before .before .before .before .before .before .before .before .add-steps .last .0) (c .before .before .before .before .before .before .before .before .before .add-steps .last .1 .0) (c .before .before .before .before .before .before .before .before .before .add-steps .last .1 .1 .0) (c .before .before .before .before .before .before .before .before .before .add-steps .last .1 .1 .1 .0)) (c .before .before .before .before .before .before .before .before .before .add-steps .ensures .0) (c .answer-of .result) (c .answer-of .ensures) (c .before .if1 .taken) (tables (c .before .before .before .before .before .before .before .before .before .add-steps .last .0) (c .before .before .before .before .before .before .before .before .before .add-steps .last .1 .0) (c .before .before .before .before .before .before .before .before .before .add-steps .last .1 .1 .0) (c .before .before .before .before .before .before .before .before .before .add-steps .last .1 .1 .1 .0)))
+unfolding addedOf tagBy termsIn
+returns c =
+    let start = c .before .before .before .before .before .before .before .before .before .before .before .before .before .before .before .before .before .before .before .before .before .before .before .before .before in
+    let at-stored-mark = c .before .before .before .before .before .before .before .before .before .before .before .before .before .before .before .before .before .before in
+    let at-term-item = c .before .before .before .before .before .before .before .before .before .before .before .before .before .before .before .before .before in
+    let at-term-real = c .before .before .before .before .before .before .before .before .before .before .before .before .before .before .before .before in
+    let at-add-steps = c .before .before .before .before .before .before .before .before .before in
+    let t = tables (start .args .head .now) (start .args .names .now) (start .args .reals .now) (start .args .rows .now) in
+    let u = tables (at-add-steps .add-steps .last .0) (at-add-steps .add-steps .last .1 .0) (at-add-steps .add-steps .last .1 .1 .0) (at-add-steps .add-steps .last .1 .1 .1 .0) in
+    (addition-refused (start .args .n) (start .args .budget) (start .args .p) (start .args .constant) (relationOf (start .args .relation)) t (start .pre .0) (start .pre .1) (at-stored-mark .stored-mark .result) (at-stored-mark .stored-mark .ensures) (at-term-item .term-item .result) (at-term-real .term-real .result) (at-term-item .term-item .ensures) (at-term-real .term-real .ensures) (at-add-steps .add-steps .result .ended) (at-add-steps .add-steps .result .marker) (at-add-steps .add-steps .result .other) u (at-add-steps .add-steps .ensures .0) (c .answer-of .result) (c .answer-of .ensures) (c .before .if1 .taken) u, refused-left (start .args .n) (start .args .budget) (start .args .p) (start .args .constant) (relationOf (start .args .relation)) t (start .pre .0) (start .pre .1) (at-stored-mark .stored-mark .result) (at-stored-mark .stored-mark .ensures) (at-term-item .term-item .result) (at-term-real .term-real .result) (at-term-item .term-item .ensures) (at-term-real .term-real .ensures) (at-add-steps .add-steps .result .ended) (at-add-steps .add-steps .result .marker) (at-add-steps .add-steps .result .other) u (at-add-steps .add-steps .ensures .0) (c .answer-of .result) (c .answer-of .ensures) (c .before .if1 .taken) u)
 
 with-constraint-requires : tie.Need-with-constraint-requires
-unfolding addedOf
-with-constraint-requires c κs = add-stands (c .before .before .before .before .before .before .before .before .before .before .before .before .before .before .before .before .before .before .before .before .before .before .before .before .before .before .before .before .before .before .before .before .before .before .args .n) (c .before .before .before .before .before .before .before .before .before .before .before .before .before .before .before .before .before .before .before .before .before .before .before .before .before .before .before .before .before .before .before .before .before .before .args .budget) (c .before .before .before .before .before .before .before .before .before .before .before .before .before .before .before .before .before .before .before .before .before .before .before .before .before .before .before .before .before .before .before .before .before .before .args .p) (c .before .before .before .before .before .before .before .before .before .before .before .before .before .before .before .before .before .before .before .before .before .before .before .before .before .before .before .before .before .before .before .before .before .before .args .constant) (relationOf (c .before .before .before .before .before .before .before .before .before .before .before .before .before .before .before .before .before .before .before .before .before .before .before .before .before .before .before .before .before .before .before .before .before .before .args .relation)) (tables (c .before .before .before .before .before .before .before .before .before .before .before .before .before .before .before .before .before .before .before .before .before .before .before .before .before .before .before .before .before .before .before .before .before .before .args .head .now) (c .before .before .before .before .before .before .before .before .before .before .before .before .before .before .before .before .before .before .before .before .before .before .before .before .before .before .before .before .before .before .before .before .before .before .args .names .now) (c .before .before .before .before .before .before .before .before .before .before .before .before .before .before .before .before .before .before .before .before .before .before .before .before .before .before .before .before .before .before .before .before .before .before .args .reals .now) (c .before .before .before .before .before .before .before .before .before .before .before .before .before .before .before .before .before .before .before .before .before .before .before .before .before .before .before .before .before .before .before .before .before .before .args .rows .now)) (c .before .before .before .before .before .before .before .before .before .before .before .before .before .before .before .before .before .before .before .before .before .before .before .before .before .before .before .before .before .before .before .before .before .before .pre .0) (c .before .before .before .before .before .before .before .before .before .before .before .before .before .before .before .before .before .before .before .before .before .before .before .before .before .before .before .before .before .before .before .before .before .before .pre .1) (c .before .before .before .before .before .before .before .before .before .before .before .before .before .before .before .before .before .before .before .before .before .before .before .before .before .before .before .stored-mark .result) (c .before .before .before .before .before .before .before .before .before .before .before .before .before .before .before .before .before .before .before .before .before .before .before .before .before .before .before .stored-mark .ensures) (c .before .before .before .before .before .before .before .before .before .before .before .before .before .before .before .before .before .before .before .before .before .before .before .before .before .before .term-item .result) (c .before .before .before .before .before .before .before .before .before .before .before .before .before .before .before .before .before .before .before .before .before .before .before .before .before .term-real .result) (c .before .before .before .before .before .before .before .before .before .before .before .before .before .before .before .before .before .before .before .before .before .before .before .before .before .before .term-item .ensures) (c .before .before .before .before .before .before .before .before .before .before .before .before .before .before .before .before .before .before .before .before .before .before .before .before .before .term-real .ensures) (c .before .before .before .before .before .before .before .before .before .before .before .before .before .before .before .before .before .before .add-steps .result .ended) (c .before .before .before .before .before .before .before .before .before .before .before .before .before .before .before .before .before .before .add-steps .result .marker) (c .before .before .before .before .before .before .before .before .before .before .before .before .before .before .before .before .before .before .add-steps .result .other) (tables (c .before .before .before .before .before .before .before .before .before .before .before .before .before .before .before .before .before .before .add-steps .last .0) (c .before .before .before .before .before .before .before .before .before .before .before .before .before .before .before .before .before .before .add-steps .last .1 .0) (c .before .before .before .before .before .before .before .before .before .before .before .before .before .before .before .before .before .before .add-steps .last .1 .1 .0) (c .before .before .before .before .before .before .before .before .before .before .before .before .before .before .before .before .before .before .add-steps .last .1 .1 .1 .0)) (c .before .before .before .before .before .before .before .before .before .before .before .before .before .before .before .before .before .before .add-steps .ensures .0) (c .before .before .before .before .before .before .before .before .before .before .before .before .before .before .before .before .before .before .add-steps .ensures .1) (c .before .before .before .before .before .before .before .before .before .before .if1 .left)
+unfolding addedOf tagBy termsIn
+with-constraint-requires c κs =
+    let start = c .before .before .before .before .before .before .before .before .before .before .before .before .before .before .before .before .before .before .before .before .before .before .before .before .before .before .before .before .before .before .before .before .before .before in
+    let at-stored-mark = c .before .before .before .before .before .before .before .before .before .before .before .before .before .before .before .before .before .before .before .before .before .before .before .before .before .before .before in
+    let at-term-item = c .before .before .before .before .before .before .before .before .before .before .before .before .before .before .before .before .before .before .before .before .before .before .before .before .before .before in
+    let at-term-real = c .before .before .before .before .before .before .before .before .before .before .before .before .before .before .before .before .before .before .before .before .before .before .before .before .before in
+    let at-add-steps = c .before .before .before .before .before .before .before .before .before .before .before .before .before .before .before .before .before .before in
+    add-stands (start .args .n) (start .args .budget) (start .args .p) (start .args .constant) (relationOf (start .args .relation)) (tables (start .args .head .now) (start .args .names .now) (start .args .reals .now) (start .args .rows .now)) (start .pre .0) (start .pre .1) (at-stored-mark .stored-mark .result) (at-stored-mark .stored-mark .ensures) (at-term-item .term-item .result) (at-term-real .term-real .result) (at-term-item .term-item .ensures) (at-term-real .term-real .ensures) (at-add-steps .add-steps .result .ended) (at-add-steps .add-steps .result .marker) (at-add-steps .add-steps .result .other) (tables (at-add-steps .add-steps .last .0) (at-add-steps .add-steps .last .1 .0) (at-add-steps .add-steps .last .1 .1 .0) (at-add-steps .add-steps .last .1 .1 .1 .0)) (at-add-steps .add-steps .ensures .0) (at-add-steps .add-steps .ensures .1) (c .before .before .before .before .before .before .before .before .before .before .if1 .left)
 
 returns-2 : tie.Need-returns-2
-unfolding addedOf
-returns-2 c = (addition-accepted (c .before .before .before .before .before .before .before .before .before .before .before .before .before .before .before .before .before .before .before .before .before .before .before .before .before .before .before .before .before .before .before .before .before .before .before .before .before .before .before .before .args .n) (c .before .before .before .before .before .before .before .before .before .before .before .before .before .before .before .before .before .before .before .before .before .before .before .before .before .before .before .before .before .before .before .before .before .before .before .before .before .before .before .before .args .budget) (c .before .before .before .before .before .before .before .before .before .before .before .before .before .before .before .before .before .before .before .before .before .before .before .before .before .before .before .before .before .before .before .before .before .before .before .before .before .before .before .before .args .p) (c .before .before .before .before .before .before .before .before .before .before .before .before .before .before .before .before .before .before .before .before .before .before .before .before .before .before .before .before .before .before .before .before .before .before .before .before .before .before .before .before .args .constant) (relationOf (c .before .before .before .before .before .before .before .before .before .before .before .before .before .before .before .before .before .before .before .before .before .before .before .before .before .before .before .before .before .before .before .before .before .before .before .before .before .before .before .before .args .relation)) (tables (c .before .before .before .before .before .before .before .before .before .before .before .before .before .before .before .before .before .before .before .before .before .before .before .before .before .before .before .before .before .before .before .before .before .before .before .before .before .before .before .before .args .head .now) (c .before .before .before .before .before .before .before .before .before .before .before .before .before .before .before .before .before .before .before .before .before .before .before .before .before .before .before .before .before .before .before .before .before .before .before .before .before .before .before .before .args .names .now) (c .before .before .before .before .before .before .before .before .before .before .before .before .before .before .before .before .before .before .before .before .before .before .before .before .before .before .before .before .before .before .before .before .before .before .before .before .before .before .before .before .args .reals .now) (c .before .before .before .before .before .before .before .before .before .before .before .before .before .before .before .before .before .before .before .before .before .before .before .before .before .before .before .before .before .before .before .before .before .before .before .before .before .before .before .before .args .rows .now)) (c .before .before .before .before .before .before .before .before .before .before .before .before .before .before .before .before .before .before .before .before .before .before .before .before .before .before .before .before .before .before .before .before .before .before .before .before .before .before .before .before .pre .0) (c .before .before .before .before .before .before .before .before .before .before .before .before .before .before .before .before .before .before .before .before .before .before .before .before .before .before .before .before .before .before .before .before .before .before .before .before .before .before .before .before .pre .1) (c .before .before .before .before .before .before .before .before .before .before .before .before .before .before .before .before .before .before .before .before .before .before .before .before .before .before .before .before .before .before .before .before .before .stored-mark .result) (c .before .before .before .before .before .before .before .before .before .before .before .before .before .before .before .before .before .before .before .before .before .before .before .before .before .before .before .before .before .before .before .before .before .stored-mark .ensures) (c .before .before .before .before .before .before .before .before .before .before .before .before .before .before .before .before .before .before .before .before .before .before .before .before .before .before .before .before .before .before .before .before .term-item .result) (c .before .before .before .before .before .before .before .before .before .before .before .before .before .before .before .before .before .before .before .before .before .before .before .before .before .before .before .before .before .before .before .term-real .result) (c .before .before .before .before .before .before .before .before .before .before .before .before .before .before .before .before .before .before .before .before .before .before .before .before .before .before .before .before .before .before .before .before .term-item .ensures) (c .before .before .before .before .before .before .before .before .before .before .before .before .before .before .before .before .before .before .before .before .before .before .before .before .before .before .before .before .before .before .before .term-real .ensures) (c .before .before .before .before .before .before .before .before .before .before .before .before .before .before .before .before .before .before .before .before .before .before .before .before .add-steps .result .ended) (c .before .before .before .before .before .before .before .before .before .before .before .before .before .before .before .before .before .before .before .before .before .before .before .before .add-steps .result .marker) (c .before .before .before .before .before .before .before .before .before .before .before .before .before .before .before .before .before .before .before .before .before .before .before .before .add-steps .result .other) (tables (c .before .before .before .before .before .before .before .before .before .before .before .before .before .before .before .before .before .before .before .before .before .before .before .before .add-steps .last .0) (c .before .before .before .before .before .before .before .before .before .before .before .before .before .before .before .before .before .before .before .before .before .before .before .before .add-steps .last .1 .0) (c .before .before .before .before .before .before .before .before .before .before .before .before .before .before .before .before .before .before .before .before .before .before .before .before .add-steps .last .1 .1 .0) (c .before .before .before .before .before .before .before .before .before .before .before .before .before .before .before .before .before .before .before .before .before .before .before .before .add-steps .last .1 .1 .1 .0)) (c .before .before .before .before .before .before .before .before .before .before .before .before .before .before .before .before .before .before .before .before .before .before .before .before .add-steps .ensures .0) (c .answer-of2 .result) (c .answer-of2 .ensures) (c .before .before .before .before .before .before .before .before .before .before .before .before .before .before .before .before .before .before .before .before .before .before .before .before .add-steps .ensures .1) (c .before .before .before .before .before .before .before .before .before .before .before .before .before .before .before .before .if1 .left) (c .before .before .before .before .before .before .before .before .before .before .before .before .before .before .constraint-item .result) (c .before .before .before .before .before .before .before .before .before .before .before .before .constraint-real .result) (tables (c .before .before .before .before .before .with-constraint .last .0) (c .before .before .before .before .before .with-constraint .last .1 .0) (c .before .before .before .before .before .with-constraint .last .1 .1 .0) (c .before .before .before .before .before .before .before .before .before .before .before .before .before .before .before .before .before .before .before .before .before .before .before .before .add-steps .last .1 .1 .1 .0)) (c .before .before .before .before .before .before .before .before .before .before .before .before .before .before .constraint-item .ensures) (rw (← c .before .before .before .before .before .before .before .before .before .before .before .before .before .strength-of .ensures) (c .before .before .before .before .before .before .before .before .before .before .before .before .constraint-real .ensures)) (c .before .before .before .before .before .with-constraint .ensures), accepted-left (c .before .before .before .before .before .before .before .before .before .before .before .before .before .before .before .before .before .before .before .before .before .before .before .before .before .before .before .before .before .before .before .before .before .before .before .before .before .before .before .before .args .n) (c .before .before .before .before .before .before .before .before .before .before .before .before .before .before .before .before .before .before .before .before .before .before .before .before .before .before .before .before .before .before .before .before .before .before .before .before .before .before .before .before .args .budget) (c .before .before .before .before .before .before .before .before .before .before .before .before .before .before .before .before .before .before .before .before .before .before .before .before .before .before .before .before .before .before .before .before .before .before .before .before .before .before .before .before .args .p) (c .before .before .before .before .before .before .before .before .before .before .before .before .before .before .before .before .before .before .before .before .before .before .before .before .before .before .before .before .before .before .before .before .before .before .before .before .before .before .before .before .args .constant) (relationOf (c .before .before .before .before .before .before .before .before .before .before .before .before .before .before .before .before .before .before .before .before .before .before .before .before .before .before .before .before .before .before .before .before .before .before .before .before .before .before .before .before .args .relation)) (tables (c .before .before .before .before .before .before .before .before .before .before .before .before .before .before .before .before .before .before .before .before .before .before .before .before .before .before .before .before .before .before .before .before .before .before .before .before .before .before .before .before .args .head .now) (c .before .before .before .before .before .before .before .before .before .before .before .before .before .before .before .before .before .before .before .before .before .before .before .before .before .before .before .before .before .before .before .before .before .before .before .before .before .before .before .before .args .names .now) (c .before .before .before .before .before .before .before .before .before .before .before .before .before .before .before .before .before .before .before .before .before .before .before .before .before .before .before .before .before .before .before .before .before .before .before .before .before .before .before .before .args .reals .now) (c .before .before .before .before .before .before .before .before .before .before .before .before .before .before .before .before .before .before .before .before .before .before .before .before .before .before .before .before .before .before .before .before .before .before .before .before .before .before .before .before .args .rows .now)) (c .before .before .before .before .before .before .before .before .before .before .before .before .before .before .before .before .before .before .before .before .before .before .before .before .before .before .before .before .before .before .before .before .before .before .before .before .before .before .before .before .pre .0) (c .before .before .before .before .before .before .before .before .before .before .before .before .before .before .before .before .before .before .before .before .before .before .before .before .before .before .before .before .before .before .before .before .before .before .before .before .before .before .before .before .pre .1) (c .before .before .before .before .before .before .before .before .before .before .before .before .before .before .before .before .before .before .before .before .before .before .before .before .before .before .before .before .before .before .before .before .before .stored-mark .result) (c .before .before .before .before .before .before .before .before .before .before .before .before .before .before .before .before .before .before .before .before .before .before .before .before .before .before .before .before .before .before .before .before .before .stored-mark .ensures) (c .before .before .before .before .before .before .before .before .before .before .before .before .before .before .before .before .before .before .before .before .before .before .before .before .before .before .before .before .before .before .before .before .term-item .result) (c .before .before .before .before .before .before .before .before .before .before .before .before .before .before .before .before .before .before .before .before .before .before .before .before .before .before .before .before .before .before .before .term-real .result) (c .before .before .before .before .before .before .before .before .before .before .before .before .before .before .before .before .before .before .before .before .before .before .before .before .before .before .before .before .before .before .before .before .term-item .ensures) (c .before .before .before .before .before .before .before .before .before .before .before .before .before .before .before .before .before .before .before .before .before .before .before .before .before .before .before .before .before .before .before .term-real .ensures) (c .before .before .before .before .before .before .before .before .before .before .before .before .before .before .before .before .before .before .before .before .before .before .before .before .add-steps .result .ended) (c .before .before .before .before .before .before .before .before .before .before .before .before .before .before .before .before .before .before .before .before .before .before .before .before .add-steps .result .marker) (c .before .before .before .before .before .before .before .before .before .before .before .before .before .before .before .before .before .before .before .before .before .before .before .before .add-steps .result .other) (tables (c .before .before .before .before .before .before .before .before .before .before .before .before .before .before .before .before .before .before .before .before .before .before .before .before .add-steps .last .0) (c .before .before .before .before .before .before .before .before .before .before .before .before .before .before .before .before .before .before .before .before .before .before .before .before .add-steps .last .1 .0) (c .before .before .before .before .before .before .before .before .before .before .before .before .before .before .before .before .before .before .before .before .before .before .before .before .add-steps .last .1 .1 .0) (c .before .before .before .before .before .before .before .before .before .before .before .before .before .before .before .before .before .before .before .before .before .before .before .before .add-steps .last .1 .1 .1 .0)) (c .before .before .before .before .before .before .before .before .before .before .before .before .before .before .before .before .before .before .before .before .before .before .before .before .add-steps .ensures .0) (c .answer-of2 .result) (c .answer-of2 .ensures) (c .before .before .before .before .before .before .before .before .before .before .before .before .before .before .before .before .before .before .before .before .before .before .before .before .add-steps .ensures .1) (c .before .before .before .before .before .before .before .before .before .before .before .before .before .before .before .before .if1 .left) (c .before .before .before .before .before .before .before .before .before .before .before .before .before .before .constraint-item .result) (c .before .before .before .before .before .before .before .before .before .before .before .before .constraint-real .result) (tables (c .before .before .before .before .before .with-constraint .last .0) (c .before .before .before .before .before .with-constraint .last .1 .0) (c .before .before .before .before .before .with-constraint .last .1 .1 .0) (c .before .before .before .before .before .before .before .before .before .before .before .before .before .before .before .before .before .before .before .before .before .before .before .before .add-steps .last .1 .1 .1 .0)) (c .before .before .before .before .before .before .before .before .before .before .before .before .before .before .constraint-item .ensures) (c .before .before .before .before .before .with-constraint .ensures))
+unfolding addedOf tagBy termsIn
+returns-2 c =
+    let start = c .before .before .before .before .before .before .before .before .before .before .before .before .before .before .before .before .before .before .before .before .before .before .before .before .before .before .before .before .before .before .before .before .before .before .before .before .before .before .before .before in
+    let at-stored-mark = c .before .before .before .before .before .before .before .before .before .before .before .before .before .before .before .before .before .before .before .before .before .before .before .before .before .before .before .before .before .before .before .before .before in
+    let at-term-item = c .before .before .before .before .before .before .before .before .before .before .before .before .before .before .before .before .before .before .before .before .before .before .before .before .before .before .before .before .before .before .before .before in
+    let at-term-real = c .before .before .before .before .before .before .before .before .before .before .before .before .before .before .before .before .before .before .before .before .before .before .before .before .before .before .before .before .before .before .before in
+    let at-add-steps = c .before .before .before .before .before .before .before .before .before .before .before .before .before .before .before .before .before .before .before .before .before .before .before .before in
+    let at-if1 = c .before .before .before .before .before .before .before .before .before .before .before .before .before .before .before .before in
+    let at-constraint-item = c .before .before .before .before .before .before .before .before .before .before .before .before .before .before in
+    let at-constraint-real = c .before .before .before .before .before .before .before .before .before .before .before .before in
+    let at-with-constraint = c .before .before .before .before .before in
+    let t = tables (start .args .head .now) (start .args .names .now) (start .args .reals .now) (start .args .rows .now) in
+    let u = tables (at-add-steps .add-steps .last .0) (at-add-steps .add-steps .last .1 .0) (at-add-steps .add-steps .last .1 .1 .0) (at-add-steps .add-steps .last .1 .1 .1 .0) in
+    let v = tables (at-with-constraint .with-constraint .last .0) (at-with-constraint .with-constraint .last .1 .0) (at-with-constraint .with-constraint .last .1 .1 .0) (at-add-steps .add-steps .last .1 .1 .1 .0) in
+    (addition-accepted (start .args .n) (start .args .budget) (start .args .p) (start .args .constant) (relationOf (start .args .relation)) t (start .pre .0) (start .pre .1) (at-stored-mark .stored-mark .result) (at-stored-mark .stored-mark .ensures) (at-term-item .term-item .result) (at-term-real .term-real .result) (at-term-item .term-item .ensures) (at-term-real .term-real .ensures) (at-add-steps .add-steps .result .ended) (at-add-steps .add-steps .result .marker) (at-add-steps .add-steps .result .other) u (at-add-steps .add-steps .ensures .0) (c .answer-of2 .result) (c .answer-of2 .ensures) (at-add-steps .add-steps .ensures .1) (at-if1 .if1 .left) (at-constraint-item .constraint-item .result) (at-constraint-real .constraint-real .result) v (at-constraint-item .constraint-item .ensures) (rw (← c .before .before .before .before .before .before .before .before .before .before .before .before .before .strength-of .ensures) (at-constraint-real .constraint-real .ensures)) (at-with-constraint .with-constraint .ensures), accepted-left (start .args .n) (start .args .budget) (start .args .p) (start .args .constant) (relationOf (start .args .relation)) t (start .pre .0) (start .pre .1) (at-stored-mark .stored-mark .result) (at-stored-mark .stored-mark .ensures) (at-term-item .term-item .result) (at-term-real .term-real .result) (at-term-item .term-item .ensures) (at-term-real .term-real .ensures) (at-add-steps .add-steps .result .ended) (at-add-steps .add-steps .result .marker) (at-add-steps .add-steps .result .other) u (at-add-steps .add-steps .ensures .0) (c .answer-of2 .result) (c .answer-of2 .ensures) (at-add-steps .add-steps .ensures .1) (at-if1 .if1 .left) (at-constraint-item .constraint-item .result) (at-constraint-real .constraint-real .result) v (at-constraint-item .constraint-item .ensures) (at-with-constraint .with-constraint .ensures))
 
 pub add-known-spec : {M : Type 1} → statement M
 add-known-spec =

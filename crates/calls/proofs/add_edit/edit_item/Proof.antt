@@ -1,7 +1,7 @@
 -- `calls::add_edit::edit_item` meets its contract.
 -- Assumes nothing.
 use mathlib.Core.Path.{refl}
-use Rattle.calls.specs.Adding.{editItem}
+use Rattle.calls.specs.EditAdding.{editItem}
 use borrow.Author.Needs.{needs}
 use Rattle.calls.proofs.add_edit.edit_item.Statement.{statement}
 use Rattle.calls.proofs.add_edit.edit_item.Tie as tie

@@ -1,7 +1,7 @@
 -- `calls::add_edit::edit_real` meets its contract.
 -- Assumes nothing.
 use mathlib.Core.Path.{refl}
-use Rattle.calls.specs.Adding.{editReal}
+use Rattle.calls.specs.EditAdding.{editReal}
 use Rattle.steps.specs.Number.{zero64}
 use borrow.Author.Needs.{needs}
 use Rattle.calls.proofs.add_edit.edit_real.Statement.{statement}

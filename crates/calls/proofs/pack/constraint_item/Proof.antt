@@ -1,6 +1,5 @@
 -- `calls::pack::constraint_item` meets its contract.
 -- Assumes nothing.
-use Rattle.terms.specs.Terms.{keptOf}
 use Rattle.calls.specs.Packing.{own-kept}
 use borrow.Author.Needs.{needs}
 use Rattle.calls.proofs.pack.constraint_item.Statement.{statement}

@@ -1,6 +1,5 @@
 -- `calls::pack::constraint_real` meets its contract.
 -- Assumes nothing.
-use Rattle.terms.specs.Terms.{keptOf}
 use Rattle.calls.specs.Packing.{own-weight}
 use borrow.Author.Needs.{needs}
 use Rattle.calls.proofs.pack.constraint_real.Statement.{statement}

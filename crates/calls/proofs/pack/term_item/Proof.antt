@@ -4,9 +4,7 @@ use Prim.Native.Nat.{ℕ, _+_, _-_, _≤_, _<_}
 use mathlib.Core.Path.{_≡_, refl, _∙_}
 use native.Mathlib.Omega.{arith}
 use lib.ListN.{length, getD, length-set}
-use lib.Seq.{getD-set-same, getD-set-other}
-use lib.Ieee.{nan}
-use Rattle.layout.specs.Copy.{most16}
+use lib.Seq.{getD-set-other}
 use Rattle.calls.specs.Packing.{fill-next}
 use borrow.Author.Needs.{needs}
 use Rattle.calls.proofs.pack.term_item.Statement.{statement}

@@ -1,10 +1,9 @@
 -- `calls::pack::term_real` meets its contract.
 -- Assumes nothing.
 use Prim.Native.Nat.{ℕ, _+_, _-_, _≤_, _<_}
-use mathlib.Core.Path.{_≡_, refl, _∙_}
+use mathlib.Core.Path.{_≡_, refl}
 use native.Mathlib.Omega.{arith}
 use lib.ListN.{length, getD, length-set}
-use lib.Seq.{getD-set-same, getD-set-other}
 use lib.Ieee.{nan}
 use Rattle.calls.specs.Packing.{fill-next}
 use borrow.Author.Needs.{needs}

@@ -2,12 +2,11 @@
 -- Assumes nothing.
 use Prim.Native.Nat.{ℕ, zero, suc, _+_, _≤_, _<_}
 use mathlib.Core.Path.{_≡_, refl, sym, ap, _∙_}
-use mathlib.Core.Bool.{Bool, true, false, cond}
+use mathlib.Core.Bool.{Bool, true, cond}
 use mathlib.Core.List.{List, [], _∷_, map}
-use mathlib.Core.Option.{Option, none, some}
+use mathlib.Core.Option.{none, some}
 use native.Mathlib.Nat.{not-suc-le-zero, le-of-suc-le-suc, zero-add}
 use native.Mathlib.Omega.{arith}
-use lib.Dec.{ltb}
 use lib.ListN.{length, getD}
 use borrow.Author.Tests.{ltb-true}
 use Rattle.laws.specs.Lists.{listOf, getD-tab}
@@ -18,7 +17,7 @@ use Rattle.keeps.specs.Reads.{editNumber}
 use Rattle.layout.specs.Layout.{Tables, numberOf, constraintsAt, editsAt, constraintCount, editCount, constraintOf, editOf, constraintsOf, editsOf}
 use Rattle.places.specs.Finding.{place-is}
 use Rattle.items.specs.Items.{nameAt}
-use Rattle.asking.specs.Asked.{pick, constraint-found, edit-found}
+use Rattle.asking.specs.Asked.{constraint-found, edit-found}
 use Rattle.tests.specs.Refusals.{liveIn}
 use Rattle.dragging.specs.Stored.{Ascending}
 use Rattle.calls.specs.Begin.{constraints-count, edits-count}
