@@ -1,0 +1,2 @@
+-- The changing calls: from the tables to the steps, and back.
+pub mod Begin

@@ -1,0 +1,1 @@
+// The five changing calls over lent tables.
