@@ -2,3 +2,4 @@
 pub mod Near
 pub mod NearAdd
 pub mod Narrow
+pub mod Written
