@@ -46,7 +46,7 @@ module _ (h₀ : List ℕ) (w : List (List Float)) (m : List ℕ) (few : length 
       (cond-held (isRestricted (basicIn h₀ w i .symbol) && belowZero (basicIn h₀ w i .row .constant)) (entriesIn h) m (basicIn h₀ w i .symbol .id) held in-m)
 
   -- after n turns the list is still held
-  turns-held : (n i : ℕ) (h : List ℕ) → length h ≡ 326 → getD h 3 0 ≤ 130 → Agrees h₀ w h → i + n ≤ 49 → Rows i n → Held (entriesIn h) m → Held (entriesIn (turns (pushRow w) n (suc i) h)) m
+  pub turns-held : (n i : ℕ) (h : List ℕ) → length h ≡ 326 → getD h 3 0 ≤ 130 → Agrees h₀ w h → i + n ≤ 49 → Rows i n → Held (entriesIn h) m → Held (entriesIn (turns (pushRow w) n (suc i) h)) m
   unfolding turns
   turns-held zero i h len fit agrees low rows held = held
   turns-held (suc n) i h len fit agrees low rows held =

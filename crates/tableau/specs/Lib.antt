@@ -3,6 +3,7 @@ pub mod Notes
 pub mod Substituting
 pub mod Pivoting
 pub mod NotesRead
+pub mod NotesKept
 pub mod SubstituteRead
 pub mod Working
 pub mod Pushed
