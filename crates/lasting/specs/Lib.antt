@@ -3,3 +3,4 @@ pub mod Near
 pub mod NearAdd
 pub mod Narrow
 pub mod Written
+pub mod Promises
