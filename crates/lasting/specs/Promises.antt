@@ -76,8 +76,8 @@ narrow-of t h =
     let i = both _ _ (g .0) in
     record {
       next = i .0;
-      variables = all-tab _ _ 0 (variableCount (t .head)) (λ j l k. both _ _ (all-at _ 0 (variableCount (t .head)) (d .1) j l k) .0);
-      constraints = all-tab _ _ 0 (constraintCount (t .head)) (λ j l k. all-at _ 0 (constraintCount (t .head)) (c .1) j l k);
+      variables = all-tab _ _ 0 (variableCount (t .head)) (λ j l k. both _ _ (all-at _ 0 (variableCount (t .head)) (d .1) j l (omega (arith, k))) .0);
+      constraints = all-tab _ _ 0 (constraintCount (t .head)) (λ j l k. all-at _ 0 (constraintCount (t .head)) (c .1) j l (omega (arith, k)));
     }
 
 pub made-reads : (c : Changing) (s : State) → readable s ≡ true → readable (made c s .state) ≡ true
