@@ -4,3 +4,4 @@ pub mod NearAdd
 pub mod Narrow
 pub mod Written
 pub mod Promises
+pub mod Runs

@@ -1,31 +1,26 @@
 -- What the steps do to the next id and to the variables' numbers: at most k ids are taken, and a number that is new is a term's. Assumes nothing.
 use Prim.Native.Nat.{ℕ, zero, suc, _+_, _-_, _≤_}
-use mathlib.Core.Path.{_≡_, refl, sym, ap, _∙_, subst}
+use mathlib.Core.Path.{_≡_, refl}
 use mathlib.Core.Bool.{Bool, true, false, _&&_, cond}
-use mathlib.Core.List.{List, [], _∷_, map}
+use mathlib.Core.List.{List, _∷_}
 use mathlib.Core.Option.{Option, none, some}
 use native.Mathlib.Omega.{arith}
-use lib.ListN.{length}
-use lib.Ieee.{Float, lt, ne, neg, nan}
-use Rattle.steps.specs.Number.{zero64, one64, minusOne64, nearZero, belowZero, wholeIf}
-use Rattle.steps.specs.Strength.{required}
+use lib.Ieee.{Float, ne, neg}
+use Rattle.steps.specs.Number.{zero64}
 use Rattle.steps.specs.Symbol.{Symbol, isExternal, isError}
 use Rattle.steps.specs.Row.{Row}
-use Rattle.steps.specs.State.{Term, Relation, atMost, equal, atLeast, Tag, Variable, Edit}
-use Rattle.steps.specs.Work.{Work, Outcome, refused, going, _>>=_, refuse, checkFinite, withTableau, withRows, withObjective, withInfeasible, withChanges, withArtificial, marking, countPivot, findRow, dropRow, appendSymbol, purge, newSymbol}
-use Rattle.steps.specs.Changes.{withFlag, clearChanged, note, findVariable}
-use Rattle.steps.specs.CreateRow.{Building, Created, written, appendTo, insertInto, keepVariable, withVariables, addVariable, useOnce, countUse, insertVariable, insertTerm, insertTerms, tagged, addSymbol, insertInObjective, addError, inequality, softEquality, requiredEquality, addTag, createRow, chooseSubject, allDummies}
-use Rattle.steps.specs.Substitute.{pivot, enterBasis}
-use Rattle.steps.specs.Optimise.{Goal, theObjective, theArtificial, Choice, ended, stuck, pivotOn, choosePivot, countedPivot, optimise, DualChoice, feasible, noEntering, dualPivotOn, chooseDualPivot, countedDualPivot, dualOptimise}
-use Rattle.steps.specs.Artificial.{standTemporary, removeTemporary, isEmptyRow, anyPivotableSymbol, artificialConstantNearZero, addWithArtificialVariable}
-use Rattle.steps.specs.Add.{Added, addWithSubject, addCreated, addSteps, wholeInputs}
+use Rattle.steps.specs.State.{Term, Tag, Variable, Edit}
+use Rattle.steps.specs.Work.{Work, Outcome, refused, going, _>>=_, refuse, checkFinite, withTableau, withRows, withObjective, withInfeasible, withChanges, marking, countPivot, findRow, dropRow, purge}
+use Rattle.steps.specs.Changes.{withFlag, clearChanged, note}
+use Rattle.steps.specs.CreateRow.{withVariables, insertInObjective}
+use Rattle.steps.specs.Substitute.{pivot}
+use Rattle.steps.specs.Optimise.{Goal, theObjective, Choice, ended, stuck, pivotOn, choosePivot, countedPivot, optimise, DualChoice, feasible, noEntering, dualPivotOn, chooseDualPivot, countedDualPivot, dualOptimise}
 use Rattle.steps.specs.Remove.{insertRowInObjective, removeMarkerEffects, removeConstraintEffects, getMarkerLeavingRow, noteLeaving, dropMarker, purgeTag, Fallen, useLess, dropUse, dropUses, removeSteps}
 use Rattle.steps.specs.Edit.{suggestSteps, shiftConstants}
 use Rattle.keeps.specs.Lists.{All}
-use Rattle.keeps.specs.Keys.{keepBy, keep-all, keepVariable-is}
 use Rattle.keeps.specs.Reads.{unmap}
 use Rattle.keeps.specs.Fits.{all-map}
-use Rattle.keeps.specs.Frame.{Frame, frame-trans, pivot-frame, enter-frame, mark-frame, note-frame}
+use Rattle.keeps.specs.Frame.{Frame, pivot-frame, mark-frame, note-frame}
 use Rattle.keeps.specs.Suggest.{shift-frame}
 use Rattle.keeps.specs.Passes.{Ends, ends-bind, ends-to, check-ends}
 

@@ -1,8 +1,8 @@
 -- What Add's steps do to the next id and to the variables' numbers: an id for each new variable, two for the tag, one for the temporary. Assumes nothing.
-use Prim.Native.Nat.{ℕ, suc, _+_, _-_, _≤_}
+use Prim.Native.Nat.{ℕ, suc, _+_, _-_}
 use mathlib.Core.Path.{_≡_, refl}
-use mathlib.Core.Bool.{Bool, true, false, cond}
-use mathlib.Core.List.{List, [], _∷_, map}
+use mathlib.Core.Bool.{Bool, true, false}
+use mathlib.Core.List.{List, _∷_, map}
 use mathlib.Core.Option.{Option, none, some}
 use native.Mathlib.Omega.{arith}
 use lib.ListN.{length}
@@ -12,10 +12,10 @@ use Rattle.steps.specs.Strength.{required}
 use Rattle.steps.specs.Symbol.{External, Slack, Error, Symbol}
 use Rattle.steps.specs.Row.{Row, insertRow, reverseSign}
 use Rattle.steps.specs.State.{Term, Relation, atMost, equal, atLeast, Variable}
-use Rattle.steps.specs.Work.{Work, Outcome, refused, going, _>>=_, refuse, checkFinite, withTableau, withRows, withObjective, withChanges, withArtificial, marking, findRow, keepRow, appendSymbol, purge, newSymbol}
+use Rattle.steps.specs.Work.{Work, Outcome, refused, going, _>>=_, refuse, checkFinite, withTableau, withRows, withObjective, withChanges, withArtificial, marking, findRow, appendSymbol, purge, newSymbol}
 use Rattle.steps.specs.Changes.{findVariable}
-use Rattle.steps.specs.CreateRow.{Building, Created, written, appendTo, insertInto, keepVariable, withVariables, addVariable, useOnce, countUse, insertVariable, insertTerm, insertTerms, tagged, addSymbol, insertInObjective, addError, inequality, softEquality, requiredEquality, addTag, createRow, chooseSubject, allDummies}
-use Rattle.steps.specs.Substitute.{pivot, enterBasis}
+use Rattle.steps.specs.CreateRow.{Building, Created, written, appendTo, insertInto, withVariables, addVariable, useOnce, countUse, insertVariable, insertTerm, insertTerms, tagged, addSymbol, insertInObjective, addError, inequality, softEquality, requiredEquality, addTag, createRow, chooseSubject, allDummies}
+use Rattle.steps.specs.Substitute.{pivot}
 use Rattle.steps.specs.Optimise.{optimise, theObjective, theArtificial}
 use Rattle.steps.specs.Artificial.{standTemporary, removeTemporary, isEmptyRow, anyPivotableSymbol, artificialConstantNearZero, addWithArtificialVariable}
 use Rattle.steps.specs.Add.{Added, addWithSubject, addCreated, addSteps, wholeInputs}
@@ -24,7 +24,7 @@ use Rattle.keeps.specs.Keys.{keep-all, keepVariable-is}
 use Rattle.keeps.specs.Fits.{all-map}
 use Rattle.keeps.specs.Frame.{enter-frame, mark-frame, pivot-frame}
 use Rattle.keeps.specs.Passes.{Ends, ends-bind, ends-to, check-ends}
-use Rattle.lasting.specs.Near.{Numbered, Near, near-same, near-refl, near-then, near-on, near-frame, optimise-near, purged}
+use Rattle.lasting.specs.Near.{Near, near-same, near-refl, near-then, near-on, near-frame, optimise-near, purged}
 
 module _ (p : ℕ → Bool) where
   -- a term of a number that passes p

@@ -3,12 +3,10 @@ use Prim.Native.Nat.{ℕ, zero, suc, _+_, _≤_, _<_}
 use mathlib.Core.Path.{_≡_, refl, sym, ap, _∙_}
 use mathlib.Core.Logic.{_≢_}
 use mathlib.Core.Bool.{Bool, true, false, _&&_, cond}
-use mathlib.Core.List.{List, [], _∷_}
 use native.Mathlib.Omega.{arith}
-use lib.ListN.{length, getD}
-use lib.Ieee.{Float}
+use lib.ListN.{length}
 use Rattle.laws.specs.Lists.{tab, listOf}
-use Rattle.steps.specs.State.{Variable, Constraint, State}
+use Rattle.steps.specs.State.{State}
 use Rattle.steps.specs.Changes.{fetchChanges}
 use Rattle.steps.specs.Calls.{Result, reset, empty}
 use Rattle.steps.specs.Changing.{Changing, adds, removes, addsEdit, removesEdit, suggests, made, budgetOf}
@@ -18,12 +16,10 @@ use Rattle.steps.proofs.Budgets.{within-budget}
 use Rattle.keeps.specs.Lists.{All}
 use Rattle.keeps.specs.Tested.{reads-in}
 use Rattle.keeps.specs.Keeps.{empty-reads, add-reads, remove-reads, addEdit-reads, removeEdit-reads, suggest-reads, fetch-reads}
-use Rattle.layout.specs.Layout.{Tables, read, write, nextIdOf, variableCount, variableOf, variablesOf, constraintCount, constraintOf, constraintsOf, constraintsAt, numberOf}
+use Rattle.layout.specs.Layout.{Tables, read, write, variableCount, variableOf, variablesOf, constraintCount, constraintOf, constraintsOf}
 use Rattle.layout.specs.Rooms.{lengthsRight, Lengths, lengths, Wide, both}
 use Rattle.layout.specs.Written.{write-read}
-use Rattle.layout.specs.Copied.{write-lengths}
 use Rattle.places.specs.Finding.{all-at}
-use Rattle.items.specs.Items.{isU32}
 use Rattle.reading.specs.Reads.{codesFit, reads}
 use Rattle.reading.specs.Given.{reads-lengths, reads-coded, reads-readable}
 use Rattle.shell.specs.Shell.{Called, called, refused18, callIn, callOf}

@@ -1,27 +1,25 @@
 -- A state that reads, with numbers that a u32 holds, has its place in the tables, and the tables that it is written into read as it. Assumes nothing.
-use Prim.Native.Nat.{ℕ, zero, suc, _+_, _*_, _≤_, _<_}
+use Prim.Native.Nat.{ℕ, zero, suc, _+_, _≤_, _<_}
 use mathlib.Core.Path.{_≡_, refl, sym, ap, _∙_, subst}
-use mathlib.Core.Bool.{Bool, true, _&&_}
-use mathlib.Core.List.{List, [], _∷_, map}
+use mathlib.Core.Bool.{true}
+use mathlib.Core.List.{List, _∷_}
 use mathlib.Core.Option.{Option, none, some}
 use native.Mathlib.Nat.{not-suc-le-zero, le-of-suc-le-suc}
 use native.Mathlib.Omega.{arith}
-use lib.Dec.{leb}
 use lib.ListN.{length, getD, length-map}
-use lib.Ieee.{Float}
 use borrow.Author.Tests.{le-leb}
-use Rattle.laws.specs.Lists.{listOf, laid, length-laid, allIn}
+use Rattle.laws.specs.Lists.{listOf, laid, length-laid}
 use Rattle.steps.specs.Symbol.{Symbol}
-use Rattle.steps.specs.State.{Basic, Tag, Variable, Constraint, Edit, State}
+use Rattle.steps.specs.State.{Tag, Variable, Constraint, Edit, State}
 use Rattle.steps.specs.Readable.{code, tagSymbols, readable}
-use Rattle.keeps.specs.Lists.{All, total, times, same, same?, Same?, is, isnt, Up, up-none, member-in, member-out, distinct-out, both}
-use Rattle.keeps.specs.Along.{ids, Mem, along-length}
-use Rattle.keeps.specs.Codes.{codes, codes-mem, mem-codes, mem-ids}
+use Rattle.keeps.specs.Lists.{All, total, times, same?, Same?, is, isnt, Up, up-none, member-in, member-out, distinct-out, both}
+use Rattle.keeps.specs.Along.{ids, along-length}
+use Rattle.keeps.specs.Codes.{codes, codes-mem, mem-ids}
 use Rattle.keeps.specs.Reads.{Reads, tagCode}
 use Rattle.keeps.specs.Tested.{reads-out}
-use Rattle.layout.specs.Layout.{Tables, read, write, over, writeNames, writeReals, writeRows, heading, writeHead, nextIdOf, symbolCount, entryCount, variableCount, constraintCount, clearFlag, wholeFlag, changedFlag, numberOf, variableOf, variablesOf, constraintOf, constraintsOf, constraintsAt}
-use Rattle.layout.specs.Rooms.{lengthsRight, lengths-right, Lengths, Widths, Wide, Named, Coded, Counts, Fits}
-use Rattle.layout.specs.ReadBack.{noVariable, noConstraint, count-back, read-write}
+use Rattle.layout.specs.Layout.{Tables, read, write, over, writeNames, writeReals, writeRows, nextIdOf, variableCount, constraintCount, numberOf, variableOf, variablesOf, constraintOf, constraintsOf, constraintsAt}
+use Rattle.layout.specs.Rooms.{lengths-right, Lengths, Wide, Named, Fits}
+use Rattle.layout.specs.ReadBack.{noVariable, noConstraint, read-write}
 use Rattle.layout.specs.Copied.{length-listOf, getD-listOf, write-counts, write-coded, write-lengths}
 use Rattle.places.specs.Finding.{at-all}
 use Rattle.items.specs.Items.{isU32}
