@@ -3,7 +3,7 @@
 -- Assumes nothing.
 use mathlib.Core.Path.{_≡_, refl, sym, ap, _∙_, subst}
 use mathlib.Core.Bool.{true}
-use mathlib.Core.List.{List, _∷_, map}
+use mathlib.Core.List.{List, [], _∷_, map}
 use Rattle.steps.specs.State.{State}
 use Rattle.steps.specs.Calls.{Answer, add, remove, addEdit, removeEdit, suggest, reset}
 use Rattle.steps.specs.Changing as changing
