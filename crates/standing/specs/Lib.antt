@@ -2,6 +2,7 @@
 pub mod Standing
 pub mod Ending
 pub mod Next
+pub mod Bound
 pub mod Opening
 pub mod Places
 pub mod Kept
