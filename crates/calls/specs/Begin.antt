@@ -1,32 +1,33 @@
 -- The start of a call: a room that reads as a state is one on which the steps may work.
 -- Assumes nothing.
-use Prim.Native.Nat.{ℕ, _+_, _*_, _≤_, _<_}
-use mathlib.Core.Path.{_≡_, refl, sym, ap, _∙_, subst}
+use Prim.Native.Nat.{ℕ, suc, _+_, _*_, _≤_, _<_}
+use mathlib.Core.Path.{_≡_, refl, sym, _∙_, subst}
 use mathlib.Core.Logic.{inl}
-use mathlib.Core.Bool.{Bool, true, false}
-use mathlib.Core.List.{List, [], _∷_, _++_, map}
+use mathlib.Core.Bool.{Bool, true, false, cond}
+use mathlib.Core.List.{List, [], _∷_, map}
 use mathlib.Core.Option.{Option, none, some}
 use native.Mathlib.Omega.{arith}
 use lib.Dec.{eqb}
 use lib.ListN.{length, length-append, length-map}
 use lib.Ieee.{Float}
-use Rattle.steps.specs.Number.{Mark, wholeIf, isFinite}
+use Rattle.steps.specs.Number.{one64, Mark, wholeIf, isFinite}
 use Rattle.steps.specs.Symbol.{Symbol}
 use Rattle.steps.specs.State.{Term, Tag, Variable, Constraint, Edit, State}
 use Rattle.steps.specs.Work.{Work}
+use Rattle.steps.specs.Edit.{editTerms}
 use Rattle.steps.specs.Tests.{findConstraint, findEdit}
 use Rattle.steps.specs.Calls.{begin}
-use Rattle.steps.specs.Readable.{concat, code, tagSymbols, tags, owned}
+use Rattle.steps.specs.Readable.{concat, code, tagSymbols, tags, owned, usesIn}
 use Rattle.laws.specs.Lists.{listOf, length-tab}
-use Rattle.keeps.specs.Lists.{times, member-in, member-out, distinct-out}
+use Rattle.keeps.specs.Lists.{All, total, member-in, member-out, distinct-out}
+use Rattle.keeps.specs.Uses.{usesOf}
 use Rattle.keeps.specs.Keys.{drop-total, findConstraint-is, findEdit-is}
 use Rattle.keeps.specs.Along.{ids, Mem}
 use Rattle.keeps.specs.Codes.{codes, codes-mem, mem-codes, codes-once}
-use Rattle.keeps.specs.Fits.{FitsW}
 use Rattle.keeps.specs.Reads.{Reads, conNumber, editNumber, tagCode, ownedBy, usedBy, tags-length, owned-total}
 use Rattle.keeps.specs.Tested.{reads-in}
 use Rattle.keeps.specs.Good.{Good, tagsBy, begin-good}
-use Rattle.layout.specs.Layout.{Tables, nextIdOf, wholeFlag, symbolCount, rowCount, variableCount, constraintCount, editCount, symbolsOf, basicsOf, entriesOf, variablesOf, constraintsOf, editsOf, read}
+use Rattle.layout.specs.Layout.{Tables, nextIdOf, wholeFlag, symbolCount, rowCount, entryCount, variableCount, constraintCount, editCount, symbolsOf, basicsOf, entriesOf, variablesOf, constraintsOf, editsOf, read}
 use Rattle.layout.specs.Rooms.{Wide}
 use Rattle.choose.specs.Reading.{symbolsIn, entriesIn}
 use Rattle.moves.specs.Room.{Held, no-more}
@@ -80,6 +81,56 @@ few-symbols s r =
           (λ n h. member-out n (owned s) (rw (owned-total n s, r .owns n) (member-in n (codes (s .tableau .symbols)) h))),
     )
 
+-- ---- how often a variable is used: once in each term, each constraint and edit counted
+
+uses-few : (n : ℕ) (ts : List Term) → usesIn n ts ≤ length ts
+unfolding usesIn
+uses-few n [] = omega arith
+uses-few n (t ∷ ts) = go (eqb n (t .variable)) (uses-few n ts)
+  where
+    go : (b : Bool) → usesIn n ts ≤ length ts → cond b 1 0 + usesIn n ts ≤ suc (length ts)
+    go true h = omega arith
+    go false h = omega arith
+
+terms-few : (n : ℕ) (cs : List Constraint) → All (λ (c : Constraint). length (c .terms) ≤ 16) cs → total (λ (c : Constraint). usesIn n (c .terms)) cs ≤ 16 * length cs
+unfolding total
+terms-few n [] h = omega arith
+terms-few n (c ∷ cs) h = omega (arith, uses-few n (c .terms), h .0, terms-few n cs (h .1))
+
+edits-few : (n : ℕ) (es : List Edit) → total (λ (e : Edit). usesIn n (editTerms (e .variable))) es ≤ length es
+unfolding total editTerms
+edits-few n [] = omega arith
+edits-few n (e ∷ es) = omega (arith, uses-few n (record { variable = e .variable; coefficient = one64 } ∷ []), edits-few n es)
+
+pub uses-spare : (s : State) → Reads s → (n : ℕ) → usesOf n (s .changes .variables) ≤ 4_294_900_000
+uses-spare s r n = omega (arith, r .uses n, terms-few n (s .constraints) (r .few-terms), edits-few n (s .edits), r .few-tags)
+
+-- ---- the lengths of what is read are the counts
+
+pub variables-count : (t : Tables) → length (variablesOf t) ≡ variableCount (t .head)
+unfolding variablesOf listOf
+variables-count t = length-tab _ 0 (variableCount (t .head))
+
+pub constraints-count : (t : Tables) → length (constraintsOf t) ≡ constraintCount (t .head)
+unfolding constraintsOf listOf
+constraints-count t = length-tab _ 0 (constraintCount (t .head))
+
+pub edits-count : (t : Tables) → length (editsOf t) ≡ editCount (t .head)
+unfolding editsOf listOf
+edits-count t = length-tab _ 0 (editCount (t .head))
+
+pub symbols-count : (t : Tables) → length (symbolsOf t) ≡ symbolCount (t .head)
+unfolding symbolsOf listOf
+symbols-count t = length-tab _ 0 (symbolCount (t .head))
+
+pub rows-count : (t : Tables) → length (basicsOf t) ≡ rowCount (t .head)
+unfolding basicsOf listOf
+rows-count t = length-tab _ 0 (rowCount (t .head))
+
+pub entries-count : (t : Tables) → length (entriesOf t) ≡ entryCount (t .head)
+unfolding entriesOf listOf
+entries-count t = length-tab _ 0 (entryCount (t .head))
+
 -- ---- the steps' tables
 
 module _ (t : Tables) (ready : Ready t) where
@@ -107,38 +158,18 @@ module _ (t : Tables) (ready : Ready t) where
         live = λ x h. h;
       }
 
-  variables-count : length (variablesOf t) ≡ variableCount (t .head)
-  unfolding variablesOf listOf
-  variables-count = length-tab _ 0 (variableCount (t .head))
-
-  constraints-count : length (constraintsOf t) ≡ constraintCount (t .head)
-  unfolding constraintsOf listOf
-  constraints-count = length-tab _ 0 (constraintCount (t .head))
-
-  edits-count : length (editsOf t) ≡ editCount (t .head)
-  unfolding editsOf listOf
-  edits-count = length-tab _ 0 (editCount (t .head))
-
-  symbols-count : length (symbolsOf t) ≡ symbolCount (t .head)
-  unfolding symbolsOf listOf
-  symbols-count = length-tab _ 0 (symbolCount (t .head))
-
-  rows-count : length (basicsOf t) ≡ rowCount (t .head)
-  unfolding basicsOf listOf
-  rows-count = length-tab _ 0 (rowCount (t .head))
-
   -- "rows are no more than constraints"
   pub rows-at-start : rowCount (t .head) ≤ constraintCount (t .head) + editCount (t .head)
   unfolding read
-  rows-at-start = omega (arith, reads-at-start .few-rows, constraints-count, edits-count, rows-count)
+  rows-at-start = omega (arith, reads-at-start .few-rows, constraints-count t, edits-count t, rows-count t)
 
   pub tags-at-start : constraintCount (t .head) + editCount (t .head) ≤ 48
   unfolding read
-  tags-at-start = omega (arith, reads-at-start .few-tags, constraints-count, edits-count)
+  tags-at-start = omega (arith, reads-at-start .few-tags, constraints-count t, edits-count t)
 
   pub symbols-at-start : symbolCount (t .head) ≤ variableCount (t .head) + 2 * (constraintCount (t .head) + editCount (t .head))
   unfolding read
-  symbols-at-start = omega (arith, few-symbols (read t) reads-at-start, variables-count, constraints-count, edits-count, symbols-count)
+  symbols-at-start = omega (arith, few-symbols (read t) reads-at-start, variables-count t, constraints-count t, edits-count t, symbols-count t)
 
   pub standing-at-start : Wide t → Standing false (storedMark (t .head)) t
   standing-at-start wide =
@@ -170,10 +201,14 @@ module _ (t : Tables) (ready : Ready t) where
         finite = finite;
         few-terms = few;
         few-rows = omega (arith, rows-at-start);
-        few-variables = omega (arith, variables-count);
+        few-variables = omega (arith, variables-count t);
         few-symbols = omega (arith, symbols-at-start);
         few-ids = numbers;
       }
+
+  pub spare-at-start : (n : ℕ) → usesOf n (variablesOf t) ≤ 4_294_900_000
+  unfolding read
+  spare-at-start = uses-spare (read t) reads-at-start
 
 -- ---- a stored marker is live
 

@@ -1,7 +1,7 @@
 -- What every accepted call does at its end: the list is pruned and the mark stored. The tables then read as the steps' `finish`.
 -- Assumes nothing.
 use Prim.Native.Nat.{ℕ, _+_, _≤_, _<_}
-use mathlib.Core.Path.{_≡_, refl, sym, ap, _∙_}
+use mathlib.Core.Path.{_≡_, refl, sym, _∙_}
 use mathlib.Core.Bool.{Bool, true, false, _&&_, cond}
 use mathlib.Core.List.{List, []}
 use native.Mathlib.Omega.{arith}
@@ -9,10 +9,10 @@ use lib.Dec.{eqb}
 use lib.ListN.{length, getD, set, length-set}
 use lib.Seq.{getD-set-same, getD-set-other}
 use lib.Ieee.{Float}
-use Rattle.steps.specs.Number.{Mark, allWhole, notWhole, notFinite, wholeIf, saysWhole}
-use Rattle.steps.specs.State.{Tableau, Variable, Constraint, Edit, State}
+use Rattle.steps.specs.Number.{allWhole, notWhole, notFinite, wholeIf, saysWhole}
+use Rattle.steps.specs.State.{State}
 use Rattle.steps.specs.Calls.{stillBelow, finish}
-use Rattle.layout.specs.Layout.{Tables, tables, clearFlag, wholeFlag, changedFlag, variableCount, symbolsOf, basicsOf, entriesOf, variablesOf, constraintsOf, editsOf, variableOf, constraintOf, editOf, bitOf, read}
+use Rattle.layout.specs.Layout.{Tables, tables, clearFlag, wholeFlag, changedFlag, variableCount, symbolsOf, basicsOf, entriesOf, constraintsOf, editsOf, variableOf, constraintOf, editOf, bitOf, read}
 use Rattle.layout.specs.Rooms.{Lengths}
 use Rattle.rows.specs.declared.number.Wrote.{Wrote}
 use Rattle.rows.specs.Marks.{markOf}

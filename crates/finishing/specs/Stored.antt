@@ -12,7 +12,7 @@ use Rattle.laws.specs.Lists.{listOf}
 use Rattle.steps.specs.State.{Constraint, Edit, State}
 use Rattle.steps.specs.Tests.{keepConstraint, dropConstraint, keepEdit, dropEdit}
 use Rattle.steps.specs.Calls.{finish}
-use Rattle.layout.specs.Layout.{Tables, tables, numberOf, clearFlag, wholeFlag, changedFlag, variableCount, constraintsOf, editsOf, variableOf, constraintOf, editOf, read}
+use Rattle.layout.specs.Layout.{Tables, tables, numberOf, clearFlag, wholeFlag, variableCount, constraintsOf, editsOf, variableOf, constraintOf, editOf, read}
 use Rattle.layout.specs.Rooms.{Lengths}
 use Rattle.rows.specs.declared.number.Wrote.{Wrote}
 use Rattle.rows.specs.Marks.{markOf}
@@ -24,7 +24,7 @@ use Rattle.moves.specs.Moved.{length-closed, length-opened}
 use Rattle.records.specs.Records.{Between, Items, items, numberAt, numberPlace, keptItem, droppedItem, dropItemOf}
 use Rattle.records.specs.Region.{place-between, regionOf}
 use Rattle.records.specs.Read.{read-regions, region-same, came-before, went-before}
-use Rattle.records.specs.Kept.{withConstraintsIn, withEditsIn, readItems, kept-constraint, kept-edit}
+use Rattle.records.specs.Kept.{withConstraintsIn, withEditsIn, kept-constraint, kept-edit}
 use Rattle.records.specs.Dropped.{at-between, dropped-constraint, dropped-edit}
 use Rattle.dragging.specs.declared.record.EditRecord.{EditRecord}
 use Rattle.dragging.specs.Record.{taggedRow, suggestedRow, withRecord, edits-put}

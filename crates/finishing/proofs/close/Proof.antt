@@ -1,6 +1,5 @@
 -- `finishing::close` meets its contract.
 -- Assumes nothing.
-use mathlib.Core.Path.{refl}
 use Rattle.finishing.specs.Closing.{close-calls}
 use borrow.Author.Needs.{needs}
 use Rattle.finishing.proofs.close.Statement.{statement}
