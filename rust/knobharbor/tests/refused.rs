@@ -1,7 +1,7 @@
 //! A refused call leaves every value as it was, and says why.
 use knobharbor::strength::{REQUIRED, STRONG};
 use knobharbor::WeightedRelation::*;
-use knobharbor::{Refusal, Solver, Variable};
+use knobharbor::{Constraint, Refusal, Solver, Variable};
 
 fn values(solver: &Solver, vars: &[Variable]) -> Vec<u64> {
     vars.iter().map(|v| solver.get_value(*v).to_bits()).collect()
@@ -41,8 +41,8 @@ fn a_refused_drag_leaves_every_value() {
 fn what_cannot_be_met_is_refused_and_forgotten() {
     let x = Variable::new();
     let mut solver = Solver::new();
-    let first = x |EQ(REQUIRED)| 5.0;
-    let second = x |EQ(REQUIRED)| 6.0;
+    let first: Constraint = x |EQ(REQUIRED)| 5.0;
+    let second: Constraint = x |EQ(REQUIRED)| 6.0;
     solver.add_constraint(first.clone()).unwrap();
     assert_eq!(solver.add_constraint(second.clone()), Err(Refusal::UnsatisfiableConstraint));
     assert!(solver.is_whole());
