@@ -6,13 +6,13 @@ fn main() {
     println!("cargo:rerun-if-env-changed=KNOBHARBOR_ARCHIVE");
     let folder = match env::var("KNOBHARBOR_ARCHIVE") {
         Ok(folder) => PathBuf::from(folder),
-        Err(_) => PathBuf::from(env::var("CARGO_MANIFEST_DIR").unwrap()).join("../../target/archive"),
+        Err(_) => PathBuf::from(env::var("CARGO_MANIFEST_DIR").unwrap()).join("../../target/staticlib"),
     };
     let file = folder.join("libarchive.a");
     println!("cargo:rerun-if-changed={}", file.display());
     if !file.exists() {
         panic!(
-            "{} is not there: run `bench/run archive` in the repository's root, which proves and builds it, or let KNOBHARBOR_ARCHIVE name its folder",
+            "{} is not there: run `rt staticlib archive` in the repository's root, which proves and builds it, or let KNOBHARBOR_ARCHIVE name its folder",
             file.display()
         );
     }
