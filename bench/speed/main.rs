@@ -262,7 +262,7 @@ fn median(mut xs: Vec<f64>) -> f64 {
 
 fn main() {
     let rounds: usize = std::env::args().nth(1).and_then(|a| a.parse().ok()).unwrap_or(31);
-    let layouts = [panes("trolley", 7, &[2, 3, 4, 5, 6, 7], 7), panes("limits", 32, &[4, 8, 12, 16, 20, 24, 28, 30, 32], 8)];
+    let layouts = [panes("trolley", 7, &[2, 3, 4, 5, 6, 7], 7), panes("limits", 32, &[4, 8, 12, 16, 20, 24, 28, 30, 32], 7)];
     println!("| layout | case | ours, us | untouched, us | patched, us | ours / untouched |");
     println!("|---|---|---|---|---|---|");
     for l in &layouts {
