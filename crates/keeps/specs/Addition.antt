@@ -31,7 +31,7 @@ use Rattle.keeps.specs.Adding.{AddedOk, add-ends}
 
 -- ---- tests that pass
 
-passed : (t : Test) (ts : List Test) → firstRefusal (t ∷ ts) ≡ none → (t .fails ≡ false) × (firstRefusal ts ≡ none)
+pub passed : (t : Test) (ts : List Test) → firstRefusal (t ∷ ts) ≡ none → (t .fails ≡ false) × (firstRefusal ts ≡ none)
 unfolding firstRefusal
 passed t ts e = go (t .fails) refl e
   where

@@ -101,7 +101,7 @@ shift-fits tag delta w f =
     before : (i : ℕ) → now i → IsBasic bs i
     before i p = rw (shift-bids shift) at p
 
-shift-frame : (tag : Tag) (delta : Float) (w : Work) → Frame w (shiftConstants tag delta w)
+pub shift-frame : (tag : Tag) (delta : Float) (w : Work) → Frame w (shiftConstants tag delta w)
 unfolding shiftConstants marking withChanges withInfeasible withRows withTableau
 shift-frame tag delta w =
     record {

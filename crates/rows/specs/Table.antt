@@ -1,14 +1,16 @@
 -- The operations on one row, place by place: place 0 the constant, places 1 to `width` the cells. A place past the width is left as it is.
 use Prim.Native.Nat.{ℕ, _+_}
-use mathlib.Core.Path.{_≡_}
-use mathlib.Core.Bool.{Bool, false, cond}
+use mathlib.Core.Path.{_≡_, refl, sym}
+use mathlib.Core.Bool.{Bool, true, false, cond}
 use mathlib.Core.List.{List}
 use lib.ListN.{getD, set}
+use lib.Seq.{set-getD}
 use lib.Ieee.{Float, nan, ne, neg}
 use Rattle.steps.specs.Number.{zero64, minusOne64, cellBound, constantBound, _+₆₄_, _*₆₄_, _/₆₄_, Mark, allWhole, worse, markWrite}
 use Rattle.steps.specs.Symbol.{absent}
-use Rattle.steps.specs.Row.{Cell, stored, cellValue, cellMark, insertCell, insertTimes, scaleCell, factorMark}
+use Rattle.steps.specs.Row.{Cell, kept, stored, cellValue, cellMark, insertCell, insertTimes, scaleCell, factorMark}
 use Rattle.laws.specs.Loops.{mapIn, zipIn, foldIn, fold2In}
+use Rattle.rows.specs.Marks.{worse-unit, insertTimes-is}
 
 -- ---- a cell's new value, and the mark so far with it
 
@@ -118,6 +120,31 @@ unfoldable pub shiftConstantMark : Float → List Float → Mark
 shiftConstantMark d row = markWrite constantBound (getD row 0 nan +₆₄ d)
 
 -- ---- a turn of each loop, from what its calls ensure
+
+-- an absent cell of the row that is inserted: nothing is written
+pub passed-over : (k o : Float) (row : List Float) (i : ℕ) → absent o ≡ true → row ≡ set row i (insertedValue k (getD row i nan) o)
+unfolding insertedValue cellValue
+passed-over k o row i h = rw (insertTimes-is, h) (sym (set-getD row i nan))
+
+pub passed-mark : (bound k c o : Float) (m : Mark) → absent o ≡ true → m ≡ insertedMark bound k m c o
+unfolding insertedMark cellMark
+passed-mark bound k c o m h = rw (insertTimes-is, h) (sym (worse-unit m))
+
+-- and one that is there
+pub there-is : (k c o : Float) {l : Cell} → absent o ≡ false → l ≡ insertCell c (o *₆₄ k) → l ≡ insertTimes k o c
+there-is k c o h e = rw (insertTimes-is, h) e
+
+scale-absent : (factor c : Float) → absent c ≡ true → scaleCell factor c ≡ kept c
+unfolding scaleCell
+scale-absent factor c h = rw (h, scaleCell) refl
+
+pub unscaled-over : (factor : Float) (row : List Float) (i : ℕ) → absent (getD row i nan) ≡ true → row ≡ set row i (scaledValue factor (getD row i nan))
+unfolding scaledValue cellValue
+unscaled-over factor row i h = rw (scale-absent factor (getD row i nan) h) (sym (set-getD row i nan))
+
+pub unscaled-mark : (factor c : Float) (m : Mark) → absent c ≡ true → m ≡ scaledMark factor m c
+unfolding scaledMark cellMark
+unscaled-mark factor c m h = rw (scale-absent factor c h) (sym (worse-unit m))
 
 pub inserted-value : (k c o : Float) {v : Float} {l : Cell} → v ≡ cellValue l → l ≡ insertTimes k o c → v ≡ insertedValue k c o
 unfolding insertedValue

@@ -1,7 +1,7 @@
 // A cell's new content, and what was written of it.
 ghost use mathlib.Core.Path.{_≡_};
 ghost use Rattle.steps.specs.Number.{worse};
-ghost use Rattle.steps.specs.Row.{stored, cellValue, cellMark, goesIfNearZero, insertCell, insertTimes, scaleCell, factorMark};
+ghost use Rattle.steps.specs.Row.{stored, cellValue, cellMark, goesIfNearZero, insertCell, scaleCell, factorMark};
 ghost use Rattle.rows.specs.Marks.{markOf, cellOf};
 use crate::number::Wrote;
 use crate::number::is_finite;
@@ -48,19 +48,6 @@ pub fn insert_cell(old: f64, k: f64) -> Left
             wrote: true,
             value: goes_if_near_zero(old + k),
         }
-    }
-}
-
-pub fn insert_times(k: f64, o: f64, c: f64) -> Left
-    ensures { λ r. ⌜ cellOf r ≡ insertTimes k o c ⌝ }
-{
-    if o == 0.0 {
-        Left {
-            wrote: false,
-            value: c,
-        }
-    } else {
-        insert_cell(c, o * k)
     }
 }
 

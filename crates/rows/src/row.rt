@@ -6,12 +6,11 @@ ghost use lib.ListN.{length, getD, set};
 ghost use lib.Ieee.{nan, ne};
 ghost use Rattle.steps.specs.Number.{zero64};
 ghost use Rattle.rows.specs.Marks.{markOf};
-ghost use Rattle.rows.specs.Table.{insertSymbolAt, insertSymbolMark, insertCellsIn, insertCellsMark, insertRowIn, insertRowMark, insertRowChanged, scaleCellsIn, scaleCellsMark, solveRowIn, solveRowMark, solveForSymbolsIn, solveForSymbolsMark, reverseSignIn, substituteRowIn, substituteRowMark, substituteRowChanged, substituteCellsIn, substituteCellsMark, shiftConstantIn, shiftConstantMark};
+ghost use Rattle.rows.specs.Table.{insertedValue, insertedMark, scaledValue, scaledMark, insertSymbolAt, insertSymbolMark, insertCellsIn, insertCellsMark, insertRowIn, insertRowMark, insertRowChanged, scaleCellsIn, scaleCellsMark, solveRowIn, solveRowMark, solveForSymbolsIn, solveForSymbolsMark, reverseSignIn, substituteRowIn, substituteRowMark, substituteRowChanged, substituteCellsIn, substituteCellsMark, shiftConstantIn, shiftConstantMark};
 use crate::cell::cell_mark;
 use crate::cell::cell_value;
 use crate::cell::factor_mark;
 use crate::cell::insert_cell;
-use crate::cell::insert_times;
 use crate::cell::mark_cell;
 use crate::cell::scale_cell;
 use crate::cell::stored;
@@ -49,6 +48,20 @@ pub fn insert_symbol(row: &mut [f64; 130], at: usize, k: f64, bound: f64) -> Wro
     cell_mark(bound, c)
 }
 
+// The cell at place i gets o times k. An absent o is passed over before anything is computed: most cells of a layout are.
+fn insert_at(row: &mut [f64; 130], i: usize, o: f64, k: f64, bound: f64, before: Wrote) -> Wrote
+    requires { ⌜ i < 130 ⌝ }
+    ensures { λ r. ⌜ markOf r ≡ insertedMark bound k (markOf before) (getD (now (row .entry)) i nan) o ⌝ }
+    ensures { λ _. ⌜ now (row .exit) ≡ set (now (row .entry)) i (insertedValue k (getD (now (row .entry)) i nan) o) ⌝ }
+{
+    if o == 0.0 {
+        return before;
+    }
+    let c = insert_cell(row[i], o * k);
+    row[i] = cell_value(c);
+    mark_cell(bound, before, c)
+}
+
 pub fn insert_cells(
     row: &mut [f64; 130],
     other: &[f64; 130],
@@ -65,9 +78,7 @@ pub fn insert_cells(
     let mut w = nothing();
     let mut i = 1;
     while i <= width {
-        let c = insert_times(k, other[i], row[i]);
-        w = mark_cell(bound, w, c);
-        row[i] = cell_value(c);
+        w = insert_at(row, i, other[i], k, bound, w);
         i += 1;
     }
     w
@@ -89,6 +100,19 @@ pub fn insert_row(row: &mut [f64; 130], other: &[f64; 130], k: f64, width: usize
     }
 }
 
+fn scale_at(row: &mut [f64; 130], i: usize, factor: f64, before: Wrote) -> Wrote
+    requires { ⌜ i < 130 ⌝ }
+    ensures { λ r. ⌜ markOf r ≡ scaledMark factor (markOf before) (getD (now (row .entry)) i nan) ⌝ }
+    ensures { λ _. ⌜ now (row .exit) ≡ set (now (row .entry)) i (scaledValue factor (getD (now (row .entry)) i nan)) ⌝ }
+{
+    if row[i] == 0.0 {
+        return before;
+    }
+    let c = scale_cell(factor, row[i]);
+    row[i] = cell_value(c);
+    mark_cell(CELL_BOUND, before, c)
+}
+
 fn scale_cells(row: &mut [f64; 130], factor: f64, width: usize) -> Wrote
     requires { ⌜ width < 130 ⌝ }
     ensures { λ r. ⌜ markOf r ≡ scaleCellsMark factor width (now (row .entry)) ⌝ }
@@ -98,9 +122,7 @@ fn scale_cells(row: &mut [f64; 130], factor: f64, width: usize) -> Wrote
     let mut w = nothing();
     let mut i = 1;
     while i <= width {
-        let c = scale_cell(factor, row[i]);
-        w = mark_cell(CELL_BOUND, w, c);
-        row[i] = cell_value(c);
+        w = scale_at(row, i, factor, w);
         i += 1;
     }
     w

@@ -23,9 +23,9 @@ loop-holds c = (refl, refl, search needs, search needs, search needs)
 
 loop-again : tie.Need-loop-again Inv-loop μ-loop
 loop-again c = (
-  zip-next _ _ _ _ _ nan nan (omega arith) (omega arith) (inserted-value _ _ _ (c .cell-value .ensures) (c .before .before .insert-times .ensures)) (c .before .before .before .before .before .before .loop .inv .0),
-  fold2-next-set _ _ _ _ _ _ nan _ nan (omega arith) (omega arith) (omega arith) (inserted-mark _ _ _ _ _ (c .before .mark-cell .ensures) (c .before .before .insert-times .ensures)) (c .before .before .before .before .before .before .loop .inv .1),
-  simp length-set (omega arith),
+  rw (c .insert-at .ensures .1) (zip-next _ _ _ _ _ nan nan (omega arith) (omega arith) refl (c .before .before .before .before .loop .inv .0)),
+  rw (c .insert-at .ensures .1) (fold2-next-set _ _ _ _ _ _ nan _ nan (omega arith) (omega arith) (omega arith) (c .insert-at .ensures .0) (c .before .before .before .before .loop .inv .1)),
+  rw (c .insert-at .ensures .1) (simp length-set (omega arith)),
   omega arith,
   omega arith,
 )
@@ -47,13 +47,7 @@ insert-cells-spec =
     loop-holds
     (λ c. search needs)
     (λ c. search needs)
-    (λ c. search needs)
-    (λ c. search needs)
     (λ c κs. search needs)
-    (λ c κs. search needs)
-    (λ c κs. search needs)
-    (λ c. search needs)
-    (λ c. search needs)
     (λ c. search needs)
     (λ c. search needs)
     loop-again

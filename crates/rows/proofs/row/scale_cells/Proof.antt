@@ -23,11 +23,10 @@ loop-holds : tie.Need-loop-holds Inv-loop μ-loop
 loop-holds c = (refl, refl, search needs, search needs)
 
 loop-again : tie.Need-loop-again Inv-loop μ-loop
-unfolding cellBound
 loop-again c = (
-  map-next _ _ _ _ nan (omega arith) (scaled-value _ _ (c .cell-value .ensures) (c .before .before .scale-cell .ensures)) (c .before .before .before .before .before .loop .inv .0),
-  fold-next-set _ _ _ _ _ nan _ (omega arith) (omega arith) (scaled-mark _ _ _ (c .before .mark-cell .ensures) (c .before .before .scale-cell .ensures)) (c .before .before .before .before .before .loop .inv .1),
-  simp length-set (omega arith),
+  rw (c .scale-at .ensures .1) (map-next _ _ _ _ nan (omega arith) refl (c .before .before .before .loop .inv .0)),
+  rw (c .scale-at .ensures .1) (fold-next-set _ _ _ _ _ nan _ (omega arith) (omega arith) (c .scale-at .ensures .0) (c .before .before .before .loop .inv .1)),
+  rw (c .scale-at .ensures .1) (simp length-set (omega arith)),
   omega arith,
 )
 
@@ -45,13 +44,7 @@ scale-cells-spec =
     (λ c κs. search needs)
     (λ c κs. search needs)
     loop-holds
-    (λ c. search needs)
-    (λ c. search needs)
     (λ c κs. search needs)
-    (λ c κs. search needs)
-    (λ c κs. search needs)
-    (λ c. search needs)
-    (λ c. search needs)
     (λ c. search needs)
     (λ c. search needs)
     loop-again

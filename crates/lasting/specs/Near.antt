@@ -1,0 +1,242 @@
+-- What the steps do to the next id and to the variables' numbers: at most k ids are taken, and a number that is new is a term's. Assumes nothing.
+use Prim.Native.Nat.{ℕ, zero, suc, _+_, _-_, _≤_}
+use mathlib.Core.Path.{_≡_, refl}
+use mathlib.Core.Bool.{Bool, true, false, _&&_, cond}
+use mathlib.Core.List.{List, [], _∷_}
+use mathlib.Core.Option.{Option, none, some}
+use native.Mathlib.Omega.{arith}
+use lib.Ieee.{Float, ne, neg}
+use Rattle.steps.specs.Number.{zero64}
+use Rattle.steps.specs.Symbol.{Symbol, isExternal, isError}
+use Rattle.steps.specs.Row.{Row}
+use Rattle.steps.specs.State.{Term, Tag, Variable, Edit}
+use Rattle.steps.specs.Work.{Work, Outcome, refused, going, _>>=_, refuse, checkFinite, withTableau, withRows, withObjective, withInfeasible, withChanges, marking, countPivot, findRow, dropRow, purge}
+use Rattle.steps.specs.Changes.{withFlag, clearChanged, note}
+use Rattle.steps.specs.CreateRow.{withVariables, insertInObjective}
+use Rattle.steps.specs.Substitute.{pivot}
+use Rattle.steps.specs.Optimise.{Goal, theObjective, Choice, ended, stuck, pivotOn, choosePivot, countedPivot, optimise, DualChoice, feasible, noEntering, dualPivotOn, chooseDualPivot, countedDualPivot, dualOptimise}
+use Rattle.steps.specs.Remove.{insertRowInObjective, removeMarkerEffects, removeConstraintEffects, getMarkerLeavingRow, noteLeaving, dropMarker, purgeTag, Fallen, useLess, dropUse, dropUses, removeSteps}
+use Rattle.steps.specs.Edit.{suggestSteps, shiftConstants}
+use Rattle.keeps.specs.Lists.{All}
+use Rattle.keeps.specs.Reads.{unmap}
+use Rattle.keeps.specs.Fits.{all-map}
+use Rattle.keeps.specs.Frame.{Frame, pivot-frame, mark-frame, note-frame}
+use Rattle.keeps.specs.Suggest.{shift-frame}
+use Rattle.keeps.specs.Passes.{Ends, ends-bind, ends-to, check-ends}
+
+module _ (p : ℕ → Bool) where
+  abbrev Named : Variable → Type 0
+  Named v = p (v .number) ≡ true
+
+  -- each variable's number passes p
+  abbrev pub Numbered : Work → Type 0
+  Numbered w = All Named (w .changes .variables)
+
+  pub record Near (k : ℕ) (w v : Work) : Type 0 where
+    pub next : v .tableau .nextId ≤ w .tableau .nextId + k
+    pub numbers : Numbered w → Numbered v
+
+  pub near-same : (w v : Work) → v .tableau .nextId ≡ w .tableau .nextId → v .changes .variables ≡ w .changes .variables → Near 0 w v
+  near-same w v e q = record { next = omega (arith, e); numbers = λ h. rw q h }
+
+  pub near-refl : (w : Work) → Near 0 w w
+  near-refl w = near-same w w refl refl
+
+  pub near-then : {w v u : Work} {j k l : ℕ} → Near j w v → Near k v u → j + k ≤ l → Near l w u
+  near-then a b c = record { next = omega (arith, a .next, b .next); numbers = λ h. b .numbers (a .numbers h) }
+
+  pub near-on : {w v u : Work} {k : ℕ} → Near 0 w v → Near k v u → Near k w u
+  near-on a b = record { next = omega (arith, a .next, b .next); numbers = λ h. b .numbers (a .numbers h) }
+
+  -- ---- frames: only flags change
+
+  pub near-frame : {w v : Work} → Frame w v → Near 0 w v
+  unfolding clearChanged withFlag
+  near-frame {w} {v} f = record {
+    next = omega (arith, f .next);
+    numbers = λ h. unmap (withFlag false) Named (v .changes .variables) (rw (f .variables) (all-map (withFlag false) Named (w .changes .variables) h));
+  }
+
+  counted : (o : Outcome Work) (w : Work) → Ends (Near 0 w) o → Ends (Near 0 w) (o >>= λ v. going (countPivot v))
+  unfolding countPivot
+  counted o w h = ends-bind (Near 0 w) (Near 0 w) o (λ v. going (countPivot v)) h (λ v a. record { next = a .next; numbers = a .numbers })
+
+  pivots : (l : ℕ) (e : Symbol) (w : Work) → Ends (Near 0 w) (checkFinite (pivot l e w))
+  pivots l e w = check-ends (Near 0 w) (pivot l e w) (λ _. near-frame (pivot-frame l e w))
+
+  pub optimise-near : (left : ℕ) (g : Goal) (w : Work) → Ends (Near 0 w) (optimise left g w)
+  unfolding optimise refuse countedPivot
+  optimise-near zero g w = go (choosePivot g w)
+    where
+      go : (c : Choice) → Ends (Near 0 w) (elim c [ ended ↦ going w | stuck ↦ refused 15 (w .pivots) (w .mark) | pivotOn l e ↦ refused 14 (w .pivots) (w .mark) ])
+      go ended = near-refl w
+      go stuck = tt
+      go (pivotOn l e) = tt
+  optimise-near (suc left) g w = go (λ v. optimise-near left g v) (choosePivot g w)
+    where
+      go : ((v : Work) → Ends (Near 0 v) (optimise left g v)) → (c : Choice)
+          → Ends (Near 0 w) (elim c [ ended ↦ going w | stuck ↦ refused 15 (w .pivots) (w .mark) | pivotOn l e ↦ checkFinite (pivot (l .id) e w) >>= (λ v. going (countPivot v)) >>= λ v. optimise left g v ])
+      go ih ended = near-refl w
+      go ih stuck = tt
+      go ih (pivotOn l e) =
+          ends-bind (Near 0 w) (Near 0 w) (checkFinite (pivot (l .id) e w) >>= λ v. going (countPivot v)) (λ v. optimise left g v) (counted (checkFinite (pivot (l .id) e w)) w (pivots (l .id) e w))
+          (λ v a. ends-to (Near 0 v) (Near 0 w) (optimise left g v) (ih v) (λ u b. near-on a b))
+
+  listed : (l : List ℕ) (w : Work) → Near 0 w (withInfeasible l w)
+  unfolding withInfeasible withTableau
+  listed l w = near-same w (withInfeasible l w) refl refl
+
+  pub dual-near : (left : ℕ) (w : Work) → Ends (Near 0 w) (dualOptimise left w)
+  unfolding dualOptimise refuse countedDualPivot
+  dual-near zero w = go (chooseDualPivot w)
+    where
+      go : (c : DualChoice) → Ends (Near 0 w) (elim c [ feasible ↦ going (withInfeasible [] w) | noEntering ↦ refused 16 (w .pivots) (w .mark) | dualPivotOn s l e ↦ refused 14 (w .pivots) (w .mark) ])
+      go feasible = listed [] w
+      go noEntering = tt
+      go (dualPivotOn s l e) = tt
+  dual-near (suc left) w = go (λ v. dual-near left v) (chooseDualPivot w)
+    where
+      go : ((v : Work) → Ends (Near 0 v) (dualOptimise left v)) → (c : DualChoice)
+          → Ends (Near 0 w) (elim c [ feasible ↦ going (withInfeasible [] w) | noEntering ↦ refused 16 (w .pivots) (w .mark) | dualPivotOn s l e ↦ checkFinite (pivot s e (withInfeasible l w)) >>= (λ v. going (countPivot v)) >>= λ v. dualOptimise left v ])
+      go ih feasible = listed [] w
+      go ih noEntering = tt
+      go ih (dualPivotOn s l e) =
+          let x : Work = withInfeasible l w in
+          ends-bind (Near 0 x) (Near 0 w) (checkFinite (pivot s e x) >>= λ v. going (countPivot v)) (λ v. dualOptimise left v) (counted (checkFinite (pivot s e x)) x (pivots s e x))
+          (λ v a. ends-to (Near 0 v) (Near 0 w) (dualOptimise left v) (ih v) (λ u b. near-on (near-on (listed l w) a) b))
+
+  -- ---- suggest
+
+  shifted : (tag : Tag) (delta : Float) (w : Work) → Near 0 w (shiftConstants tag delta w)
+  shifted tag delta w = near-frame (shift-frame tag delta w)
+
+  pub suggest-near : (budget : ℕ) (e : Edit) (new : Float) (w : Work) → Ends (Near 0 w) (suggestSteps budget e new w)
+  unfolding suggestSteps
+  suggest-near budget e new w =
+      ends-bind (Near 0 w) (Near 0 w) (checkFinite _) (dualOptimise budget)
+      (check-ends (Near 0 w) _ (λ _. near-on (near-frame (mark-frame _ w)) (shifted (e .tag) _ (marking _ w))))
+      (λ v a. ends-to (Near 0 v) (Near 0 w) (dualOptimise budget v) (dual-near budget v) (λ u b. near-on a b))
+
+  -- ---- removal
+
+  objective : (s : ℕ) (k : Float) (w : Work) → Near 0 w (insertInObjective s k w)
+  unfolding insertInObjective marking withObjective withTableau
+  objective s k w = near-same w (insertInObjective s k w) refl refl
+
+  row-objective : (r : Row) (k : Float) (w : Work) → Near 0 w (insertRowInObjective r k w)
+  unfolding insertRowInObjective marking withObjective withTableau
+  row-objective r k w = near-same w (insertRowInObjective r k w) refl refl
+
+  effect : (s : Symbol) (k : Float) (w : Work) → Near 0 w (removeMarkerEffects s k w)
+  unfolding removeMarkerEffects
+  effect s k w = go (isError s) (findRow (s .id) (w .tableau .rows))
+    where
+      go : (b : Bool) (o : Option Row) → Near 0 w (elim b [ false ↦ w | true ↦ elim o [ none ↦ insertInObjective (s .id) (neg k) w | some r ↦ insertRowInObjective r (neg k) w ] ])
+      go false o = near-refl w
+      go true none = objective (s .id) (neg k) w
+      go true (some r) = row-objective r (neg k) w
+
+  effects : (tag : Tag) (k : Float) (w : Work) → Near 0 w (removeConstraintEffects tag k w)
+  unfolding removeConstraintEffects
+  effects tag k w = go (tag .other)
+    where
+      first : Work
+      first = removeMarkerEffects (tag .marker) k w
+
+      go : (o : Option Symbol) → Near 0 w (elim o [ none ↦ first | some o ↦ removeMarkerEffects o k first ])
+      go none = effect (tag .marker) k w
+      go (some o) = near-on (effect (tag .marker) k w) (effect o k first)
+
+  dropped : (s : ℕ) (w : Work) → Near 0 w (withRows (dropRow s (w .tableau .rows)) w)
+  unfolding withRows withTableau
+  dropped s w = near-same w (withRows (dropRow s (w .tableau .rows)) w) refl refl
+
+  noted : (l : Symbol) (w : Work) → Near 0 w (noteLeaving l w)
+  unfolding noteLeaving
+  noted l w = go (findRow (l .id) (w .tableau .rows))
+    where
+      by : (b : Bool) → Near 0 w (cond b (note (l .id) w) w)
+      by true = near-frame (note-frame (l .id) w)
+      by false = near-refl w
+
+      go : (o : Option Row) → Near 0 w (elim o [ none ↦ w | some r ↦ cond (isExternal l && ne (r .constant) zero64) (note (l .id) w) w ])
+      go none = near-refl w
+      go (some r) = by (isExternal l && ne (r .constant) zero64)
+
+  marker : (m : Symbol) (w : Work) → Ends (Near 0 w) (dropMarker m w)
+  unfolding dropMarker refuse
+  marker m w = go (findRow (m .id) (w .tableau .rows)) (getMarkerLeavingRow (m .id) w)
+    where
+      leave : Option Symbol → Outcome Work
+      leave l = elim l [ none ↦ refused 17 (w .pivots) (w .mark) | some leaving ↦ checkFinite (pivot (leaving .id) m (noteLeaving leaving w)) >>= λ v. going (withRows (dropRow (m .id) (v .tableau .rows)) v) ]
+
+      go : (o : Option Row) (l : Option Symbol) → Ends (Near 0 w) (elim o [ some r ↦ going (withRows (dropRow (m .id) (w .tableau .rows)) w) | none ↦ leave l ])
+      go (some r) l = dropped (m .id) w
+      go none none = tt
+      go none (some l) =
+          ends-bind (Near 0 w) (Near 0 w) (checkFinite (pivot (l .id) m (noteLeaving l w))) (λ v. going (withRows (dropRow (m .id) (v .tableau .rows)) v))
+          (ends-to (Near 0 (noteLeaving l w)) (Near 0 w) (checkFinite (pivot (l .id) m (noteLeaving l w))) (pivots (l .id) m (noteLeaving l w)) (λ v a. near-on (noted l w) a))
+          (λ v a. near-on a (dropped (m .id) v))
+
+  pub purged : (s : ℕ) (w : Work) → Near 0 w (purge s w)
+  unfolding purge withTableau
+  purged s w = near-same w (purge s w) refl refl
+
+  tag-purged : (tag : Tag) (w : Work) → Near 0 w (purgeTag tag w)
+  unfolding purgeTag
+  tag-purged tag w = go (tag .other)
+    where
+      go : (o : Option Symbol) → Near 0 w (purge (tag .marker .id) (elim o [ none ↦ w | some x ↦ purge (x .id) w ]))
+      go none = purged (tag .marker .id) w
+      go (some x) = near-on (purged (x .id) w) (purged (tag .marker .id) (purge (x .id) w))
+
+  fewer : (n : ℕ) (vs : List Variable) → All Named vs → All Named (useLess n vs .variables)
+  unfolding useLess
+  fewer n [] h = tt
+  fewer n (v ∷ vs) h = go (lib.Dec.eqb n (v .number)) (lib.Dec.eqb (v .uses) 1) (fewer n vs (h .1))
+    where
+      rest : Fallen
+      rest = useLess n vs
+
+      less : Variable
+      less = record { number = v .number; symbol = v .symbol; old = v .old; uses = v .uses - 1; changed = v .changed }
+
+      go : (b c : Bool) → All Named (rest .variables)
+          → All Named ((elim b as (λ _. Fallen) [ false ↦ record { variables = v ∷ rest .variables; gone = rest .gone } | true ↦ elim c as (λ _. Fallen) [ true ↦ record { variables = vs; gone = some (v .symbol) } | false ↦ record { variables = less ∷ vs; gone = none } ] ]) .variables)
+      go false c ih = (h .0, ih)
+      go true true ih = h .1
+      go true false ih = (h .0, h .1)
+
+  use-dropped : (t : Term) (w : Work) → Near 0 w (dropUse t w)
+  unfolding dropUse withVariables withChanges
+  use-dropped t w = go (useLess (t .variable) (w .changes .variables) .gone)
+    where
+      left : List Variable
+      left = useLess (t .variable) (w .changes .variables) .variables
+
+      v : Work
+      v = withVariables left w
+
+      first : Near 0 w v
+      first = record { next = omega arith; numbers = λ h. fewer (t .variable) (w .changes .variables) h }
+
+      go : (o : Option Symbol) → Near 0 w (elim o [ none ↦ v | some s ↦ purge (s .id) v ])
+      go none = first
+      go (some s) = near-on first (purged (s .id) v)
+
+  uses-dropped : (ts : List Term) (w : Work) → Near 0 w (dropUses ts w)
+  unfolding dropUses
+  uses-dropped [] w = near-refl w
+  uses-dropped (t ∷ ts) w = near-on (use-dropped t w) (uses-dropped ts (dropUse t w))
+
+  pub remove-near : (budget : ℕ) (tag : Tag) (strength : Float) (terms : List Term) (w : Work) → Ends (Near 0 w) (removeSteps budget tag strength terms w)
+  unfolding removeSteps
+  remove-near budget tag strength terms w =
+      ends-bind (Near 0 w) (Near 0 w) _ (λ v. going (dropUses terms v))
+      (ends-bind (Near 0 w) (Near 0 w) _ (λ v. optimise (budget - v .pivots) theObjective (purgeTag tag v))
+      (ends-bind (Near 0 w) (Near 0 w) (checkFinite (removeConstraintEffects tag strength w)) (dropMarker (tag .marker))
+      (check-ends (Near 0 w) (removeConstraintEffects tag strength w) (λ _. effects tag strength w))
+      (λ v a. ends-to (Near 0 v) (Near 0 w) (dropMarker (tag .marker) v) (marker (tag .marker) v) (λ u b. near-on a b)))
+      (λ v a. ends-to (Near 0 (purgeTag tag v)) (Near 0 w) (optimise (budget - v .pivots) theObjective (purgeTag tag v)) (optimise-near (budget - v .pivots) theObjective (purgeTag tag v))
+      (λ u b. near-on (near-on a (tag-purged tag v)) b)))
+      (λ v a. near-on a (uses-dropped terms v))

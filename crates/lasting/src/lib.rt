@@ -1,0 +1,2 @@
+// What this crate says stands in specs/ and proofs/: it has no code.
+pub fn nothing() {}

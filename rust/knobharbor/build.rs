@@ -1,0 +1,21 @@
+//! Finds the proved archive, `libarchive.a`: in the folder that KNOBHARBOR_ARCHIVE names, or where `rt staticlib archive` leaves it.
+use std::env;
+use std::path::PathBuf;
+
+fn main() {
+    println!("cargo:rerun-if-env-changed=KNOBHARBOR_ARCHIVE");
+    let folder = match env::var("KNOBHARBOR_ARCHIVE") {
+        Ok(folder) => PathBuf::from(folder),
+        Err(_) => PathBuf::from(env::var("CARGO_MANIFEST_DIR").unwrap()).join("../../target/staticlib"),
+    };
+    let file = folder.join("libarchive.a");
+    println!("cargo:rerun-if-changed={}", file.display());
+    if !file.exists() {
+        panic!(
+            "{} is not there: run `rt staticlib archive` in the repository's root, which proves and builds it, or let KNOBHARBOR_ARCHIVE name its folder",
+            file.display()
+        );
+    }
+    println!("cargo:rustc-link-search=native={}", folder.display());
+    println!("cargo:rustc-link-lib=static=archive");
+}

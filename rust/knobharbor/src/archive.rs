@@ -1,0 +1,183 @@
+//! The proved archive. Its functions take any tables and any numbers, so a safe face needs only to hand over whole slices.
+
+/// What a changing call answers: 0 or a refusal's number, the pivots made, the whole mark.
+#[repr(C)]
+#[derive(Copy, Clone)]
+pub struct Answer {
+    pub number: u32,
+    pub pivots: u32,
+    pub whole: bool,
+}
+
+#[repr(C)]
+#[derive(Copy, Clone)]
+pub struct Fetched {
+    pub number: u32,
+    pub count: u32,
+}
+
+pub const PLACES: usize = 32;
+
+/// The four tables that hold a solver's state.
+#[derive(Clone)]
+pub struct Tables {
+    pub head: Box<[u64; 326]>,
+    pub names: Box<[[u64; 20]; 128]>,
+    pub reals: Box<[[f64; 17]; 128]>,
+    pub rows: Box<[[f64; 130]; 51]>,
+}
+
+impl Tables {
+    pub fn zero() -> Tables {
+        Tables {
+            head: Box::new([0; 326]),
+            names: Box::new([[0; 20]; 128]),
+            reals: Box::new([[0.0; 17]; 128]),
+            rows: Box::new([[0.0; 130]; 51]),
+        }
+    }
+}
+
+macro_rules! declare {
+    ($($name:ident($($arg:ident: $ty:ty),*) -> $out:ty;)*) => {
+        extern "C" {
+            $(fn $name(
+                head: *mut u64, heads: usize, names: *mut [u64; 20], names_count: usize,
+                reals: *mut [f64; 17], reals_count: usize, rows: *mut [f64; 130], rows_count: usize,
+                $($arg: $ty),*
+            ) -> $out;)*
+        }
+    };
+}
+
+macro_rules! declare_changing {
+    ($($name:ident($($arg:ident: $ty:ty),*);)*) => {
+        declare! {
+            $($name(
+                whead: *mut u64, wheads: usize, wnames: *mut [u64; 20], wnames_count: usize,
+                wreals: *mut [f64; 17], wreals_count: usize, wrows: *mut [f64; 130], wrows_count: usize
+                $(, $arg: $ty)*
+            ) -> Answer;)*
+        }
+    };
+}
+
+declare! {
+    knobharbor_reset() -> Answer;
+    knobharbor_fetch(numbers: *mut u64, number_count: usize, values: *mut f64, value_count: usize) -> Fetched;
+    knobharbor_value(variable: u32) -> f64;
+    knobharbor_has_constraint(number: u32) -> bool;
+    knobharbor_has_edit(variable: u32) -> bool;
+}
+
+declare_changing! {
+    knobharbor_add(
+        number: u32, vars: *const u32, var_count: usize, coefs: *const f64, coef_count: usize,
+        constant: f64, kind: u32, strength: f64, budget: u32
+    );
+    knobharbor_remove(number: u32, budget: u32);
+    knobharbor_add_edit(variable: u32, strength: f64, budget: u32);
+    knobharbor_remove_edit(variable: u32, budget: u32);
+    knobharbor_suggest(variable: u32, value: f64, budget: u32);
+}
+
+extern "C" {
+    fn knobharbor_strength_create(a: f64, b: f64, c: f64, w: f64) -> f64;
+    fn knobharbor_strength_clip(s: f64) -> f64;
+}
+
+macro_rules! with {
+    ($f:ident, $t:expr $(, $arg:expr)*) => {
+        // The pointers are to whole boxed arrays that nobody else holds during the call.
+        unsafe {
+            $f(
+                $t.head.as_mut_ptr(), $t.head.len(), $t.names.as_mut_ptr(), $t.names.len(),
+                $t.reals.as_mut_ptr(), $t.reals.len(), $t.rows.as_mut_ptr(), $t.rows.len()
+                $(, $arg)*
+            )
+        }
+    };
+}
+
+macro_rules! change {
+    ($f:ident, $t:expr, $w:expr $(, $arg:expr)*) => {
+        with!(
+            $f, $t,
+            $w.head.as_mut_ptr(), $w.head.len(), $w.names.as_mut_ptr(), $w.names.len(),
+            $w.reals.as_mut_ptr(), $w.reals.len(), $w.rows.as_mut_ptr(), $w.rows.len()
+            $(, $arg)*
+        )
+    };
+}
+
+pub fn reset(t: &mut Tables) -> Answer {
+    with!(knobharbor_reset, t)
+}
+
+pub struct Added<'a> {
+    pub number: u32,
+    pub vars: &'a [u32],
+    pub coefs: &'a [f64],
+    pub constant: f64,
+    pub kind: u32,
+    pub strength: f64,
+}
+
+pub fn add(t: &mut Tables, w: &mut Tables, a: Added, budget: u32) -> Answer {
+    change!(
+        knobharbor_add, t, w, a.number, a.vars.as_ptr(), a.vars.len(), a.coefs.as_ptr(), a.coefs.len(), a.constant, a.kind, a.strength,
+        budget
+    )
+}
+
+pub fn remove(t: &mut Tables, w: &mut Tables, number: u32, budget: u32) -> Answer {
+    change!(knobharbor_remove, t, w, number, budget)
+}
+
+pub fn add_edit(t: &mut Tables, w: &mut Tables, variable: u32, strength: f64, budget: u32) -> Answer {
+    change!(knobharbor_add_edit, t, w, variable, strength, budget)
+}
+
+pub fn remove_edit(t: &mut Tables, w: &mut Tables, variable: u32, budget: u32) -> Answer {
+    change!(knobharbor_remove_edit, t, w, variable, budget)
+}
+
+pub fn suggest(t: &mut Tables, w: &mut Tables, variable: u32, value: f64, budget: u32) -> Answer {
+    change!(knobharbor_suggest, t, w, variable, value, budget)
+}
+
+pub fn fetch(t: &mut Tables, numbers: &mut [u64; PLACES], values: &mut [f64; PLACES]) -> Fetched {
+    with!(knobharbor_fetch, t, numbers.as_mut_ptr(), PLACES, values.as_mut_ptr(), PLACES)
+}
+
+// A query reads the tables alone; the archive takes them by shared reference, so casting away `mut` writes nothing.
+macro_rules! ask {
+    ($f:ident, $t:expr, $arg:expr) => {
+        unsafe {
+            $f(
+                $t.head.as_ptr() as *mut u64, $t.head.len(), $t.names.as_ptr() as *mut [u64; 20], $t.names.len(),
+                $t.reals.as_ptr() as *mut [f64; 17], $t.reals.len(), $t.rows.as_ptr() as *mut [f64; 130], $t.rows.len(), $arg
+            )
+        }
+    };
+}
+
+pub fn value(t: &Tables, variable: u32) -> f64 {
+    ask!(knobharbor_value, t, variable)
+}
+
+pub fn has_constraint(t: &Tables, number: u32) -> bool {
+    ask!(knobharbor_has_constraint, t, number)
+}
+
+pub fn has_edit(t: &Tables, variable: u32) -> bool {
+    ask!(knobharbor_has_edit, t, variable)
+}
+
+pub fn strength_create(a: f64, b: f64, c: f64, w: f64) -> f64 {
+    unsafe { knobharbor_strength_create(a, b, c, w) }
+}
+
+pub fn strength_clip(s: f64) -> f64 {
+    unsafe { knobharbor_strength_clip(s) }
+}
