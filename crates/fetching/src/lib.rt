@@ -12,6 +12,7 @@ ghost use Rattle.fetching.specs.Listing.{entry, noteNews, listing, listA
 ghost use Rattle.fetching.specs.Fetch.{fetch, fetchBy, places, fetchIn, fetchOf};
 
 // 0 or 18, and how many places of the two lists are filled.
+#[repr(C)]
 pub struct Fetched {
     pub number: u32,
     pub count: u32,
