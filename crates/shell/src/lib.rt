@@ -14,6 +14,7 @@ ghost use Rattle.shell.specs.Shell.{answerOf, called, refused18, Entered
 ghost use Rattle.shell.specs.Reset.{resetOf, resetHead};
 
 // "Each changing call answers: accepted or a number below, pivots made, whole mark." 0 is accepted.
+#[repr(C)]
 pub struct Answer {
     pub number: u32,
     pub pivots: u32,
