@@ -36,7 +36,8 @@
 //! solver.set_budget(knobharbor::LARGEST_BUDGET);
 //! solver.suggest_value(window, 75.0).unwrap();
 //! solver.add_constraint((right1 - left1) / 50.0 |EQ(MEDIUM)| (right2 - left2) / 100.0).unwrap();
-//! assert_eq!((solver.get_value(right1), solver.get_value(left2)), (25.0, 25.0));
+//! // 50ths are not exact in binary: the last digit depends on the order of the steps, which here is always the same
+//! assert!((solver.get_value(right1) - 25.0).abs() < 1e-9 && (solver.get_value(left2) - 25.0).abs() < 1e-9);
 //! ```
 mod archive;
 mod expression;
