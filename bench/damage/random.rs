@@ -110,6 +110,7 @@ impl Random {
         let below = |g: &mut Random, n: usize, least: u64| g.below(if live { least.max(1) } else { n as u64 }.min(n as u64)) as usize;
         let counts: Vec<u64> = t.head[1..7].to_vec();
         match self.below(4) {
+            0 if self.below(10) == 0 => t.head[0] = 4_294_899_995 + self.below(10),
             0 => {
                 let start = self.pick(&[0, 0, 16, 146, 196]);
                 let count = if start == 0 { 9 } else { counts[match start { 16 => 0, 146 => 1, _ => 2 }] };

@@ -29,7 +29,7 @@ static void show(const char *what, knobharbor_answer a)
 {
     printf("%-28s answer %2u, %u pivots, %s: edges", what, a.number, a.pivots, a.whole ? "whole" : "not whole");
     for (uint32_t v = 1; v <= 7; v++)
-        printf(" %g", edge(v));
+        printf(" %g", edge(v) + 0.0); /* a value may be -0.0 */
     printf("\n");
     expect(memcmp(&room, &zero, sizeof room) == 0, "the working room is all zero after every call");
 }
