@@ -7,7 +7,6 @@ ghost use Rattle.shell.specs.Shell.{answerOf, called, callOf};
 ghost use Rattle.archive.specs.Given.{addOf};
 use crate::given::gather;
 use crate::given::relation;
-use crate::stub;
 use shell::Answer;
 
 // The i-th term is the i-th variable times the i-th coefficient; the kind is 0 for at most, 1 for equal, 2 for at least.
@@ -49,7 +48,7 @@ pub extern "C" fn knobharbor_add(
     }
     let p = gather(vars, coefs);
     let relation = relation(kind, strength);
-    stub::add(
+    calls::add::add(
         head,
         names,
         reals,
@@ -82,7 +81,7 @@ pub extern "C" fn knobharbor_remove(
     ensures { λ r. ⌜ called (answerOf r) (tables (now (head .exit)) (now (names .exit)) (now (reals .exit)) (now (rows .exit))) ≡ callOf (remove number budget) (tables (now (whead .entry)) (now (wnames .entry)) (now (wreals .entry)) (now (wrows .entry))) (tables (now (head .entry)) (now (names .entry)) (now (reals .entry)) (now (rows .entry))) ⌝ }
     ensures { λ _. ⌜ tables (now (whead .exit)) (now (wnames .exit)) (now (wreals .exit)) (now (wrows .exit)) ≡ cleared (tables (now (whead .entry)) (now (wnames .entry)) (now (wreals .entry)) (now (wrows .entry))) ⌝ }
 {
-    stub::remove(
+    calls::remove::remove(
         head,
         names,
         reals,
@@ -113,7 +112,7 @@ pub extern "C" fn knobharbor_add_edit(
     ensures { λ r. ⌜ called (answerOf r) (tables (now (head .exit)) (now (names .exit)) (now (reals .exit)) (now (rows .exit))) ≡ callOf (addEdit variable strength budget) (tables (now (whead .entry)) (now (wnames .entry)) (now (wreals .entry)) (now (wrows .entry))) (tables (now (head .entry)) (now (names .entry)) (now (reals .entry)) (now (rows .entry))) ⌝ }
     ensures { λ _. ⌜ tables (now (whead .exit)) (now (wnames .exit)) (now (wreals .exit)) (now (wrows .exit)) ≡ cleared (tables (now (whead .entry)) (now (wnames .entry)) (now (wreals .entry)) (now (wrows .entry))) ⌝ }
 {
-    stub::add_edit(
+    calls::add_edit::add_edit(
         head,
         names,
         reals,
@@ -144,7 +143,7 @@ pub extern "C" fn knobharbor_remove_edit(
     ensures { λ r. ⌜ called (answerOf r) (tables (now (head .exit)) (now (names .exit)) (now (reals .exit)) (now (rows .exit))) ≡ callOf (removeEdit variable budget) (tables (now (whead .entry)) (now (wnames .entry)) (now (wreals .entry)) (now (wrows .entry))) (tables (now (head .entry)) (now (names .entry)) (now (reals .entry)) (now (rows .entry))) ⌝ }
     ensures { λ _. ⌜ tables (now (whead .exit)) (now (wnames .exit)) (now (wreals .exit)) (now (wrows .exit)) ≡ cleared (tables (now (whead .entry)) (now (wnames .entry)) (now (wreals .entry)) (now (wrows .entry))) ⌝ }
 {
-    stub::remove_edit(
+    calls::remove_edit::remove_edit(
         head,
         names,
         reals,
@@ -175,7 +174,7 @@ pub extern "C" fn knobharbor_suggest(
     ensures { λ r. ⌜ called (answerOf r) (tables (now (head .exit)) (now (names .exit)) (now (reals .exit)) (now (rows .exit))) ≡ callOf (suggest variable suggestion budget) (tables (now (whead .entry)) (now (wnames .entry)) (now (wreals .entry)) (now (wrows .entry))) (tables (now (head .entry)) (now (names .entry)) (now (reals .entry)) (now (rows .entry))) ⌝ }
     ensures { λ _. ⌜ tables (now (whead .exit)) (now (wnames .exit)) (now (wreals .exit)) (now (wrows .exit)) ≡ cleared (tables (now (whead .entry)) (now (wnames .entry)) (now (wreals .entry)) (now (wrows .entry))) ⌝ }
 {
-    stub::suggest(
+    calls::suggest::suggest(
         head,
         names,
         reals,

@@ -2,4 +2,3 @@
 pub mod asked;
 pub mod changed;
 pub mod given;
-pub mod stub;

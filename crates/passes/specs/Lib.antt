@@ -2,3 +2,4 @@
 pub mod Turn
 pub mod Pivots
 pub mod Optimising
+pub mod Dual

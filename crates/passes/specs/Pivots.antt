@@ -6,7 +6,7 @@ use mathlib.Core.Bool.{Bool}
 use mathlib.Core.List.{List}
 use lib.ListN.{getD}
 use lib.Ieee.{Float}
-use Rattle.steps.specs.Number.{Mark, worse}
+use Rattle.steps.specs.Number.{worse}
 use Rattle.steps.specs.Symbol.{Symbol}
 use Rattle.steps.specs.Substitute.{pivot}
 use Rattle.layout.specs.Layout.{Tables, tables}
