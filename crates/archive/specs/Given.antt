@@ -1,19 +1,22 @@
 -- What a caller in C hands to add, as the steps take it. Assumes nothing.
-use Prim.Native.Nat.{ℕ, zero, suc}
+use Prim.Native.Nat.{ℕ, zero, suc, _≤_}
 use mathlib.Core.Path.{_≡_, refl}
-use mathlib.Core.Bool.{_&&_, cond}
+use mathlib.Core.Bool.{Bool, true, false, _&&_, cond}
 use mathlib.Core.List.{List}
 use native.Mathlib.Nat.{sub-zero}
+use native.Mathlib.Omega.{arith}
 use lib.Dec.{eqb, ltb}
 use lib.ListN.{length, getD}
 use lib.Ieee.{Float, nan}
-use borrow.Author.Tests.{ne-eqb}
+use borrow.Author.Tests.{eqb-true, ne-eqb}
 use Rattle.laws.specs.Loops.{turns, run}
 use Rattle.laws.specs.Lists.{tab, listOf}
 use Rattle.steps.specs.State as steps
-use Rattle.steps.specs.Calls.{add}
+use Rattle.steps.specs.Calls.{Answer, add}
 use Rattle.layout.specs.Layout.{Tables}
+use Rattle.layout.specs.Rooms.{both}
 use Rattle.shell.specs.Shell.{Called, called, refused18, callOf}
+use Rattle.creating.specs.declared.tag.Relation.{Relation}
 use Rattle.creating.specs.declared.tag.Relation.the-variants.{AtMost, Equal, AtLeast}
 use Rattle.creating.specs.Tags.{relationOf}
 use Rattle.terms.specs.declared.Term.{Term}
@@ -64,3 +67,22 @@ equal-by kind s e = rw e refl
 pub at-least-by : (kind : ℕ) (s : Float) → (kind ≡ 0 → ⊥) → (kind ≡ 1 → ⊥) → relationOf (AtLeast s) ≡ relationBy kind s
 unfolding relationOf relationBy
 at-least-by kind s e f = rw (ne-eqb kind 0 e, ne-eqb kind 1 f) refl
+
+-- ---- add
+
+abbrev pub fitting : List ℕ → List Float → ℕ → Bool
+fitting vars coefs kind = eqb (length vars) (length coefs) && ltb kind 3
+
+pub one-each : (vars : List ℕ) (coefs : List Float) (kind : ℕ) → fitting vars coefs kind ≡ true → length vars ≤ length coefs
+one-each vars coefs kind e = omega (arith, eqb-true (length vars) (length coefs) (both _ _ e .0))
+
+module _ (n : ℕ) (vars : List ℕ) (coefs : List Float) (constant : Float) (kind : ℕ) (strength : Float) (budget : ℕ) (work t : Tables) where
+  pub add-unfit : {a : Answer} {u : Tables} → fitting vars coefs kind ≡ false → a ≡ refused18 → u ≡ t → called a u ≡ addOf n vars coefs constant kind strength budget work t
+  unfolding addOf
+  add-unfit e f g = rw (e, f, g) refl
+
+  pub add-fit : {p : Pack} (r : Relation) (c : Called) → fitting vars coefs kind ≡ true → p ≡ packOf (given vars coefs) → relationOf r ≡ relationBy kind strength
+      → ((ts : List Term) → p ≡ packOf ts → c ≡ callOf (add n (termsIn ts) constant (relationOf r) budget) work t)
+      → c ≡ addOf n vars coefs constant kind strength budget work t
+  unfolding addOf
+  add-fit r c e f g h = rw e (rw (← g) (h (given vars coefs) f))

@@ -1,0 +1,124 @@
+/* The trolley's screen, six panes side by side: edge 1 is the left one, edge 7 the right one. The same calls as
+   examples/trolley.txt. `make run` in this folder builds the archive, builds this against it and runs it. With the archive at
+   hand, from the repository's root:
+
+       gcc -Wall -Wextra -Werror -I include -o target/trolley examples/c/trolley.c target/staticlib/libarchive.a */
+#include "knobharbor.h"
+#include <stdio.h>
+#include <stdlib.h>
+#include <string.h>
+
+static knobharbor_tables screen, before, room;
+static const knobharbor_tables zero;
+
+/* Says what was expected, and stops the program if it did not come. */
+static void expect(bool held, const char *what)
+{
+    if (!held) {
+        printf("not as expected: %s\n", what);
+        exit(1);
+    }
+}
+
+static double edge(uint32_t variable)
+{
+    return knobharbor_value(KNOBHARBOR_LEND(&screen), variable);
+}
+
+static void show(const char *what, knobharbor_answer a)
+{
+    printf("%-28s answer %2u, %u pivots, %s: edges", what, a.number, a.pivots, a.whole ? "whole" : "not whole");
+    for (uint32_t v = 1; v <= 7; v++)
+        printf(" %g", edge(v) + 0.0); /* a value may be -0.0 */
+    printf("\n");
+    expect(memcmp(&room, &zero, sizeof room) == 0, "the working room is all zero after every call");
+}
+
+/* right edge minus left edge, minus the width, is `kind` zero */
+static void pane(uint32_t number, uint32_t left, double width, knobharbor_kind kind, double strength)
+{
+    uint32_t vars[2] = { left + 1, left };
+    double coefs[2] = { 1.0, -1.0 };
+    knobharbor_answer a = knobharbor_add(KNOBHARBOR_LEND(&screen), KNOBHARBOR_LEND(&room), number, vars, 2, coefs, 2, -width, kind, strength, 20);
+    expect(a.number == KNOBHARBOR_ACCEPTED, "a pane is added");
+}
+
+static knobharbor_answer drag(uint32_t variable, double to, uint32_t budget)
+{
+    return knobharbor_suggest(KNOBHARBOR_LEND(&screen), KNOBHARBOR_LEND(&room), variable, to, budget);
+}
+
+static void lay_out(void)
+{
+    static const double least[6] = { 40, 40, 60, 60, 40, 40 };
+    static const double liked[6] = { 160, 160, 240, 240, 120, 120 };
+    static const double strength[6] = { 1, 1, 10, 10, 1, 1 };
+    uint32_t first = 1;
+    double one = 1.0;
+    knobharbor_add(KNOBHARBOR_LEND(&screen), KNOBHARBOR_LEND(&room), 1, &first, 1, &one, 1, 0.0, KNOBHARBOR_EQUAL, KNOBHARBOR_REQUIRED, 20);
+    for (uint32_t i = 0; i < 6; i++)
+        pane(2 + i, 1 + i, least[i], KNOBHARBOR_AT_LEAST, KNOBHARBOR_REQUIRED);
+    for (uint32_t i = 0; i < 6; i++)
+        pane(8 + i, 1 + i, liked[i], KNOBHARBOR_EQUAL, strength[i]);
+}
+
+static void grips(void)
+{
+    static const double start[6] = { 160, 320, 560, 800, 920, 1040 };
+    knobharbor_add_edit(KNOBHARBOR_LEND(&screen), KNOBHARBOR_LEND(&room), 7, knobharbor_strength_create(1, 0, 0, 1), 20);
+    for (uint32_t v = 2; v <= 6; v++)
+        knobharbor_add_edit(KNOBHARBOR_LEND(&screen), KNOBHARBOR_LEND(&room), v, knobharbor_strength_create(0, 1, 0, 1), 20);
+    for (uint32_t v = 7; v >= 2; v--)
+        expect(drag(v, start[v - 2], 20).number == KNOBHARBOR_ACCEPTED, "an edge goes to its place");
+}
+
+/* what a display redraws */
+static void redraw(void)
+{
+    uint64_t numbers[KNOBHARBOR_CHANGES];
+    double values[KNOBHARBOR_CHANGES];
+    knobharbor_fetched f = knobharbor_fetch(KNOBHARBOR_LEND(&screen), numbers, KNOBHARBOR_CHANGES, values, KNOBHARBOR_CHANGES);
+    expect(f.number == KNOBHARBOR_ACCEPTED, "the changes are fetched");
+    printf("  redraw");
+    for (uint32_t i = 0; i < f.count; i++)
+        printf(" %u:%g", (unsigned)numbers[i], values[i]);
+    printf("\n");
+}
+
+int main(void)
+{
+    knobharbor_answer a = knobharbor_reset(KNOBHARBOR_LEND(&screen));
+    expect(a.number == KNOBHARBOR_ACCEPTED && a.whole, "a reset is accepted");
+    lay_out();
+    grips();
+    show("laid out", a);
+    redraw();
+
+    a = drag(3, 340, 20);
+    show("edge 3 to 340", a);
+    expect(edge(3) == 340 && edge(4) == 560, "edge 3 follows, edge 4 stays");
+    redraw();
+
+    a = drag(3, 520, 20);
+    show("edge 3 to 520", a);
+    expect(edge(3) == 500 && edge(4) == 560, "pane 3 keeps its least width");
+    redraw();
+
+    before = screen;
+    a = drag(3, 340, 0);
+    show("edge 3 to 340, no pivots", a);
+    expect(a.number == KNOBHARBOR_BUDGET_USED, "the drag needs a pivot and is refused");
+    expect(memcmp(&screen, &before, sizeof screen) == 0, "a refused drag changes no table");
+    redraw();
+
+    a = drag(7, 900, 20);
+    show("edge 7 to 900", a);
+    expect(edge(6) == 860 && edge(7) == 900 && edge(5) == 800, "edge 6 yields to the least width of pane 6");
+    redraw();
+
+    screen.head[2] += 1;
+    a = drag(3, 340, 20);
+    expect(a.number == KNOBHARBOR_NOT_A_STATE, "a damaged table is refused");
+    printf("all as expected\n");
+    return 0;
+}

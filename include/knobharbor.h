@@ -1,0 +1,185 @@
+/* The solver's calls, as libarchive.a has them (`rt staticlib archive`). Everything that a call answers and leaves is proved of
+   the code behind it (crates/archive, docs/CLAIMS.md); that this header says the same as that code is not proved.
+
+   All memory is the caller's. A state lives in four lent tables; a changing call is lent a working room of four tables more.
+   Each table and list crosses as a pointer and a length, counted in elements: a head's numbers, the rows of the others.
+
+   What the caller owes, and no call can test: a pointer is not null, is aligned, and points at as many elements as its length
+   says, also where that is 0; no two of a call's tables and lists overlap; no other thread uses them during the call. */
+#ifndef KNOBHARBOR_H
+#define KNOBHARBOR_H
+
+#include <stdbool.h>
+#include <stddef.h>
+#include <stdint.h>
+
+#ifdef __cplusplus
+extern "C" {
+#endif
+
+/* ---- sizes */
+
+/* the lengths that tables have; a call on others is answered 18 */
+#define KNOBHARBOR_HEAD 326
+#define KNOBHARBOR_ITEMS 128
+#define KNOBHARBOR_ROWS 51
+/* how wide an element is */
+#define KNOBHARBOR_NAME 20
+#define KNOBHARBOR_REAL 17
+#define KNOBHARBOR_ROW 130
+/* the places of fetch's two lists */
+#define KNOBHARBOR_CHANGES 32
+
+/* how much a state holds; edits count among the constraints */
+#define KNOBHARBOR_VARIABLES 32
+#define KNOBHARBOR_CONSTRAINTS 48
+#define KNOBHARBOR_TERMS 16
+
+/* the strength from which on a constraint is required */
+#define KNOBHARBOR_REQUIRED 1001001000.0
+
+/* ---- tables */
+
+typedef uint64_t knobharbor_name[KNOBHARBOR_NAME];
+typedef double knobharbor_real[KNOBHARBOR_REAL];
+typedef double knobharbor_row[KNOBHARBOR_ROW];
+
+/* Four tables of the right lengths, 93,536 bytes: one to keep, and one as working room. Both may start with any content: reset
+   makes a state of the first, and every call leaves the second all zero. */
+typedef struct knobharbor_tables {
+    uint64_t head[KNOBHARBOR_HEAD];
+    knobharbor_name names[KNOBHARBOR_ITEMS];
+    knobharbor_real reals[KNOBHARBOR_ITEMS];
+    knobharbor_row rows[KNOBHARBOR_ROWS];
+} knobharbor_tables;
+
+/* the arguments that lend all four: knobharbor_reset(KNOBHARBOR_LEND(&tables)) */
+#define KNOBHARBOR_LEND(t) \
+    (t)->head, KNOBHARBOR_HEAD, (t)->names, KNOBHARBOR_ITEMS, (t)->reals, KNOBHARBOR_ITEMS, (t)->rows, KNOBHARBOR_ROWS
+
+/* ---- answers */
+
+/* "given exactly if"; in the order of the document, which is not the order of the tests */
+typedef enum knobharbor_number {
+    KNOBHARBOR_ACCEPTED = 0,
+    KNOBHARBOR_NOT_FINITE = 1,        /* a coefficient, the constant, an added constraint's strength, or a suggestion is not finite */
+    KNOBHARBOR_NEGATIVE_STRENGTH = 2, /* an added constraint's strength is below zero */
+    KNOBHARBOR_MANY_TERMS = 3,        /* more than 16 terms */
+    KNOBHARBOR_CONSTRAINT_LIVE = 4,   /* constraint number is live */
+    KNOBHARBOR_NO_CONSTRAINT = 5,     /* constraint number is not live */
+    KNOBHARBOR_EDIT_LIVE = 6,         /* the variable already has an edit */
+    KNOBHARBOR_REQUIRED_EDIT = 7,     /* the clipped edit strength is 1,001,001,000 */
+    KNOBHARBOR_NO_EDIT = 8,           /* the variable has no edit */
+    KNOBHARBOR_MANY_VARIABLES = 9,    /* live variables plus the new ones in terms not near zero exceed 32 */
+    KNOBHARBOR_MANY_CONSTRAINTS = 10, /* 48 constraints live */
+    KNOBHARBOR_IDS_USED = 11,         /* next id is above 4,294,900,000; a reset starts them anew */
+    KNOBHARBOR_CANNOT_BE_MET = 12,    /* the steps find the constraint cannot be met */
+    KNOBHARBOR_LEFT_FINITE = 13,      /* a step writes a cell, a row constant or a factor not finite */
+    KNOBHARBOR_BUDGET_USED = 14,      /* a pass needs a pivot and the budget is used */
+    KNOBHARBOR_NO_LEAVING = 15,       /* an optimise pass finds no leaving row */
+    KNOBHARBOR_NO_ENTERING = 16,      /* a dual pass finds no entering symbol */
+    KNOBHARBOR_NO_ROW = 17,           /* a removal finds no leaving row */
+    KNOBHARBOR_NOT_A_STATE = 18       /* a lent table has the wrong length or doesn't read as a state */
+} knobharbor_number;
+
+/* What a changing call answers. A refusal answers the stored mark, or no on 18 or if the steps taken weren't all whole. */
+typedef struct knobharbor_answer {
+    uint32_t number; /* a knobharbor_number */
+    uint32_t pivots; /* pivots made, no more than the budget */
+    bool whole;      /* every step so far was in whole numbers within bounds: the values are exact */
+} knobharbor_answer;
+
+typedef struct knobharbor_fetched {
+    uint32_t number; /* 0 or 18 */
+    uint32_t count;  /* how many places of both lists are filled */
+} knobharbor_fetched;
+
+/* what a constraint's sum of terms plus its constant is to zero */
+typedef enum knobharbor_kind {
+    KNOBHARBOR_AT_MOST = 0,
+    KNOBHARBOR_EQUAL = 1,
+    KNOBHARBOR_AT_LEAST = 2
+} knobharbor_kind;
+
+/* ---- changing calls
+
+   Each tests, takes its steps in the working room, and writes to the tables if it is accepted. A refusal changes no table. The
+   working room is all zero after every call, refused or not. The tests come in the order that is given with each call. */
+
+/* No variable, constraint or edit is left; the mark is yes. Refuses only wrong lengths. */
+knobharbor_answer knobharbor_reset(uint64_t *head, size_t heads, knobharbor_name *names, size_t named, knobharbor_real *reals,
+                                   size_t valued, knobharbor_row *rows, size_t rowed);
+
+/* Adds the constraint of this number: the sum of vars[i] times coefs[i], plus the constant, is at most, equal to or at least
+   zero, with this strength. Tests 18, 1, 2, 3, 4, 10, 9, 11; steps 12 to 15. Lists of different lengths, and a kind that is none
+   of the three, are answered 18 too. */
+knobharbor_answer knobharbor_add(uint64_t *head, size_t heads, knobharbor_name *names, size_t named, knobharbor_real *reals,
+                                 size_t valued, knobharbor_row *rows, size_t rowed, uint64_t *whead, size_t wheads,
+                                 knobharbor_name *wnames, size_t wnamed, knobharbor_real *wreals, size_t wvalued,
+                                 knobharbor_row *wrows, size_t wrowed, uint32_t number, const uint32_t *vars, size_t var_count,
+                                 const double *coefs, size_t coef_count, double constant, uint32_t kind, double strength,
+                                 uint32_t budget);
+
+/* Removes the constraint of this number. Tests 18, 5; steps 13, 14, 15, 17. */
+knobharbor_answer knobharbor_remove(uint64_t *head, size_t heads, knobharbor_name *names, size_t named, knobharbor_real *reals,
+                                    size_t valued, knobharbor_row *rows, size_t rowed, uint64_t *whead, size_t wheads,
+                                    knobharbor_name *wnames, size_t wnamed, knobharbor_real *wreals, size_t wvalued,
+                                    knobharbor_row *wrows, size_t wrowed, uint32_t number, uint32_t budget);
+
+/* Makes the variable one that can be dragged: an equality with 0, at this strength clipped. Tests 18, 6, 7, 10, 9, 11; steps 12
+   to 15. */
+knobharbor_answer knobharbor_add_edit(uint64_t *head, size_t heads, knobharbor_name *names, size_t named, knobharbor_real *reals,
+                                      size_t valued, knobharbor_row *rows, size_t rowed, uint64_t *whead, size_t wheads,
+                                      knobharbor_name *wnames, size_t wnamed, knobharbor_real *wreals, size_t wvalued,
+                                      knobharbor_row *wrows, size_t wrowed, uint32_t variable, double strength, uint32_t budget);
+
+/* Removes the variable's edit, and with it the last suggestion. Tests 18, 8; steps 13, 14, 15, 17. */
+knobharbor_answer knobharbor_remove_edit(uint64_t *head, size_t heads, knobharbor_name *names, size_t named, knobharbor_real *reals,
+                                         size_t valued, knobharbor_row *rows, size_t rowed, uint64_t *whead, size_t wheads,
+                                         knobharbor_name *wnames, size_t wnamed, knobharbor_real *wreals, size_t wvalued,
+                                         knobharbor_row *wrows, size_t wrowed, uint32_t variable, uint32_t budget);
+
+/* Drags the variable: its edit aims at the suggestion from now on. Tests 18, 1, 8; steps 13, 14, 16. After a refusal the edit
+   still aims at the suggestion before. */
+knobharbor_answer knobharbor_suggest(uint64_t *head, size_t heads, knobharbor_name *names, size_t named, knobharbor_real *reals,
+                                     size_t valued, knobharbor_row *rows, size_t rowed, uint64_t *whead, size_t wheads,
+                                     knobharbor_name *wnames, size_t wnamed, knobharbor_real *wreals, size_t wvalued,
+                                     knobharbor_row *wrows, size_t wrowed, uint32_t variable, double suggestion, uint32_t budget);
+
+/* ---- fetch changes */
+
+/* Lists the variables whose value is not the one last fetched, by ascending number, with their values; a second fetch straight
+   after lists none. Both lists have 32 places and are zero past the count; on 18, which wrong lengths of the lists give too, they
+   are all zero and no table changes. The rows are only read. */
+knobharbor_fetched knobharbor_fetch(uint64_t *head, size_t heads, knobharbor_name *names, size_t named, knobharbor_real *reals,
+                                    size_t valued, knobharbor_row *rows, size_t rowed, uint64_t *numbers,
+                                    size_t number_count, double *values, size_t value_count);
+
+/* ---- queries
+
+   False or 0.0 for an unknown number, and where the tables do not read as a state. They write nothing; the tables are not const,
+   since before C23 a pointer to an array does not convert to a pointer to a const array. */
+
+/* The variable's value now. */
+double knobharbor_value(uint64_t *head, size_t heads, knobharbor_name *names, size_t named, knobharbor_real *reals,
+                        size_t valued, knobharbor_row *rows, size_t rowed, uint32_t variable);
+
+bool knobharbor_has_constraint(uint64_t *head, size_t heads, knobharbor_name *names, size_t named,
+                               knobharbor_real *reals, size_t valued, knobharbor_row *rows, size_t rowed, uint32_t number);
+
+bool knobharbor_has_edit(uint64_t *head, size_t heads, knobharbor_name *names, size_t named, knobharbor_real *reals,
+                         size_t valued, knobharbor_row *rows, size_t rowed, uint32_t variable);
+
+/* ---- strengths */
+
+/* a, b and c, each times w and held to 0..1000 (NaN gives 0), weighted 1,000,000, 1,000 and 1 */
+double knobharbor_strength_create(double a, double b, double c, double w);
+
+/* held to 0..1,001,001,000 (NaN gives 1,001,001,000) */
+double knobharbor_strength_clip(double strength);
+
+#ifdef __cplusplus
+}
+#endif
+
+#endif
