@@ -43,7 +43,7 @@ fn clear_changed(names: &mut [[u64; 20]], count: usize)
     }
 }
 
-fn clear_changed_if(on: bool, names: &mut [[u64; 20]], count: usize)
+pub fn clear_changed_if(on: bool, names: &mut [[u64; 20]], count: usize)
     requires { ⌜ count ≤ length (now names) ⌝ }
     ensures { λ _. ⌜ now (names .exit) ≡ cond on (clearedNames count (now (names .entry))) (now (names .entry)) ⌝ }
 {
