@@ -106,6 +106,9 @@ pub flag-length : (b : Bool) → length (flagText b) ≡ 1
 flag-length true = refl
 flag-length false = refl
 
+pub answer-short : (n p : ℕ) (m : Bool) → length (answerText n p m) ≤ 43
+answer-short n p m = simp length-append (omega (arith, decimal-short 20 n, decimal-short 20 p, flag-length m))
+
 -- ---- digit by digit
 
 pub wrote-as : (a b : List ℕ) (i j : ℕ) {s t : List ℕ} → t ≡ s → Wrote a b i j s → Wrote a b i j t
