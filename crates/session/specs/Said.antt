@@ -23,7 +23,7 @@ use Rattle.fetching.specs.Fetch.{Fetch, fetchBy, fetchIn, fetch18, fetchOf, pla
 use Rattle.fetching.specs.declared.Fetched as code
 use Rattle.text.specs.declared.calls.Call.{Call}
 use Rattle.text.specs.declared.calls.Call.the-variants.{Reset, Add, Remove, AddEdit, RemoveEdit, Suggest, Value, HasCon, HasEdit, Fetch as FetchCall, Create, Clip, Bad}
-use Rattle.text.specs.Answers.{Wrote, floatText, flagText, numberText, answerText, fetchText, changesText, listedIn, unreadText, answer-short, hex-length, flag-length, decimal-short, changes-short, listed-length}
+use Rattle.text.specs.Answers.{Wrote, floatText, flagText, numberText, fetchText, changesText, listedIn, unreadText, hex-length, flag-length, decimal-short, changes-short, listed-length}
 
 -- the answer's text, and the tables afterwards
 pub record Said : Type 0 where
@@ -99,7 +99,7 @@ fetch-few t = go (reads t && (eqb 32 places && eqb 32 places)) refl
 
 -- ---- no answer is long
 
-query-short : (c : Call) (t : Tables) → length (queryOf c t .text) ≤ 1236
+pub query-short : (c : Call) (t : Tables) → length (queryOf c t .text) ≤ 1236
 unfolding queryOf fetchSaid fetchText
 query-short (Value v) t = let h = hex-length 16 (toBits binary64 (asked (value v) zero64 t)) in omega (arith, h)
 query-short (HasCon c) t = let h = flag-length (asked (hasConstraint c) false t) in omega (arith, h)
@@ -118,18 +118,6 @@ query-short (AddEdit v s b) t = omega arith
 query-short (RemoveEdit v b) t = omega arith
 query-short (Suggest v x b) t = omega arith
 query-short Bad t = omega arith
-
-module _ (a b : List ℕ) (i j : ℕ) (h : i + 2000 ≤ length a) where
-  pub query-within : (c : Call) (t : Tables) {u : Tables} → Spoken (queryOf c t) a b i j u → j < length b
-  query-within c t p = omega (arith, h, p .0 .0, p .0 .1, query-short c t)
-
-  pub answer-within : (n p : ℕ) (m : Bool) → Wrote a b i j (answerText n p m) → j < length b
-  answer-within n p m w =
-      let s = answer-short n p m in
-      omega (arith, h, w .0, w .1, s)
-
-  pub unread-within : Wrote a b i j unreadText → j < length b
-  unread-within w = omega (arith, h, w .0, w .1)
 
 fetch-long : (t : Tables) → (length (fetchOf places places t .numbers) ≡ 32) × (length (fetchOf places places t .values) ≡ 32)
 unfolding fetchOf fetchIn fetch18 over

@@ -1,7 +1,11 @@
 // A line answered: the text of the answer and a newline, into the lent buffer.
 ghost use mathlib.Core.Path.{_≡_};
-ghost use Prim.Native.Nat.{_+_, _≤_, _<_};
+ghost use Prim.Native.Nat.{_+_, _≤_};
 ghost use lib.ListN.{length};
+ghost use Rattle.layout.specs.Layout.{tables};
+ghost use Rattle.text.specs.Stream.{heldOf};
+ghost use Rattle.session.specs.Said.{Spoken};
+ghost use Rattle.session.specs.Calls.{lineReply, heldReply};
 use crate::changes::say_call;
 use text::reading::read_line;
 use text::writing;
@@ -20,7 +24,7 @@ pub fn answer(
     at: usize,
 ) -> usize
     requires { ⌜ at + 2000 ≤ length (now out) ⌝ }
-    ensures { λ z. ⌜ z < length (now (out .exit)) ⌝ }
+    ensures { λ z. ⌜ Spoken (lineReply (now (line .entry)) (tables (now (h2 .entry)) (now (n2 .entry)) (now (r2 .entry)) (now (w2 .entry))) (tables (now (h .entry)) (now (n .entry)) (now (r .entry)) (now (w .entry)))) (now (out .entry)) (now (out .exit)) at z (tables (now (h .exit)) (now (n .exit)) (now (r .exit)) (now (w .exit))) ⌝ }
 {
     let l = read_line(line);
     let call = l.call;
@@ -43,8 +47,9 @@ pub fn answer_held(
     out: &mut [u8],
     at: usize,
 ) -> usize
+    requires { ⌜ length (now line) ≡ 4096 ⌝ }
     requires { ⌜ at + 2000 ≤ length (now out) ⌝ }
-    ensures { λ z. ⌜ z < length (now (out .exit)) ⌝ }
+    ensures { λ z. ⌜ Spoken (heldReply (heldOf (now (line .entry)) held) (tables (now (h2 .entry)) (now (n2 .entry)) (now (r2 .entry)) (now (w2 .entry))) (tables (now (h .entry)) (now (n .entry)) (now (r .entry)) (now (w .entry)))) (now (out .entry)) (now (out .exit)) at z (tables (now (h .exit)) (now (n .exit)) (now (r .exit)) (now (w .exit))) ⌝ }
 {
     if line.len() < held {
         return writing::put_unread(out, at);

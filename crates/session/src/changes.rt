@@ -1,6 +1,9 @@
 // The changing calls, over the solver's tables and the working room's (h2, n2, r2, w2); any other call goes on.
-ghost use Prim.Native.Nat.{_+_, _≤_, _<_};
+ghost use Prim.Native.Nat.{_+_, _≤_};
 ghost use lib.ListN.{length};
+ghost use Rattle.layout.specs.Layout.{tables};
+ghost use Rattle.session.specs.Said.{Spoken};
+ghost use Rattle.session.specs.Calls.{editOf, SpokenCall};
 use crate::queries::say_query;
 use crate::stub as calls;
 use terms::Pack;
@@ -21,7 +24,7 @@ fn say_edit(
     at: usize,
 ) -> usize
     requires { ⌜ at + 2000 ≤ length (now out) ⌝ }
-    ensures { λ z. ⌜ z < length (now (out .exit)) ⌝ }
+    ensures { λ z. ⌜ Spoken (editOf call (tables (now (h2 .entry)) (now (n2 .entry)) (now (r2 .entry)) (now (w2 .entry))) (tables (now (h .entry)) (now (n .entry)) (now (r .entry)) (now (w .entry)))) (now (out .entry)) (now (out .exit)) at z (tables (now (h .exit)) (now (n .exit)) (now (r .exit)) (now (w .exit))) ⌝ }
 {
     match call {
         Call::AddEdit(v, s, b) => {
@@ -56,7 +59,7 @@ pub fn say_call(
     at: usize,
 ) -> usize
     requires { ⌜ at + 2000 ≤ length (now out) ⌝ }
-    ensures { λ z. ⌜ z < length (now (out .exit)) ⌝ }
+    ensures { λ z. ⌜ SpokenCall call p (tables (now (h2 .entry)) (now (n2 .entry)) (now (r2 .entry)) (now (w2 .entry))) (tables (now (h .entry)) (now (n .entry)) (now (r .entry)) (now (w .entry))) (now (out .entry)) (now (out .exit)) at z (tables (now (h .exit)) (now (n .exit)) (now (r .exit)) (now (w .exit))) ⌝ }
 {
     match call {
         Call::Reset => {

@@ -53,6 +53,7 @@ fn end_line(
     line: &[u8],
     out: &mut [u8],
 ) -> Place
+    requires { ⌜ length (now line) ≡ 4096 ⌝ }
     requires { ⌜ 8000 ≤ length (now out) ⌝ }
     requires { ⌜ p .at ≤ length (now out) ⌝ }
     ensures { λ q. ⌜ q .at ≤ length (now (out .exit)) ⌝ }
@@ -141,6 +142,7 @@ fn take_end(
     line: &[u8],
     out: &mut [u8],
 ) -> Place
+    requires { ⌜ length (now line) ≡ 4096 ⌝ }
     requires { ⌜ 8000 ≤ length (now out) ⌝ }
     requires { ⌜ p .at ≤ length (now out) ⌝ }
     ensures { λ q. ⌜ q .at ≤ length (now (out .exit)) ⌝ }

@@ -1,4 +1,11 @@
 // Stand-ins for the changing calls.
+ghost use mathlib.Core.Path.{_≡_};
+ghost use Rattle.steps.specs.Calls.{remove, addEdit, removeEdit, suggest};
+ghost use Rattle.layout.specs.Layout.{tables};
+ghost use Rattle.room.specs.Room.{cleared};
+ghost use Rattle.creating.specs.Tags.{relationOf};
+ghost use Rattle.shell.specs.Shell.{answerOf, called, callOf};
+ghost use Rattle.session.specs.Stub.{CalledAdd};
 use creating::tag::Relation;
 use shell::Answer;
 use terms::Pack;
@@ -17,7 +24,10 @@ pub fn add(
     constant: f64,
     relation: Relation,
     budget: u32,
-) -> Answer {
+) -> Answer
+    ensures { λ z. ⌜ CalledAdd c p constant (relationOf relation) budget z (tables (now (h2 .entry)) (now (n2 .entry)) (now (r2 .entry)) (now (w2 .entry))) (tables (now (h .entry)) (now (n .entry)) (now (r .entry)) (now (w .entry))) (tables (now (h .exit)) (now (n .exit)) (now (r .exit)) (now (w .exit))) ⌝ }
+    ensures { λ _. ⌜ (tables (now (h2 .exit)) (now (n2 .exit)) (now (r2 .exit)) (now (w2 .exit))) ≡ cleared (tables (now (h2 .entry)) (now (n2 .entry)) (now (r2 .entry)) (now (w2 .entry))) ⌝ }
+{
     shell::refuse18()
 }
 
@@ -32,7 +42,10 @@ pub fn remove(
     w2: &mut [[f64; 130]],
     c: u32,
     budget: u32,
-) -> Answer {
+) -> Answer
+    ensures { λ z. ⌜ called (answerOf z) (tables (now (h .exit)) (now (n .exit)) (now (r .exit)) (now (w .exit))) ≡ callOf (remove c budget) (tables (now (h2 .entry)) (now (n2 .entry)) (now (r2 .entry)) (now (w2 .entry))) (tables (now (h .entry)) (now (n .entry)) (now (r .entry)) (now (w .entry))) ⌝ }
+    ensures { λ _. ⌜ (tables (now (h2 .exit)) (now (n2 .exit)) (now (r2 .exit)) (now (w2 .exit))) ≡ cleared (tables (now (h2 .entry)) (now (n2 .entry)) (now (r2 .entry)) (now (w2 .entry))) ⌝ }
+{
     shell::refuse18()
 }
 
@@ -48,7 +61,10 @@ pub fn add_edit(
     v: u32,
     strength: f64,
     budget: u32,
-) -> Answer {
+) -> Answer
+    ensures { λ z. ⌜ called (answerOf z) (tables (now (h .exit)) (now (n .exit)) (now (r .exit)) (now (w .exit))) ≡ callOf (addEdit v strength budget) (tables (now (h2 .entry)) (now (n2 .entry)) (now (r2 .entry)) (now (w2 .entry))) (tables (now (h .entry)) (now (n .entry)) (now (r .entry)) (now (w .entry))) ⌝ }
+    ensures { λ _. ⌜ (tables (now (h2 .exit)) (now (n2 .exit)) (now (r2 .exit)) (now (w2 .exit))) ≡ cleared (tables (now (h2 .entry)) (now (n2 .entry)) (now (r2 .entry)) (now (w2 .entry))) ⌝ }
+{
     shell::refuse18()
 }
 
@@ -63,7 +79,10 @@ pub fn remove_edit(
     w2: &mut [[f64; 130]],
     v: u32,
     budget: u32,
-) -> Answer {
+) -> Answer
+    ensures { λ z. ⌜ called (answerOf z) (tables (now (h .exit)) (now (n .exit)) (now (r .exit)) (now (w .exit))) ≡ callOf (removeEdit v budget) (tables (now (h2 .entry)) (now (n2 .entry)) (now (r2 .entry)) (now (w2 .entry))) (tables (now (h .entry)) (now (n .entry)) (now (r .entry)) (now (w .entry))) ⌝ }
+    ensures { λ _. ⌜ (tables (now (h2 .exit)) (now (n2 .exit)) (now (r2 .exit)) (now (w2 .exit))) ≡ cleared (tables (now (h2 .entry)) (now (n2 .entry)) (now (r2 .entry)) (now (w2 .entry))) ⌝ }
+{
     shell::refuse18()
 }
 
@@ -79,6 +98,9 @@ pub fn suggest(
     v: u32,
     new: f64,
     budget: u32,
-) -> Answer {
+) -> Answer
+    ensures { λ z. ⌜ called (answerOf z) (tables (now (h .exit)) (now (n .exit)) (now (r .exit)) (now (w .exit))) ≡ callOf (suggest v new budget) (tables (now (h2 .entry)) (now (n2 .entry)) (now (r2 .entry)) (now (w2 .entry))) (tables (now (h .entry)) (now (n .entry)) (now (r .entry)) (now (w .entry))) ⌝ }
+    ensures { λ _. ⌜ (tables (now (h2 .exit)) (now (n2 .exit)) (now (r2 .exit)) (now (w2 .exit))) ≡ cleared (tables (now (h2 .entry)) (now (n2 .entry)) (now (r2 .entry)) (now (w2 .entry))) ⌝ }
+{
     shell::refuse18()
 }

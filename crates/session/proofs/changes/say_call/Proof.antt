@@ -1,9 +1,35 @@
 -- `session::changes::say_call` meets its contract.
 -- Assumes nothing.
-use Rattle.session.specs.Said.{answer-within}
+use mathlib.Core.Path.{_≡_, refl}
+use mathlib.Core.List.{List, [], _∷_}
+use types.Run.{OneOf, miss}
+use denote.Enum.Declared.{tagOf}
+use Rattle.layout.specs.Layout.{Tables, tables}
+use Rattle.terms.specs.declared.Term.{Term}
+use Rattle.text.specs.declared.calls.Call.{Call}
+use Rattle.text.specs.declared.calls.Call.the-variants.{Reset, Add, Remove, AddEdit, RemoveEdit, Suggest, Value, HasCon, HasEdit, Fetch, Create, Clip, Bad}
+use Rattle.text.proofs.calls.Call.{the-type}
+use Rattle.session.specs.Calls.{editOf, callSaid, reset-said, add-said, remove-said, spoken-as}
 use borrow.Author.Needs.{needs}
 use Rattle.session.proofs.changes.say_call.Statement.{statement}
 use Rattle.session.proofs.changes.say_call.Tie as tie
+
+-- the last arm: a call that no arm before it takes
+rest : (call : Call) (ts : List Term) (w t : Tables) → OneOf (3 ∷ 4 ∷ 5 ∷ 6 ∷ 7 ∷ 8 ∷ 9 ∷ 10 ∷ 11 ∷ 12 ∷ []) (tagOf the-type call) → callSaid call ts w t ≡ editOf call w t
+unfolding callSaid
+rest Reset ts w t e = absurd (miss (3 ∷ 4 ∷ 5 ∷ 6 ∷ 7 ∷ 8 ∷ 9 ∷ 10 ∷ 11 ∷ 12 ∷ []) 0 tt e)
+rest (Add n b r x) ts w t e = absurd (miss (3 ∷ 4 ∷ 5 ∷ 6 ∷ 7 ∷ 8 ∷ 9 ∷ 10 ∷ 11 ∷ 12 ∷ []) 1 tt e)
+rest (Remove n b) ts w t e = absurd (miss (3 ∷ 4 ∷ 5 ∷ 6 ∷ 7 ∷ 8 ∷ 9 ∷ 10 ∷ 11 ∷ 12 ∷ []) 2 tt e)
+rest (AddEdit v x b) ts w t e = refl
+rest (RemoveEdit v b) ts w t e = refl
+rest (Suggest v x b) ts w t e = refl
+rest (Value v) ts w t e = refl
+rest (HasCon c) ts w t e = refl
+rest (HasEdit v) ts w t e = refl
+rest Fetch ts w t e = refl
+rest (Create p q r y) ts w t e = refl
+rest (Clip x) ts w t e = refl
+rest Bad ts w t e = refl
 
 enum-told : tie.Need-enum-told
 enum-told c = search needs
@@ -60,7 +86,8 @@ returns : tie.Need-returns
 returns c =
     let a = c .before .before .before .before .before .before .before .before .before .before .before .before .before .before .before .before .before .before .before .args in
     let p = c .before .before .put-answer in
-    answer-within (a .out .now) (p .last .0) (a .at) (p .result) (c .before .before .before .before .before .before .before .before .before .before .before .before .before .before .before .before .before .before .before .pre) (c .before .before .before .before .before .before .before .before .before .reset .result .number) (c .before .before .before .before .before .before .before .before .before .reset .result .pivots) (c .before .before .before .before .before .before .before .before .before .reset .result .whole) (p .ensures)
+    let d = c .before .before .before .before .before .before .before .before .before .reset in
+    λ ts _. reset-said (tables (a .h2 .now) (a .n2 .now) (a .r2 .now) (a .w2 .now)) (tables (a .h .now) (a .n .now) (a .r .now) (a .w .now)) (a .out .now) (p .last .0) (a .at) (p .result) (d .result) ts (c .before .before .before .before .before .before .before .before .before .before .before .before .before .before .enum-told .given .1) (d .ensures) (p .ensures)
 
 same-length-6 : tie.Need-same-length-6
 same-length-6 c = search needs
@@ -93,7 +120,8 @@ returns-2 : tie.Need-returns-2
 returns-2 c =
     let a = c .before .before .before .before .before .before .before .before .before .before .before .before .before .before .before .before .before .before .before .before .before .before .before .before .before .before .before .before .before .args in
     let p = c .before .before .put-answer2 in
-    answer-within (a .out .now) (p .last .0) (a .at) (p .result) (c .before .before .before .before .before .before .before .before .before .before .before .before .before .before .before .before .before .before .before .before .before .before .before .before .before .before .before .before .before .pre) (c .before .before .before .before .before .before .before .before .before .before .before .before .before .before .add .result .number) (c .before .before .before .before .before .before .before .before .before .before .before .before .before .before .add .result .pivots) (c .before .before .before .before .before .before .before .before .before .before .before .before .before .before .add .result .whole) (p .ensures)
+    let d = c .before .before .before .before .before .before .before .before .before .before .before .before .before .before .add in
+    λ ts e. add-said (tables (a .h2 .now) (a .n2 .now) (a .r2 .now) (a .w2 .now)) (tables (a .h .now) (a .n .now) (a .r .now) (a .w .now)) (a .out .now) (p .last .0) (a .at) (p .result) (d .result) ts (c .before .before .before .before .before .before .before .before .before .before .before .before .before .before .before .before .before .before .before .before .before .before .before .before .call .given .1) (d .ensures .0 ts e) (p .ensures)
 
 same-length-15 : tie.Need-same-length-15
 same-length-15 c = search needs
@@ -126,7 +154,8 @@ returns-3 : tie.Need-returns-3
 returns-3 c =
     let a = c .before .before .before .before .before .before .before .before .before .before .before .before .before .before .before .before .before .before .before .before .before .before .before .before .before .before .before .before .before .args in
     let p = c .before .before .put-answer3 in
-    answer-within (a .out .now) (p .last .0) (a .at) (p .result) (c .before .before .before .before .before .before .before .before .before .before .before .before .before .before .before .before .before .before .before .before .before .before .before .before .before .before .before .before .before .pre) (c .before .before .before .before .before .before .before .before .before .before .before .before .before .before .remove .result .number) (c .before .before .before .before .before .before .before .before .before .before .before .before .before .before .remove .result .pivots) (c .before .before .before .before .before .before .before .before .before .before .before .before .before .before .remove .result .whole) (p .ensures)
+    let d = c .before .before .before .before .before .before .before .before .before .before .before .before .before .before .remove in
+    λ ts _. remove-said (tables (a .h2 .now) (a .n2 .now) (a .r2 .now) (a .w2 .now)) (tables (a .h .now) (a .n .now) (a .r .now) (a .w .now)) (a .out .now) (p .last .0) (a .at) (p .result) (d .result) ts (c .before .before .before .before .before .before .before .before .before .before .before .before .before .before .before .before .before .before .before .before .before .before .before .before .call2 .given .1) (d .ensures .0) (p .ensures)
 
 same-length-24 : tie.Need-same-length-24
 same-length-24 c = search needs
@@ -156,7 +185,10 @@ same-length-32 : tie.Need-same-length-32
 same-length-32 c = search needs
 
 returns-4 : tie.Need-returns-4
-returns-4 c = search needs
+returns-4 c =
+    let a = c .before .before .before .before .before .before .before .before .before .before .before .before .before .before .before .before .before .before .before .before .before .before .before .before .before .before .args in
+    let p = c .before .before .before .before .before .before .before .before .before .before .before .before .say-edit in
+    λ ts _. spoken-as (a .out .now) (p .last .1 .1 .1 .1 .1 .1 .1 .1 .1 .0) (a .at) (p .result) (rest (a .call) ts (tables (a .h2 .now) (a .n2 .now) (a .r2 .now) (a .w2 .now)) (tables (a .h .now) (a .n .now) (a .r .now) (a .w .now)) (c .before .before .before .before .before .before .before .before .before .before .before .before .before .before .before .before .before .before .before .before .before .before .match .keys4)) (p .ensures)
 
 pub say-call-spec : {M : Type 1} → statement M
 say-call-spec =

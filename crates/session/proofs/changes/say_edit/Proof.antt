@@ -1,10 +1,35 @@
 -- `session::changes::say_edit` meets its contract.
 -- Assumes nothing.
-use Rattle.layout.specs.Layout.{tables}
-use Rattle.session.specs.Said.{answer-within, query-within}
+use mathlib.Core.Path.{_≡_, refl}
+use mathlib.Core.List.{List, [], _∷_}
+use types.Run.{OneOf, miss}
+use denote.Enum.Declared.{tagOf}
+use Rattle.layout.specs.Layout.{Tables, tables}
+use Rattle.text.specs.declared.calls.Call.{Call}
+use Rattle.text.specs.declared.calls.Call.the-variants.{Reset, Add, Remove, AddEdit, RemoveEdit, Suggest, Value, HasCon, HasEdit, Fetch, Create, Clip, Bad}
+use Rattle.text.proofs.calls.Call.{the-type}
+use Rattle.session.specs.Said.{queryOf}
+use Rattle.session.specs.Calls.{editOf, add-edit-said, remove-edit-said, suggest-said, spoken-as}
 use borrow.Author.Needs.{needs}
 use Rattle.session.proofs.changes.say_edit.Statement.{statement}
 use Rattle.session.proofs.changes.say_edit.Tie as tie
+
+-- the last arm: a call that no arm before it takes
+rest : (call : Call) (w t : Tables) → OneOf (0 ∷ 1 ∷ 2 ∷ 6 ∷ 7 ∷ 8 ∷ 9 ∷ 10 ∷ 11 ∷ 12 ∷ []) (tagOf the-type call) → editOf call w t ≡ queryOf call t
+unfolding editOf
+rest Reset w t e = refl
+rest (Add n b r x) w t e = refl
+rest (Remove n b) w t e = refl
+rest (AddEdit v x b) w t e = absurd (miss (0 ∷ 1 ∷ 2 ∷ 6 ∷ 7 ∷ 8 ∷ 9 ∷ 10 ∷ 11 ∷ 12 ∷ []) 3 tt e)
+rest (RemoveEdit v b) w t e = absurd (miss (0 ∷ 1 ∷ 2 ∷ 6 ∷ 7 ∷ 8 ∷ 9 ∷ 10 ∷ 11 ∷ 12 ∷ []) 4 tt e)
+rest (Suggest v x b) w t e = absurd (miss (0 ∷ 1 ∷ 2 ∷ 6 ∷ 7 ∷ 8 ∷ 9 ∷ 10 ∷ 11 ∷ 12 ∷ []) 5 tt e)
+rest (Value v) w t e = refl
+rest (HasCon c) w t e = refl
+rest (HasEdit v) w t e = refl
+rest Fetch w t e = refl
+rest (Create p q r y) w t e = refl
+rest (Clip x) w t e = refl
+rest Bad w t e = refl
 
 enum-known-call : tie.Need-enum-known-call
 enum-known-call c = search needs
@@ -76,7 +101,8 @@ returns : tie.Need-returns
 returns c =
     let a = c .before .before .before .before .before .before .before .before .before .before .before .before .before .before .before .before .before .before .before .before .before .before .before .before .before .before .before .before .before .args in
     let p = c .before .before .put-answer in
-    answer-within (a .out .now) (p .last .0) (a .at) (p .result) (c .before .before .before .before .before .before .before .before .before .before .before .before .before .before .before .before .before .before .before .before .before .before .before .before .before .before .before .before .before .pre) (c .before .before .before .before .before .before .before .before .before .before .before .before .before .before .add-edit .result .number) (c .before .before .before .before .before .before .before .before .before .before .before .before .before .before .add-edit .result .pivots) (c .before .before .before .before .before .before .before .before .before .before .before .before .before .before .add-edit .result .whole) (p .ensures)
+    let d = c .before .before .before .before .before .before .before .before .before .before .before .before .before .before .add-edit in
+    add-edit-said (tables (a .h2 .now) (a .n2 .now) (a .r2 .now) (a .w2 .now)) (tables (a .h .now) (a .n .now) (a .r .now) (a .w .now)) (a .out .now) (p .last .0) (a .at) (p .result) (d .result) (c .before .before .before .before .before .before .before .before .before .before .before .before .before .before .before .before .before .before .before .before .before .before .before .before .call .given .1) (d .ensures .0) (p .ensures)
 
 same-length-10 : tie.Need-same-length-10
 same-length-10 c = search needs
@@ -109,7 +135,8 @@ returns-2 : tie.Need-returns-2
 returns-2 c =
     let a = c .before .before .before .before .before .before .before .before .before .before .before .before .before .before .before .before .before .before .before .before .before .before .before .before .before .before .before .before .before .args in
     let p = c .before .before .put-answer2 in
-    answer-within (a .out .now) (p .last .0) (a .at) (p .result) (c .before .before .before .before .before .before .before .before .before .before .before .before .before .before .before .before .before .before .before .before .before .before .before .before .before .before .before .before .before .pre) (c .before .before .before .before .before .before .before .before .before .before .before .before .before .before .remove-edit .result .number) (c .before .before .before .before .before .before .before .before .before .before .before .before .before .before .remove-edit .result .pivots) (c .before .before .before .before .before .before .before .before .before .before .before .before .before .before .remove-edit .result .whole) (p .ensures)
+    let d = c .before .before .before .before .before .before .before .before .before .before .before .before .before .before .remove-edit in
+    remove-edit-said (tables (a .h2 .now) (a .n2 .now) (a .r2 .now) (a .w2 .now)) (tables (a .h .now) (a .n .now) (a .r .now) (a .w .now)) (a .out .now) (p .last .0) (a .at) (p .result) (d .result) (c .before .before .before .before .before .before .before .before .before .before .before .before .before .before .before .before .before .before .before .before .before .before .before .before .call2 .given .1) (d .ensures .0) (p .ensures)
 
 same-length-19 : tie.Need-same-length-19
 same-length-19 c = search needs
@@ -142,7 +169,8 @@ returns-3 : tie.Need-returns-3
 returns-3 c =
     let a = c .before .before .before .before .before .before .before .before .before .before .before .before .before .before .before .before .before .before .before .before .before .before .before .before .before .before .before .before .before .args in
     let p = c .before .before .put-answer3 in
-    answer-within (a .out .now) (p .last .0) (a .at) (p .result) (c .before .before .before .before .before .before .before .before .before .before .before .before .before .before .before .before .before .before .before .before .before .before .before .before .before .before .before .before .before .pre) (c .before .before .before .before .before .before .before .before .before .before .before .before .before .before .suggest .result .number) (c .before .before .before .before .before .before .before .before .before .before .before .before .before .before .suggest .result .pivots) (c .before .before .before .before .before .before .before .before .before .before .before .before .before .before .suggest .result .whole) (p .ensures)
+    let d = c .before .before .before .before .before .before .before .before .before .before .before .before .before .before .suggest in
+    suggest-said (tables (a .h2 .now) (a .n2 .now) (a .r2 .now) (a .w2 .now)) (tables (a .h .now) (a .n .now) (a .r .now) (a .w .now)) (a .out .now) (p .last .0) (a .at) (p .result) (d .result) (c .before .before .before .before .before .before .before .before .before .before .before .before .before .before .before .before .before .before .before .before .before .before .before .before .call3 .given .1) (d .ensures .0) (p .ensures)
 
 same-length-28 : tie.Need-same-length-28
 same-length-28 c = search needs
@@ -163,7 +191,7 @@ returns-4 : tie.Need-returns-4
 returns-4 c =
     let a = c .before .before .before .before .before .before .before .before .before .before .before .before .before .before .before .before .args in
     let p = c .before .before .before .before .before .before .say-query in
-    query-within (a .out .now) (p .last .1 .1 .1 .1 .1 .0) (a .at) (p .result) (c .before .before .before .before .before .before .before .before .before .before .before .before .before .before .before .before .pre) (a .call) (tables (a .h .now) (a .n .now) (a .r .now) (a .w .now)) (p .ensures)
+    spoken-as (a .out .now) (p .last .1 .1 .1 .1 .1 .0) (a .at) (p .result) (rest (a .call) (tables (a .h2 .now) (a .n2 .now) (a .r2 .now) (a .w2 .now)) (tables (a .h .now) (a .n .now) (a .r .now) (a .w .now)) (c .before .before .before .before .before .before .before .before .before .before .before .before .match .keys4)) (p .ensures)
 
 pub say-edit-spec : {M : Type 1} → statement M
 say-edit-spec =

@@ -1,11 +1,8 @@
 -- `session::queries::say_query` meets its contract.
 -- Assumes nothing.
-use Prim.Native.Nat.{ℕ, _≤_}
 use mathlib.Core.Path.{_≡_, refl}
 use mathlib.Core.List.{[], _∷_}
-use mathlib.Core.Logic.{inl, inr}
-use native.Mathlib.Omega.{arith}
-use types.Run.{OneOf}
+use types.Run.{OneOf, miss}
 use denote.Enum.Declared.{tagOf}
 use Rattle.layout.specs.Layout.{Tables, tables}
 use Rattle.text.specs.Answers.{unreadText}
@@ -18,30 +15,21 @@ use Rattle.session.proofs.queries.say_query.Statement.{statement}
 use Rattle.session.proofs.queries.say_query.Tie as tie
 
 -- the last arm: a call that no arm before it takes
-apart : (x : ℕ) → OneOf (0 ∷ 1 ∷ 2 ∷ 3 ∷ 4 ∷ 5 ∷ 12 ∷ []) x → 6 ≤ x → x ≤ 11 → ⊥
-apart x (inl e) h k = absurd (omega arith)
-apart x (inr (inl e)) h k = absurd (omega arith)
-apart x (inr (inr (inl e))) h k = absurd (omega arith)
-apart x (inr (inr (inr (inl e)))) h k = absurd (omega arith)
-apart x (inr (inr (inr (inr (inl e))))) h k = absurd (omega arith)
-apart x (inr (inr (inr (inr (inr (inl e)))))) h k = absurd (omega arith)
-apart x (inr (inr (inr (inr (inr (inr e)))))) h k = absurd (omega arith)
-
 rest : (call : Call) (t : Tables) → OneOf (0 ∷ 1 ∷ 2 ∷ 3 ∷ 4 ∷ 5 ∷ 12 ∷ []) (tagOf the-type call) → queryOf call t ≡ said unreadText t
 unfolding queryOf
-rest Reset t k = refl
-rest (Add n b r x) t k = refl
-rest (Remove n b) t k = refl
-rest (AddEdit v x b) t k = refl
-rest (RemoveEdit v b) t k = refl
-rest (Suggest v x b) t k = refl
-rest (Value v) t k = absurd (apart 6 k (omega arith) (omega arith))
-rest (HasCon c) t k = absurd (apart 7 k (omega arith) (omega arith))
-rest (HasEdit v) t k = absurd (apart 8 k (omega arith) (omega arith))
-rest Fetch t k = absurd (apart 9 k (omega arith) (omega arith))
-rest (Create p q r w) t k = absurd (apart 10 k (omega arith) (omega arith))
-rest (Clip x) t k = absurd (apart 11 k (omega arith) (omega arith))
-rest Bad t k = refl
+rest Reset t e = refl
+rest (Add n b r x) t e = refl
+rest (Remove n b) t e = refl
+rest (AddEdit v x b) t e = refl
+rest (RemoveEdit v b) t e = refl
+rest (Suggest v x b) t e = refl
+rest (Value v) t e = absurd (miss (0 ∷ 1 ∷ 2 ∷ 3 ∷ 4 ∷ 5 ∷ 12 ∷ []) 6 tt e)
+rest (HasCon c) t e = absurd (miss (0 ∷ 1 ∷ 2 ∷ 3 ∷ 4 ∷ 5 ∷ 12 ∷ []) 7 tt e)
+rest (HasEdit v) t e = absurd (miss (0 ∷ 1 ∷ 2 ∷ 3 ∷ 4 ∷ 5 ∷ 12 ∷ []) 8 tt e)
+rest Fetch t e = absurd (miss (0 ∷ 1 ∷ 2 ∷ 3 ∷ 4 ∷ 5 ∷ 12 ∷ []) 9 tt e)
+rest (Create p q r y) t e = absurd (miss (0 ∷ 1 ∷ 2 ∷ 3 ∷ 4 ∷ 5 ∷ 12 ∷ []) 10 tt e)
+rest (Clip x) t e = absurd (miss (0 ∷ 1 ∷ 2 ∷ 3 ∷ 4 ∷ 5 ∷ 12 ∷ []) 11 tt e)
+rest Bad t e = refl
 
 enum-known-call : tie.Need-enum-known-call
 enum-known-call c = search needs

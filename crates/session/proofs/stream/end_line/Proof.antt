@@ -1,6 +1,11 @@
 -- `session::stream::end_line` meets its contract.
 -- Assumes nothing.
+use Prim.Native.Nat.{_+_, _≤_, _<_}
 use native.Mathlib.Omega.{arith}
+use lib.ListN.{length}
+use Rattle.layout.specs.Layout.{tables}
+use Rattle.text.specs.Stream.{heldOf}
+use Rattle.session.specs.Calls.{held-within}
 use borrow.Author.Needs.{needs}
 use Rattle.session.proofs.stream.end_line.Statement.{statement}
 use Rattle.session.proofs.stream.end_line.Tie as tie
@@ -12,7 +17,13 @@ answer-held-requires : tie.Need-answer-held-requires
 answer-held-requires c κs = search needs
 
 put-byte-requires : tie.Need-put-byte-requires
-put-byte-requires c κs = search needs
+put-byte-requires c κs =
+    let a = c .before .before .before .before .before .before .before .before .before .before .before .before .before .before .before .before .before .before .before .before .before .before .before .before .before .before .before .before .before .args in
+    let q = c .before .before .before .before .before .before .before .before .before .before .before .before .before .before .before .before .before .before .before .before .before .before .before .with-room in
+    let e = c .before .before .before .before .before .before .before .before .before .before .before .before .before .answer-held in
+    let r : q .result .at + 2000 ≤ length (a .out .now) = omega (arith, q .ensures, c .before .before .before .before .before .before .before .before .before .before .before .before .before .before .before .before .before .before .before .before .before .before .before .before .before .before .before .before .before .pre .1 .0) in
+    let h : e .result < length (e .last .1 .1 .1 .1 .1 .1 .1 .1 .1 .1 .0) = held-within (heldOf (a .line .now) (q .result .held)) (tables (a .h2 .now) (a .n2 .now) (a .r2 .now) (a .w2 .now)) (tables (a .h .now) (a .n .now) (a .r .now) (a .w .now)) (a .out .now) (e .last .1 .1 .1 .1 .1 .1 .1 .1 .1 .1 .0) (q .result .at) (e .result) r (e .ensures) in
+    h
 
 same-length : tie.Need-same-length
 same-length c = search needs
@@ -43,9 +54,13 @@ same-length-9 c = search needs
 
 returns : tie.Need-returns
 returns c =
-    let d = c .before .before .put-byte in
+    let a = c .before .before .before .before .before .before .before .before .before .before .before .before .before .before .before .before .before .before .before .before .before .before .before .before .before .before .before .before .before .before .before .before .args in
+    let q = c .before .before .before .before .before .before .before .before .before .before .before .before .before .before .before .before .before .before .before .before .before .before .before .before .before .before .with-room in
     let e = c .before .before .before .before .before .before .before .before .before .before .before .before .before .before .before .before .answer-held in
-    omega (arith, d .ensures .0, d .ensures .1, e .ensures)
+    let r : q .result .at + 2000 ≤ length (a .out .now) = omega (arith, q .ensures, c .before .before .before .before .before .before .before .before .before .before .before .before .before .before .before .before .before .before .before .before .before .before .before .before .before .before .before .before .before .before .before .before .pre .1 .0) in
+    let h : e .result < length (e .last .1 .1 .1 .1 .1 .1 .1 .1 .1 .1 .0) = held-within (heldOf (a .line .now) (q .result .held)) (tables (a .h2 .now) (a .n2 .now) (a .r2 .now) (a .w2 .now)) (tables (a .h .now) (a .n .now) (a .r .now) (a .w .now)) (a .out .now) (e .last .1 .1 .1 .1 .1 .1 .1 .1 .1 .1 .0) (q .result .at) (e .result) r (e .ensures) in
+    let d = c .before .before .put-byte in
+    omega (arith, d .ensures .0, d .ensures .1, h)
 
 pub end-line-spec : {M : Type 1} → statement M
 end-line-spec =
