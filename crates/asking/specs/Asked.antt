@@ -56,7 +56,7 @@ module _ {A : Type 0} where
   findBy-is look q h k [] = h
   findBy-is look q h k (x ∷ l) = k x l ∙ ap (λ (r : Option A). orElse (q x) x r) (findBy-is look q h k l)
 
-  abbrev pick : (ℕ → A) → ℕ → ℕ → Option A
+  abbrev pub pick : (ℕ → A) → ℕ → ℕ → Option A
   pick g e z = cond (ltb z e) (some (g z)) none
 
   -- in a list that is read out of a table, it is the look along the table's places
@@ -108,25 +108,34 @@ row-by x [] = refl
 row-by x (b ∷ l) = one-of (eqb x (b .symbol .id)) b (findRow x l) (findBy (λ (c : Basic). eqb x (c .symbol .id)) l) (row-by x l)
 
 module _ (t : Tables) (n : ℕ) where
-  pub has-constraint : hasConstraint n (read t) ≡ ltb (nameAt (t .names) constraintsAt (constraintCount (t .head)) n) (constraintCount (t .head))
-  unfolding hasConstraint read constraintsOf constraintOf nameAt
-  has-constraint =
+  -- the record of the number n, by its place in the tables
+  pub constraint-found : findConstraint n (constraintsOf t)
+      ≡ pick (λ i. constraintOf (getD (t .names) (constraintsAt + i) []) (getD (t .reals) (constraintsAt + i) [])) (constraintCount (t .head)) (nameAt (t .names) constraintsAt (constraintCount (t .head)) n)
+  unfolding constraintsOf constraintOf nameAt
+  constraint-found =
       let g : ℕ → Constraint = λ i. constraintOf (getD (t .names) (constraintsAt + i) []) (getD (t .reals) (constraintsAt + i) []) in
       let k : ℕ = constraintCount (t .head) in
-      let f : ℕ → ℕ = λ j. numberOf (getD (t .names) (constraintsAt + j) []) in
-      ap (λ (o : Option Constraint). picked (λ _. true) false o) (constraint-by n (listOf k g) ∙ findBy-list (λ (c : Constraint). eqb n (c .number)) k g f n (λ j. refl))
-      ∙ cond-picked (λ _. true) false (ltb (placeIn f k n) k) (g (placeIn f k n))
-      ∙ cond-true-false (ltb (placeIn f k n) k)
+      constraint-by n (listOf k g) ∙ findBy-list (λ (c : Constraint). eqb n (c .number)) k g (λ j. numberOf (getD (t .names) (constraintsAt + j) [])) n (λ j. refl)
 
-  pub has-edit : hasEdit n (read t) ≡ ltb (nameAt (t .names) editsAt (editCount (t .head)) n) (editCount (t .head))
-  unfolding hasEdit read editsOf editOf nameAt
-  has-edit =
+  pub edit-found : findEdit n (editsOf t)
+      ≡ pick (λ i. editOf (getD (t .names) (editsAt + i) []) (getD (t .reals) (editsAt + i) [])) (editCount (t .head)) (nameAt (t .names) editsAt (editCount (t .head)) n)
+  unfolding editsOf editOf nameAt
+  edit-found =
       let g : ℕ → Edit = λ i. editOf (getD (t .names) (editsAt + i) []) (getD (t .reals) (editsAt + i) []) in
       let k : ℕ = editCount (t .head) in
-      let f : ℕ → ℕ = λ j. numberOf (getD (t .names) (editsAt + j) []) in
-      ap (λ (o : Option Edit). picked (λ _. true) false o) (edit-by n (listOf k g) ∙ findBy-list (λ (c : Edit). eqb n (c .variable)) k g f n (λ j. refl))
-      ∙ cond-picked (λ _. true) false (ltb (placeIn f k n) k) (g (placeIn f k n))
-      ∙ cond-true-false (ltb (placeIn f k n) k)
+      edit-by n (listOf k g) ∙ findBy-list (λ (c : Edit). eqb n (c .variable)) k g (λ j. numberOf (getD (t .names) (editsAt + j) [])) n (λ j. refl)
+
+  pub has-constraint : hasConstraint n (read t) ≡ ltb (nameAt (t .names) constraintsAt (constraintCount (t .head)) n) (constraintCount (t .head))
+  unfolding hasConstraint read
+  has-constraint =
+      let z : ℕ = nameAt (t .names) constraintsAt (constraintCount (t .head)) n in
+      ap (λ (o : Option Constraint). picked (λ _. true) false o) constraint-found ∙ cond-picked (λ _. true) false (ltb z (constraintCount (t .head))) _ ∙ cond-true-false _
+
+  pub has-edit : hasEdit n (read t) ≡ ltb (nameAt (t .names) editsAt (editCount (t .head)) n) (editCount (t .head))
+  unfolding hasEdit read
+  has-edit =
+      let z : ℕ = nameAt (t .names) editsAt (editCount (t .head)) n in
+      ap (λ (o : Option Edit). picked (λ _. true) false o) edit-found ∙ cond-picked (λ _. true) false (ltb z (editCount (t .head))) _ ∙ cond-true-false _
 
   -- the value of a variable: the constant of its symbol's row
   pub value-by-row : (v : Variable) → valueOf v (basicsOf t) ≡ constantAt (t .head) (t .rows) (rowCount (t .head)) (v .symbol .id)

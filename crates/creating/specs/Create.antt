@@ -1,18 +1,18 @@
 -- Steps 1 to 3 over the tables' places: the row of a constraint as it is added, with its tag and the mark of what was written.
 use Prim.Native.Nat.{ℕ, _+_, _≤_, _<_}
-use mathlib.Core.Path.{_≡_, refl, sym, ap, _∙_}
+use mathlib.Core.Path.{_≡_, refl}
 use mathlib.Core.Bool.{Bool, true, false, cond}
 use mathlib.Core.List.{List}
 use native.Mathlib.Omega.{arith}
 use lib.ListN.{length, getD, set}
 use lib.Ieee.{Float, nan, lt, neg}
-use Rattle.steps.specs.Number.{zero64, one64, minusOne64, belowZero, Mark, allWhole}
+use Rattle.steps.specs.Number.{zero64, one64, minusOne64, belowZero, Mark}
 use Rattle.steps.specs.Strength.{required}
 use Rattle.steps.specs.State.{Relation, atMost, equal, atLeast}
 use Rattle.laws.specs.Loops.{mapIn}
 use Rattle.rows.specs.Marks.{markOf}
 use Rattle.rows.specs.Table.{reverseSignIn}
-use Rattle.moves.specs.Moves.{board, appendedHead}
+use Rattle.moves.specs.Moves.{board}
 use Rattle.moves.specs.Counts.{appended-length, appended-symbols}
 use Rattle.creating.specs.declared.tag.Tagged.{Tagged}
 use Rattle.creating.specs.Tags.{Frame, frame, appendIn, insertAtPlace, addSymbolIn, insertInObjectiveAt, addErrorIn, Tags, tags, nextCode, secondCode, inequalityIn, softEqualityIn, requiredEqualityIn, equalityIn, addTagIn}
@@ -44,9 +44,9 @@ closedRow relation f =
     let t : Tags = addTagIn relation f in
     tags (frame (t .frame .head) (t .frame .rows) (reversedIf (getD (t .frame .head) 1 0) (t .frame .row)) (t .frame .mark)) (t .marker) (t .other)
 
-unfoldable pub createRowIn : List ℕ → List Float → Float → Relation → Desk → Made
-createRowIn item real constant relation d =
-    let b : Build = insertTermsIn item real (build (desk (d .head) (d .names) (d .reals) (d .rows) (startedRow constant (getD (d .head) 1 0) (d .row))) allWhole) in
+unfoldable pub createRowIn : List ℕ → List Float → Float → Relation → Mark → Desk → Made
+createRowIn item real constant relation a d =
+    let b : Build = insertTermsIn item real (build (desk (d .head) (d .names) (d .reals) (d .rows) (startedRow constant (getD (d .head) 1 0) (d .row))) a) in
     let t : Tags = closedRow relation (frame (b .desk .head) (b .desk .rows) (b .desk .row) (b .mark)) in
     made (desk (t .frame .head) (b .desk .names) (b .desk .reals) (t .frame .rows) (t .frame .row)) (t .marker) (t .other) (t .frame .mark)
 
@@ -109,10 +109,10 @@ pub closed-is : (relation : Relation) (f : Frame) {t : Tags} {last : List Float}
 unfolding closedRow
 closed-is relation f e e₁ = rw (e₁, e) refl
 
-pub created-is : (item : List ℕ) (real : List Float) (constant : Float) (relation : Relation) (d : Desk) {row : List Float} {b : Build} {t : Tags} {m : Mark}
-    → row ≡ startedRow constant (getD (d .head) 1 0) (d .row) → m ≡ allWhole
-    → b ≡ insertTermsIn item real (build (desk (d .head) (d .names) (d .reals) (d .rows) row) m)
+pub created-is : (item : List ℕ) (real : List Float) (constant : Float) (relation : Relation) (a : Mark) (d : Desk) {row : List Float} {b : Build} {t : Tags}
+    → row ≡ startedRow constant (getD (d .head) 1 0) (d .row)
+    → b ≡ insertTermsIn item real (build (desk (d .head) (d .names) (d .reals) (d .rows) row) a)
     → t ≡ closedRow relation (frame (b .desk .head) (b .desk .rows) (b .desk .row) (b .mark))
-    → made (desk (t .frame .head) (b .desk .names) (b .desk .reals) (t .frame .rows) (t .frame .row)) (t .marker) (t .other) (t .frame .mark) ≡ createRowIn item real constant relation d
+    → made (desk (t .frame .head) (b .desk .names) (b .desk .reals) (t .frame .rows) (t .frame .row)) (t .marker) (t .other) (t .frame .mark) ≡ createRowIn item real constant relation a d
 unfolding createRowIn
-created-is item real constant relation d e e₁ e₂ e₃ = rw (e₃, e₂, e₁, e) refl
+created-is item real constant relation a d e e₁ e₂ = rw (e₂, e₁, e) refl

@@ -3,6 +3,7 @@ pub mod Tags
 pub mod Terms
 pub mod Parts
 pub mod Create
+pub mod Created
 pub mod Read
 pub mod Errors
 pub mod Opens
@@ -12,3 +13,10 @@ pub mod NewRead
 pub mod CloseRead
 pub mod StartRead
 pub mod Turns
+pub mod Leaves
+pub mod Left
+pub mod Stands
+pub mod Live
+pub mod TermRead
+pub mod LoopRead
+pub mod CreateRead

@@ -1,17 +1,26 @@
 // Steps 1 to 3: the row of a constraint with its tag, as it is added.
 ghost use mathlib.Core.Path.{_≡_};
+ghost use mathlib.Core.Bool.{false};
 ghost use Prim.Native.Nat.{ℕ, _+_, _<_, _≤_};
 ghost use lib.ListN.{getD, length};
+ghost use Rattle.steps.specs.CreateRow.{createRow};
+ghost use Rattle.keeps.specs.Along.{ids};
+ghost use Rattle.layout.specs.Layout.{tables};
+ghost use Rattle.choose.specs.Reading.{symbolsIn, entriesIn};
+ghost use Rattle.moves.specs.Room.{Held};
+ghost use Rattle.tableau.specs.Working.{workOf};
+ghost use Rattle.standing.specs.Standing.{Standing, Beside};
+ghost use Rattle.standing.specs.Opening.{Opening};
 ghost use Rattle.rows.specs.Marks.{markOf};
 ghost use Rattle.creating.specs.Tags.{frame, taggedOf, relationOf};
 ghost use Rattle.creating.specs.Terms.{Roomy, desk};
+ghost use Rattle.creating.specs.Created.{termsIn, createdOf, Spare};
 ghost use Rattle.creating.specs.Create.{startedRow, reversedIf, closedRow, madeOf, createRowIn};
 use crate::tag::Relation;
 use crate::tag::Tagged;
 use crate::tag::add_tag;
 use crate::term::insert_terms;
 use rows::number::Wrote;
-use rows::number::nothing;
 use rows::row::reverse_sign;
 
 // The row constant is the constraint's, and no cell is present yet.
@@ -57,6 +66,44 @@ fn close_row(
     t
 }
 
+// The row and its tag, over the tables' places.
+fn make_row(
+    head: &mut [u64],
+    names: &mut [[u64; 20]],
+    reals: &mut [[f64; 17]],
+    rows: &mut [[f64; 130]],
+    row: &mut [f64; 130],
+    item: &[u64; 20],
+    real: &[f64; 17],
+    constant: f64,
+    relation: Relation,
+    before: Wrote,
+) -> Tagged
+    requires { ⌜ length (now head) ≡ 326 ⌝ }
+    requires { ⌜ Roomy (now head) ⌝ }
+    requires { ⌜ length (now names) ≡ 128 ⌝ }
+    requires { ⌜ length (now reals) ≡ 128 ⌝ }
+    requires { ⌜ length (now rows) ≡ 51 ⌝ }
+    requires { ⌜ getD (now item) 3 0 ≤ 16 ⌝ }
+    ensures { λ r. ⌜ madeOf (desk (now (head .exit)) (now (names .exit)) (now (reals .exit)) (now (rows .exit)) (now (row .exit))) r ≡ createRowIn (now (item .entry)) (now (real .entry)) constant (relationOf relation) (markOf before) (desk (now (head .entry)) (now (names .entry)) (now (reals .entry)) (now (rows .entry)) (now (row .entry))) ⌝ }
+{
+    start_row(row, constant, head[1] as usize);
+    let w = insert_terms(head, names, reals, rows, row, item, real, before);
+    close_row(head, rows, row, relation, w)
+}
+
+// An array by value tells its length, and one behind a reference does not: these two hand it over.
+fn told(row: [f64; 130])
+    ensures { λ _. ⌜ length row ≡ 130 ⌝ }
+{}
+
+fn width(row: &[f64; 130])
+    ensures { λ _. ⌜ length (now (row .entry)) ≡ 130 ⌝ }
+{
+    told(*row);
+}
+
+// Steps 1 to 3: the row is as the steps' createRow says, and the tables stand.
 pub fn create_row(
     head: &mut [u64],
     names: &mut [[u64; 20]],
@@ -67,17 +114,28 @@ pub fn create_row(
     real: &[f64; 17],
     constant: f64,
     relation: Relation,
+    before: Wrote,
 ) -> Tagged
-    requires { ⌜ length (now head) ≡ 326 ⌝ }
-    requires { ⌜ Roomy (now head) ⌝ }
-    requires { ⌜ length (now names) ≡ 128 ⌝ }
-    requires { ⌜ length (now reals) ≡ 128 ⌝ }
-    requires { ⌜ length (now rows) ≡ 51 ⌝ }
-    requires { ⌜ getD (now item) 3 0 ≤ 16 ⌝ }
-    ensures { λ r. ⌜ madeOf (desk (now (head .exit)) (now (names .exit)) (now (reals .exit)) (now (rows .exit)) (now (row .exit))) r ≡ createRowIn (now (item .entry)) (now (real .entry)) constant (relationOf relation) (desk (now (head .entry)) (now (names .entry)) (now (reals .entry)) (now (rows .entry)) (now (row .entry))) ⌝ }
+    requires { ⌜ Opening (markOf before) (termsIn (now item) (now real)) constant (tables (now head) (now names) (now reals) (now rows)) ⌝ }
+    requires { ⌜ Spare (tables (now head) (now names) (now reals) (now rows)) ⌝ }
+    ensures { λ r. ⌜ createdOf r (tables (now (head .exit)) (now (names .exit)) (now (reals .exit)) (now (rows .exit))) (now (row .exit)) ≡ createRow (termsIn (now (item .entry)) (now (real .entry))) constant (relationOf relation) (workOf false (markOf before) 0 (tables (now (head .entry)) (now (names .entry)) (now (reals .entry)) (now (rows .entry)))) ⌝ }
+    ensures { λ r. ⌜ (Standing false (markOf (r .wrote)) (tables (now (head .exit)) (now (names .exit)) (now (reals .exit)) (now (rows .exit)))) × (Beside (tables (now (head .entry)) (now (names .entry)) (now (reals .entry)) (now (rows .entry))) (tables (now (head .exit)) (now (names .exit)) (now (reals .exit)) (now (rows .exit)))) ⌝ }
+    ensures { λ _. ⌜ getD (now (head .exit)) 1 0 ≤ 128 ⌝ }
+    ensures { λ _. ⌜ getD (now (head .exit)) 2 0 ≤ 47 ⌝ }
+    ensures { λ _. ⌜ getD (now (head .exit)) 0 0 ≤ 4294900018 ⌝ }
+    ensures { λ _. ⌜ Held (entriesIn (now (head .exit))) (ids (symbolsIn (now (head .exit)))) ⌝ }
 {
-    start_row(row, constant, head[1] as usize);
-    let p = nothing();
-    let w = insert_terms(head, names, reals, rows, row, item, real, p);
-    close_row(head, rows, row, relation, w)
+    width(row);
+    make_row(
+        head,
+        names,
+        reals,
+        rows,
+        row,
+        item,
+        real,
+        constant,
+        relation,
+        before,
+    )
 }

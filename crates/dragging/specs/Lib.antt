@@ -7,3 +7,5 @@ pub mod Shifting
 pub mod ShiftRead
 pub mod PushRead
 pub mod Suggest
+pub mod Stands
+pub mod Suggested

@@ -6,8 +6,8 @@ use mathlib.Core.Bool.{Bool, true, false, cond}
 use mathlib.Core.List.{List, [], _∷_}
 use mathlib.Core.Option.{Option, none, some}
 use native.Mathlib.Omega.{arith}
-use lib.ListN.{length, getD, set, length-set}
-use lib.Seq.{getD-set-same, getD-set-other}
+use lib.ListN.{length, getD}
+use lib.Seq.{getD-set-other}
 use lib.Ieee.{Float, nan}
 use Rattle.laws.specs.Loops.{turns}
 use Rattle.laws.specs.Lists.{tab}
@@ -15,14 +15,15 @@ use Rattle.steps.specs.Number.{_+₆₄_}
 use Rattle.steps.specs.Row.{Written}
 use Rattle.steps.specs.State.{Basic}
 use Rattle.steps.specs.Substitute.{rowsOf, push, pushBelow}
+use Rattle.steps.specs.Tests.{member}
 use Rattle.steps.specs.Edit.{shiftRow, shiftRows, shifted}
 use Rattle.layout.specs.Layout.{symbolOf, basicOf}
 use Rattle.choose.specs.Reading.{entriesIn}
-use Rattle.moves.specs.Moves.{entryAt, pushIf}
-use Rattle.moves.specs.Close.{closed}
-use Rattle.moves.specs.Moved.{closed-before}
-use Rattle.moves.specs.Counts.{entry-between, push-by, push-if-same, push-if-length}
+use Rattle.moves.specs.Moves.{pushIf}
+use Rattle.moves.specs.Counts.{push-if-same, push-if-length}
 use Rattle.moves.specs.Entries.{pushed-entries}
+use Rattle.moves.specs.Room.{Held}
+use Rattle.moves.specs.Held.{room, cond-held}
 use Rattle.rows.specs.Table.{shiftConstantIn}
 use Rattle.rows.specs.Reading.{rowOf}
 use Rattle.dragging.specs.declared.drag.Drag.{Drag}
@@ -30,23 +31,14 @@ use Rattle.dragging.specs.Drag.{cellOr, shiftBy}
 use Rattle.dragging.specs.Shifting.{pushesBy, shiftRowIn, pushShift}
 use Rattle.dragging.specs.ShiftRead.{row, gotten, basic, shiftedAt, written-at}
 
--- ---- one push
+-- the list's entries are distinct and, as the rows' symbols are, among at most 129 ids: each push has room
+pub record Roomy (h : List ℕ) : Type 0 where
+  pub seen : List ℕ
+  pub few : length seen ≤ 129
+  pub held : Held (entriesIn h) seen
+  pub basic : (i : ℕ) → i < getD h 2 0 → member (getD h (146 + i) 0 / 4) seen ≡ true
 
-pub push-grows : (h : List ℕ) → length h ≡ 326 → getD h 3 0 ≤ 130 → (id : ℕ) (on : Bool) → getD (pushIf on id h) 3 0 ≤ getD h 3 0 + 1
-unfolding pushIf
-push-grows h len fit id false = omega arith
-push-grows h len fit id true =
-    push-by h len fit id (λ x. getD x 3 0 ≤ getD h 3 0 + 1)
-    (λ a.
-    let b = entry-between h len fit id in
-    let e : getD (set (closed 0 (entryAt id h) (195 + getD h 3 0) h) (195 + getD h 3 0) id) 3 0 ≡ getD h 3 0 =
-    getD-set-other (closed 0 (entryAt id h) (195 + getD h 3 0) h) (195 + getD h 3 0) 3 id 0 (λ q. omega arith) ∙ closed-before 0 (entryAt id h) (195 + getD h 3 0) h (omega arith) (omega arith) 0 3 (omega arith) in
-    omega arith)
-    (λ a c.
-    let l = length-set h (196 + getD h 3 0) id in
-    let e = getD-set-same (set h (196 + getD h 3 0) id) 3 (getD h 3 0 + 1) 0 (omega arith) in
-    omega arith)
-    (λ a. omega arith)
+-- ---- one push
 
 pub if-pushed : (h : List ℕ) → length h ≡ 326 → getD h 3 0 < 130 → (id : ℕ) (on : Bool) → entriesIn (pushIf on id h) ≡ cond on (push (entriesIn h) id) (entriesIn h)
 unfolding pushIf
@@ -69,7 +61,8 @@ stays d c (some x) r = rw (cell-stays (d .at) x r) refl
 
 module _ (n count : ℕ) (code : ℕ → ℕ) (d : Drag) (rows : List (List Float)) (stand : count < length rows) (wide : (i : ℕ) → i < count → n < length (row n count code d rows i))
     (few : count ≤ 49) (shift : Basic → Option Float) (given : (i : ℕ) → shift (basic n count code d rows i) ≡ gotten n count code d rows i)
-    (after : List (List Float)) (moved : (i : ℕ) → i < count → getD after (1 + i) [] ≡ shiftRowIn (gotten n count code d rows i) (row n count code d rows i)) where
+    (after : List (List Float)) (moved : (i : ℕ) → i < count → getD after (1 + i) [] ≡ shiftRowIn (gotten n count code d rows i) (row n count code d rows i))
+    (m : List ℕ) (small : length m ≤ 129) (known : (i : ℕ) → i < count → member (code i / 4) m ≡ true) where
   abbrev got : ℕ → Option Float
   got i = gotten n count code d rows i
 
@@ -111,26 +104,29 @@ module _ (n count : ℕ) (code : ℕ → ℕ) (d : Drag) (rows : List (List Floa
       let t : getD (shiftRowIn (got i) (row n count code d rows i)) 0 nan ≡ total i = constant-is i b in
       rw (codes i b, q, moved i b, stays d (code i) (got i) (row n count code d rows i), t) refl
 
+  -- the list stays distinct and among m, so that each push has room
   pub record Pushed (i k : ℕ) (g r : List ℕ) : Type 0 where
     pub entries : entriesIn r ≡ pushBelow (these (tab (basic n count code d rows) i k)) (entriesIn g)
     pub same : (q : ℕ) → (q ≡ 3 → ⊥) → q < 196 → getD r q 0 ≡ getD g q 0
     pub long : length r ≡ 326
-    pub grown : getD r 3 0 ≤ getD g 3 0 + k
+    pub held : Held (entriesIn r) m
 
-  pub pushed : (k i : ℕ) (g : List ℕ) → Codes g → length g ≡ 326 → i + k ≤ count → getD g 3 0 + k ≤ 130 → Pushed i k g (turns (pushShift d after) k (suc i) g)
+  pub pushed : (k i : ℕ) (g : List ℕ) → Codes g → length g ≡ 326 → i + k ≤ count → Held (entriesIn g) m → Pushed i k g (turns (pushShift d after) k (suc i) g)
   unfolding turns tab shifted shiftRows rowsOf pushBelow
-  pushed zero i g codes len b room = record { entries = refl; same = λ q c l. refl; long = len; grown = omega arith }
-  pushed (suc k) i g codes len b room =
-      let fit : getD g 3 0 ≤ 130 = omega (arith, room) in
+  pushed zero i g codes len b held = record { entries = refl; same = λ q c l. refl; long = len; held = held }
+  pushed (suc k) i g codes len b held =
+      let low : i < count = omega (arith, b) in
+      let one : getD g 3 0 < 130 = room g m held small in
+      let fit : getD g 3 0 ≤ 130 = omega (arith, one) in
       let u : List ℕ = pushIf (on i) (code i / 4) g in
-      let grow : getD u 3 0 ≤ getD g 3 0 + 1 = push-grows g len fit (code i / 4) (on i) in
-      let r = pushed k (suc i) u (λ j c. push-if-same g len fit (code i / 4) (on i) (145 + suc j) (λ e. omega (arith, e)) (omega (arith, c, few)) ∙ codes j c)
-      (push-if-length g len fit (code i / 4) (on i)) (omega (arith, b)) (omega (arith, grow, room)) in
-      rw (turn-pushes g i codes (omega (arith, b)))
+      let e : entriesIn u ≡ cond (on i) (push (entriesIn g) (code i / 4)) (entriesIn g) = if-pushed g len one (code i / 4) (on i) in
+      let r = pushed k (suc i) u (λ j c. push-if-same g len fit (code i / 4) (on i) (145 + suc j) (λ z. omega (arith, z)) (omega (arith, c, few)) ∙ codes j c)
+      (push-if-length g len fit (code i / 4) (on i)) (omega (arith, b)) (rw e (cond-held (on i) (entriesIn g) m (code i / 4) held (known i low))) in
+      rw (turn-pushes g i codes low)
       (record {
-        entries = r .entries ∙ ap (λ (l : List ℕ). pushBelow (these (tab (basic n count code d rows) (suc i) k)) l) (if-pushed g len (omega (arith, room)) (code i / 4) (on i))
+        entries = r .entries ∙ ap (λ (l : List ℕ). pushBelow (these (tab (basic n count code d rows) (suc i) k)) l) e
             ∙ sym (these-cons i (tab (basic n count code d rows) (suc i) k) (entriesIn g));
         same = λ q c l. r .same q c l ∙ push-if-same g len fit (code i / 4) (on i) q c l;
         long = r .long;
-        grown = omega (arith, r .grown, grow);
+        held = r .held;
       })

@@ -9,7 +9,7 @@ use native.Mathlib.Nat.{zero-add}
 use native.Mathlib.Omega.{arith}
 use lib.ListN.{length, getD}
 use lib.Ieee.{Float}
-use Rattle.laws.specs.Loops.{run}
+use Rattle.laws.specs.Loops.{run, run-keeps}
 use Rattle.laws.specs.Lists.{tab, listOf, tab-ext, map-tab}
 use Rattle.steps.specs.Number.{Mark, worse}
 use Rattle.steps.specs.Row.{Written}
@@ -21,15 +21,28 @@ use Rattle.steps.specs.Edit.{shiftOf, shiftRows, shifted, shiftConstants}
 use Rattle.layout.specs.Layout.{tables, symbolOf, cellsOf, basicOf}
 use Rattle.choose.specs.Reading.{symbolsIn, basicsIn, entriesIn}
 use Rattle.rows.specs.Reading.{rowOf}
+use Rattle.moves.specs.Room.{Held}
 use Rattle.tableau.specs.Notes.{Noted, noted}
 use Rattle.tableau.specs.NotesRead.{changesIn}
+use Rattle.tableau.specs.NotesKept.{ItemsKept, items-then, items-by, items-same, note-kept}
 use Rattle.tableau.specs.Working.{workOf, work, artificialIn, work-parts, symbols-same, entries-same, basics-same, artificial-by, list-changed, Ready}
 use Rattle.dragging.specs.declared.drag.Drag.{Drag}
 use Rattle.dragging.specs.Drag.{dragOf}
 use Rattle.dragging.specs.DragRead.{tagFrom, shift-is}
-use Rattle.dragging.specs.Shifting.{shiftRowIn, noteShifts, Shifting, shifting, shiftRowsOf, pushShifts, draggedBy, shiftConstantsIn}
+use Rattle.dragging.specs.Shifting.{shiftRowIn, noteShift, noteShifts, Dragged, Shifting, shifting, shiftRowsOf, pushShifts, draggedBy, shiftConstantsIn}
 use Rattle.dragging.specs.ShiftRead.{row, gotten, basic, shiftedAt, rows-tab, written-at, Left, left, Notes, notes-left}
-use Rattle.dragging.specs.PushRead.{Pushed, pushed}
+use Rattle.dragging.specs.PushRead.{Roomy, Pushed, pushed}
+
+-- what a shift leaves: the head but for the list and the notes, the list's entries among the ids seen, the stored items, the rows' lengths
+pub record Around (h : List ℕ) (n : List (List ℕ)) (w : List (List Float)) (seen : List ℕ) (u : Dragged) : Type 0 where
+  pub same : (q : ℕ) → (q ≡ 3 → ⊥) → (q ≡ 7 → ⊥) → q < 196 → getD (u .head) q 0 ≡ getD h q 0
+  pub held : Held (entriesIn (u .head)) seen
+  pub items : ItemsKept (noted h n) (noted (u .head) (u .names))
+  pub lengths : (i : ℕ) → length (getD (u .rows) i []) ≡ length (getD w i [])
+
+note-shifts-kept : (d : Drag) (count : ℕ) (rows : List (List Float)) (s : Noted) → ItemsKept s (noteShifts d count rows s)
+unfolding noteShifts noteShift
+note-shifts-kept d count rows s = run-keeps (λ (t : Noted). ItemsKept s t) (noteShift d rows) (λ i t k. items-then k (note-kept _ _ t)) 1 (1 + count) s (items-same s)
 
 module _ (h : List ℕ) (n : List (List ℕ)) (reals w : List (List Float)) (ready : Ready h n w) (d : Drag) where
   abbrev k : ℕ
@@ -125,15 +138,16 @@ module _ (h : List ℕ) (n : List (List ℕ)) (reals w : List (List Float)) (rea
 
   -- ---- with the pushes
 
-  module _ (shift : Basic → Option Float) (given : (i : ℕ) → shift (basic k count code d w i) ≡ gotten k count code d w i) (room : getD h 3 0 + count ≤ 130) where
+  module _ (shift : Basic → Option Float) (given : (i : ℕ) → shift (basic k count code d w i) ≡ gotten k count code d w i) (roomy : Roomy h) where
     abbrev pushes : Mark → List ℕ
     pushes a = pushShifts d count (rows a .rows) g
 
-    pushes-are : (a : Mark) → Pushed k count code d w stand wide (ready .few-rows) shift given (rows a .rows) (moved a) 0 count g (pushes a)
+    pushes-are : (a : Mark) → Pushed k count code d w stand wide (ready .few-rows) shift given (rows a .rows) (moved a) (roomy .seen) (roomy .few) (roomy .basic) 0 count g (pushes a)
     unfolding pushShifts run
     pushes-are a =
-        let l : getD g 3 0 ≡ getD h 3 0 = same 3 (λ e. omega (arith, e)) in
-        rw turns-of (pushed k count code d w stand wide (ready .few-rows) shift given (rows a .rows) (moved a) count 0 g (notes-are .heads .codes) (notes-are .long ∙ ready .head-long) (omega arith) (omega (arith, l, room)))
+        rw turns-of
+        (pushed k count code d w stand wide (ready .few-rows) shift given (rows a .rows) (moved a) (roomy .seen) (roomy .few) (roomy .basic) count 0 g
+        (notes-are .heads .codes) (notes-are .long ∙ ready .head-long) (omega arith) (rw (entries-same g h same) (roomy .held)))
 
     pushed-after : (art : Bool) (a : Mark) (v : ℕ)
         → workOf art (draggedBy d count a (noted h n) w .mark) v (tables (draggedBy d count a (noted h n) w .head) (draggedBy d count a (noted h n) w .names) reals (draggedBy d count a (noted h n) w .rows))
@@ -159,9 +173,18 @@ module _ (h : List ℕ) (n : List (List ℕ)) (reals w : List (List Float)) (rea
       flags = rw (pushes-are a .same 4 (λ e. omega (arith, e)) (omega arith)) (notes-are .heads .flags);
     }
 
+    pub around-after : (a : Mark) → Around h n w (roomy .seen) (draggedBy d count a (noted h n) w)
+    unfolding draggedBy
+    around-after a = record {
+      same = λ q c e l. pushes-are a .same q c l ∙ same q e;
+      held = pushes-are a .held;
+      items = items-then (note-shifts-kept d count w (noted h n)) (items-by g (pushes a) (notes .names) (λ q b c. pushes-are a .same q (λ e. omega (arith, b, e)) (omega (arith, c))));
+      lengths = rows-are a .lengths;
+    }
+
 -- ---- the theorem
 
-module _ (h : List ℕ) (n : List (List ℕ)) (reals w : List (List Float)) (ready : Ready h n w) (room : getD h 3 0 + getD h 2 0 ≤ 130) (marker other : ℕ) (delta : Float) where
+module _ (h : List ℕ) (n : List (List ℕ)) (reals w : List (List Float)) (ready : Ready h n w) (roomy : Roomy h) (marker other : ℕ) (delta : Float) where
   abbrev drag : Drag
   drag = dragOf marker other delta h
 
@@ -194,11 +217,15 @@ module _ (h : List ℕ) (n : List (List ℕ)) (reals w : List (List Float)) (rea
       ≡ shiftConstants (tagFrom marker other) delta (workOf art a v (tables h n reals w))
   unfolding shiftConstantsIn
   shift-constants-read art a v =
-      pushed-after h n reals w ready drag (by art a v) (by-is art a v) room art a v
+      pushed-after h n reals w ready drag (by art a v) (by-is art a v) roomy art a v
       ∙ ap (λ (l : List Basic). result h n reals w ready drag (pushBelow (rowsOf (shiftRows (by art a v) (shifted (by art a v) l))) (entriesIn h)) art a v) (sym basics-are)
       ∙ sym (ap (shiftConstants (tagFrom marker other) delta) (work-parts art a v h n reals w) ∙ steps-are art a v)
 
   pub ready-dragged : (a : Mark)
       → Ready (shiftConstantsIn marker other delta a (noted h n) w .head) (shiftConstantsIn marker other delta a (noted h n) w .names) (shiftConstantsIn marker other delta a (noted h n) w .rows)
   unfolding shiftConstantsIn
-  ready-dragged a = ready-after h n reals w ready drag (by false a 0) (by-is false a 0) room a
+  ready-dragged a = ready-after h n reals w ready drag (by false a 0) (by-is false a 0) roomy a
+
+  pub around-dragged : (a : Mark) → Around h n w (roomy .seen) (shiftConstantsIn marker other delta a (noted h n) w)
+  unfolding shiftConstantsIn
+  around-dragged a = around-after h n reals w ready drag (by false a 0) (by-is false a 0) roomy a

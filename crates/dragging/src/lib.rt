@@ -1,4 +1,5 @@
-// Dragging: which rows a suggestion shifts, the shift of their constants, and the edit records that hold the suggestions.
+// Dragging: which rows a suggestion shifts, the shift of their constants, the edit records that hold the suggestions, and the suggestion itself.
 pub mod drag;
 pub mod record;
 pub mod shifting;
+pub mod suggest;

@@ -1,23 +1,22 @@
 -- The objective after a removal's first steps reads as the steps'.
 -- Assumes nothing.
-use Prim.Native.Nat.{ℕ, zero, suc, _+_, _-_, _/_, _%_, _<_}
+use Prim.Native.Nat.{ℕ, zero, suc, _+_, _-_, _/_, _%_, _≤_, _<_}
 use mathlib.Core.Path.{_≡_, refl, sym, ap, _∙_}
-use mathlib.Core.Bool.{Bool, true, false, cond}
-use mathlib.Core.List.{List, []}
+use mathlib.Core.Bool.{Bool, true, false, cond, false≢true}
+use mathlib.Core.List.{List, [], map}
 use mathlib.Core.Option.{Option, none, some}
-use native.Mathlib.Nat.{add-zero}
 use native.Mathlib.Omega.{arith}
 use lib.Dec.{eqb}
 use borrow.Author.Tests.{eqb-true}
 use lib.ListN.{length, getD, set, length-set}
 use lib.Seq.{getD-set-same, getD-set-other}
-use lib.Ieee.{Float, neg}
+use lib.Ieee.{Float, nan, neg}
 use Rattle.laws.specs.Loops.{seek, first}
-use Rattle.laws.specs.Lists.{tab, listOf, tab-ext}
+use Rattle.laws.specs.Lists.{tab, listOf, tab-ext, length-tab}
 use Rattle.laws.specs.Places.{lengths-set}
 use Rattle.steps.specs.Number.{objectiveBound, Mark, worse}
 use Rattle.steps.specs.Symbol.{Symbol, isSymbol, isError}
-use Rattle.steps.specs.Row.{Row, cellValues, cellMarks, insertSymbol, insertCells}
+use Rattle.steps.specs.Row.{Row, kept, cellValues, cellMarks, insertSymbol, insertCells}
 use Rattle.steps.specs.State.{Basic}
 use Rattle.steps.specs.Work.{Work, withTableau, withObjective, marking, findRow}
 use Rattle.steps.specs.CreateRow.{insertInObjective}
@@ -30,33 +29,38 @@ use Rattle.choose.specs.Chosen.{row-found}
 use Rattle.choose.specs.Steps.{picked}
 use Rattle.choose.specs.declared.Found.{Found}
 use Rattle.choose.specs.declared.Found.the-variants.{At, Nothing}
-use Rattle.rows.specs.Place.{PlaceOf}
+use Rattle.rows.specs.Place.{PlaceOf, Missing, insert-none, kept-values, kept-marks}
+use Rattle.rows.specs.Marks.{worse-unit}
 use Rattle.rows.specs.Table.{insertSymbolAt, insertSymbolMark, insertCellsIn, insertCellsMark}
 use Rattle.rows.specs.Stays.{length-insertSymbolAt, length-insertCellsIn}
 use Rattle.rows.specs.Reading.{insert-cells-read, insert-cells-marks, insert-symbol-values, insert-symbol-marks}
 use Rattle.tableau.specs.Working.{workOf, artificialIn, work-parts, length-symbols, Ready}
 use Rattle.effects.specs.Effects.{Effected, effected, rowInObjective, placeInObjective, inObjective, removeMarkerIn, removeEffectsIn, error}
 
--- ---- a symbol that stands at one place is found there
+-- ---- an id that is found stands there alone, and one that is not found stands nowhere
+
+abbrev pub Placed : List ℕ → ℕ → Type 0
+Placed h s = (p : ℕ) → placeOf s h ≡ At p → PlaceOf s (symbolsIn h) (p - 1)
 
 module _ (s : ℕ) (h : List ℕ) where
-  seek-place : (k i j : ℕ) → PlaceOf s (tab (λ i. symbolOf (getD h (16 + i) 0)) i k) j → seek (λ p. eqb s (getD h (15 + p) 0 / 4)) At Nothing k (suc i) ≡ At (suc (i + j))
-  unfolding PlaceOf tab seek isSymbol symbolOf
-  seek-place zero i j p = absurd p
-  seek-place (suc k) i zero p =
-      let e : 15 + suc i ≡ 16 + i = omega arith in
-      rw (e, p .0, add-zero i) refl
-  seek-place (suc k) i (suc j) p =
-      let e : 15 + suc i ≡ 16 + i = omega arith in
-      let z : i + suc j ≡ suc i + j = omega arith in
-      rw (e, p .0, z) (seek-place k (suc i) j (p .1))
+  seek-missing : (k i : ℕ) → seek (λ p. eqb s (getD h (15 + p) 0 / 4)) At Nothing k (suc i) ≡ Nothing → Missing s (tab (λ i. symbolOf (getD h (16 + i) 0)) i k)
+  unfolding Missing tab seek isSymbol symbolOf
+  seek-missing zero i e = tt
+  seek-missing (suc k) i e =
+      let z : 15 + suc i ≡ 16 + i = omega arith in
+      go (eqb s (getD h (16 + i) 0 / 4)) refl (rw z at e) (seek-missing k (suc i))
+    where
+      go : (b : Bool) → eqb s (getD h (16 + i) 0 / 4) ≡ b → cond b (At (suc i)) (seek (λ p. eqb s (getD h (15 + p) 0 / 4)) At Nothing k (suc (suc i))) ≡ Nothing
+          → (seek (λ p. eqb s (getD h (15 + p) 0 / 4)) At Nothing k (suc (suc i)) ≡ Nothing → Missing s (tab (λ i. symbolOf (getD h (16 + i) 0)) (suc i) k))
+          → (eqb s (getD h (16 + i) 0 / 4) ≡ false) × Missing s (tab (λ i. symbolOf (getD h (16 + i) 0)) (suc i) k)
+      go true q e rest = absurd (false≢true (sym (ap (onFound (λ j. true) false) e)))
+      go false q e rest = (q, rest e)
 
-  pub place-found : (j : ℕ) → PlaceOf s (symbolsIn h) j → placeOf s h ≡ At (1 + j)
+  pub missing-of : placeOf s h ≡ Nothing → Missing s (symbolsIn h)
   unfolding idAt first symbolsIn listOf
-  place-found j p =
-      let e : 1 + getD h 1 0 - 1 ≡ getD h 1 0 = omega arith in
-      let z : suc (0 + j) ≡ 1 + j = omega arith in
-      rw (e, ← z) (seek-place (getD h 1 0) 0 j p)
+  missing-of e =
+      let z : 1 + getD h 1 0 - 1 ≡ getD h 1 0 = omega arith in
+      seek-missing (getD h 1 0) 0 (rw z at e)
 
 -- the steps' insertions, by what the objective and the symbols are
 row-inserted : (r : Row) (k : Float) (w : Work) (o : List Float) → w .tableau .objective ≡ o
@@ -131,19 +135,33 @@ module _ (h : List ℕ) (n : List (List ℕ)) (reals w : List (List Float)) (rea
         ∙ rw (insert-cells-read k width (getD w i []) goal (in-row 0 (omega arith)) (in-row i b), insert-cells-marks objectiveBound k width (getD w i []) goal (in-row 0 (omega arith)) (in-row i b)) refl
         ∙ sym (row-inserted (rowIn h (getD w i [])) k start (cellsOf width goal) objective-is)
 
-    pub symbol-read : (s j : ℕ) (k : Float) → PlaceOf s (symbolsIn h) j → read-as (inObjective s k h (effected w a)) ≡ insertInObjective s k start
-    unfolding inObjective placeInObjective
-    symbol-read s j k p =
-        ap (λ (f : Found). read-as (onFound (λ p. placeInObjective p k (effected w a)) (effected w a) f)) (place-found s h j p)
-        ∙ objective-changed (insertSymbolMark (1 + j) k objectiveBound goal) (insertSymbolAt (1 + j) k goal)
-        ∙ rw (insert-symbol-values s (symbolsIn h) j width goal p (length-symbols h) k (in-row 0 (omega arith)), insert-symbol-marks s (symbolsIn h) j width goal p (length-symbols h) objectiveBound k) refl
+    absent-read : (s : ℕ) (k : Float) → Missing s (symbolsIn h) → start ≡ insertInObjective s k start
+    unfolding marking withObjective withTableau cellsOf listOf
+    absent-read s k m =
+        let o : List Float = cellsOf width goal in
+        let e : insertSymbol s k (symbolsIn h) o ≡ map kept o = insert-none s k (symbolsIn h) o m (length-tab (λ j. getD goal (1 + j) nan) 0 width ∙ sym (length-symbols h)) in
+        work-parts art a v h n reals w
+        ∙ rw (e, kept-values, kept-marks, worse-unit) refl
+        ∙ sym (ap (λ (x : Work). marking (cellMarks objectiveBound (insertSymbol s k (symbolsIn h) o)) (withObjective (cellValues (insertSymbol s k (symbolsIn h) o)) x)) (work-parts art a v h n reals w))
+        ∙ sym (symbol-inserted s k start (symbolsIn h) o symbols-are objective-is)
+
+    place-read : (s p : ℕ) (k : Float) → 1 ≤ p → PlaceOf s (symbolsIn h) (p - 1) → read-as (placeInObjective p k (effected w a)) ≡ insertInObjective s k start
+    unfolding placeInObjective
+    place-read s p k low q =
+        let e : 1 + (p - 1) ≡ p = omega arith in
+        objective-changed (insertSymbolMark p k objectiveBound goal) (insertSymbolAt p k goal)
+        ∙ rw (← e, insert-symbol-values s (symbolsIn h) (p - 1) width goal q (length-symbols h) k (in-row 0 (omega arith)), insert-symbol-marks s (symbolsIn h) (p - 1) width goal q (length-symbols h) objectiveBound k) refl
         ∙ sym (symbol-inserted s k start (symbolsIn h) (cellsOf width goal) symbols-are objective-is)
 
-  -- ---- one symbol's effects
+    pub symbol-read : (s : ℕ) (k : Float) → Placed h s → read-as (inObjective s k h (effected w a)) ≡ insertInObjective s k start
+    unfolding inObjective idAt
+    symbol-read s k placed = go (placeOf s h) refl (first-within _ width)
+      where
+        go : (f : Found) → placeOf s h ≡ f → Within width f → read-as (onFound (λ p. placeInObjective p k (effected w a)) (effected w a) f) ≡ insertInObjective s k start
+        go (At p) e b = place-read s p k (b .0) (placed p e)
+        go Nothing e b = absent-read s k (missing-of s h e)
 
-  -- an Error is a live symbol
-  abbrev pub Live : ℕ → Type 0
-  Live code = isError (symbolOf code) ≡ true → (j : ℕ) × PlaceOf (code / 4) (symbolsIn h) j
+  -- ---- one symbol's effects
 
   pub marker-ready : (code : ℕ) (strength : Float) (a : Mark) → Ready h n (removeMarkerIn code strength h (effected w a) .rows)
   unfolding removeMarkerIn inObjective rowInObjective placeInObjective
@@ -165,32 +183,32 @@ module _ (h : List ℕ) (n : List (List ℕ)) (reals w : List (List Float)) (rea
       go true Nothing (At p) = place-ready p
       go true Nothing Nothing = ready
 
-  pub marker-read : (code : ℕ) (strength : Float) → Live code → (art : Bool) (a : Mark) (v : ℕ)
+  pub marker-read : (code : ℕ) (strength : Float) → Placed h (code / 4) → (art : Bool) (a : Mark) (v : ℕ)
       → read-as art a v (removeMarkerIn code strength h (effected w a)) ≡ removeMarkerEffects (symbolOf code) strength (start art a v)
   unfolding removeMarkerIn removeMarkerEffects symbolOf idAt
-  marker-read code strength live art a v = go (isError (symbolOf code)) live
+  marker-read code strength placed art a v = go (isError (symbolOf code))
     where
       k : Float
       k = neg strength
 
-      basic-read : (f : Found) → Within (getD h 2 0) f → (j : ℕ) → PlaceOf (code / 4) (symbolsIn h) j
+      basic-read : (f : Found) → Within (getD h 2 0) f
           → read-as art a v (onFound (λ i. rowInObjective width i k (effected w a)) (inObjective (code / 4) k h (effected w a)) f)
           ≡ elim (onFound (λ i. some (rowIn h (getD w i []))) none f) [ none ↦ insertInObjective (code / 4) k (start art a v) | some r ↦ insertRowInObjective r k (start art a v) ]
-      basic-read (At i) b j p = row-read art a v i k (omega (arith, b .1, ready .few-rows))
-      basic-read Nothing b j p = symbol-read art a v (code / 4) j k p
+      basic-read (At i) b = row-read art a v i k (omega (arith, b .1, ready .few-rows))
+      basic-read Nothing b = symbol-read art a v (code / 4) k placed
 
       found : findRow (code / 4) (start art a v .tableau .rows) ≡ onFound (λ i. some (rowIn h (getD w i []))) none (rowOf (code / 4) h)
       found = ap (λ (b : List Basic). findRow (code / 4) b) (rows-are art a v) ∙ row-found h (code / 4) w
 
-      go : (b : Bool) → (b ≡ true → (j : ℕ) × PlaceOf (code / 4) (symbolsIn h) j)
+      go : (b : Bool)
           → read-as art a v (cond b (onFound (λ i. rowInObjective width i k (effected w a)) (inObjective (code / 4) k h (effected w a)) (rowOf (code / 4) h)) (effected w a))
           ≡ elim b [
             | false ↦ start art a v
             | true ↦ elim (findRow (code / 4) (start art a v .tableau .rows)) [ none ↦ insertInObjective (code / 4) k (start art a v) | some r ↦ insertRowInObjective r k (start art a v) ]
           ]
-      go false l = refl
-      go true l =
-          basic-read (rowOf (code / 4) h) (first-within _ (getD h 2 0)) (l refl .0) (l refl .1)
+      go false = refl
+      go true =
+          basic-read (rowOf (code / 4) h) (first-within _ (getD h 2 0))
           ∙ ap (λ (o : Option Row). elim o [ none ↦ insertInObjective (code / 4) k (start art a v) | some r ↦ insertRowInObjective r k (start art a v) ]) (sym found)
 
 -- ---- both symbols' effects
@@ -218,11 +236,11 @@ module _ (h : List ℕ) (n : List (List ℕ)) (reals w : List (List Float)) (rea
   effects-ready = marker-ready h n reals (one .rows) (marker-ready h n reals w ready marker strength a) other strength (one .mark)
 
   -- "Remove: take each error symbol's strength out of the objective, marker's first (by its row if basic)."
-  pub effects-read : Live h n reals w ready marker → Live h n reals w ready other → (art : Bool) (v : ℕ)
+  pub effects-read : Placed h (marker / 4) → Placed h (other / 4) → (art : Bool) (v : ℕ)
       → workOf art (both .mark) v (tables h n reals (both .rows))
       ≡ removeConstraintEffects (record { marker = symbolOf marker; other = otherOf other }) strength (workOf art a v (tables h n reals w))
   unfolding removeEffectsIn removeConstraintEffects
-  effects-read live live₁ art v =
-      marker-read h n reals (one .rows) (marker-ready h n reals w ready marker strength a) other strength live₁ art (one .mark) v
-      ∙ ap (removeMarkerEffects (symbolOf other) strength) (marker-read h n reals w ready marker strength live art a v)
+  effects-read placed placed₁ art v =
+      marker-read h n reals (one .rows) (marker-ready h n reals w ready marker strength a) other strength placed₁ art (one .mark) v
+      ∙ ap (removeMarkerEffects (symbolOf other) strength) (marker-read h n reals w ready marker strength placed art a v)
       ∙ sym (other-read other strength (removeMarkerEffects (symbolOf marker) strength (workOf art a v (tables h n reals w))))

@@ -1,9 +1,9 @@
 -- What the code of a fetch leaves is the state after it, written into the tables, and its list.
 -- Assumes nothing.
-use Prim.Native.Nat.{ℕ, zero, suc, _+_, _-_, _≤_, _<_}
+use Prim.Native.Nat.{ℕ, zero, suc, _-_, _≤_, _<_}
 use mathlib.Core.Path.{_≡_, refl, sym, ap, _∙_}
 use mathlib.Core.Bool.{Bool, true, false, not, _&&_, cond}
-use mathlib.Core.List.{List, [], _∷_, map}
+use mathlib.Core.List.{List, [], map}
 use native.Mathlib.Nat.{not-suc-le-zero, le-of-suc-le-suc, zero-add}
 use native.Mathlib.Omega.{arith}
 use lib.Dec.{eqb}
@@ -12,11 +12,11 @@ use lib.Ieee.{Float}
 use borrow.Author.Tests.{eqb-true}
 use Rattle.steps.specs.Number.{zero64}
 use Rattle.steps.specs.State.{Basic, Variable, State}
-use Rattle.steps.specs.Changes.{withFlag, clearChanged, isNews, reported, fetchChanges}
+use Rattle.steps.specs.Changes.{withFlag, clearChanged, reported, fetchChanges}
 use Rattle.laws.specs.Loops.{mapIn}
 use Rattle.laws.specs.Lists.{listOf, laid}
 use Rattle.layout.specs.Layout.{Tables, tables, symbolsAt, rowsAt, listAt, constraintsAt, editsAt, variableCount, clearFlag, bitOf, basicsOf, variablesOf, variableOf, heading, read, over, variableNames, variableReals, constraintNames, constraintReals, editNames, editReals, writeHead, writeNames, writeReals, writeRows, write}
-use Rattle.layout.specs.Rooms.{Lengths, Counts, Coded, both}
+use Rattle.layout.specs.Rooms.{Coded, both}
 use Rattle.layout.specs.Written.{write-read}
 use Rattle.layout.specs.Copied.{length-listOf}
 use Rattle.reading.specs.Reads.{reads}
@@ -24,9 +24,9 @@ use Rattle.reading.specs.Given.{reads-lengths, reads-counts, reads-coded}
 use Rattle.choose.specs.Reading.{basicsIn}
 use Rattle.tableau.specs.Notes.{WideNames, clearedRow, clearedNames}
 use Rattle.tableau.specs.NotesRead.{flags-of, clear-names-read}
-use Rattle.fetching.specs.Fetch.{Fetch, fetch, places, fetchIn, fetch18, fetchOf}
-use Rattle.fetching.specs.Listing.{Listing, listing, listAll, listed, numbersOf, valuesOf}
-use Rattle.fetching.specs.Relaid.{laid-again, laid-map, laid-map-same, laid-set, put-set, first-anew}
+use Rattle.fetching.specs.Fetch.{fetch, places, fetchIn, fetch18, fetchOf}
+use Rattle.fetching.specs.Listing.{Listing, listing, listAll, listed}
+use Rattle.layout.specs.Relaid.{laid-again, laid-map, laid-map-same, laid-set, put-set, first-anew}
 
 -- the toggle as a number
 toggled : (x : ℕ) → x ≤ 1 → bitOf (not (eqb x 1)) ≡ 1 - x
@@ -68,20 +68,23 @@ module _ (t : Tables) (q : Coded t) (few : variableCount (t .head) ≤ 32) where
   rows = s .tableau .rows
 
   -- the variables after a reported set was cleared
-  abbrev cleared : List Variable
+  abbrev pub cleared : List Variable
   cleared = cond clear (clearChanged vs) vs
 
-  few-read : length vs ≤ 32
+  pub few-read : length vs ≤ 32
   unfolding read variablesOf
   few-read = rw (length-listOf _ _) few
 
-  same-count : length (map (reported rows) cleared) ≡ length vs
+  pub cleared-count : length cleared ≡ length vs
   unfolding clearChanged
-  same-count = length-map cleared (reported rows) ∙ go clear
+  cleared-count = go clear
     where
       go : (b : Bool) → length (cond b (clearChanged vs) vs) ≡ length vs
       go true = length-map vs (withFlag false)
       go false = refl
+
+  pub same-count : length (map (reported rows) cleared) ≡ length vs
+  same-count = length-map cleared (reported rows) ∙ cleared-count
 
   heading-after : heading after ≡ set (heading s) 7 (bitOf (not clear))
   unfolding heading fetchChanges
@@ -167,10 +170,6 @@ module _ (t : Tables) (q : Coded t) (few : variableCount (t .head) ≤ 32) where
       go true = clear-names-read _ (t .names) (flags-of _ (t .names) wide k) (t .reals)
       go false = refl
 
-  basics-read : basicsIn (t .head) (t .rows) ≡ rows
-  unfolding read basicsOf basicsIn
-  basics-read = refl
-
 -- ---- the code's steps put together, over variables
 
 pub fetch-done : (t : Tables) {h : List ℕ} {n : List (List ℕ)} {r : List (List Float)} {ns ms : List ℕ} {vs us : List Float} {c : ℕ} → reads t ≡ true → WideNames (t .names)
@@ -211,6 +210,6 @@ module _ (t : Tables) (a b : ℕ) {r : Bool} {ns : List ℕ} {vs : List Float} (
       let l = eqb-true b places (o .1) in
       (p .0, z ∙ ap (λ (n : ℕ). replicate n 0) k, w ∙ ap (λ (n : ℕ). replicate n zero64) l)
 
-  pub fetch-accepted : {x : Fetch} → r && (eqb (length ns) places && eqb (length vs) places) ≡ true → x ≡ fetchIn t → x ≡ fetchOf a b t
+  pub fetch-accepted : r && (eqb (length ns) places && eqb (length vs) places) ≡ true → fetchIn t ≡ fetchOf a b t
   unfolding fetchOf
-  fetch-accepted h q = q ∙ rw (← tested, h) refl
+  fetch-accepted h = rw (← tested, h) refl

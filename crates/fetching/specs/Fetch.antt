@@ -1,7 +1,7 @@
 -- What a fetch over any tables and any two lists answers and leaves.
 use Prim.Native.Nat.{ℕ}
-use mathlib.Core.Bool.{Bool, _&&_, cond}
-use mathlib.Core.List.{List, map}
+use mathlib.Core.Bool.{_&&_, cond}
+use mathlib.Core.List.{List}
 use lib.Dec.{eqb}
 use lib.ListN.{length, replicate}
 use lib.Ieee.{Float}

@@ -1,15 +1,17 @@
 // Fetch changes, over lent tables: "a first fetch reports, a second straight after reports none".
 ghost use mathlib.Core.Path.{_≡_};
 ghost use mathlib.Core.Bool.{true};
-ghost use mathlib.Core.List.{List, []};
-ghost use Prim.Native.Nat.{ℕ, _+_, _-_, _<_, _≤_};
-ghost use lib.ListN.{getD, length, replicate};
+ghost use Prim.Native.Nat.{_+_, _<_, _≤_};
+ghost use lib.ListN.{length, replicate};
 ghost use Rattle.steps.specs.Number.{zero64};
 ghost use Rattle.layout.specs.Layout.{tables, headSize, rowsSize, rowCount, variableCount};
 ghost use Rattle.choose.specs.Reading.{basicsIn};
 ghost use Rattle.reading.specs.Reads.{reads};
 ghost use Rattle.fetching.specs.Listing.{entry, noteNews, listing, listAll};
 ghost use Rattle.fetching.specs.Fetch.{fetch, fetchBy, places, fetchIn, fetchOf};
+
+// The length of the two lists.
+const PLACES: usize = 32;
 
 // 0 or 18, and how many places of the two lists are filled.
 pub struct Fetched {
@@ -106,7 +108,7 @@ fn fetch_in(
     count
 }
 
-// Shut out: a list that holds a variable whose value is still its old one, or leaves out a new variable at 0; a toggle or an old value that stays as it was.
+// "Fetch fills lists of 32 places, zero past its count, all zero on 18." Two wrong answers that this shuts out: the same list once more from a second fetch straight after, and numbers that the lender had in the lists left there past the count or beside 18.
 pub fn fetch_changes(
     head: &mut [u64],
     names: &mut [[u64; 20]],
@@ -120,7 +122,7 @@ pub fn fetch_changes(
     room::clear_head(numbers);
     clear_values(values);
     let ok = reading::reads_as_state(head, names, reals, rows)
-        & ((numbers.len() == 32) & (values.len() == 32));
+        & ((numbers.len() == PLACES) & (values.len() == PLACES));
     if !ok {
         return Fetched {
             number: 18,

@@ -55,12 +55,37 @@ stands-after K U R L w v s a =
 
 -- ---- step 5
 
+-- a row solved for a free symbol enters
+pub subject-fits : (s : Symbol) (r : Row) (w : Work) → FitsW w → RowOk (IsBasic (w .tableau .rows)) (Fine (w .mark)) (w .tableau .symbols) r → Free w s
+    → FitsW (enterBasis s (solveForSymbol (s .id) (w .tableau .symbols) r .row) (marking (solveForSymbol (s .id) (w .tableau .symbols) r .mark) w))
+unfolding marking
+subject-fits s r w fits h f =
+    enter-fits s (solved .row) (marking (solved .mark) w) (fits-worse fits (solved .mark)) (f .free) (f .live) C old (λ i p. p)
+    (solveForSymbol-ok (IsBasic bs) C (Fine (w .mark)) (Fine (worse (w .mark) (solved .mark))) (fine-l (w .mark) (solved .mark)) 1
+    (w .tableau .symbols) (fits .up) (s .id) old r h (fine-r (w .mark) (solved .mark)))
+  where
+    solved : Written
+    solved = solveForSymbol (s .id) (w .tableau .symbols) r
+
+    bs : List Basic
+    bs = w .tableau .rows
+
+    C : ℕ → Type 0
+    C i = 1 ≤ same i (s .id) + times i (bids bs)
+
+    old : (i : ℕ) → C i → s .id ≢ i → IsBasic bs i
+    old i p n = by (same? i (s .id))
+      where
+        by : Same? i (s .id) → IsBasic bs i
+        by (is a b d) = absurd (n (sym b))
+        by (isnt a b d) = omega (arith, p)
+
 module _ (K U : ℕ → ℕ) (N L : ℕ) (c : Created) (h : Tagged K U N L c) where
   subject-ends : (s : Symbol) → Free (c .work) s → Ends (Stands (λ n. tagCode n (c .tag) + K n) U (suc N) L) (addWithSubject s c)
   unfolding addWithSubject
   subject-ends s f =
       check-ends _ (enterBasis s (solved .row) w) (λ m. record {
-        good = good-frame _ U (c .work) (enterBasis s (solved .row) w) (h .good) fits frame;
+        good = good-frame _ U (c .work) (enterBasis s (solved .row) w) (h .good) (subject-fits s (c .row) (c .work) (h .good .fits) (h .row) f) frame;
         fine = m;
         plain = frame .plain (h .plain);
         rows = omega (arith, enter-count s (solved .row) w, marked, h .count);
@@ -73,31 +98,11 @@ module _ (K U : ℕ → ℕ) (N L : ℕ) (c : Created) (h : Tagged K U N L c) wh
       w : Work
       w = marking (solved .mark) (c .work)
 
-      bs : List Basic
-      bs = c .work .tableau .rows
-
-      marked : length (w .tableau .rows) ≡ length bs
+      marked : length (w .tableau .rows) ≡ length (c .work .tableau .rows)
       marked = unfold marking in refl
-
-      C : ℕ → Type 0
-      C i = 1 ≤ same i (s .id) + times i (bids bs)
-
-      old : (i : ℕ) → C i → s .id ≢ i → IsBasic bs i
-      old i p n = by (same? i (s .id))
-        where
-          by : Same? i (s .id) → IsBasic bs i
-          by (is a b d) = absurd (n (sym b))
-          by (isnt a b d) = omega (arith, p)
 
       frame : Frame (c .work) (enterBasis s (solved .row) w)
       frame = frame-trans (mark-frame (solved .mark) (c .work)) (enter-frame s (solved .row) w)
-
-      fits : FitsW (enterBasis s (solved .row) w)
-      fits =
-          unfold marking in
-          enter-fits s (solved .row) w (fits-worse (h .good .fits) (solved .mark)) (f .free) (f .live) C old (λ i p. p)
-          (solveForSymbol-ok (IsBasic bs) C (Fine (c .work .mark)) (Fine (worse (c .work .mark) (solved .mark))) (fine-l (c .work .mark) (solved .mark)) 1
-          (c .work .tableau .symbols) (h .good .fits .up) (s .id) old (c .row) (h .row) (fine-r (c .work .mark) (solved .mark)))
 
 -- ---- step 6: the temporary comes
 
@@ -136,6 +141,12 @@ stand-fits t r xs next bs os m e f h =
 
     row : (r : Row) → RowOk (IsBasic bs) (Fine m) xs r → RowOk C (Fine m) (xs ++ (t ∷ [])) (appendCell r)
     row r k = (k .0, place (r .cells) (k .1))
+
+pub temporary-fits : (w : Work) (r : Row) → FitsW w → RowOk (IsBasic (w .tableau .rows)) (Fine (w .mark)) (w .tableau .symbols) r
+    → FitsW (standTemporary (newSymbol Slack w) (record { work = w; row = r }))
+unfolding standTemporary appendTo newSymbol appendSymbol withArtificial withRows withTableau
+temporary-fits w r f h =
+    stand-fits (newSymbol Slack w) r (w .tableau .symbols) (w .tableau .nextId) (w .tableau .rows) (w .tableau .objective) (w .mark) refl (fits-plain f) h
 
 -- ---- and goes
 
@@ -202,10 +213,8 @@ module _ (K U : ℕ → ℕ) (N L : ℕ) (c : Created) (h : Tagged K U N L c) (f
   standing = standTemporary temporary (record { work = c .work; row = c .row })
 
   standing-fits : FitsW standing
-  unfolding standing temporary standTemporary appendTo newSymbol appendSymbol withArtificial withRows withTableau
-  standing-fits =
-      stand-fits temporary (c .row) (c .work .tableau .symbols) (c .work .tableau .nextId) (c .work .tableau .rows) (c .work .tableau .objective)
-      (c .work .mark) refl (fits-plain (h .good .fits)) (h .row)
+  unfolding standing temporary
+  standing-fits = temporary-fits (c .work) (c .row) (h .good .fits) (h .row)
 
   standing-good : Good (λ n. same n (code temporary) + Tags n) U standing
   unfolding standing standTemporary appendTo appendSymbol withArtificial withRows withTableau

@@ -166,7 +166,7 @@ purge-shrunk s w =
     cut : Row → Row
     cut r = record { constant = r .constant; cells = deleteCell s (w .tableau .symbols) (r .cells) }
 
-purge-fits : (s : ℕ) (w : Work) → FitsW w → w .artificial ≡ none → FitsW (purge s w)
+pub purge-fits : (s : ℕ) (w : Work) → FitsW w → w .artificial ≡ none → FitsW (purge s w)
 unfolding purge withTableau
 purge-fits s w f plain = rw plain (fits-purge s (w .tableau .symbols) (w .tableau .nextId) (w .tableau .rows) (w .tableau .objective) (w .mark) (fits-plain f))
 

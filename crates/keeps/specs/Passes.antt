@@ -88,7 +88,7 @@ unfolding firstSymbol
 no-cells p q [] e h = none≢some h
 no-cells p q (x ∷ xs) e h = none≢some h
 
-entering-free : (g : Goal) (w : Work) → FitsW w → (e : Symbol) → getEnteringSymbol g w ≡ some e → Free w e
+pub entering-free : (g : Goal) (w : Work) → FitsW w → (e : Symbol) → getEnteringSymbol g w ≡ some e → Free w e
 unfolding getEnteringSymbol goalCells
 entering-free theObjective w f e h =
     held-free w (Fine (w .mark)) belowZero below-held e
@@ -182,7 +182,7 @@ dual-free P Q (x ∷ xs) f (c ∷ cs) (o ∷ os) h = go (not (isDummy x) && lt z
     go true e ih = (f x c (inl refl) (right (not (isDummy x)) (lt zero64 c) e) (h .0), ih)
     go false e ih = ih
 
-dual-entering : (s : ℕ) (w : Work) → FitsW w → (e : Symbol) → getDualEnteringSymbol s w ≡ some e → Free w e
+pub dual-entering : (s : ℕ) (w : Work) → FitsW w → (e : Symbol) → getDualEnteringSymbol s w ≡ some e → Free w e
 unfolding getDualEnteringSymbol
 dual-entering s w f e h = go (findRow s (w .tableau .rows)) (row? s (w .tableau .rows)) h
   where

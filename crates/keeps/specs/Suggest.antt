@@ -64,7 +64,7 @@ module _ (shift : Basic → Option Float) where
     shift-rows B G H xs g bs (λ p. fine-r (shiftRow (b .row) (shift b) .mark) (marksOf (shiftRows shift bs)) (m p)) (h .1),
   )
 
-shift-fits : (tag : Tag) (delta : Float) (w : Work) → FitsW w → FitsW (shiftConstants tag delta w)
+pub shift-fits : (tag : Tag) (delta : Float) (w : Work) → FitsW w → FitsW (shiftConstants tag delta w)
 unfolding shiftConstants marking withChanges withInfeasible withRows withTableau
 shift-fits tag delta w f =
     record {

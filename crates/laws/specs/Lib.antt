@@ -1,8 +1,7 @@
--- Laws that know nothing of the solver, each written once: integers, the ring solver, loops over places, lists in tables, a pass with a budget.
+-- Laws that know nothing of the solver, each written once: integers, the ring solver, loops over places, lists in tables.
 pub mod Z
 pub mod Ring
 pub mod Loops
 pub mod Lists
 pub mod Places
-pub mod Budget
 pub mod Given

@@ -2,6 +2,7 @@
 pub mod Layout
 pub mod Rooms
 pub mod Laying
+pub mod Relaid
 pub mod Copy
 pub mod Written
 pub mod Back

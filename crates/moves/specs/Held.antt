@@ -31,7 +31,7 @@ room h m held few =
     let b = entries-length h in
     omega arith
 
-cond-held : (on : Bool) (l m : List ℕ) (s : ℕ) → Held l m → member s m ≡ true → Held (cond on (push l s) l) m
+pub cond-held : (on : Bool) (l m : List ℕ) (s : ℕ) → Held l m → member s m ≡ true → Held (cond on (push l s) l) m
 cond-held true l m s h k = push-held l m s h k
 cond-held false l m s h k = h
 

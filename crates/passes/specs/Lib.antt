@@ -1,4 +1,5 @@
--- The two passes as passes with a budget, and a pass over tables that follows them.
-pub mod Follow
-pub mod Passes
-pub mod Look
+-- The two passes over tables.
+pub mod Turn
+pub mod Pivots
+pub mod Optimising
+pub mod Dual

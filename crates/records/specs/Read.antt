@@ -46,8 +46,8 @@ read-regions h n r w = rw (← variables-region h n r w, ← constraints-region 
 
 -- ---- what a move leaves alone
 
--- the three counts are no part of the tableau
-pub tableau-same : (h : List ℕ) (w : List (List Float)) (c x : ℕ) → 4 ≤ c → c ≤ 6 → tableauIn (set h c x) w ≡ tableauIn h w
+-- the counts of records and the flags are no part of the tableau
+pub tableau-same : (h : List ℕ) (w : List (List Float)) (c x : ℕ) → 4 ≤ c → c ≤ 8 → tableauIn (set h c x) w ≡ tableauIn h w
 unfolding tableauIn basicsIn listOf
 tableau-same h w c x low high =
     let same : (m : ℕ) → (m ≡ c → ⊥) → getD (set h c x) m 0 ≡ getD h m 0 = λ m q. getD-set-other h c m x 0 q in

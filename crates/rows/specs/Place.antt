@@ -45,7 +45,7 @@ clear-at s (x ∷ xs) zero (c ∷ cs) p q = rw (p .0, clearCell)
 clear-at s (x ∷ xs) (suc j) (c ∷ cs) p q = rw (p .0, clearCell) (ap (λ (r : List Float). c ∷ r) (clear-at s xs j cs (p .1) (suc-inj q)))
 
 -- where no symbol has the id, nothing is inserted
-insert-none : (s : ℕ) (k : Float) (xs : List Symbol) (cs : List Float) → Missing s xs → length cs ≡ length xs → insertSymbol s k xs cs ≡ map kept cs
+pub insert-none : (s : ℕ) (k : Float) (xs : List Symbol) (cs : List Float) → Missing s xs → length cs ≡ length xs → insertSymbol s k xs cs ≡ map kept cs
 unfolding Missing insertSymbol
 insert-none s k [] [] p q = refl
 insert-none s k [] (c ∷ cs) p q = absurd (suc-ne-zero (length cs) q)

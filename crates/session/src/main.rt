@@ -3,7 +3,6 @@ mod answers;
 mod changes;
 mod queries;
 mod stream;
-mod stub;
 
 // Two sets of tables, lent to every call: the solver's and the working room's. The reset makes the first read as a state.
 fn main() {

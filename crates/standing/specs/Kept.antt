@@ -77,7 +77,7 @@ module _ (art : Bool) (a : Mark) (h : List ℕ) (n : List (List ℕ)) (reals w :
 
   -- ---- the rows' symbols are among those seen in the call, so the list has room for each push
 
-  row-seen : (i : ℕ) → i < getD h 2 0 → member (getD h (146 + i) 0 / 4) (s .listed .seen) ≡ true
+  pub row-seen : (i : ℕ) → i < getD h 2 0 → member (getD h (146 + i) 0 / 4) (s .listed .seen) ≡ true
   unfolding symbolOf
   row-seen i q =
       let e : 145 + (1 + i) ≡ 146 + i = omega arith in

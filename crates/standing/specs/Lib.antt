@@ -1,6 +1,8 @@
 -- Tables on which the steps of a call may work, how a step over tables ends, and that each change of the tableau leaves tables that stand.
 pub mod Standing
 pub mod Ending
+pub mod Next
+pub mod Bound
 pub mod Opening
 pub mod Places
 pub mod Kept

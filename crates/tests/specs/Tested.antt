@@ -49,7 +49,7 @@ one-term : (x : ℕ) → termsIn (record { variable = x; coefficient = one64 } �
 unfolding termsIn termOf
 one-term x = refl
 
-edit-terms : (x : ℕ) → termsOf (editPack x) ≡ editTerms x
+pub edit-terms : (x : ℕ) → termsOf (editPack x) ≡ editTerms x
 unfolding editPack editTerms
 edit-terms x = pack-terms _ (omega arith) ∙ one-term x
 

@@ -1,5 +1,6 @@
 -- `fetching::fetch_changes` meets its contract.
 -- Assumes nothing.
+use mathlib.Core.Path.{_∙_}
 use lib.ListN.{length}
 use borrow.Author.Tests.{not-true, not-false}
 use Rattle.layout.specs.Layout.{tables}
@@ -22,7 +23,7 @@ fetch-in-requires c κs =
 returns-2 : tie.Need-returns-2
 returns-2 c =
     let a = c .before .before .before .before .before .before .before .before .before .before .before .before .before .before .before .before .before .before .before .before .before .before .before .before .before .before .before .before .before .before .args in
-    fetch-accepted (tables (a .head .now) (a .names .now) (a .reals .now) (a .rows .now)) (length (a .numbers .now)) (length (a .values .now)) (c .before .before .before .before .before .before .before .before .before .before .before .before .before .before .before .reads-as-state .ensures) (c .before .before .before .before .before .before .before .before .before .before .before .before .before .before .before .before .before .before .before .before .before .before .before .before .before .clear-head .ensures) (c .before .before .before .before .before .before .before .before .before .before .before .before .before .before .before .before .before .before .before .before .before .clear-values .ensures) (not-false _ (c .before .before .before .before .before .before .before .before .before .before .before .before .before .before .if1 .left)) (c .before .before .before .before .before .before .before .before .fetch-in .ensures)
+    c .before .before .before .before .before .before .before .before .fetch-in .ensures ∙ fetch-accepted (tables (a .head .now) (a .names .now) (a .reals .now) (a .rows .now)) (length (a .numbers .now)) (length (a .values .now)) (c .before .before .before .before .before .before .before .before .before .before .before .before .before .before .before .reads-as-state .ensures) (c .before .before .before .before .before .before .before .before .before .before .before .before .before .before .before .before .before .before .before .before .before .before .before .before .before .clear-head .ensures) (c .before .before .before .before .before .before .before .before .before .before .before .before .before .before .before .before .before .before .before .before .before .clear-values .ensures) (not-false _ (c .before .before .before .before .before .before .before .before .before .before .before .before .before .before .if1 .left))
 
 pub fetch-changes-spec : {M : Type 1} → statement M
 fetch-changes-spec =

@@ -1,0 +1,47 @@
+-- `adding::inputs::whole_terms` meets its contract.
+-- Assumes nothing.
+use Prim.Native.Nat.{_-_, _≤_}
+use mathlib.Core.Path.{_≡_, ap}
+use mathlib.Core.Bool.{Bool, _&&_}
+use native.Mathlib.Omega.{arith}
+use borrow.Author.Needs.{needs}
+use Rattle.laws.specs.Lists.{allOn, all-next, all-last}
+use Rattle.steps.specs.Number.{cellBound}
+use Rattle.steps.specs.Add.{wholeTerms}
+use Rattle.creating.specs.Created.{termsIn}
+use Rattle.adding.specs.Inputs.{wholeAt, whole-terms}
+use Rattle.adding.proofs.inputs.whole_terms.Statement.{statement}
+use Rattle.adding.proofs.inputs.whole_terms.Tie as tie
+
+abbrev Inv-loop : tie.InvT-loop
+Inv-loop item real n ok₀ i₀ ok i = (allOn (wholeAt real) i n ok ≡ wholeTerms (termsIn item real)) × (n ≤ 16)
+
+abbrev μ-loop : tie.MeasureT-loop
+μ-loop item real n ok₀ i₀ ok i = n - i
+
+loop-holds : tie.Need-loop-holds Inv-loop μ-loop
+loop-holds c = (whole-terms (c .before .args .item .now) (c .before .args .real .now), search needs)
+
+loop-again : tie.Need-loop-again Inv-loop μ-loop
+unfolding cellBound
+loop-again c = (all-next _ _ _ _ (omega arith) (ap (λ (b : Bool). c .before .before .before .loop .ok && b) (c .whole-within .ensures)) (c .before .before .before .loop .inv .0), c .before .before .before .loop .inv .1)
+
+returns : tie.Need-returns Inv-loop μ-loop
+returns c = all-last _ _ _ _ (omega arith) (c .before .loop .inv .0)
+
+pub whole-terms-spec : {M : Type 1} → statement M
+whole-terms-spec =
+    tie.close
+    (tie.spec
+    Inv-loop
+    μ-loop
+    (λ c. search needs)
+    loop-holds
+    (λ c. search needs)
+    (λ c. search needs)
+    (λ c. search needs)
+    (λ c κs. search needs)
+    (λ c. search needs)
+    (λ c. search needs)
+    loop-again
+    returns)

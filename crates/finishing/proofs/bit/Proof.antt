@@ -1,0 +1,21 @@
+-- `finishing::bit` meets its contract.
+-- Assumes nothing.
+use mathlib.Core.Path.{refl}
+use Rattle.layout.specs.Layout.{bitOf}
+use Rattle.finishing.proofs.bit.Statement.{statement}
+use Rattle.finishing.proofs.bit.Tie as tie
+
+returns : tie.Need-returns
+unfolding bitOf
+returns c = rw (c .if1 .taken) refl
+
+returns-2 : tie.Need-returns-2
+unfolding bitOf
+returns-2 c = rw (c .if1 .left) refl
+
+pub bit-spec : {M : Type 1} → statement M
+bit-spec =
+    tie.close
+    (tie.spec
+    returns
+    returns-2)

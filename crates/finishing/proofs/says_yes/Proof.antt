@@ -1,0 +1,16 @@
+-- `finishing::says_yes` meets its contract.
+-- Assumes nothing.
+use mathlib.Core.Path.{refl}
+use Rattle.finishing.specs.Closing.{saysYes}
+use Rattle.finishing.proofs.says_yes.Statement.{statement}
+use Rattle.finishing.proofs.says_yes.Tie as tie
+
+returns : tie.Need-returns
+unfolding saysYes
+returns c = refl
+
+pub says-yes-spec : {M : Type 1} → statement M
+says-yes-spec =
+    tie.close
+    (tie.spec
+    returns)

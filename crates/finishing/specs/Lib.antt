@@ -1,0 +1,3 @@
+-- The end of an accepted call.
+pub mod Closing
+pub mod Stored

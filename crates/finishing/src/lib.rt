@@ -1,0 +1,126 @@
+// The end of an accepted call: the infeasible list is pruned and the mark stored, then the call's record comes, goes or changes.
+ghost use mathlib.Core.Path.{_≡_};
+ghost use mathlib.Core.Bool.{false};
+ghost use mathlib.Core.List.{[]};
+ghost use Prim.Native.Nat.{_+_, _<_, _≤_};
+ghost use lib.ListN.{getD, length, set};
+ghost use Rattle.steps.specs.Tests.{keepConstraint, dropConstraint, keepEdit, dropEdit};
+ghost use Rattle.layout.specs.Layout.{tables, bitOf, constraintOf, editOf, constraintsOf, editsOf};
+ghost use Rattle.rows.specs.Marks.{markOf};
+ghost use Rattle.dragging.specs.Record.{withRecord};
+ghost use Rattle.standing.specs.Standing.{Standing};
+ghost use Rattle.finishing.specs.Closing.{saysYes, closedHead};
+ghost use Rattle.finishing.specs.Stored.{Ends};
+use dragging::record::EditRecord;
+use rows::number::Wrote;
+
+pub fn says_yes(wrote: Wrote) -> bool
+    ensures { λ r. ⌜ r ≡ saysYes wrote ⌝ }
+{
+    wrote.finite & wrote.whole
+}
+
+fn bit(b: bool) -> u64
+    ensures { λ r. ⌜ r ≡ bitOf b ⌝ }
+{
+    if b { 1 } else { 0 }
+}
+
+// "After any accepted call, list entries whose row is absent or not below 0 go."
+fn close(head: &mut [u64], rows: &[[f64; 130]], wrote: Wrote)
+    requires { ⌜ length (now head) ≡ 326 ⌝ }
+    requires { ⌜ getD (now head) 2 0 ≤ 49 ⌝ }
+    requires { ⌜ getD (now head) 3 0 ≤ 130 ⌝ }
+    requires { ⌜ length (now rows) ≡ 51 ⌝ }
+    ensures { λ _. ⌜ now (head .exit) ≡ closedHead wrote (now (rows .entry)) (now (head .entry)) ⌝ }
+{
+    moves::prune(head, rows);
+    let yes = says_yes(wrote);
+    head[8] = bit(yes);
+}
+
+// A constraint comes to its place by ascending number.
+pub fn with_constraint(
+    head: &mut [u64],
+    names: &mut [[u64; 20]],
+    reals: &mut [[f64; 17]],
+    rows: &[[f64; 130]],
+    item: &[u64; 20],
+    real: &[f64; 17],
+    wrote: Wrote,
+)
+    requires { ⌜ Standing false (markOf wrote) (tables (now head) (now names) (now reals) (now rows)) ⌝ }
+    requires { ⌜ getD (now head) 5 0 < 48 ⌝ }
+    ensures { λ _. ⌜ Ends wrote (tables (now (head .entry)) (now (names .entry)) (now (reals .entry)) (now (rows .entry))) (keepConstraint (constraintOf (now (item .entry)) (now (real .entry))) (constraintsOf (tables (now (head .entry)) (now (names .entry)) (now (reals .entry)) (now (rows .entry))))) (editsOf (tables (now (head .entry)) (now (names .entry)) (now (reals .entry)) (now (rows .entry)))) (tables (now (head .exit)) (now (names .exit)) (now (reals .exit)) (now (rows .entry))) ⌝ }
+{
+    close(head, rows, wrote);
+    records::keep_constraint(head, names, reals, item, real);
+}
+
+// The constraint of this number goes.
+pub fn without_constraint(
+    head: &mut [u64],
+    names: &mut [[u64; 20]],
+    reals: &mut [[f64; 17]],
+    rows: &[[f64; 130]],
+    n: u64,
+    wrote: Wrote,
+)
+    requires { ⌜ Standing false (markOf wrote) (tables (now head) (now names) (now reals) (now rows)) ⌝ }
+    ensures { λ _. ⌜ Ends wrote (tables (now (head .entry)) (now (names .entry)) (now (reals .entry)) (now (rows .entry))) (dropConstraint n (constraintsOf (tables (now (head .entry)) (now (names .entry)) (now (reals .entry)) (now (rows .entry))))) (editsOf (tables (now (head .entry)) (now (names .entry)) (now (reals .entry)) (now (rows .entry)))) (tables (now (head .exit)) (now (names .exit)) (now (reals .exit)) (now (rows .entry))) ⌝ }
+{
+    close(head, rows, wrote);
+    records::drop_constraint(head, names, reals, n);
+}
+
+// An edit comes to its place by ascending variable number.
+pub fn with_edit(
+    head: &mut [u64],
+    names: &mut [[u64; 20]],
+    reals: &mut [[f64; 17]],
+    rows: &[[f64; 130]],
+    item: &[u64; 20],
+    real: &[f64; 17],
+    wrote: Wrote,
+)
+    requires { ⌜ Standing false (markOf wrote) (tables (now head) (now names) (now reals) (now rows)) ⌝ }
+    requires { ⌜ getD (now head) 6 0 < 48 ⌝ }
+    ensures { λ _. ⌜ Ends wrote (tables (now (head .entry)) (now (names .entry)) (now (reals .entry)) (now (rows .entry))) (constraintsOf (tables (now (head .entry)) (now (names .entry)) (now (reals .entry)) (now (rows .entry)))) (keepEdit (editOf (now (item .entry)) (now (real .entry))) (editsOf (tables (now (head .entry)) (now (names .entry)) (now (reals .entry)) (now (rows .entry))))) (tables (now (head .exit)) (now (names .exit)) (now (reals .exit)) (now (rows .entry))) ⌝ }
+{
+    close(head, rows, wrote);
+    records::keep_edit(head, names, reals, item, real);
+}
+
+// The edit of this variable goes.
+pub fn without_edit(
+    head: &mut [u64],
+    names: &mut [[u64; 20]],
+    reals: &mut [[f64; 17]],
+    rows: &[[f64; 130]],
+    n: u64,
+    wrote: Wrote,
+)
+    requires { ⌜ Standing false (markOf wrote) (tables (now head) (now names) (now reals) (now rows)) ⌝ }
+    ensures { λ _. ⌜ Ends wrote (tables (now (head .entry)) (now (names .entry)) (now (reals .entry)) (now (rows .entry))) (constraintsOf (tables (now (head .entry)) (now (names .entry)) (now (reals .entry)) (now (rows .entry)))) (dropEdit n (editsOf (tables (now (head .entry)) (now (names .entry)) (now (reals .entry)) (now (rows .entry))))) (tables (now (head .exit)) (now (names .exit)) (now (reals .exit)) (now (rows .entry))) ⌝ }
+{
+    close(head, rows, wrote);
+    records::drop_edit(head, names, reals, n);
+}
+
+// The j-th edit gets another record, with the new suggestion.
+pub fn with_record(
+    head: &mut [u64],
+    names: &mut [[u64; 20]],
+    reals: &mut [[f64; 17]],
+    rows: &[[f64; 130]],
+    j: usize,
+    e: EditRecord,
+    wrote: Wrote,
+)
+    requires { ⌜ Standing false (markOf wrote) (tables (now head) (now names) (now reals) (now rows)) ⌝ }
+    requires { ⌜ j < getD (now head) 6 0 ⌝ }
+    ensures { λ _. ⌜ Ends wrote (tables (now (head .entry)) (now (names .entry)) (now (reals .entry)) (now (rows .entry))) (constraintsOf (tables (now (head .entry)) (now (names .entry)) (now (reals .entry)) (now (rows .entry)))) (set (editsOf (tables (now (head .entry)) (now (names .entry)) (now (reals .entry)) (now (rows .entry)))) j (withRecord e (editOf (getD (now (names .entry)) (80 + j) []) (getD (now (reals .entry)) (80 + j) [])))) (tables (now (head .exit)) (now (names .exit)) (now (reals .exit)) (now (rows .entry))) ⌝ }
+{
+    close(head, rows, wrote);
+    dragging::record::put_edit_record(names, reals, 80 + j, e);
+}

@@ -1,0 +1,52 @@
+-- `passes::optimise` meets its contract.
+-- Assumes nothing.
+use Prim.Native.Nat.{_-_}
+use mathlib.Core.Path.{refl, _≡_}
+use native.Mathlib.Omega.{arith}
+use lib.ListN.{length}
+use Rattle.steps.specs.Optimise.{optimise}
+use Rattle.layout.specs.Layout.{tables}
+use Rattle.rows.specs.Marks.{markOf}
+use Rattle.tableau.specs.Working.{workOf}
+use Rattle.passes.specs.Turn.{Passing, turnsLeft, pass-starts, pass-stands, pass-turns, pass-less, pass-ends}
+use Rattle.passes.specs.Optimising.{goalOf, optimiseOn}
+use Rattle.passes.proofs.optimise.Statement.{statement}
+use Rattle.passes.proofs.optimise.Tie as tie
+
+abbrev Inv-loop : tie.InvT-loop
+Inv-loop art head₀ names₀ reals rows₀ budget pivots turn₀ head names rows turn =
+    Passing art (optimiseOn art) budget (optimise (budget - pivots) (goalOf art) (workOf art (markOf (turn₀ .ended .wrote)) pivots (tables head₀ names₀ reals rows₀))) (tables head₀ names₀ reals rows₀) turn (tables head names reals rows)
+    × (length head ≡ length head₀) × (length names ≡ length names₀) × (length rows ≡ length rows₀)
+
+abbrev μ-loop : tie.MeasureT-loop
+μ-loop art head₀ names₀ reals rows₀ budget pivots turn₀ head names rows turn = turnsLeft budget turn
+
+loop-holds : tie.Need-loop-holds Inv-loop μ-loop
+loop-holds c = (pass-starts _ _ _ _ _ _ (c .before .pre), refl, refl, refl)
+
+optimise-turn-requires : tie.Need-optimise-turn-requires Inv-loop μ-loop
+optimise-turn-requires c κs = pass-stands _ _ _ (c .before .before .before .before .loop .inv .0) (c .before .before .before .loop-test .taken)
+
+loop-less : tie.Need-loop-less Inv-loop μ-loop
+loop-less c = pass-less _ _ _ _ (c .before .before .before .before .before .before .before .before .loop-test .taken) (c .before .before .before .before .optimise-turn .ensures)
+
+loop-again : tie.Need-loop-again Inv-loop μ-loop
+loop-again c =
+    let l = c .before .before .before .before .before .before .before .before .before .loop .inv in
+    let k = c .before .before .before .before .optimise-turn .kept in
+    (pass-turns _ _ _ (l .0) (c .before .before .before .before .before .before .before .before .loop-test .taken) (c .before .before .before .before .optimise-turn .ensures), omega (arith, k, l .1), omega (arith, k, l .1), omega (arith, k, l .1))
+
+same-length : tie.Need-same-length Inv-loop μ-loop
+same-length c = omega (arith, c .before .before .loop .inv .1)
+
+same-length-2 : tie.Need-same-length-2 Inv-loop μ-loop
+same-length-2 c = omega (arith, c .before .before .loop .inv .1)
+
+same-length-3 : tie.Need-same-length-3 Inv-loop μ-loop
+same-length-3 c = omega (arith, c .before .before .loop .inv .1)
+
+returns : tie.Need-returns Inv-loop μ-loop
+returns c = pass-ends _ _ _ (c .before .before .loop .inv .0) (c .before .loop-test .left)
+
+pub optimise-spec : {M : Type 1} → statement M
+optimise-spec = tie.close (tie.spec Inv-loop μ-loop loop-holds optimise-turn-requires loop-less loop-again same-length same-length-2 same-length-3 returns)
