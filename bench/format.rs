@@ -1,4 +1,5 @@
-//! The text format of calls: one call a line, words split by one space. A line that is no call reads as None.
+//! The text format of calls: one call a line, words split by one space. A line that is no call reads as None, and so
+//! does one of more than 4,096 bytes.
 
 pub enum Relation {
     AtMost,
@@ -27,6 +28,7 @@ pub enum Call {
 }
 
 const LARGEST_WHOLE: u64 = 9_007_199_254_740_992;
+const LONGEST_LINE: usize = 4096;
 
 fn digits(word: &str) -> Option<u64> {
     if word.is_empty() || !word.bytes().all(|b| b.is_ascii_digit()) {
@@ -104,6 +106,9 @@ fn add(w: &mut Words) -> Option<Call> {
 }
 
 pub fn read(line: &str, decimals: bool) -> Option<Call> {
+    if line.len() > LONGEST_LINE {
+        return None;
+    }
     let words: Vec<&str> = line.split(' ').collect();
     let mut w = Words { words: words.into_iter(), decimals };
     let call = match w.word()? {

@@ -1,5 +1,5 @@
 -- Answers as text, and what it is to write text into a lent buffer from a place on.
-use Prim.Native.Nat.{ℕ, zero, suc, _+_, _-_, _/_, _%_, _≤_, _<_}
+use Prim.Native.Nat.{ℕ, zero, suc, _+_, _-_, _*_, _/_, _%_, _≤_, _<_}
 use mathlib.Core.Path.{_≡_, refl, sym, ap, _∙_}
 use mathlib.Core.Bool.{Bool, true, false, cond}
 use mathlib.Core.List.{List, [], _∷_, _++_, append-assoc, append-nil}
@@ -7,10 +7,12 @@ use native.Mathlib.Numerals.{add-one}
 use native.Mathlib.Omega.{arith}
 use borrow.Author.Tests.{lt-ltb, le-ltb}
 use lib.Dec.{ltb}
-use lib.Ieee.{Float, binary64, toBits}
-use lib.ListN.{length, take, set, length-append, length-set}
+use lib.Ieee.{Float, binary64, toBits, nan}
+use lib.ListN.{length, getD, take, set, length-append, length-set}
 use lib.Seq.{take-suc-set}
 use Rattle.steps.specs.Changes.{Change}
+use Rattle.laws.specs.Lists.{tab, listOf, length-tab}
+use Rattle.choose.specs.Walk.{tab-snoc}
 use Rattle.steps.specs.Session.{Reply, answer, is, list, says, numbers}
 
 -- a number of at most k digits in decimal, with no zeros in front
@@ -27,9 +29,9 @@ unfoldable pub hexText : ℕ → ℕ → List ℕ
 hexText zero n = []
 hexText (suc k) n = hexText k (n / 16) ++ (glyph (n % 16) ∷ [])
 
--- a u32 in decimal
+-- a u64 in decimal
 abbrev pub numberText : ℕ → List ℕ
-numberText n = decimalText 10 n
+numberText n = decimalText 20 n
 
 -- "16 hexadecimal digits of its bits"
 abbrev pub floatText : Float → List ℕ
@@ -46,6 +48,33 @@ changeText v x = (32 ∷ []) ++ (numberText v ++ ((58 ∷ []) ++ floatText x))
 -- "changing calls and reset `REFUSAL PIVOTS MARK`"
 abbrev pub answerText : ℕ → ℕ → Bool → List ℕ
 answerText n p m = numberText n ++ ((32 ∷ []) ++ (numberText p ++ ((32 ∷ []) ++ flagText m)))
+
+unfoldable pub changesText : List Change → List ℕ
+changesText [] = []
+changesText (c ∷ cs) = changeText (c .variable) (c .new) ++ changesText cs
+
+-- "`fetch` as `COUNT V:BITS V:BITS ...`"
+unfoldable pub fetchText : List Change → List ℕ
+fetchText cs = numberText (length cs) ++ changesText cs
+
+-- "answered `?`"
+abbrev pub unreadText : List ℕ
+unreadText = 63 ∷ []
+
+-- the text of a reply; the numbers of a test's aid have none
+unfoldable pub replyText : Reply → List ℕ
+replyText (answer n p m) = answerText n p m
+replyText (is x) = floatText x
+replyText (list cs) = fetchText cs
+replyText (says b) = flagText b
+replyText (numbers ns) = []
+
+-- the entries that stand at the front of two lists
+abbrev pub listedAt : List ℕ → List Float → ℕ → Change
+listedAt ns vs j = record { variable = getD ns j 0; new = getD vs j nan }
+
+unfoldable pub listedIn : ℕ → List ℕ → List Float → List Change
+listedIn count ns vs = listOf count (listedAt ns vs)
 
 -- ---- text at the front of a buffer: of what stood there the first `at` bytes, then the text, up to the next place
 
@@ -77,6 +106,9 @@ pub flag-length : (b : Bool) → length (flagText b) ≡ 1
 flag-length true = refl
 flag-length false = refl
 
+pub answer-short : (n p : ℕ) (m : Bool) → length (answerText n p m) ≤ 43
+answer-short n p m = simp length-append (omega (arith, decimal-short 20 n, decimal-short 20 p, flag-length m))
+
 -- ---- digit by digit
 
 pub wrote-as : (a b : List ℕ) (i j : ℕ) {s t : List ℕ} → t ≡ s → Wrote a b i j s → Wrote a b i j t
@@ -107,3 +139,59 @@ pub hex-more : (k n : ℕ) → (k ≡ 0 → ⊥) → hexText k n ≡ hexText (k 
 unfolding hexText
 hex-more zero n h = absurd (h refl)
 hex-more (suc k) n h = let e : suc k - 1 ≡ k = omega arith in rw e
+
+-- ---- the entries of a fetch, one after the other
+
+pub change-short : (v : ℕ) (x : Float) → length (changeText v x) ≤ 38
+change-short v x = simp length-append (omega (arith, decimal-short 20 v, hex-length 16 (toBits binary64 x)))
+
+changes-snoc : (cs : List Change) (c : Change) → changesText (cs ++ (c ∷ [])) ≡ changesText cs ++ changeText (c .variable) (c .new)
+unfolding changesText
+changes-snoc [] c = append-nil (changeText (c .variable) (c .new))
+changes-snoc (d ∷ cs) c = ap (λ (l : List ℕ). changeText (d .variable) (d .new) ++ l) (changes-snoc cs c) ∙ sym (append-assoc (changeText (d .variable) (d .new)) (changesText cs) (changeText (c .variable) (c .new)))
+
+module _ (ns : List ℕ) (vs : List Float) where
+  pub changes-none : changesText (listedIn 0 ns vs) ≡ []
+  unfolding listedIn listOf tab changesText
+  changes-none = refl
+
+  pub changes-next : (i : ℕ) → changesText (listedIn (i + 1) ns vs) ≡ changesText (listedIn i ns vs) ++ changeText (getD ns i 0) (getD vs i nan)
+  unfolding listedIn listOf
+  changes-next i =
+      let e : 0 + i ≡ i = omega arith in
+      rw (add-one i) (ap changesText (tab-snoc (listedAt ns vs) 0 i) ∙ changes-snoc (tab (listedAt ns vs) 0 i) (listedAt ns vs (0 + i)) ∙ rw e refl)
+
+  pub listed-length : (count : ℕ) → length (listedIn count ns vs) ≡ count
+  unfolding listedIn listOf
+  listed-length count = length-tab (listedAt ns vs) 0 count
+
+pub changes-short : (cs : List Change) → length (changesText cs) ≤ 38 * length cs
+unfolding changesText
+changes-short [] = omega arith
+changes-short (c ∷ cs) =
+    let h = changes-short cs in
+    let k = change-short (c .variable) (c .new) in
+    let e = length-append (changeText (c .variable) (c .new)) (changesText cs) in
+    omega (arith, h, k, e)
+
+-- ---- the loop that writes them
+
+module _ (a : List ℕ) (at : ℕ) (ns : List ℕ) (vs : List Float) where
+  pub wrote-entries : Wrote a a at at (changesText (listedIn 0 ns vs))
+  wrote-entries = wrote-as a a at at (changes-none ns vs) (wrote-nothing a at)
+
+  pub wrote-entry : (b c : List ℕ) (j k i : ℕ) → Wrote a b at j (changesText (listedIn i ns vs)) → Wrote b c j k (changeText (getD ns i 0) (getD vs i nan)) → Wrote a c at k (changesText (listedIn (i + 1) ns vs))
+  wrote-entry b c j k i p q = wrote-as a c at k (changes-next ns vs i) (wrote-then a b c at j k (changesText (listedIn i ns vs)) (changeText (getD ns i 0) (getD vs i nan)) p q)
+
+  -- room for one more entry
+  pub entries-room : (b : List ℕ) (j i count : ℕ) → at + 38 * count ≤ length a → i < count → Wrote a b at j (changesText (listedIn i ns vs)) → j + 38 ≤ length b
+  entries-room b j i count h l p = omega (arith, h, l, p .0, p .1, changes-short (listedIn i ns vs), listed-length ns vs i)
+
+  pub fetch-room : (b : List ℕ) (j count : ℕ) → at + 20 + 38 * count ≤ length a → Wrote a b at j (numberText count) → j + 38 * count ≤ length b
+  fetch-room b j count h p = omega (arith, h, p .0, p .1, decimal-short 20 count)
+
+  pub wrote-fetch : (b c : List ℕ) (j k count : ℕ) → Wrote a b at j (numberText count) → Wrote b c j k (changesText (listedIn count ns vs)) → Wrote a c at k (fetchText (listedIn count ns vs))
+  unfolding fetchText
+  wrote-fetch b c j k count p q =
+      let e = listed-length ns vs count in
+      wrote-then a b c at j k (numberText (length (listedIn count ns vs))) (changesText (listedIn count ns vs)) (rw e p) q

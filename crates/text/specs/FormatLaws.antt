@@ -17,13 +17,14 @@ use Rattle.text.specs.declared.floats.Budget.{Budget}
 use Rattle.text.specs.declared.floats.Budget.the-variants.{Is16, No16}
 use Rattle.text.specs.declared.floats.Real.{Real}
 use Rattle.text.specs.declared.floats.Real.the-variants.{Number, NoReal}
+use Rattle.terms.specs.Terms.{noPack, packOf}
 use Rattle.text.specs.Choices.{yes-in, no-in}
 use Rattle.text.specs.Digits.{digitsOf, upTo, sameBytes}
 use Rattle.text.specs.Floats.{idOf, budgetOf, floatOf}
 use Rattle.text.specs.Names.{resetName, fetchName, valueName, hasconName, haseditName, clipName, removeName, removeeditName, addeditName, suggestName, createName, addName}
 use Rattle.text.specs.Words.{word}
 use Rattle.text.specs.Format.{oneWord, twoWords, threeWords, fourWords, fiveWords, addWords, callOf, ofAdd, ofId, ofReal, ofIdBudget, ofEdit, ofReals, counts, relationOf, termsOf}
-use Rattle.text.specs.Lines.{asRelated, headOf, headAt, noTerms, packedFrom, asTerms, lineOf, lineWith}
+use Rattle.text.specs.Lines.{asRelated, headOf, headAt, packedFrom, asTerms, lineOf, lineWith}
 
 pub call-1 : (ws : List (List ℕ)) → length ws ≡ 1 → callOf ws ≡ oneWord (word ws 0)
 unfolding callOf
@@ -89,8 +90,8 @@ call-7 (a ∷ b ∷ c ∷ d ∷ e ∷ f ∷ []) h = absurd (omega arith)
 call-7 (a ∷ b ∷ c ∷ d ∷ e ∷ f ∷ g ∷ ws) h = refl
 
 -- an add of its words before the terms and its terms
-pub add-line : (c : Id) (b : Budget) (r : Option steps.Relation) (k : Real) (ts : Option (List Term)) → lineWith (headOf c b (asRelated r) k) (packedFrom noTerms ts) ≡ lineOf (ofAdd c b r k ts)
-unfolding packedFrom
+pub add-line : (c : Id) (b : Budget) (r : Option steps.Relation) (k : Real) (ts : Option (List Term)) → lineWith (headOf c b (asRelated r) k) (packedFrom noPack ts) ≡ lineOf (ofAdd c b r k ts)
+unfolding packedFrom packOf
 add-line (Is32 n) (Is16 b) (some r) (Number k) (some ts) = refl
 add-line (Is32 n) (Is16 b) (some r) (Number k) none = refl
 add-line (Is32 n) (Is16 b) (some r) NoReal ts = refl
@@ -110,7 +111,7 @@ module _ (ws : List (List ℕ)) (long : 7 ≤ length ws) where
     unfolding addWords
     add-uncounted e = yes-in lineOf _ _ name (no-in lineOf _ _ e refl) ∙ sym (ap lineOf (call-7 ws long))
 
-    pub add-counted : counts (upTo 4294967295 (digitsOf 10 (word ws 6))) (length (drop 7 ws)) ≡ true → lineWith (headAt ws) (packedFrom noTerms (termsOf (drop 7 ws))) ≡ lineOf (callOf ws)
+    pub add-counted : counts (upTo 4294967295 (digitsOf 10 (word ws 6))) (length (drop 7 ws)) ≡ true → lineWith (headAt ws) (packedFrom noPack (termsOf (drop 7 ws))) ≡ lineOf (callOf ws)
     unfolding addWords headAt
     add-counted e =
         yes-in lineOf _ _ name
@@ -122,37 +123,37 @@ module _ (ws : List (List ℕ)) (long : 7 ≤ length ws) where
 
 module _ where
   -- whichever way a test goes
-  either : (t : Bool) (a b : Option Call) → asTerms a ≡ noTerms → asTerms b ≡ noTerms → asTerms (cond t a b) ≡ noTerms
+  either : (t : Bool) (a b : Option Call) → asTerms a ≡ noPack → asTerms b ≡ noPack → asTerms (cond t a b) ≡ noPack
   either true a b p q = p
   either false a b p q = q
 
-  of-id : (f : ℕ → Call) → ((n : ℕ) → asTerms (some (f n)) ≡ noTerms) → (i : Id) → asTerms (ofId f i) ≡ noTerms
+  of-id : (f : ℕ → Call) → ((n : ℕ) → asTerms (some (f n)) ≡ noPack) → (i : Id) → asTerms (ofId f i) ≡ noPack
   of-id f h (Is32 n) = h n
   of-id f h No32 = refl
 
-  of-clip : (x : Real) → asTerms (ofReal clips x) ≡ noTerms
+  of-clip : (x : Real) → asTerms (ofReal clips x) ≡ noPack
   of-clip (Number x) = refl
   of-clip NoReal = refl
 
-  of-id-budget : (f : ℕ → ℕ → Call) → ((n b : ℕ) → asTerms (some (f n b)) ≡ noTerms) → (i : Id) (b : Budget) → asTerms (ofIdBudget f i b) ≡ noTerms
+  of-id-budget : (f : ℕ → ℕ → Call) → ((n b : ℕ) → asTerms (some (f n b)) ≡ noPack) → (i : Id) (b : Budget) → asTerms (ofIdBudget f i b) ≡ noPack
   of-id-budget f h (Is32 n) (Is16 b) = h n b
   of-id-budget f h (Is32 n) No16 = refl
   of-id-budget f h No32 b = refl
 
-  of-edit : (f : ℕ → Float → ℕ → Call) → ((v : ℕ) (x : Float) (b : ℕ) → asTerms (some (f v x b)) ≡ noTerms) → (i : Id) (x : Real) (b : Budget) → asTerms (ofEdit f i x b) ≡ noTerms
+  of-edit : (f : ℕ → Float → ℕ → Call) → ((v : ℕ) (x : Float) (b : ℕ) → asTerms (some (f v x b)) ≡ noPack) → (i : Id) (x : Real) (b : Budget) → asTerms (ofEdit f i x b) ≡ noPack
   of-edit f h (Is32 v) (Number x) (Is16 b) = h v x b
   of-edit f h (Is32 v) (Number x) No16 = refl
   of-edit f h (Is32 v) NoReal b = refl
   of-edit f h No32 x b = refl
 
-  of-reals : (a b c w : Real) → asTerms (ofReals a b c w) ≡ noTerms
+  of-reals : (a b c w : Real) → asTerms (ofReals a b c w) ≡ noPack
   of-reals (Number a) (Number b) (Number c) (Number w) = refl
   of-reals (Number a) (Number b) (Number c) NoReal = refl
   of-reals (Number a) (Number b) NoReal w = refl
   of-reals (Number a) NoReal c w = refl
   of-reals NoReal b c w = refl
 
-pub no-terms : (ws : List (List ℕ)) → length ws ≤ 6 → asTerms (callOf ws) ≡ noTerms
+pub no-terms : (ws : List (List ℕ)) → length ws ≤ 6 → asTerms (callOf ws) ≡ noPack
 unfolding callOf oneWord twoWords threeWords fourWords fiveWords
 no-terms [] h = refl
 no-terms (name ∷ []) h = either (sameBytes name resetName) _ _ refl (either (sameBytes name fetchName) _ _ refl refl)

@@ -1,12 +1,11 @@
 -- A line as the code holds it: the call by value, and the terms of an add beside it.
-use Prim.Native.Nat.{ℕ, _+_}
-use mathlib.Core.Bool.{Bool, true, false, cond, _&&_}
-use mathlib.Core.List.{List, [], _∷_}
+use Prim.Native.Nat.{ℕ}
+use mathlib.Core.Bool.{Bool, true, false}
+use mathlib.Core.List.{List, map}
 use mathlib.Core.Option.{Option, none, some}
-use lib.Dec.{ltb}
-use lib.Ieee.{Float, binary64, ofBits}
-use lib.ListN.{set, replicate}
-use Rattle.steps.specs.Number.{isFinite}
+use Rattle.terms.specs.declared.Term.{Term as Given}
+use Rattle.terms.specs.declared.Pack.{Pack}
+use Rattle.terms.specs.Terms.{noPack, packFrom, packOf}
 use Rattle.text.specs.Words.{word}
 use Rattle.text.specs.Floats.{idOf, budgetOf, floatOf}
 use Rattle.text.specs.Format.{relationOf}
@@ -20,16 +19,15 @@ use Rattle.text.specs.declared.floats.Budget.{Budget}
 use Rattle.text.specs.declared.floats.Budget.the-variants.{Is16, No16}
 use Rattle.text.specs.declared.floats.Real.{Real}
 use Rattle.text.specs.declared.floats.Real.the-variants.{Number, NoReal}
-use Rattle.text.specs.declared.calls.Relation.{Relation}
-use Rattle.text.specs.declared.calls.Relation.the-variants.{AtMost, Equal, AtLeast}
+use Rattle.creating.specs.declared.tag.Relation.{Relation}
+use Rattle.creating.specs.declared.tag.Relation.the-variants.{AtMost, Equal, AtLeast}
 use Rattle.text.specs.declared.calls.Related.{Related}
 use Rattle.text.specs.declared.calls.Related.the-variants.{By, NoRelation}
 use Rattle.text.specs.declared.calls.Call.{Call}
 use Rattle.text.specs.declared.calls.Call.the-variants.{Reset, Add, Remove, AddEdit, RemoveEdit, Suggest, Value, HasCon, HasEdit, Fetch, Create, Clip, Bad}
 use Rattle.text.specs.declared.calls.Head.{Head}
 use Rattle.text.specs.declared.calls.Head.the-variants.{Of, NoHead}
-use Rattle.text.specs.declared.terms.Terms.{Terms}
-use Rattle.text.specs.declared.terms.Packed.{Packed}
+use Rattle.text.specs.declared.packing.Packed.{Packed}
 use Rattle.text.specs.declared.calls.Line.{Line}
 
 abbrev pub asRelation : steps.Relation → Relation
@@ -69,53 +67,35 @@ headOf No32 b r k = NoHead
 
 -- ---- terms
 
--- no terms
-abbrev pub noTerms : Terms
-noTerms = record { count = 0; finite = true; vars = replicate 16 0; coefs = replicate 16 (ofBits binary64 0) }
+-- a term as the code has it
+abbrev pub asTerm : Term → Given
+asTerm t = record { variable = t .variable; coefficient = t .coefficient }
 
--- One more: the first 16 are kept, the count stops at 17, and of every coefficient it is kept whether it is finite.
-unfoldable pub pushed : Terms → Term → Terms
-pushed t x =
-    cond (ltb (t .count) 16)
-    record {
-      count = t .count + 1;
-      finite = t .finite && isFinite (x .coefficient);
-      vars = set (t .vars) (t .count) (x .variable);
-      coefs = set (t .coefs) (t .count) (x .coefficient);
-    }
-    record { count = 17; finite = t .finite && isFinite (x .coefficient); vars = t .vars; coefs = t .coefs }
-
-unfoldable pub packFrom : Terms → List Term → Terms
-unfolding pushed
-packFrom t [] = t
-packFrom t (x ∷ xs) = packFrom (pushed t x) xs
-
-abbrev pub packed : Bool → Terms → Packed
+abbrev pub packed : Bool → Pack → Packed
 packed ok t = record { ok = ok; terms = t }
 
 -- the terms that follow those in t, if they could be read
-unfoldable pub packedFrom : Terms → Option (List Term) → Packed
-unfolding packFrom
-packedFrom t none = packed false noTerms
-packedFrom t (some ts) = packed true (packFrom t ts)
+unfoldable pub packedFrom : Pack → Option (List Term) → Packed
+packedFrom t none = packed false noPack
+packedFrom t (some ts) = packed true (packFrom t (map asTerm ts))
 
-abbrev pub asTerms : Option session.Call → Terms
-asTerms none = noTerms
-asTerms (some resets) = noTerms
-asTerms (some (adds n ts k r b)) = packFrom noTerms ts
-asTerms (some (removes n b)) = noTerms
-asTerms (some (addsEdit v x b)) = noTerms
-asTerms (some (removesEdit v b)) = noTerms
-asTerms (some (suggests v x b)) = noTerms
-asTerms (some (valueOf v)) = noTerms
-asTerms (some fetches) = noTerms
-asTerms (some (hasConstraints n)) = noTerms
-asTerms (some (hasEdits v)) = noTerms
-asTerms (some (creates a b c w)) = noTerms
-asTerms (some (clips x)) = noTerms
-asTerms (some reads) = noTerms
-asTerms (some dumps) = noTerms
-asTerms (some (setsNext n)) = noTerms
+abbrev pub asTerms : Option session.Call → Pack
+asTerms none = noPack
+asTerms (some resets) = noPack
+asTerms (some (adds n ts k r b)) = packOf (map asTerm ts)
+asTerms (some (removes n b)) = noPack
+asTerms (some (addsEdit v x b)) = noPack
+asTerms (some (removesEdit v b)) = noPack
+asTerms (some (suggests v x b)) = noPack
+asTerms (some (valueOf v)) = noPack
+asTerms (some fetches) = noPack
+asTerms (some (hasConstraints n)) = noPack
+asTerms (some (hasEdits v)) = noPack
+asTerms (some (creates a b c w)) = noPack
+asTerms (some (clips x)) = noPack
+asTerms (some reads) = noPack
+asTerms (some dumps) = noPack
+asTerms (some (setsNext n)) = noPack
 
 abbrev pub lineOf : Option session.Call → Line
 lineOf o = record { call = asCall o; terms = asTerms o }

@@ -9,14 +9,8 @@ use crate::digits;
 use crate::floats::Budget;
 use crate::floats::Id;
 use crate::floats::Real;
-use crate::terms::Terms;
-
-// "A relation carries its strength: at most, equal, or at least, each with an f64."
-pub enum Relation {
-    AtMost(f64),
-    Equal(f64),
-    AtLeast(f64),
-}
+use creating::tag::Relation;
+use terms::Pack;
 
 pub enum Related {
     By(Relation),
@@ -49,7 +43,7 @@ pub enum Head {
 
 pub struct Line {
     pub call: Call,
-    pub terms: Terms,
+    pub terms: Pack,
 }
 
 pub fn value_call(v: Id) -> Call

@@ -2,8 +2,8 @@
 pub mod calls;
 pub mod digits;
 pub mod floats;
+pub mod packing;
 pub mod reading;
 pub mod stream;
-pub mod terms;
 pub mod words;
 pub mod writing;

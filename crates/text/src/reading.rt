@@ -13,8 +13,8 @@ use crate::calls::Line;
 use crate::digits;
 use crate::digits::Whole;
 use crate::floats;
-use crate::terms;
-use crate::terms::Packed;
+use crate::packing;
+use crate::packing::Packed;
 use crate::words;
 
 fn read_one(s: &[u8]) -> Call
@@ -135,7 +135,7 @@ fn read_short(s: &[u8], n: usize) -> Call
 fn no_line() -> Line
     ensures { λ r. ⌜ r ≡ lineOf none ⌝ }
 {
-    let t = terms::no_terms();
+    let t = terms::none();
     Line {
         call: Call::Bad,
         terms: t,
@@ -187,7 +187,7 @@ fn read_add(s: &[u8], n: usize) -> Line
     if 2 * m != n - 7 {
         return no_line();
     }
-    line_with(read_head(s), terms::read_terms(s, m))
+    line_with(read_head(s), packing::read_terms(s, m))
 }
 
 // The call that a line names, if it is one.
@@ -199,6 +199,6 @@ pub fn read_line(s: &[u8]) -> Line
         return read_add(s, n);
     }
     let c = read_short(s, n);
-    let t = terms::no_terms();
+    let t = terms::none();
     Line { call: c, terms: t }
 }

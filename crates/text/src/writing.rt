@@ -1,9 +1,9 @@
 // Answers as text, written into a lent buffer from a place on; each function answers the next place.
 ghost use mathlib.Core.Path.{_≡_};
 ghost use mathlib.Core.List.{[], _∷_};
-ghost use Prim.Native.Nat.{_+_, _≤_, _<_};
+ghost use Prim.Native.Nat.{_+_, _*_, _≤_, _<_};
 ghost use lib.ListN.{length};
-ghost use Rattle.text.specs.Answers.{Wrote, decimalText, hexText, flagText, floatText, numberText, changeText, answerText};
+ghost use Rattle.text.specs.Answers.{Wrote, decimalText, hexText, flagText, floatText, numberText, changeText, answerText, changesText, fetchText, listedIn, unreadText};
 ghost use Rattle.text.specs.Answers.{glyph as Answers·glyph};
 use crate::floats;
 
@@ -16,7 +16,7 @@ pub fn put_byte(out: &mut [u8], at: usize, b: u8) -> usize
 }
 
 // A number of at most k digits in decimal.
-fn put_digits(out: &mut [u8], at: usize, n: u32, k: usize) -> usize
+fn put_digits(out: &mut [u8], at: usize, n: u64, k: usize) -> usize
     requires { ⌜ at + k ≤ length (now out) ⌝ }
     ensures { λ r. ⌜ Wrote (now (out .entry)) (now (out .exit)) at r (decimalText k n) ⌝ }
 {
@@ -49,11 +49,11 @@ fn put_hex(out: &mut [u8], at: usize, n: u64, k: usize) -> usize
     put_byte(out, next, glyph(n % 16))
 }
 
-pub fn put_number(out: &mut [u8], at: usize, n: u32) -> usize
-    requires { ⌜ at + 10 ≤ length (now out) ⌝ }
+pub fn put_number(out: &mut [u8], at: usize, n: u64) -> usize
+    requires { ⌜ at + 20 ≤ length (now out) ⌝ }
     ensures { λ r. ⌜ Wrote (now (out .entry)) (now (out .exit)) at r (numberText n) ⌝ }
 {
-    put_digits(out, at, n, 10)
+    put_digits(out, at, n, 20)
 }
 
 pub fn put_float(out: &mut [u8], at: usize, x: f64) -> usize
@@ -76,23 +76,58 @@ pub fn put_flag(out: &mut [u8], at: usize, b: bool) -> usize
 
 // What a changing call answers.
 pub fn put_answer(out: &mut [u8], at: usize, refusal: u32, pivots: u32, whole: bool) -> usize
-    requires { ⌜ at + 23 ≤ length (now out) ⌝ }
+    requires { ⌜ at + 43 ≤ length (now out) ⌝ }
     ensures { λ r. ⌜ Wrote (now (out .entry)) (now (out .exit)) at r (answerText refusal pivots whole) ⌝ }
 {
-    let a = put_number(out, at, refusal);
+    let a = put_number(out, at, refusal as u64);
     let b = put_byte(out, a, 32);
-    let c = put_number(out, b, pivots);
+    let c = put_number(out, b, pivots as u64);
     let d = put_byte(out, c, 32);
     put_flag(out, d, whole)
 }
 
 // One entry of a fetch.
-pub fn put_change(out: &mut [u8], at: usize, v: u32, x: f64) -> usize
-    requires { ⌜ at + 28 ≤ length (now out) ⌝ }
+pub fn put_change(out: &mut [u8], at: usize, v: u64, x: f64) -> usize
+    requires { ⌜ at + 38 ≤ length (now out) ⌝ }
     ensures { λ r. ⌜ Wrote (now (out .entry)) (now (out .exit)) at r (changeText v x) ⌝ }
 {
     let a = put_byte(out, at, 32);
     let b = put_number(out, a, v);
     let c = put_byte(out, b, 58);
     put_float(out, c, x)
+}
+
+// The entries of a fetch: numbers and values that stand at the front of two lists.
+fn put_changes(out: &mut [u8], at: usize, numbers: &[u64], values: &[f64], count: usize) -> usize
+    requires { ⌜ at + 38 * count ≤ length (now out) ⌝ }
+    requires { ⌜ count ≤ length (now numbers) ⌝ }
+    requires { ⌜ count ≤ length (now values) ⌝ }
+    ensures { λ r. ⌜ Wrote (now (out .entry)) (now (out .exit)) at r (changesText (listedIn count (now (numbers .entry)) (now (values .entry)))) ⌝ }
+{
+    let mut next = at;
+    let mut i: usize = 0;
+    while i < count {
+        next = put_change(out, next, numbers[i], values[i]);
+        i += 1;
+    }
+    next
+}
+
+// What a fetch answers.
+pub fn put_fetch(out: &mut [u8], at: usize, numbers: &[u64], values: &[f64], count: u32) -> usize
+    requires { ⌜ at + 20 + 38 * count ≤ length (now out) ⌝ }
+    requires { ⌜ count ≤ length (now numbers) ⌝ }
+    requires { ⌜ count ≤ length (now values) ⌝ }
+    ensures { λ r. ⌜ Wrote (now (out .entry)) (now (out .exit)) at r (fetchText (listedIn count (now (numbers .entry)) (now (values .entry)))) ⌝ }
+{
+    let next = put_number(out, at, count as u64);
+    put_changes(out, next, numbers, values, count as usize)
+}
+
+// "A line that is none of these is answered `?`."
+pub fn put_unread(out: &mut [u8], at: usize) -> usize
+    requires { ⌜ at < length (now out) ⌝ }
+    ensures { λ r. ⌜ Wrote (now (out .entry)) (now (out .exit)) at r unreadText ⌝ }
+{
+    put_byte(out, at, 63)
 }

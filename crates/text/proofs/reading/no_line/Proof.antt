@@ -4,15 +4,15 @@ use borrow.Author.Needs.{needs}
 use mathlib.Core.Path.{_≡_, refl, sym, ap, _∙_}
 use Rattle.text.specs.declared.calls.Call.the-variants.{Bad}
 use Rattle.text.specs.declared.calls.Line.{Line}
-use Rattle.text.specs.declared.terms.Terms.{Terms}
+use Rattle.terms.specs.declared.Pack.{Pack}
 use Rattle.text.proofs.reading.no_line.Statement.{statement}
 use Rattle.text.proofs.reading.no_line.Tie as tie
 
-no-terms-requires : tie.Need-no-terms-requires
-no-terms-requires c κs = search needs
+none-requires : tie.Need-none-requires
+none-requires c κs = search needs
 
 returns : tie.Need-returns
-returns c = ap {B = Line} (λ (t : Terms). record { call = Bad; terms = t }) (c .no-terms .ensures)
+returns c = ap {B = Line} (λ (t : Pack). record { call = Bad; terms = t }) (c .none .ensures)
 
 pub no-line-spec : {M : Type 1} → statement M
-no-line-spec = tie.close (tie.spec no-terms-requires returns)
+no-line-spec = tie.close (tie.spec none-requires returns)

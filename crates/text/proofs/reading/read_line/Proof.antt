@@ -5,7 +5,7 @@ use mathlib.Core.Path.{_≡_, refl, sym, ap, _∙_}
 use native.Mathlib.Omega.{arith}
 use Rattle.text.specs.declared.calls.Call.{Call}
 use Rattle.text.specs.declared.calls.Line.{Line}
-use Rattle.text.specs.declared.terms.Terms.{Terms}
+use Rattle.terms.specs.declared.Pack.{Pack}
 use Rattle.text.specs.Choices.{ap2}
 use Rattle.text.specs.Words.{wordsOf}
 use Rattle.text.specs.FormatLaws.{no-terms}
@@ -25,11 +25,11 @@ returns c = search needs
 read-short-requires : tie.Need-read-short-requires
 read-short-requires c κs = search needs
 
-no-terms-requires : tie.Need-no-terms-requires
-no-terms-requires c κs = search needs
+none-requires : tie.Need-none-requires
+none-requires c κs = search needs
 
 returns-2 : tie.Need-returns-2
-returns-2 c = ap2 {C = Line} (λ (k : Call) (t : Terms). record { call = k; terms = t }) (c .before .read-short .ensures) (c .no-terms .ensures ∙ sym (no-terms (wordsOf (c .before .before .before .before .before .args .s .now)) (omega arith)))
+returns-2 c = ap2 {C = Line} (λ (k : Call) (t : Pack). record { call = k; terms = t }) (c .before .read-short .ensures) (c .none .ensures ∙ sym (no-terms (wordsOf (c .before .before .before .before .before .args .s .now)) (omega arith)))
 
 pub read-line-spec : {M : Type 1} → statement M
 read-line-spec =
@@ -39,5 +39,5 @@ read-line-spec =
     read-add-requires
     returns
     read-short-requires
-    no-terms-requires
+    none-requires
     returns-2)

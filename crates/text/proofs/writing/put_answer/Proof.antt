@@ -14,22 +14,22 @@ put-number-requires c κs = search needs
 
 put-byte-requires : tie.Need-put-byte-requires
 put-byte-requires c κs =
-    let h : c .before .before .before .put-number .result < length (c .before .before .before .put-number .last .0) = omega (arith, c .before .before .before .put-number .ensures .0, c .before .before .before .put-number .ensures .1, c .before .before .before .before .before .before .pre, decimal-short 10 (c .before .before .before .before .before .before .args .refusal)) in
+    let h : c .before .before .before .put-number .result < length (c .before .before .before .put-number .last .0) = omega (arith, c .before .before .before .put-number .ensures .0, c .before .before .before .put-number .ensures .1, c .before .before .before .before .before .before .pre, decimal-short 20 (c .before .before .before .before .before .before .args .refusal)) in
     h
 
 put-number-requires-2 : tie.Need-put-number-requires-2
 put-number-requires-2 c κs =
-    let h : c .before .before .before .put-byte .result + 10 ≤ length (c .before .before .before .put-byte .last .0) = omega (arith, c .before .before .before .put-byte .ensures .0, c .before .before .before .put-byte .ensures .1, c .before .before .before .before .before .before .before .put-number .ensures .0, c .before .before .before .before .before .before .before .put-number .ensures .1, c .before .before .before .before .before .before .before .before .before .before .pre, decimal-short 10 (c .before .before .before .before .before .before .before .before .before .before .args .refusal)) in
+    let h : c .before .before .before .put-byte .result + 20 ≤ length (c .before .before .before .put-byte .last .0) = omega (arith, c .before .before .before .put-byte .ensures .0, c .before .before .before .put-byte .ensures .1, c .before .before .before .before .before .before .before .put-number .ensures .0, c .before .before .before .before .before .before .before .put-number .ensures .1, c .before .before .before .before .before .before .before .before .before .before .pre, decimal-short 20 (c .before .before .before .before .before .before .before .before .before .before .args .refusal)) in
     h
 
 put-byte-requires-2 : tie.Need-put-byte-requires-2
 put-byte-requires-2 c κs =
-    let h : c .before .before .before .put-number2 .result < length (c .before .before .before .put-number2 .last .0) = omega (arith, c .before .before .before .put-number2 .ensures .0, c .before .before .before .put-number2 .ensures .1, c .before .before .before .before .before .before .before .put-byte .ensures .0, c .before .before .before .before .before .before .before .put-byte .ensures .1, c .before .before .before .before .before .before .before .before .before .before .before .put-number .ensures .0, c .before .before .before .before .before .before .before .before .before .before .before .put-number .ensures .1, c .before .before .before .before .before .before .before .before .before .before .before .before .before .before .pre, decimal-short 10 (c .before .before .before .before .before .before .before .before .before .before .before .before .before .before .args .refusal), decimal-short 10 (c .before .before .before .before .before .before .before .before .before .before .before .before .before .before .args .pivots)) in
+    let h : c .before .before .before .put-number2 .result < length (c .before .before .before .put-number2 .last .0) = omega (arith, c .before .before .before .put-number2 .ensures .0, c .before .before .before .put-number2 .ensures .1, c .before .before .before .before .before .before .before .put-byte .ensures .0, c .before .before .before .before .before .before .before .put-byte .ensures .1, c .before .before .before .before .before .before .before .before .before .before .before .put-number .ensures .0, c .before .before .before .before .before .before .before .before .before .before .before .put-number .ensures .1, c .before .before .before .before .before .before .before .before .before .before .before .before .before .before .pre, decimal-short 20 (c .before .before .before .before .before .before .before .before .before .before .before .before .before .before .args .refusal), decimal-short 20 (c .before .before .before .before .before .before .before .before .before .before .before .before .before .before .args .pivots)) in
     h
 
 put-flag-requires : tie.Need-put-flag-requires
 put-flag-requires c κs =
-    let h : c .before .before .before .put-byte2 .result < length (c .before .before .before .put-byte2 .last .0) = omega (arith, c .before .before .before .put-byte2 .ensures .0, c .before .before .before .put-byte2 .ensures .1, c .before .before .before .before .before .before .before .put-number2 .ensures .0, c .before .before .before .before .before .before .before .put-number2 .ensures .1, c .before .before .before .before .before .before .before .before .before .before .before .put-byte .ensures .0, c .before .before .before .before .before .before .before .before .before .before .before .put-byte .ensures .1, c .before .before .before .before .before .before .before .before .before .before .before .before .before .before .before .put-number .ensures .0, c .before .before .before .before .before .before .before .before .before .before .before .before .before .before .before .put-number .ensures .1, c .before .before .before .before .before .before .before .before .before .before .before .before .before .before .before .before .before .before .pre, decimal-short 10 (c .before .before .before .before .before .before .before .before .before .before .before .before .before .before .before .before .before .before .args .refusal), decimal-short 10 (c .before .before .before .before .before .before .before .before .before .before .before .before .before .before .before .before .before .before .args .pivots)) in
+    let h : c .before .before .before .put-byte2 .result < length (c .before .before .before .put-byte2 .last .0) = omega (arith, c .before .before .before .put-byte2 .ensures .0, c .before .before .before .put-byte2 .ensures .1, c .before .before .before .before .before .before .before .put-number2 .ensures .0, c .before .before .before .before .before .before .before .put-number2 .ensures .1, c .before .before .before .before .before .before .before .before .before .before .before .put-byte .ensures .0, c .before .before .before .before .before .before .before .before .before .before .before .put-byte .ensures .1, c .before .before .before .before .before .before .before .before .before .before .before .before .before .before .before .put-number .ensures .0, c .before .before .before .before .before .before .before .before .before .before .before .before .before .before .before .put-number .ensures .1, c .before .before .before .before .before .before .before .before .before .before .before .before .before .before .before .before .before .before .pre, decimal-short 20 (c .before .before .before .before .before .before .before .before .before .before .before .before .before .before .before .before .before .before .args .refusal), decimal-short 20 (c .before .before .before .before .before .before .before .before .before .before .before .before .before .before .before .before .before .before .args .pivots)) in
     h
 
 same-length : tie.Need-same-length

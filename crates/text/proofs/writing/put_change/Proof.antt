@@ -14,17 +14,17 @@ put-byte-requires c κs = search needs
 
 put-number-requires : tie.Need-put-number-requires
 put-number-requires c κs =
-    let h : c .before .before .before .put-byte .result + 10 ≤ length (c .before .before .before .put-byte .last .0) = omega (arith, c .before .before .before .put-byte .ensures .0, c .before .before .before .put-byte .ensures .1, c .before .before .before .before .before .before .pre) in
+    let h : c .before .before .before .put-byte .result + 20 ≤ length (c .before .before .before .put-byte .last .0) = omega (arith, c .before .before .before .put-byte .ensures .0, c .before .before .before .put-byte .ensures .1, c .before .before .before .before .before .before .pre) in
     h
 
 put-byte-requires-2 : tie.Need-put-byte-requires-2
 put-byte-requires-2 c κs =
-    let h : c .before .before .before .put-number .result < length (c .before .before .before .put-number .last .0) = omega (arith, c .before .before .before .put-number .ensures .0, c .before .before .before .put-number .ensures .1, c .before .before .before .before .before .before .before .put-byte .ensures .0, c .before .before .before .before .before .before .before .put-byte .ensures .1, c .before .before .before .before .before .before .before .before .before .before .pre, decimal-short 10 (c .before .before .before .before .before .before .before .before .before .before .args .v)) in
+    let h : c .before .before .before .put-number .result < length (c .before .before .before .put-number .last .0) = omega (arith, c .before .before .before .put-number .ensures .0, c .before .before .before .put-number .ensures .1, c .before .before .before .before .before .before .before .put-byte .ensures .0, c .before .before .before .before .before .before .before .put-byte .ensures .1, c .before .before .before .before .before .before .before .before .before .before .pre, decimal-short 20 (c .before .before .before .before .before .before .before .before .before .before .args .v)) in
     h
 
 put-float-requires : tie.Need-put-float-requires
 put-float-requires c κs =
-    let h : c .before .before .before .put-byte2 .result + 16 ≤ length (c .before .before .before .put-byte2 .last .0) = omega (arith, c .before .before .before .put-byte2 .ensures .0, c .before .before .before .put-byte2 .ensures .1, c .before .before .before .before .before .before .before .put-number .ensures .0, c .before .before .before .before .before .before .before .put-number .ensures .1, c .before .before .before .before .before .before .before .before .before .before .before .put-byte .ensures .0, c .before .before .before .before .before .before .before .before .before .before .before .put-byte .ensures .1, c .before .before .before .before .before .before .before .before .before .before .before .before .before .before .pre, decimal-short 10 (c .before .before .before .before .before .before .before .before .before .before .before .before .before .before .args .v)) in
+    let h : c .before .before .before .put-byte2 .result + 16 ≤ length (c .before .before .before .put-byte2 .last .0) = omega (arith, c .before .before .before .put-byte2 .ensures .0, c .before .before .before .put-byte2 .ensures .1, c .before .before .before .before .before .before .before .put-number .ensures .0, c .before .before .before .before .before .before .before .put-number .ensures .1, c .before .before .before .before .before .before .before .before .before .before .before .put-byte .ensures .0, c .before .before .before .before .before .before .before .before .before .before .before .put-byte .ensures .1, c .before .before .before .before .before .before .before .before .before .before .before .before .before .before .pre, decimal-short 20 (c .before .before .before .before .before .before .before .before .before .before .before .before .before .before .args .v)) in
     h
 
 same-length : tie.Need-same-length

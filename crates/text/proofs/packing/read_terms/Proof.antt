@@ -1,4 +1,4 @@
--- `text::terms::read_terms` meets its contract. The invariant: the terms read, and those that are left, are the terms of the line.
+-- `text::packing::read_terms` meets its contract. The invariant: the terms read, and those that are left, are the terms of the line.
 -- Assumes nothing.
 use borrow.Author.Needs.{needs}
 use Prim.Native.Nat.{ℕ, _+_, _*_, _-_, _≤_}
@@ -6,26 +6,27 @@ use mathlib.Core.Path.{_≡_, ap, sym, _∙_}
 use mathlib.Core.List.{List}
 use native.Mathlib.Omega.{arith}
 use lib.ListN.{drop}
-use Rattle.text.specs.declared.terms.Terms.{Terms}
+use Rattle.terms.specs.declared.Pack.{Pack}
 use Rattle.text.specs.Words.{wordsOf}
 use Rattle.text.specs.Floats.{idOf, floatOf}
 use Rattle.text.specs.Format.{termsOf}
-use Rattle.text.specs.Lines.{noTerms, pushed, packedFrom}
+use Rattle.terms.specs.Terms.{noPack}
+use Rattle.text.specs.Lines.{packedFrom}
 use Rattle.text.specs.LineLaws.{terms-next, terms-no-id, terms-no-real, terms-last}
-use Rattle.text.proofs.terms.read_terms.Statement.{statement}
-use Rattle.text.proofs.terms.read_terms.Tie as tie
+use Rattle.text.proofs.packing.read_terms.Statement.{statement}
+use Rattle.text.proofs.packing.read_terms.Tie as tie
 
 abbrev Inv-loop : tie.InvT-loop
-Inv-loop s m t₀ i₀ t i = (i ≤ m) × (packedFrom t (termsOf (drop (7 + 2 * i) (wordsOf s))) ≡ packedFrom noTerms (termsOf (drop 7 (wordsOf s))))
+Inv-loop s m t₀ i₀ t i = (i ≤ m) × (packedFrom t (termsOf (drop (7 + 2 * i) (wordsOf s))) ≡ packedFrom noPack (termsOf (drop 7 (wordsOf s))))
 
 abbrev μ-loop : tie.MeasureT-loop
 μ-loop s m t₀ i₀ t i = m - i
 
-no-terms-requires : tie.Need-no-terms-requires Inv-loop μ-loop
-no-terms-requires c κs = search needs
+none-requires : tie.Need-none-requires Inv-loop μ-loop
+none-requires c κs = search needs
 
 loop-holds : tie.Need-loop-holds Inv-loop μ-loop
-loop-holds c = (omega arith, ap (λ (t : Terms). packedFrom t (termsOf (drop 7 (wordsOf (c .before .before .args .s .now))))) (c .no-terms .ensures))
+loop-holds c = (omega arith, ap (λ (t : Pack). packedFrom t (termsOf (drop 7 (wordsOf (c .before .before .args .s .now))))) (c .none .ensures))
 
 mul-word-at : tie.Need-mul-word-at Inv-loop μ-loop
 mul-word-at c = search needs
@@ -97,7 +98,7 @@ loop-again c =
     let l = c .before .before .before .before .before .before .before .before .before .before .before .before .loop in
     let a = c .before .before .before .before .before .before .before .before .before .before .before .before .before .before .before .args in
     let ws = wordsOf (a .s .now) in
-    (omega arith, ap (λ (t : Terms). packedFrom t (termsOf (drop (7 + 2 * (l .i + 1)) ws))) (c .push .ensures) ∙ terms-next ws (7 + 2 * l .i) (8 + 2 * l .i) (7 + 2 * (l .i + 1)) (omega arith) (omega arith) (omega arith) (l .t) (l .inv .1) (sym (ap idOf (c .before .before .before .before .before .before .before .before .before .before .word-at .ensures)) ∙ sym (c .before .before .before .before .before .before .before .before .before .id-word .ensures) ∙ c .before .before .before .before .before .before .before .v .given .1) (sym (ap floatOf (c .before .before .before .before .before .word-at2 .ensures)) ∙ sym (c .before .before .before .before .float-word .ensures) ∙ c .before .before .x .given .1))
+    (omega arith, ap (λ (t : Pack). packedFrom t (termsOf (drop (7 + 2 * (l .i + 1)) ws))) (c .push .ensures) ∙ terms-next ws (7 + 2 * l .i) (8 + 2 * l .i) (7 + 2 * (l .i + 1)) (omega arith) (omega arith) (omega arith) (l .t) (l .inv .1) (sym (ap idOf (c .before .before .before .before .before .before .before .before .before .before .word-at .ensures)) ∙ sym (c .before .before .before .before .before .before .before .before .before .id-word .ensures) ∙ c .before .before .before .before .before .before .before .v .given .1) (sym (ap floatOf (c .before .before .before .before .before .word-at2 .ensures)) ∙ sym (c .before .before .before .before .float-word .ensures) ∙ c .before .before .x .given .1))
 
 returns-3 : tie.Need-returns-3 Inv-loop μ-loop
 returns-3 c =
@@ -112,7 +113,7 @@ read-terms-spec =
     (tie.spec
     Inv-loop
     μ-loop
-    no-terms-requires
+    none-requires
     loop-holds
     mul-word-at
     add-word-at

@@ -1,0 +1,17 @@
+-- `text::packing::no_packed` meets its contract.
+-- Assumes nothing.
+use borrow.Author.Needs.{needs}
+use mathlib.Core.Path.{_≡_, ap}
+use mathlib.Core.Bool.{false}
+use Rattle.text.specs.Lines.{packed}
+use Rattle.text.proofs.packing.no_packed.Statement.{statement}
+use Rattle.text.proofs.packing.no_packed.Tie as tie
+
+none-requires : tie.Need-none-requires
+none-requires c κs = search needs
+
+returns : tie.Need-returns
+returns c = ap (packed false) (c .none .ensures)
+
+pub no-packed-spec : {M : Type 1} → statement M
+no-packed-spec = tie.close (tie.spec none-requires returns)

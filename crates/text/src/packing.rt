@@ -1,0 +1,56 @@
+// The terms of an add, by value.
+ghost use mathlib.Core.Path.{_≡_};
+ghost use mathlib.Core.Bool.{true, false};
+ghost use Prim.Native.Nat.{_+_, _*_, _≤_};
+ghost use lib.ListN.{length, drop};
+ghost use Rattle.text.specs.Words.{wordsOf};
+ghost use Rattle.text.specs.Format.{termsOf};
+ghost use Rattle.terms.specs.Terms.{noPack};
+ghost use Rattle.text.specs.Lines.{packed, packedFrom};
+use crate::floats;
+use crate::floats::Id;
+use crate::floats::Real;
+use crate::words;
+use terms::Pack;
+use terms::Term;
+
+// Terms, if all could be read.
+pub struct Packed {
+    pub ok: bool,
+    pub terms: Pack,
+}
+
+pub fn no_packed() -> Packed
+    ensures { λ r. ⌜ r ≡ packed false noPack ⌝ }
+{
+    let t = terms::none();
+    Packed {
+        ok: false,
+        terms: t,
+    }
+}
+
+// The m terms of a line of 7 + 2m words.
+pub fn read_terms(s: &[u8], m: usize) -> Packed
+    requires { ⌜ m ≤ 4294967295 ⌝ }
+    requires { ⌜ length (wordsOf (now s)) ≡ 7 + 2 * m ⌝ }
+    ensures { λ r. ⌜ r ≡ packedFrom noPack (termsOf (drop 7 (wordsOf (now (s .entry))))) ⌝ }
+{
+    let mut t = terms::none();
+    let mut i: usize = 0;
+    while i < m {
+        let Id::Is32(v) = floats::id_word(words::word_at(s, 7 + 2 * i)) else {
+            return no_packed();
+        };
+        let Real::Number(x) = floats::float_word(words::word_at(s, 8 + 2 * i)) else {
+            return no_packed();
+        };
+        let one = Term {
+            variable: v,
+            coefficient: x,
+        };
+        t = terms::push(t, one);
+        i += 1;
+    }
+    Packed { ok: true, terms: t }
+}
