@@ -34,10 +34,14 @@ given vars coefs = listOf (length vars) (termAt vars coefs)
 unfoldable pub relationBy : ℕ → Float → steps.Relation
 relationBy kind s = cond (eqb kind 0) (steps.atMost s) (cond (eqb kind 1) (steps.equal s) (steps.atLeast s))
 
+-- as many coefficients as variables, and one of the three kinds
+abbrev pub fitting : List ℕ → List Float → ℕ → Bool
+fitting vars coefs kind = eqb (length vars) (length coefs) && ltb kind 3
+
 -- lists of different lengths, and a kind that is none of the three, are answered as a table that doesn't read
 unfoldable pub addOf : ℕ → List ℕ → List Float → Float → ℕ → Float → ℕ → Tables → Tables → Called
 addOf n vars coefs constant kind strength budget work t =
-    cond (eqb (length vars) (length coefs) && ltb kind 3) (callOf (add n (termsIn (given vars coefs)) constant (relationBy kind strength) budget) work t) (called refused18 t)
+    cond (fitting vars coefs kind) (callOf (add n (termsIn (given vars coefs)) constant (relationBy kind strength) budget) work t) (called refused18 t)
 
 -- ---- the loop that gathers the terms
 
@@ -69,9 +73,6 @@ unfolding relationOf relationBy
 at-least-by kind s e f = rw (ne-eqb kind 0 e, ne-eqb kind 1 f) refl
 
 -- ---- add
-
-abbrev pub fitting : List ℕ → List Float → ℕ → Bool
-fitting vars coefs kind = eqb (length vars) (length coefs) && ltb kind 3
 
 pub one-each : (vars : List ℕ) (coefs : List Float) (kind : ℕ) → fitting vars coefs kind ≡ true → length vars ≤ length coefs
 one-each vars coefs kind e = omega (arith, eqb-true (length vars) (length coefs) (both _ _ e .0))
