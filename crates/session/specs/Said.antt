@@ -1,15 +1,15 @@
 -- What a call is answered as text, and what it leaves of the tables.
-use Prim.Native.Nat.{ℕ, _+_, _*_, _≤_, _<_}
-use mathlib.Core.Path.{_≡_, refl, sym, ap, _∙_}
+use Prim.Native.Nat.{ℕ, _+_, _*_, _≤_}
+use mathlib.Core.Path.{_≡_, refl, _∙_}
 use mathlib.Core.Bool.{Bool, true, false, _&&_, cond}
-use mathlib.Core.List.{List, [], _∷_, _++_}
+use mathlib.Core.List.{List, [], _∷_}
 use native.Mathlib.Omega.{arith}
 use lib.Dec.{eqb}
 use lib.ListN.{length, replicate, length-map, length-append, length-replicate}
 use lib.Ieee.{Float, binary64, toBits}
 use Rattle.steps.specs.Number.{zero64}
 use Rattle.steps.specs.Strength.{create, clip}
-use Rattle.steps.specs.State.{Basic, Variable, Changes, State}
+use Rattle.steps.specs.State.{Basic, Variable, State}
 use Rattle.steps.specs.Changes.{Change, value, isNews, newsOf, valueOf, withFlag, clearChanged, fetchChanges}
 use Rattle.steps.specs.Tests.{hasConstraint, hasEdit}
 use Rattle.laws.specs.Lists.{length-laid}
@@ -86,15 +86,18 @@ variables-read : (t : Tables) → length (read t .changes .variables) ≡ variab
 unfolding read variablesOf
 variables-read t = length-listOf _ _
 
+pub list-short : (t : Tables) → reads t ≡ true → length (fetchChanges (read t) .list) ≤ 32
+list-short t h =
+    let l = list-few (read t) in
+    let c = reads-counts t h .3 in
+    omega (arith, l, c, variables-read t)
+
 pub fetch-few : (t : Tables) → fetchOf places places t .count ≤ 32
 unfolding fetchOf fetchIn fetch18
 fetch-few t = go (reads t && (eqb 32 places && eqb 32 places)) refl
   where
     go : (b : Bool) → reads t && (eqb 32 places && eqb 32 places) ≡ b → cond b (fetchIn t) (fetch18 32 32 t) .count ≤ 32
-    go true e =
-        let l = list-few (read t) in
-        let c = reads-counts t (both (reads t) _ e .0) .3 in
-        omega (arith, l, c, variables-read t)
+    go true e = list-short t (both (reads t) _ e .0)
     go false e = omega arith
 
 -- ---- no answer is long

@@ -2,7 +2,7 @@
 // A newline ends a line; what stands after the last newline is a line too unless it is empty. Answers are written at the
 // end of each piece that was read, so that nobody who waits for one has to send more, and where the buffer fills up.
 ghost use mathlib.Core.Path.{_≡_};
-ghost use Prim.Native.Nat.{_+_, _≤_, _<_};
+ghost use Prim.Native.Nat.{_≤_};
 ghost use lib.ListN.{length};
 use crate::answers::answer_held;
 use text::stream::keep_byte;

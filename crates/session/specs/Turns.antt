@@ -1,0 +1,106 @@
+-- On tables that read as a state, every call's answer is the text of the steps' reply, and the tables afterwards are the steps' state written back.
+use Prim.Native.Nat.{ℕ, _+_, _≤_, _<_}
+use mathlib.Core.Path.{_≡_, refl, sym, _∙_, subst}
+use mathlib.Core.Bool.{Bool, true, false}
+use mathlib.Core.List.{List}
+use mathlib.Core.Option.{some}
+use native.Mathlib.Nat.{zero-add}
+use native.Mathlib.Omega.{arith}
+use lib.Dec.{T}
+use lib.ListN.{length, getD, replicate, length-replicate, length-map, List·getD-map}
+use lib.Ieee.{nan}
+use Rattle.steps.specs.Number.{zero64}
+use Rattle.steps.specs.Changes.{Change, fetchChanges}
+use Rattle.steps.specs.Session.{Call, turn, answered, resets, adds, removes, addsEdit, removesEdit, suggests, valueOf, fetches, hasConstraints, hasEdits, creates, clips, reads as readsAid, dumps, setsNext}
+use Rattle.laws.specs.Lists.{listOf-is, laid-in}
+use Rattle.layout.specs.Layout.{Tables, read, write, over}
+use Rattle.layout.specs.Rooms.{lengthsRight, both}
+use Rattle.layout.specs.Written.{write-read}
+use Rattle.reading.specs.Reads.{reads}
+use Rattle.reading.specs.Given.{reads-coded}
+use Rattle.asking.specs.Asked.{asked}
+use Rattle.shell.specs.Shell.{callIn, callOf}
+use Rattle.shell.specs.Reset.{resetOf}
+use Rattle.fetching.specs.Listing.{numbersOf, valuesOf}
+use Rattle.fetching.specs.Fetch.{fetchOf, fetchIn, places}
+use Rattle.text.specs.Answers.{listedAt, listedIn, replyText}
+use Rattle.session.specs.Said.{Said, said, fetchSaid, list-short}
+use Rattle.session.specs.Calls.{saidBy, replyOf}
+
+-- the steps' turn, as text and tables
+unfoldable pub turnSaid : Call → Tables → Said
+turnSaid c t = said (replyText (turn c (read t) .reply)) (write (turn c (read t) .state) t)
+
+-- every call but the steps' three aids for tests
+unfoldable pub ofDocument : Call → Bool
+ofDocument resets = true
+ofDocument (adds n ts k r b) = true
+ofDocument (removes n b) = true
+ofDocument (addsEdit v x b) = true
+ofDocument (removesEdit v b) = true
+ofDocument (suggests v x b) = true
+ofDocument (valueOf v) = true
+ofDocument fetches = true
+ofDocument (hasConstraints n) = true
+ofDocument (hasEdits v) = true
+ofDocument (creates a b c w) = true
+ofDocument (clips x) = true
+ofDocument readsAid = false
+ofDocument dumps = false
+ofDocument (setsNext n) = false
+
+-- ---- what a fetch puts at the front of its two lists is its list
+
+module _ (l : List Change) (few : length l ≤ 32) where
+  abbrev none-at : Change
+  none-at = record { variable = 0; new = nan }
+
+  number-at : (j : ℕ) → j < length l → getD (over 0 (numbersOf l) (replicate places 0)) j 0 ≡ getD l j none-at .variable
+  unfolding over
+  number-at j h =
+      let e : 0 + j ≡ j = zero-add j in
+      let k : length (numbersOf l) ≡ length l = length-map l (λ (c : Change). c .variable) in
+      let m : length {A = ℕ} (replicate places 0) ≡ 32 = length-replicate {A = ℕ} places 0 in
+      rw e at (laid-in (λ x _. x) 0 (numbersOf l) (replicate places 0) j 0 0 (omega (arith, h, k)) (omega (arith, h, few, m, e)))
+      ∙ List·getD-map (λ (c : Change). c .variable) l j none-at
+
+  value-at : (j : ℕ) → j < length l → getD (over 0 (valuesOf l) (replicate places zero64)) j nan ≡ getD l j none-at .new
+  unfolding over
+  value-at j h =
+      let e : 0 + j ≡ j = zero-add j in
+      let k : length (valuesOf l) ≡ length l = length-map l (λ (c : Change). c .new) in
+      let m : length (replicate places zero64) ≡ 32 = length-replicate places zero64 in
+      rw e at (laid-in (λ x _. x) 0 (valuesOf l) (replicate places zero64) j nan nan (omega (arith, h, k)) (omega (arith, h, few, m, e)))
+      ∙ List·getD-map (λ (c : Change). c .new) l j none-at
+
+  listed-back : listedIn (length l) (over 0 (numbersOf l) (replicate places 0)) (over 0 (valuesOf l) (replicate places zero64)) ≡ l
+  unfolding listedIn
+  listed-back = listOf-is (listedAt (over 0 (numbersOf l) (replicate places 0)) (over 0 (valuesOf l) (replicate places zero64))) l none-at λ j h. rw (number-at j h, value-at j h) refl
+
+-- ---- call by call
+
+module _ (w t : Tables) (ok : reads t ≡ true) (room : lengthsRight w ≡ true) where
+  same : write (read t) t ≡ t
+  same = write-read t (reads-coded t ok)
+
+  right : lengthsRight t ≡ true
+  unfolding reads
+  right = both (lengthsRight t) _ ok .0
+
+  pub reply-turn : (c : Call) → ofDocument c ≡ true → replyOf (some c) w t ≡ turnSaid c t
+  unfolding replyOf turnSaid turn answered replyText saidBy resetOf callOf callIn asked fetchSaid fetchOf fetchIn ofDocument
+  reply-turn resets e = rw right refl
+  reply-turn (adds n ts k r b) e = rw (ok, room) refl
+  reply-turn (removes n b) e = rw (ok, room) refl
+  reply-turn (addsEdit v x b) e = rw (ok, room) refl
+  reply-turn (removesEdit v b) e = rw (ok, room) refl
+  reply-turn (suggests v x b) e = rw (ok, room) refl
+  reply-turn (valueOf v) e = rw (ok, same) refl
+  reply-turn fetches e = rw (ok, listed-back (fetchChanges (read t) .list) (list-short t ok)) refl
+  reply-turn (hasConstraints n) e = rw (ok, same) refl
+  reply-turn (hasEdits v) e = rw (ok, same) refl
+  reply-turn (creates a b c k) e = rw same refl
+  reply-turn (clips x) e = rw same refl
+  reply-turn readsAid e = absurd (subst T (sym e) tt)
+  reply-turn dumps e = absurd (subst T (sym e) tt)
+  reply-turn (setsNext n) e = absurd (subst T (sym e) tt)
