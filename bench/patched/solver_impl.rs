@@ -111,7 +111,7 @@ impl Solver {
 
     // EDIT 3, 5, 7, 8, 15: runs the steps of a call, and says what comes of them.
     fn take_steps<F: FnOnce(&mut Solver) -> Result<(), Refusal>>(&mut self, budget: u16, steps: F) -> Answer {
-        let before = self.snapshot();
+        let before = if cfg!(unwatched) { None } else { Some(self.snapshot()) };
         self.budget = budget as u32;
         self.pivots = 0;
         watch::begin();
@@ -128,7 +128,7 @@ impl Solver {
             }
             Err(Refusal(number)) => {
                 // "A refusal changes no table."
-                *self = before;
+                *self = before.expect("a solver built to be timed does not undo");
                 Answer { refusal: number, pivots: pivots, whole: whole }
             }
         }

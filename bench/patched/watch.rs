@@ -5,7 +5,8 @@
 //! 1,024, constants and suggestions within 2^30; each solve is on a cell 1 or -1; after each write, row and artificial
 //! cells are within 1,024, their constants within 2^30, objective cells within 2^40."
 //!
-//! It is kept beside the solver, not in it, so that the row functions keep the crate's signatures.
+//! It is kept beside the solver, not in it, so that the row functions keep the crate's signatures. `--cfg unwatched` builds
+//! the crate for timing: nothing is looked at, and no state is copied for undo.
 use std::cell::Cell;
 use super::{ Expression, RowType };
 
@@ -39,6 +40,9 @@ fn no_longer_whole_unless(b: bool) {
 }
 
 fn written(v: f64, bound: f64) {
+    if cfg!(unwatched) {
+        return;
+    }
     if !v.is_finite() {
         FINITE.with(|f| f.set(false));
     }
@@ -57,6 +61,9 @@ pub fn constant(v: f64) {
 }
 
 pub fn solve(cell: f64, factor: f64) {
+    if cfg!(unwatched) {
+        return;
+    }
     if !factor.is_finite() {
         FINITE.with(|f| f.set(false));
     }
@@ -64,6 +71,9 @@ pub fn solve(cell: f64, factor: f64) {
 }
 
 fn input(v: f64, bound: f64) {
+    if cfg!(unwatched) {
+        return;
+    }
     no_longer_whole_unless(v.trunc() == v && v.abs() <= bound);
 }
 

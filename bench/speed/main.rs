@@ -45,94 +45,57 @@ trait Engine {
     fn value(&mut self, v: u32) -> f64;
 }
 
-// ---- ours, through the archive
+// ---- ours, through the archive, and the crate as published: the same calls, by the same names
 
-struct Ours {
-    solver: knobharbor::Solver,
-    made: Vec<(u32, knobharbor::Constraint)>,
+macro_rules! engine {
+    ($engine:ident, $krate:ident, $name:literal, $variable:expr) => {
+        struct $engine {
+            solver: $krate::Solver,
+            vars: Vec<$krate::Variable>,
+            made: Vec<(u32, $krate::Constraint)>,
+        }
+
+        impl Engine for $engine {
+            const NAME: &'static str = $name;
+            fn new(variables: u32) -> $engine {
+                $engine { solver: $krate::Solver::new(), vars: (0..=variables).map($variable).collect(), made: Vec::new() }
+            }
+            fn add(&mut self, d: &Demand) -> bool {
+                use $krate::{Constraint, Expression, RelationalOperator, Term};
+                let terms = d.terms.iter().map(|&(v, k)| Term { variable: self.vars[v as usize], coefficient: k }).collect();
+                let op = match d.kind {
+                    AtMost => RelationalOperator::LessOrEqual,
+                    Equal => RelationalOperator::Equal,
+                    AtLeast => RelationalOperator::GreaterOrEqual,
+                };
+                let c = Constraint::new(Expression::new(terms, d.constant), op, d.strength);
+                let ok = self.solver.add_constraint(c.clone()).is_ok();
+                self.made.push((d.number, c));
+                ok
+            }
+            fn remove(&mut self, d: &Demand) -> bool {
+                let i = self.made.iter().position(|(n, _)| *n == d.number).unwrap();
+                let (_, c) = self.made.swap_remove(i);
+                self.solver.remove_constraint(&c).is_ok()
+            }
+            fn add_edit(&mut self, v: u32, strength: f64) -> bool {
+                self.solver.add_edit_variable(self.vars[v as usize], strength).is_ok()
+            }
+            fn suggest(&mut self, v: u32, x: f64) -> bool {
+                self.solver.suggest_value(self.vars[v as usize], x).is_ok()
+            }
+            fn fetch(&mut self) -> usize {
+                self.solver.fetch_changes().len()
+            }
+            fn value(&mut self, v: u32) -> f64 {
+                self.solver.get_value(self.vars[v as usize])
+            }
+        }
+    };
 }
 
-impl Engine for Ours {
-    const NAME: &'static str = "ours";
-    fn new(_: u32) -> Ours {
-        Ours { solver: knobharbor::Solver::new(), made: Vec::new() }
-    }
-    fn add(&mut self, d: &Demand) -> bool {
-        use knobharbor::{Constraint, Expression, RelationalOperator, Term, Variable};
-        let terms = d.terms.iter().map(|&(v, k)| Term { variable: Variable::from_number(v), coefficient: k }).collect();
-        let op = match d.kind {
-            AtMost => RelationalOperator::LessOrEqual,
-            Equal => RelationalOperator::Equal,
-            AtLeast => RelationalOperator::GreaterOrEqual,
-        };
-        let c = Constraint::new(Expression::new(terms, d.constant), op, d.strength);
-        let ok = self.solver.add_constraint(c.clone()).is_ok();
-        self.made.push((d.number, c));
-        ok
-    }
-    fn remove(&mut self, d: &Demand) -> bool {
-        let i = self.made.iter().position(|(n, _)| *n == d.number).unwrap();
-        let (_, c) = self.made.swap_remove(i);
-        self.solver.remove_constraint(&c).is_ok()
-    }
-    fn add_edit(&mut self, v: u32, strength: f64) -> bool {
-        self.solver.add_edit_variable(knobharbor::Variable::from_number(v), strength).is_ok()
-    }
-    fn suggest(&mut self, v: u32, x: f64) -> bool {
-        self.solver.suggest_value(knobharbor::Variable::from_number(v), x).is_ok()
-    }
-    fn fetch(&mut self) -> usize {
-        self.solver.fetch_changes().len()
-    }
-    fn value(&mut self, v: u32) -> f64 {
-        self.solver.get_value(knobharbor::Variable::from_number(v))
-    }
-}
-
-// ---- the crate as published
-
-struct Untouched {
-    solver: cassowary::Solver,
-    vars: Vec<cassowary::Variable>,
-    made: Vec<(u32, cassowary::Constraint)>,
-}
-
-impl Engine for Untouched {
-    const NAME: &'static str = "untouched";
-    fn new(variables: u32) -> Untouched {
-        Untouched { solver: cassowary::Solver::new(), vars: (0..=variables).map(|_| cassowary::Variable::new()).collect(), made: Vec::new() }
-    }
-    fn add(&mut self, d: &Demand) -> bool {
-        use cassowary::{Constraint, Expression, RelationalOperator, Term};
-        let terms = d.terms.iter().map(|&(v, k)| Term { variable: self.vars[v as usize], coefficient: k }).collect();
-        let op = match d.kind {
-            AtMost => RelationalOperator::LessOrEqual,
-            Equal => RelationalOperator::Equal,
-            AtLeast => RelationalOperator::GreaterOrEqual,
-        };
-        let c = Constraint::new(Expression::new(terms, d.constant), op, d.strength);
-        let ok = self.solver.add_constraint(c.clone()).is_ok();
-        self.made.push((d.number, c));
-        ok
-    }
-    fn remove(&mut self, d: &Demand) -> bool {
-        let i = self.made.iter().position(|(n, _)| *n == d.number).unwrap();
-        let (_, c) = self.made.swap_remove(i);
-        self.solver.remove_constraint(&c).is_ok()
-    }
-    fn add_edit(&mut self, v: u32, strength: f64) -> bool {
-        self.solver.add_edit_variable(self.vars[v as usize], strength).is_ok()
-    }
-    fn suggest(&mut self, v: u32, x: f64) -> bool {
-        self.solver.suggest_value(self.vars[v as usize], x).is_ok()
-    }
-    fn fetch(&mut self) -> usize {
-        self.solver.fetch_changes().len()
-    }
-    fn value(&mut self, v: u32) -> f64 {
-        self.solver.get_value(self.vars[v as usize])
-    }
-}
+engine!(Ours, knobharbor, "ours", knobharbor::Variable::from_number);
+engine!(Untouched, cassowary, "untouched", |_| cassowary::Variable::new());
 
 // ---- the patched crate
 
@@ -255,6 +218,44 @@ fn sample<E: Engine>(l: &Layout, case: Case, turns: usize) -> (f64, Vec<f64>) {
     (each, values)
 }
 
+/// The least nanoseconds of one of our workings.
+fn least(rounds: usize, mut work: impl FnMut(usize)) -> f64 {
+    const TURNS: usize = 300;
+    (0..rounds)
+        .map(|_| {
+            let start = Instant::now();
+            (0..TURNS).for_each(&mut work);
+            start.elapsed().as_nanos() as f64 / TURNS as f64
+        })
+        .fold(f64::MAX, f64::min)
+}
+
+/// What a call spends apart from its steps: a value is the test that the tables read and one lookup; a suggestion for a
+/// variable without an edit is refused by a test, after the tables were tested and copied, and the room is cleared.
+fn workings(l: &Layout, rounds: usize) {
+    let mut e = built::<Ours>(l);
+    e.fetch();
+    let value = least(rounds, |_| {
+        black_box(e.value(1));
+    });
+    let refused = least(rounds, |_| assert!(!e.suggest(1, 0.0)));
+    let suggest = least(rounds, |i| {
+        let (v, x) = l.drags[i % l.drags.len()];
+        assert!(e.suggest(v, x));
+    });
+    let fetch = least(rounds, |_| {
+        black_box(e.fetch());
+    });
+    println!(
+        "| {} | {:.2} | {:.2} | {:.2} | {:.2} |",
+        l.name,
+        value / 1000.0,
+        (refused - value) / 1000.0,
+        (suggest - refused) / 1000.0,
+        (fetch - value) / 1000.0
+    );
+}
+
 fn median(mut xs: Vec<f64>) -> f64 {
     xs.sort_by(f64::total_cmp);
     xs[xs.len() / 2]
@@ -285,5 +286,11 @@ fn main() {
             let (x, y, z) = (median(a) / 1000.0, median(b) / 1000.0, median(c) / 1000.0);
             println!("| {} | {} | {:.2} | {:.2} | {:.2} | {:.2} |", l.name, case.name(), x, y, z, x / y);
         }
+    }
+    println!();
+    println!("| layout | the test that the tables read, us | copy in and clear, us | steps of a drag and copy back, us | a fetch without the test, us |");
+    println!("|---|---|---|---|---|");
+    for l in &layouts {
+        workings(l, rounds);
     }
 }

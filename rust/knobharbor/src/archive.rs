@@ -1,4 +1,5 @@
 //! The proved archive. Its functions take any tables and any numbers, so a safe face needs only to hand over whole slices.
+use std::alloc::{alloc_zeroed, handle_alloc_error, Layout};
 
 /// What a changing call answers: 0 or a refusal's number, the pivots made, the whole mark.
 #[repr(C)]
@@ -19,21 +20,34 @@ pub struct Fetched {
 pub const PLACES: usize = 32;
 
 /// The four tables that hold a solver's state.
+#[repr(C)]
 #[derive(Clone)]
 pub struct Tables {
-    pub head: Box<[u64; 326]>,
-    pub names: Box<[[u64; 20]; 128]>,
-    pub reals: Box<[[f64; 17]; 128]>,
-    pub rows: Box<[[f64; 130]; 51]>,
+    pub head: [u64; 326],
+    pub names: [[u64; 20]; 128],
+    pub reals: [[f64; 17]; 128],
+    pub rows: [[f64; 130]; 51],
 }
 
-impl Tables {
-    pub fn zero() -> Tables {
-        Tables {
-            head: Box::new([0; 326]),
-            names: Box::new([[0; 20]; 128]),
-            reals: Box::new([[0.0; 17]; 128]),
-            rows: Box::new([[0.0; 130]; 51]),
+/// A solver's tables and its working room, in one piece.
+#[repr(C)]
+#[derive(Clone)]
+pub struct Held {
+    pub tables: Tables,
+    pub room: Tables,
+}
+
+impl Held {
+    /// All zero. It is zeroed where it stands: built on the stack and moved it would be written twice.
+    pub fn zero() -> Box<Held> {
+        let layout = Layout::new::<Held>();
+        // Held is not of size 0, and all its bits zero are numbers of its arrays.
+        unsafe {
+            let held = alloc_zeroed(layout) as *mut Held;
+            if held.is_null() {
+                handle_alloc_error(layout);
+            }
+            Box::from_raw(held)
         }
     }
 }
@@ -88,7 +102,7 @@ extern "C" {
 
 macro_rules! with {
     ($f:ident, $t:expr $(, $arg:expr)*) => {
-        // The pointers are to whole boxed arrays that nobody else holds during the call.
+        // The pointers are to whole arrays that nobody else holds during the call.
         unsafe {
             $f(
                 $t.head.as_mut_ptr(), $t.head.len(), $t.names.as_mut_ptr(), $t.names.len(),

@@ -1,5 +1,5 @@
 //! The solver: its tables, its working room, and the numbers of its constraints.
-use crate::archive::{self, Added, Answer, Tables, PLACES};
+use crate::archive::{self, Added, Answer, Held, PLACES};
 use crate::{Constraint, Refusal, RelationalOperator, Variable};
 
 /// The largest budget, and the one that a new solver has.
@@ -7,8 +7,7 @@ pub const LARGEST_BUDGET: u16 = u16::MAX;
 
 /// A constraint solver with fixed tables. Every call ends within the pivot budget, and a refused call changes nothing.
 pub struct Solver {
-    tables: Tables,
-    room: Tables,
+    held: Box<Held>,
     budget: u16,
     constraints: Vec<(Constraint, u32)>,
     next: u32,
@@ -18,11 +17,10 @@ pub struct Solver {
 
 impl Solver {
     pub fn new() -> Solver {
-        let mut tables = Tables::zero();
-        let last = archive::reset(&mut tables);
+        let mut held = Held::zero();
+        let last = archive::reset(&mut held.tables);
         Solver {
-            tables,
-            room: Tables::zero(),
+            held,
             budget: LARGEST_BUDGET,
             constraints: Vec::new(),
             next: 0,
@@ -89,7 +87,7 @@ impl Solver {
             },
             strength: constraint.strength(),
         };
-        let answer = archive::add(&mut self.tables, &mut self.room, added, self.budget.into());
+        let answer = archive::add(&mut self.held.tables, &mut self.held.room, added, self.budget.into());
         self.concluded(answer)?;
         self.constraints.push((constraint, number));
         Ok(())
@@ -109,7 +107,7 @@ impl Solver {
             // a number that is not live: the archive refuses it, with the stored mark
             None => self.free_number(),
         };
-        let answer = archive::remove(&mut self.tables, &mut self.room, number, self.budget.into());
+        let answer = archive::remove(&mut self.held.tables, &mut self.held.room, number, self.budget.into());
         self.concluded(answer)?;
         self.constraints.retain(|(c, _)| c != constraint);
         Ok(())
@@ -117,28 +115,28 @@ impl Solver {
 
     pub fn has_constraint(&self, constraint: &Constraint) -> bool {
         match self.number_of(constraint) {
-            Some(number) => archive::has_constraint(&self.tables, number),
+            Some(number) => archive::has_constraint(&self.held.tables, number),
             None => false,
         }
     }
 
     pub fn add_edit_variable(&mut self, v: Variable, strength: f64) -> Result<(), Refusal> {
-        let answer = archive::add_edit(&mut self.tables, &mut self.room, v.number(), strength, self.budget.into());
+        let answer = archive::add_edit(&mut self.held.tables, &mut self.held.room, v.number(), strength, self.budget.into());
         self.concluded(answer)
     }
 
     pub fn remove_edit_variable(&mut self, v: Variable) -> Result<(), Refusal> {
-        let answer = archive::remove_edit(&mut self.tables, &mut self.room, v.number(), self.budget.into());
+        let answer = archive::remove_edit(&mut self.held.tables, &mut self.held.room, v.number(), self.budget.into());
         self.concluded(answer)
     }
 
     pub fn has_edit_variable(&self, v: &Variable) -> bool {
-        archive::has_edit(&self.tables, v.number())
+        archive::has_edit(&self.held.tables, v.number())
     }
 
     /// Moves an edit's aim. If it is refused, every value, and the aim itself, is as it was.
     pub fn suggest_value(&mut self, v: Variable, value: f64) -> Result<(), Refusal> {
-        let answer = archive::suggest(&mut self.tables, &mut self.room, v.number(), value, self.budget.into());
+        let answer = archive::suggest(&mut self.held.tables, &mut self.held.room, v.number(), value, self.budget.into());
         self.concluded(answer)
     }
 
@@ -146,7 +144,7 @@ impl Solver {
     pub fn fetch_changes(&mut self) -> &[(Variable, f64)] {
         let mut numbers = [0; PLACES];
         let mut values = [0.0; PLACES];
-        let fetched = archive::fetch(&mut self.tables, &mut numbers, &mut values);
+        let fetched = archive::fetch(&mut self.held.tables, &mut numbers, &mut values);
         let count = fetched.count as usize;
         self.changes.clear();
         self.changes.extend(numbers.iter().zip(values).take(count).map(|(n, x)| (Variable::from_number(*n as u32), x)));
@@ -155,14 +153,14 @@ impl Solver {
 
     /// 0 for a variable that the solver does not know.
     pub fn get_value(&self, v: Variable) -> f64 {
-        archive::value(&self.tables, v.number())
+        archive::value(&self.held.tables, v.number())
     }
 
     /// Empties the solver; the budget stays.
     pub fn reset(&mut self) {
         self.constraints.clear();
         self.changes.clear();
-        self.last = archive::reset(&mut self.tables);
+        self.last = archive::reset(&mut self.held.tables);
     }
 }
 
