@@ -1,140 +1,171 @@
-//! The operators by which constraints are written, as in cassowary 0.3.0 (NOTICE), from which this file is taken: the order
-//! of the terms that they build decides the solver's steps, so it is kept.
+//! The operators by which constraints are written, after those of cassowary 0.3.0 (NOTICE): the order of the terms that they
+//! build decides the solver's steps, so it is the crate's.
 use std::ops;
 use crate::{Constraint, Expression, PartialConstraint, Term, Variable, WeightedRelation};
 
-// Relation
-
-impl ops::BitOr<WeightedRelation> for f64 {
-    type Output = PartialConstraint;
-    fn bitor(self, r: WeightedRelation) -> PartialConstraint {
-        PartialConstraint(self.into(), r)
-    }
-}
-impl ops::BitOr<WeightedRelation> for f32 {
-    type Output = PartialConstraint;
-    fn bitor(self, r: WeightedRelation) -> PartialConstraint {
-        (self as f64).bitor(r)
-    }
-}
-impl ops::BitOr<WeightedRelation> for Variable {
-    type Output = PartialConstraint;
-    fn bitor(self, r: WeightedRelation) -> PartialConstraint {
-        PartialConstraint(self.into(), r)
-    }
-}
-impl ops::BitOr<WeightedRelation> for Term {
-    type Output = PartialConstraint;
-    fn bitor(self, r: WeightedRelation) -> PartialConstraint {
-        PartialConstraint(self.into(), r)
-    }
-}
-impl ops::BitOr<WeightedRelation> for Expression {
-    type Output = PartialConstraint;
-    fn bitor(self, r: WeightedRelation) -> PartialConstraint {
-        PartialConstraint(self.into(), r)
-    }
+/// One `impl` for each line: the two sides, and what stands for them.
+macro_rules! operators {
+    ($($op:ident, $method:ident { $(($l:ident: $left:ty, $r:ident: $right:ty) -> $out:ty = $body:expr;)* })*) => {
+        $($(
+            impl ops::$op<$right> for $left {
+                type Output = $out;
+                fn $method(self, $r: $right) -> $out {
+                    let $l = self;
+                    $body
+                }
+            }
+        )*)*
+    };
 }
 
-impl ops::BitOr<f64> for PartialConstraint {
-    type Output = Constraint;
-    fn bitor(self, rhs: f64) -> Constraint {
-        let (op, s) = self.1.into();
-        Constraint::new(self.0 - rhs, op, s)
-    }
+/// An `f32` on the right, or on the left, is the `f64` of its value.
+macro_rules! narrow {
+    ($($op:ident, $method:ident { $($left:ident, $right:ident -> $out:ident;)* })*) => {
+        $($(narrow!(@ $op $method $left, $right -> $out);)*)*
+    };
+    (@ $op:ident $method:ident f32, $right:ident -> $out:ident) => {
+        impl ops::$op<$right> for f32 {
+            type Output = $out;
+            fn $method(self, other: $right) -> $out {
+                f64::from(self).$method(other)
+            }
+        }
+    };
+    (@ $op:ident $method:ident $left:ident, f32 -> $out:ident) => {
+        impl ops::$op<f32> for $left {
+            type Output = $out;
+            fn $method(self, k: f32) -> $out {
+                self.$method(f64::from(k))
+            }
+        }
+    };
 }
-impl ops::BitOr<f32> for PartialConstraint {
-    type Output = Constraint;
-    fn bitor(self, rhs: f32) -> Constraint {
-        self.bitor(rhs as f64)
-    }
+
+fn one(v: Variable) -> Term {
+    Term::new(v, 1.0)
 }
-impl ops::BitOr<Variable> for PartialConstraint {
-    type Output = Constraint;
-    fn bitor(self, rhs: Variable) -> Constraint {
-        let (op, s) = self.1.into();
-        Constraint::new(self.0 - rhs, op, s)
-    }
+
+fn with_term(mut e: Expression, t: Term) -> Expression {
+    e.terms.push(t);
+    e
 }
-impl ops::BitOr<Term> for PartialConstraint {
-    type Output = Constraint;
-    fn bitor(self, rhs: Term) -> Constraint {
-        let (op, s) = self.1.into();
-        Constraint::new(self.0 - rhs, op, s)
-    }
+
+fn plus(mut e: Expression, k: f64) -> Expression {
+    e.constant += k;
+    e
 }
-impl ops::BitOr<Expression> for PartialConstraint {
-    type Output = Constraint;
-    fn bitor(self, rhs: Expression) -> Constraint {
-        let (op, s) = self.1.into();
-        Constraint::new(self.0 - rhs, op, s)
+
+fn joined(mut e: Expression, mut f: Expression) -> Expression {
+    e.terms.append(&mut f.terms);
+    plus(e, f.constant)
+}
+
+fn each(mut e: Expression, f: impl Fn(f64) -> f64) -> Expression {
+    e.constant = f(e.constant);
+    for t in &mut e.terms {
+        t.coefficient = f(t.coefficient);
+    }
+    e
+}
+
+fn related(p: PartialConstraint, right: impl Into<Expression>) -> Constraint {
+    let (op, strength) = p.1.into();
+    Constraint::new(p.0 - right.into(), op, strength)
+}
+
+operators! {
+    BitOr, bitor {
+        (k: f64, r: WeightedRelation) -> PartialConstraint = PartialConstraint(k.into(), r);
+        (v: Variable, r: WeightedRelation) -> PartialConstraint = PartialConstraint(v.into(), r);
+        (t: Term, r: WeightedRelation) -> PartialConstraint = PartialConstraint(t.into(), r);
+        (e: Expression, r: WeightedRelation) -> PartialConstraint = PartialConstraint(e, r);
+        (p: PartialConstraint, k: f64) -> Constraint = related(p, k);
+        (p: PartialConstraint, v: Variable) -> Constraint = related(p, v);
+        (p: PartialConstraint, t: Term) -> Constraint = related(p, t);
+        (p: PartialConstraint, e: Expression) -> Constraint = related(p, e);
+    }
+    Add, add {
+        (v: Variable, k: f64) -> Expression = one(v) + k;
+        (k: f64, v: Variable) -> Expression = one(v) + k;
+        (v: Variable, w: Variable) -> Expression = one(v) + one(w);
+        (v: Variable, t: Term) -> Expression = one(v) + t;
+        (t: Term, v: Variable) -> Expression = t + one(v);
+        (v: Variable, e: Expression) -> Expression = with_term(e, one(v));
+        (e: Expression, v: Variable) -> Expression = with_term(e, one(v));
+        (t: Term, k: f64) -> Expression = Expression::new(vec![t], k);
+        (k: f64, t: Term) -> Expression = Expression::new(vec![t], k);
+        (t: Term, u: Term) -> Expression = Expression::new(vec![t, u], 0.0);
+        (t: Term, e: Expression) -> Expression = with_term(e, t);
+        (e: Expression, t: Term) -> Expression = with_term(e, t);
+        (e: Expression, k: f64) -> Expression = plus(e, k);
+        (k: f64, e: Expression) -> Expression = plus(e, k);
+        (e: Expression, f: Expression) -> Expression = joined(e, f);
+    }
+    Sub, sub {
+        (v: Variable, k: f64) -> Expression = one(v) - k;
+        (k: f64, v: Variable) -> Expression = k - one(v);
+        (v: Variable, w: Variable) -> Expression = one(v) - one(w);
+        (v: Variable, t: Term) -> Expression = one(v) - t;
+        (t: Term, v: Variable) -> Expression = t - one(v);
+        (v: Variable, e: Expression) -> Expression = with_term(-e, one(v));
+        (e: Expression, v: Variable) -> Expression = with_term(e, -v);
+        (t: Term, k: f64) -> Expression = t + -k;
+        (k: f64, t: Term) -> Expression = k + -t;
+        (t: Term, u: Term) -> Expression = t + -u;
+        (t: Term, e: Expression) -> Expression = with_term(-e, t);
+        (e: Expression, t: Term) -> Expression = with_term(e, -t);
+        (e: Expression, k: f64) -> Expression = plus(e, -k);
+        (k: f64, e: Expression) -> Expression = plus(-e, k);
+        (e: Expression, f: Expression) -> Expression = joined(e, -f);
+    }
+    Mul, mul {
+        (v: Variable, k: f64) -> Term = Term::new(v, k);
+        (k: f64, v: Variable) -> Term = Term::new(v, k);
+        (t: Term, k: f64) -> Term = Term::new(t.variable, t.coefficient * k);
+        (k: f64, t: Term) -> Term = t * k;
+        (e: Expression, k: f64) -> Expression = each(e, |x| x * k);
+        (k: f64, e: Expression) -> Expression = e * k;
+    }
+    Div, div {
+        (v: Variable, k: f64) -> Term = Term::new(v, 1.0 / k);
+        (t: Term, k: f64) -> Term = Term::new(t.variable, t.coefficient / k);
+        (e: Expression, k: f64) -> Expression = each(e, |x| x / k);
     }
 }
 
-// Variable
-
-impl ops::Add<f64> for Variable {
-    type Output = Expression;
-    fn add(self, v: f64) -> Expression {
-        Expression::new(vec![Term::new(self, 1.0)], v)
+narrow! {
+    BitOr, bitor {
+        f32, WeightedRelation -> PartialConstraint;
+        PartialConstraint, f32 -> Constraint;
     }
-}
-
-impl ops::Add<f32> for Variable {
-    type Output = Expression;
-    fn add(self, v: f32) -> Expression {
-        self.add(v as f64)
+    Add, add {
+        f32, Variable -> Expression;
+        f32, Term -> Expression;
+        f32, Expression -> Expression;
+        Variable, f32 -> Expression;
+        Term, f32 -> Expression;
+        Expression, f32 -> Expression;
     }
-}
-
-impl ops::Add<Variable> for f64 {
-    type Output = Expression;
-    fn add(self, v: Variable) -> Expression {
-        Expression::new(vec![Term::new(v, 1.0)], self)
+    Sub, sub {
+        f32, Variable -> Expression;
+        f32, Term -> Expression;
+        f32, Expression -> Expression;
+        Variable, f32 -> Expression;
+        Term, f32 -> Expression;
+        Expression, f32 -> Expression;
     }
-}
-
-impl ops::Add<Variable> for f32 {
-    type Output = Expression;
-    fn add(self, v: Variable) -> Expression {
-        (self as f64).add(v)
+    Mul, mul {
+        f32, Variable -> Term;
+        f32, Term -> Term;
+        f32, Expression -> Expression;
+        Variable, f32 -> Term;
+        Term, f32 -> Term;
+        Expression, f32 -> Expression;
     }
-}
-
-impl ops::Add<Variable> for Variable {
-    type Output = Expression;
-    fn add(self, v: Variable) -> Expression {
-        Expression::new(vec![Term::new(self, 1.0), Term::new(v, 1.0)], 0.0)
-    }
-}
-
-impl ops::Add<Term> for Variable {
-    type Output = Expression;
-    fn add(self, t: Term) -> Expression {
-        Expression::new(vec![Term::new(self, 1.0), t], 0.0)
-    }
-}
-
-impl ops::Add<Variable> for Term {
-    type Output = Expression;
-    fn add(self, v: Variable) -> Expression {
-        Expression::new(vec![self, Term::new(v, 1.0)], 0.0)
-    }
-}
-
-impl ops::Add<Expression> for Variable {
-    type Output = Expression;
-    fn add(self, mut e: Expression) -> Expression {
-        e.terms.push(Term::new(self, 1.0));
-        e
-    }
-}
-
-impl ops::Add<Variable> for Expression {
-    type Output = Expression;
-    fn add(mut self, v: Variable) -> Expression {
-        self.terms.push(Term::new(v, 1.0));
-        self
+    Div, div {
+        Variable, f32 -> Term;
+        Term, f32 -> Term;
+        Expression, f32 -> Expression;
     }
 }
 
@@ -145,364 +176,10 @@ impl ops::Neg for Variable {
     }
 }
 
-impl ops::Sub<f64> for Variable {
-    type Output = Expression;
-    fn sub(self, v: f64) -> Expression {
-        Expression::new(vec![Term::new(self, 1.0)], -v)
-    }
-}
-
-impl ops::Sub<f32> for Variable {
-    type Output = Expression;
-    fn sub(self, v: f32) -> Expression {
-        self.sub(v as f64)
-    }
-}
-
-impl ops::Sub<Variable> for f64 {
-    type Output = Expression;
-    fn sub(self, v: Variable) -> Expression {
-        Expression::new(vec![Term::new(v, -1.0)], self)
-    }
-}
-
-impl ops::Sub<Variable> for f32 {
-    type Output = Expression;
-    fn sub(self, v: Variable) -> Expression {
-        (self as f64).sub(v)
-    }
-}
-
-impl ops::Sub<Variable> for Variable {
-    type Output = Expression;
-    fn sub(self, v: Variable) -> Expression {
-        Expression::new(vec![Term::new(self, 1.0), Term::new(v, -1.0)], 0.0)
-    }
-}
-
-impl ops::Sub<Term> for Variable {
-    type Output = Expression;
-    fn sub(self, t: Term) -> Expression {
-        Expression::new(vec![Term::new(self, 1.0), -t], 0.0)
-    }
-}
-
-impl ops::Sub<Variable> for Term {
-    type Output = Expression;
-    fn sub(self, v: Variable) -> Expression {
-        Expression::new(vec![self, Term::new(v, -1.0)], 0.0)
-    }
-}
-
-impl ops::Sub<Expression> for Variable {
-    type Output = Expression;
-    fn sub(self, mut e: Expression) -> Expression {
-        e.negate();
-        e.terms.push(Term::new(self, 1.0));
-        e
-    }
-}
-
-impl ops::Sub<Variable> for Expression {
-    type Output = Expression;
-    fn sub(mut self, v: Variable) -> Expression {
-        self.terms.push(Term::new(v, -1.0));
-        self
-    }
-}
-
-impl ops::Mul<f64> for Variable {
-    type Output = Term;
-    fn mul(self, v: f64) -> Term {
-        Term::new(self, v)
-    }
-}
-
-impl ops::Mul<f32> for Variable {
-    type Output = Term;
-    fn mul(self, v: f32) -> Term {
-        self.mul(v as f64)
-    }
-}
-
-impl ops::Mul<Variable> for f64 {
-    type Output = Term;
-    fn mul(self, v: Variable) -> Term {
-        Term::new(v, self)
-    }
-}
-
-impl ops::Mul<Variable> for f32 {
-    type Output = Term;
-    fn mul(self, v: Variable) -> Term {
-        (self as f64).mul(v)
-    }
-}
-
-impl ops::Div<f64> for Variable {
-    type Output = Term;
-    fn div(self, v: f64) -> Term {
-        Term::new(self, 1.0 / v)
-    }
-}
-
-impl ops::Div<f32> for Variable {
-    type Output = Term;
-    fn div(self, v: f32) -> Term {
-        self.div(v as f64)
-    }
-}
-
-// Term
-
-impl ops::Mul<f64> for Term {
-    type Output = Term;
-    fn mul(mut self, v: f64) -> Term {
-        self.coefficient *= v;
-        self
-    }
-}
-
-impl ops::Mul<f32> for Term {
-    type Output = Term;
-    fn mul(self, v: f32) -> Term {
-        self.mul(v as f64)
-    }
-}
-
-impl ops::Mul<Term> for f64 {
-    type Output = Term;
-    fn mul(self, mut t: Term) -> Term {
-        t.coefficient *= self;
-        t
-    }
-}
-
-impl ops::Mul<Term> for f32 {
-    type Output = Term;
-    fn mul(self, t: Term) -> Term {
-        (self as f64).mul(t)
-    }
-}
-
-impl ops::Div<f64> for Term {
-    type Output = Term;
-    fn div(mut self, v: f64) -> Term {
-        self.coefficient /= v;
-        self
-    }
-}
-
-impl ops::Div<f32> for Term {
-    type Output = Term;
-    fn div(self, v: f32) -> Term {
-        self.div(v as f64)
-    }
-}
-
-impl ops::Add<f64> for Term {
-    type Output = Expression;
-    fn add(self, v: f64) -> Expression {
-        Expression::new(vec![self], v)
-    }
-}
-
-impl ops::Add<f32> for Term {
-    type Output = Expression;
-    fn add(self, v: f32) -> Expression {
-        self.add(v as f64)
-    }
-}
-
-impl ops::Add<Term> for f64 {
-    type Output = Expression;
-    fn add(self, t: Term) -> Expression {
-        Expression::new(vec![t], self)
-    }
-}
-
-impl ops::Add<Term> for f32 {
-    type Output = Expression;
-    fn add(self, t: Term) -> Expression {
-        (self as f64).add(t)
-    }
-}
-
-impl ops::Add<Term> for Term {
-    type Output = Expression;
-    fn add(self, t: Term) -> Expression {
-        Expression::new(vec![self, t], 0.0)
-    }
-}
-
-impl ops::Add<Expression> for Term {
-    type Output = Expression;
-    fn add(self, mut e: Expression) -> Expression {
-        e.terms.push(self);
-        e
-    }
-}
-
-impl ops::Add<Term> for Expression {
-    type Output = Expression;
-    fn add(mut self, t: Term) -> Expression {
-        self.terms.push(t);
-        self
-    }
-}
-
 impl ops::Neg for Term {
     type Output = Term;
-    fn neg(mut self) -> Term {
-        self.coefficient = -self.coefficient;
-        self
-    }
-}
-
-impl ops::Sub<f64> for Term {
-    type Output = Expression;
-    fn sub(self, v: f64) -> Expression {
-        Expression::new(vec![self], -v)
-    }
-}
-
-impl ops::Sub<f32> for Term {
-    type Output = Expression;
-    fn sub(self, v: f32) -> Expression {
-        self.sub(v as f64)
-    }
-}
-
-impl ops::Sub<Term> for f64 {
-    type Output = Expression;
-    fn sub(self, t: Term) -> Expression {
-        Expression::new(vec![-t], self)
-    }
-}
-
-impl ops::Sub<Term> for f32 {
-    type Output = Expression;
-    fn sub(self, t: Term) -> Expression {
-        (self as f64).sub(t)
-    }
-}
-
-impl ops::Sub<Term> for Term {
-    type Output = Expression;
-    fn sub(self, t: Term) -> Expression {
-        Expression::new(vec![self, -t], 0.0)
-    }
-}
-
-impl ops::Sub<Expression> for Term {
-    type Output = Expression;
-    fn sub(self, mut e: Expression) -> Expression {
-        e.negate();
-        e.terms.push(self);
-        e
-    }
-}
-
-impl ops::Sub<Term> for Expression {
-    type Output = Expression;
-    fn sub(mut self, t: Term) -> Expression {
-        self.terms.push(-t);
-        self
-    }
-}
-
-// Expression
-
-impl ops::Mul<f64> for Expression {
-    type Output = Expression;
-    fn mul(mut self, v: f64) -> Expression {
-        self.constant *= v;
-        for t in &mut self.terms {
-            *t = *t * v;
-        }
-        self
-    }
-}
-
-impl ops::Mul<f32> for Expression {
-    type Output = Expression;
-    fn mul(self, v: f32) -> Expression {
-        self.mul(v as f64)
-    }
-}
-
-impl ops::Mul<Expression> for f64 {
-    type Output = Expression;
-    fn mul(self, mut e: Expression) -> Expression {
-        e.constant *= self;
-        for t in &mut e.terms {
-            *t = *t * self;
-        }
-        e
-    }
-}
-
-impl ops::Mul<Expression> for f32 {
-    type Output = Expression;
-    fn mul(self, e: Expression) -> Expression {
-        (self as f64).mul(e)
-    }
-}
-
-impl ops::Div<f64> for Expression {
-    type Output = Expression;
-    fn div(mut self, v: f64) -> Expression {
-        self.constant /= v;
-        for t in &mut self.terms {
-            *t = *t / v;
-        }
-        self
-    }
-}
-
-impl ops::Div<f32> for Expression {
-    type Output = Expression;
-    fn div(self, v: f32) -> Expression {
-        self.div(v as f64)
-    }
-}
-
-impl ops::Add<f64> for Expression {
-    type Output = Expression;
-    fn add(mut self, v: f64) -> Expression {
-        self.constant += v;
-        self
-    }
-}
-
-impl ops::Add<f32> for Expression {
-    type Output = Expression;
-    fn add(self, v: f32) -> Expression {
-        self.add(v as f64)
-    }
-}
-
-impl ops::Add<Expression> for f64 {
-    type Output = Expression;
-    fn add(self, mut e: Expression) -> Expression {
-        e.constant += self;
-        e
-    }
-}
-
-impl ops::Add<Expression> for f32 {
-    type Output = Expression;
-    fn add(self, e: Expression) -> Expression {
-        (self as f64).add(e)
-    }
-}
-
-impl ops::Add<Expression> for Expression {
-    type Output = Expression;
-    fn add(mut self, mut e: Expression) -> Expression {
-        self.terms.append(&mut e.terms);
-        self.constant += e.constant;
-        self
+    fn neg(self) -> Term {
+        Term::new(self.variable, -self.coefficient)
     }
 }
 
@@ -510,47 +187,6 @@ impl ops::Neg for Expression {
     type Output = Expression;
     fn neg(mut self) -> Expression {
         self.negate();
-        self
-    }
-}
-
-impl ops::Sub<f64> for Expression {
-    type Output = Expression;
-    fn sub(mut self, v: f64) -> Expression {
-        self.constant -= v;
-        self
-    }
-}
-
-impl ops::Sub<f32> for Expression {
-    type Output = Expression;
-    fn sub(self, v: f32) -> Expression {
-        self.sub(v as f64)
-    }
-}
-
-impl ops::Sub<Expression> for f64 {
-    type Output = Expression;
-    fn sub(self, mut e: Expression) -> Expression {
-        e.negate();
-        e.constant += self;
-        e
-    }
-}
-
-impl ops::Sub<Expression> for f32 {
-    type Output = Expression;
-    fn sub(self, e: Expression) -> Expression {
-        (self as f64).sub(e)
-    }
-}
-
-impl ops::Sub<Expression> for Expression {
-    type Output = Expression;
-    fn sub(mut self, mut e: Expression) -> Expression {
-        e.negate();
-        self.terms.append(&mut e.terms);
-        self.constant += e.constant;
         self
     }
 }
