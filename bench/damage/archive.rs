@@ -58,6 +58,10 @@ pub struct Tables {
     pub lengths: [usize; 4],
 }
 
+fn bits<const N: usize>(rows: &[[f64; N]]) -> impl Iterator<Item = u64> + '_ {
+    rows.iter().flatten().map(|x| x.to_bits())
+}
+
 impl Tables {
     pub fn any(g: &mut Random, lengths: [usize; 4], behind: usize) -> Tables {
         Tables {
@@ -81,23 +85,20 @@ impl Tables {
     }
 
     pub fn same(&self, other: &Tables) -> bool {
-        let bits = |a: &[f64], b: &[f64]| a.iter().zip(b).all(|(x, y)| x.to_bits() == y.to_bits());
-        self.head == other.head && self.names == other.names && bits(self.reals.as_flattened(), other.reals.as_flattened()) && bits(self.rows.as_flattened(), other.rows.as_flattened())
+        self.head == other.head && self.names == other.names && bits(&self.reals).eq(bits(&other.reals)) && bits(&self.rows).eq(bits(&other.rows))
     }
 
     pub fn lent_is_zero(&self) -> bool {
         let [a, b, c, d] = self.lengths;
-        let zero = |x: &f64| x.to_bits() == 0;
-        self.head[..a].iter().chain(self.names[..b].as_flattened()).all(|&x| x == 0) && self.reals[..c].as_flattened().iter().all(zero) && self.rows[..d].as_flattened().iter().all(zero)
+        self.head[..a].iter().chain(self.names[..b].iter().flatten()).all(|&x| x == 0) && bits(&self.reals[..c]).chain(bits(&self.rows[..d])).all(|x| x == 0)
     }
 
     // the part behind what is lent, as bits
     pub fn behind(&self) -> Vec<u64> {
         let [a, b, c, d] = self.lengths;
         let mut out = self.head[a..].to_vec();
-        out.extend(self.names[b..].as_flattened());
-        out.extend(self.reals[c..].as_flattened().iter().map(|x| x.to_bits()));
-        out.extend(self.rows[d..].as_flattened().iter().map(|x| x.to_bits()));
+        out.extend(self.names[b..].iter().flatten());
+        out.extend(bits(&self.reals[c..]).chain(bits(&self.rows[d..])));
         out
     }
 }
