@@ -2,3 +2,4 @@
 pub mod Packing
 pub mod Removing
 pub mod Adding
+pub mod Listed

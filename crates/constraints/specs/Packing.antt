@@ -11,7 +11,6 @@ use lib.Seq.{getD-set-same, getD-set-other}
 use borrow.Author.Tests.{ltb-true, ltb-false}
 use lib.Ieee.{Float, nan}
 use Rattle.laws.specs.Lists.{listOf, tab-ext}
-use Rattle.steps.specs.State as steps
 use Rattle.steps.specs.Tests.{keptTerms}
 use Rattle.layout.specs.Layout.{numberOf, symbolCode, otherSymbol, termCount, strengthIn, tagOf, constraintOf, termOf}
 use Rattle.layout.specs.Copy.{most16}
@@ -36,9 +35,6 @@ packed-terms p item real n r =
     (tab-ext (termOf item real) (λ j. terms.termOf (termIn p j)) 0 (most16 (p .count)) λ j a b.
     let l : j < 16 = omega (arith, b, most-le (p .count)) in
     rw (n .variables j l, r .coefficients j l) refl)
-
-pub packed-few : (p : Pack) (item : List ℕ) → Names p item → termCount item ≤ 16
-packed-few p item n = rw (n .count) (most-le (p .count))
 
 -- "its terms are those whose coefficient is not near zero"
 pub record Recorded (p : Pack) (n marker other : ℕ) (item : List ℕ) : Type 0 where

@@ -1,15 +1,16 @@
 // Add.
 ghost use mathlib.Core.Path.{_≡_};
-ghost use mathlib.Core.Bool.{_&&_};
-ghost use lib.Dec.{eqb};
 ghost use Rattle.laws.specs.Given.{Then};
 ghost use Rattle.steps.specs.State.{strengthOf};
+ghost use Rattle.steps.specs.Calls.{add};
 ghost use Rattle.layout.specs.Layout.{tables};
 ghost use Rattle.room.specs.Room.{cleared};
 ghost use Rattle.creating.specs.Tags.{relationOf};
 ghost use Rattle.tests.specs.Refusals.{addRefusal};
-ghost use Rattle.shell.specs.Shell.{Ready, Left};
-ghost use Rattle.constraints.specs.Adding.{Adds, AddsIf, CalledAdd};
+ghost use Rattle.terms.specs.Terms.{termsIn, listed};
+ghost use Rattle.shell.specs.Shell.{answerOf, called, callOf, Ready};
+ghost use Rattle.finishing.specs.Concluding.{DoneIf};
+ghost use Rattle.constraints.specs.Adding.{Adds};
 use crate::pack::constraint_item;
 use crate::pack::constraint_real;
 use crate::pack::term_item;
@@ -24,7 +25,7 @@ use finishing::begin::widths;
 use shell::Answer;
 use terms::Pack;
 
-// The tests passed.
+// The tests passed. What is said is said of every list that the pack is of.
 fn add_known(
     head: &mut [u64],
     names: &mut [[u64; 20]],
@@ -39,7 +40,6 @@ fn add_known(
     requires { ⌜ Ready (tables (now head) (now names) (now reals) (now rows)) ⌝ }
     requires { ⌜ addRefusal n p constant (strengthOf (relationOf relation)) (now head) (now names) ≡ 0 ⌝ }
     ensures { λ r. ⌜ Adds n p constant (relationOf relation) budget r (tables (now (head .entry)) (now (names .entry)) (now (reals .entry)) (now (rows .entry))) (tables (now (head .exit)) (now (names .exit)) (now (reals .exit)) (now (rows .exit))) ⌝ }
-    ensures { λ r. ⌜ Then (eqb (r .number) 0) (Left (tables (now (head .exit)) (now (names .exit)) (now (reals .exit)) (now (rows .exit)))) ⌝ }
 {
     widths(names, reals, rows);
     let before = stored_mark(head);
@@ -81,21 +81,21 @@ fn add_if(
     budget: u32,
 ) -> Answer
     requires { ⌜ Then ok (Ready (tables (now head) (now names) (now reals) (now rows))) ⌝ }
-    ensures { λ r. ⌜ AddsIf ok n p constant (relationOf relation) budget r (tables (now (head .entry)) (now (names .entry)) (now (reals .entry)) (now (rows .entry))) (tables (now (head .exit)) (now (names .exit)) (now (reals .exit)) (now (rows .exit))) ⌝ }
-    ensures { λ r. ⌜ Then (ok && eqb (r .number) 0) (Left (tables (now (head .exit)) (now (names .exit)) (now (reals .exit)) (now (rows .exit)))) ⌝ }
+    ensures { λ r. ⌜ DoneIf ok (add n (termsIn (listed p)) constant (relationOf relation) budget) r (tables (now (head .entry)) (now (names .entry)) (now (reals .entry)) (now (rows .entry))) (tables (now (head .exit)) (now (names .exit)) (now (reals .exit)) (now (rows .exit))) ⌝ }
 {
     if !ok {
         return shell::refuse18();
     }
+    let q = terms::proper(p);
     let strength = strength_of(relation);
-    let number = tests::add_tests(head, names, n, p, constant, strength);
+    let number = tests::add_tests(head, names, n, q, constant, strength);
     if number != 0 {
         return by_test(head, number);
     }
-    add_known(head, names, reals, rows, n, p, constant, relation, budget)
+    add_known(head, names, reals, rows, n, q, constant, relation, budget)
 }
 
-// "Add: 18, 1, 2, 3, 4, 10, 9, 11." The terms come as the pack of a lent list.
+// "Add: 18, 1, 2, 3, 4, 10, 9, 11." The terms come as a pack, that of a lent list (`terms::collect`) or any other: the call is that of the list that the pack stands for.
 pub fn add(
     head: &mut [u64],
     names: &mut [[u64; 20]],
@@ -111,7 +111,7 @@ pub fn add(
     relation: Relation,
     budget: u32,
 ) -> Answer
-    ensures { λ r. ⌜ CalledAdd n p constant (relationOf relation) budget r (tables (now (whead .entry)) (now (wnames .entry)) (now (wreals .entry)) (now (wrows .entry))) (tables (now (head .entry)) (now (names .entry)) (now (reals .entry)) (now (rows .entry))) (tables (now (head .exit)) (now (names .exit)) (now (reals .exit)) (now (rows .exit))) ⌝ }
+    ensures { λ r. ⌜ called (answerOf r) (tables (now (head .exit)) (now (names .exit)) (now (reals .exit)) (now (rows .exit))) ≡ callOf (add n (termsIn (listed p)) constant (relationOf relation) budget) (tables (now (whead .entry)) (now (wnames .entry)) (now (wreals .entry)) (now (wrows .entry))) (tables (now (head .entry)) (now (names .entry)) (now (reals .entry)) (now (rows .entry))) ⌝ }
     ensures { λ _. ⌜ tables (now (whead .exit)) (now (wnames .exit)) (now (wreals .exit)) (now (wrows .exit)) ≡ cleared (tables (now (whead .entry)) (now (wnames .entry)) (now (wreals .entry)) (now (wrows .entry))) ⌝ }
 {
     let ok = shell::enter(head, names, reals, rows, whead, wnames, wreals, wrows);

@@ -68,7 +68,7 @@ done-by-test f r t u k e h q =
 
 -- ---- what an accepted call leaves: reading says all but the flags
 
-pub terms-few : (t : Tables) → All (λ (c : Constraint). length (c .terms) ≤ 16) (constraintsOf t) → (j : ℕ) → j < constraintCount (t .head) → termCount (getD (t .names) (constraintsAt + j) []) ≤ 16
+terms-few : (t : Tables) → All (λ (c : Constraint). length (c .terms) ≤ 16) (constraintsOf t) → (j : ℕ) → j < constraintCount (t .head) → termCount (getD (t .names) (constraintsAt + j) []) ≤ 16
 unfolding constraintsOf listOf tab constraintOf
 terms-few t h j low =
     let g : ℕ → Constraint = λ i. constraintOf (getD (t .names) (constraintsAt + i) []) (getD (t .reals) (constraintsAt + i) []) in

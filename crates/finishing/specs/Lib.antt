@@ -3,7 +3,6 @@ pub mod Closing
 pub mod Stored
 pub mod Begin
 pub mod Concluding
-pub mod Leaving
 pub mod Placed
 pub mod Numbers
 pub mod Whole

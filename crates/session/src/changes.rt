@@ -2,8 +2,9 @@
 ghost use Prim.Native.Nat.{_+_, _≤_};
 ghost use lib.ListN.{length};
 ghost use Rattle.layout.specs.Layout.{tables};
+ghost use Rattle.terms.specs.Terms.{listed};
 ghost use Rattle.session.specs.Said.{Spoken};
-ghost use Rattle.session.specs.Calls.{editOf, SpokenCall};
+ghost use Rattle.session.specs.Calls.{editOf, callSaid};
 use crate::queries::say_query;
 use terms::Pack;
 use text::calls::Call;
@@ -58,7 +59,7 @@ pub fn say_call(
     at: usize,
 ) -> usize
     requires { ⌜ at + 2000 ≤ length (now out) ⌝ }
-    ensures { λ z. ⌜ SpokenCall call p (tables (now (h2 .entry)) (now (n2 .entry)) (now (r2 .entry)) (now (w2 .entry))) (tables (now (h .entry)) (now (n .entry)) (now (r .entry)) (now (w .entry))) (now (out .entry)) (now (out .exit)) at z (tables (now (h .exit)) (now (n .exit)) (now (r .exit)) (now (w .exit))) ⌝ }
+    ensures { λ z. ⌜ Spoken (callSaid call (listed p) (tables (now (h2 .entry)) (now (n2 .entry)) (now (r2 .entry)) (now (w2 .entry))) (tables (now (h .entry)) (now (n .entry)) (now (r .entry)) (now (w .entry)))) (now (out .entry)) (now (out .exit)) at z (tables (now (h .exit)) (now (n .exit)) (now (r .exit)) (now (w .exit))) ⌝ }
 {
     match call {
         Call::Reset => {

@@ -2,10 +2,12 @@
 -- Assumes nothing.
 use native.Mathlib.Omega.{arith}
 use lib.Dec.{eqb}
+use Rattle.steps.specs.Changing.{adds}
+use Rattle.terms.specs.Terms.{termsIn, listed}
 use Rattle.creating.specs.Tags.{relationOf}
 use Rattle.layout.specs.Layout.{tables}
 use Rattle.shell.specs.Shell.{steps-ready, leave-ready}
-use Rattle.constraints.specs.Adding.{add-done}
+use Rattle.finishing.specs.Whole.{call-done}
 use borrow.Author.Needs.{needs}
 use Rattle.constraints.proofs.add.add.Statement.{statement}
 use Rattle.constraints.proofs.add.add.Tie as tie
@@ -21,7 +23,7 @@ leave-requires c κs =
     let start = c .before .before .before .before .before .before .before .before .before .before .before .before .before .before .before .before .before .before .before .before .before .before .before .before .before .before .before .before .before .before .before .before .before .before .before in
     let at-enter = c .before .before .before .before .before .before .before .before .before .before .before .before .before .before .before .before .before .before .before .before .before .before .before .before in
     let at-add-if = c .before .before .before .before .before .before .before .before .before .before .before .before .before .before in
-    leave-ready (tables (start .args .head .now) (start .args .names .now) (start .args .reals .now) (start .args .rows .now)) (tables (start .args .whead .now) (start .args .wnames .now) (start .args .wreals .now) (start .args .wrows .now)) (tables (at-add-if .add-if .last .1 .0) (at-add-if .add-if .last .1 .1 .0) (at-add-if .add-if .last .1 .1 .1 .0) (at-add-if .add-if .last .1 .1 .1 .1 .0)) (at-enter .enter .result) (eqb (at-add-if .add-if .result .number) 0) (at-enter .enter .ensures .0) (at-add-if .add-if .ensures .1)
+    leave-ready (tables (start .args .head .now) (start .args .names .now) (start .args .reals .now) (start .args .rows .now)) (tables (start .args .whead .now) (start .args .wnames .now) (start .args .wreals .now) (start .args .wrows .now)) (tables (at-add-if .add-if .last .1 .0) (at-add-if .add-if .last .1 .1 .0) (at-add-if .add-if .last .1 .1 .1 .0) (at-add-if .add-if .last .1 .1 .1 .1 .0)) (at-enter .enter .result) (eqb (at-add-if .add-if .result .number) 0) (at-enter .enter .ensures .0) (at-add-if .add-if .ensures .2)
 
 same-length : tie.Need-same-length
 same-length c = omega (arith, c .before .before .before .before .before .before .before .before .before .before .leave .kept .1 .0)
@@ -53,7 +55,7 @@ returns c =
     let at-enter = c .before .before .before .before .before .before .before .before .before .before .before .before .before .before .before .before .before .before .before .before .before .before .before .before .before .before .before .before .before .before .before .before .before .before .before in
     let at-add-if = c .before .before .before .before .before .before .before .before .before .before .before .before .before .before .before .before .before .before .before .before .before .before .before .before .before in
     let at-leave = c .before .before .before .before .before .before .before .before .before .before in
-    add-done (start .args .n) (start .args .budget) (start .args .p) (start .args .constant) (relationOf (start .args .relation)) (tables (start .args .head .now) (start .args .names .now) (start .args .reals .now) (start .args .rows .now)) (tables (start .args .whead .now) (start .args .wnames .now) (start .args .wreals .now) (start .args .wrows .now)) (tables (at-enter .enter .last .1 .1 .1 .1 .0) (at-enter .enter .last .1 .1 .1 .1 .1 .0) (at-enter .enter .last .1 .1 .1 .1 .1 .1 .0) (at-enter .enter .last .1 .1 .1 .1 .1 .1 .1 .0)) (tables (at-add-if .add-if .last .1 .0) (at-add-if .add-if .last .1 .1 .0) (at-add-if .add-if .last .1 .1 .1 .0) (at-add-if .add-if .last .1 .1 .1 .1 .0)) (at-add-if .add-if .result) (at-enter .enter .ensures .0) (at-enter .enter .ensures .1) (at-add-if .add-if .ensures .0) (at-leave .leave .ensures .0) (omega (arith, at-add-if .add-if .kept .1 .0, at-enter .enter .kept .1 .1 .1 .1 .0)) (omega (arith, at-add-if .add-if .kept .1 .1 .0, at-enter .enter .kept .1 .1 .1 .1 .1 .0)) (omega (arith, at-add-if .add-if .kept .1 .1 .1 .0, at-enter .enter .kept .1 .1 .1 .1 .1 .1 .0)) (omega (arith, at-add-if .add-if .kept .1 .1 .1 .1 .0, at-enter .enter .kept .1 .1 .1 .1 .1 .1 .1 .0)) (at-leave .leave .ensures .1)
+    call-done (adds (start .args .n) (termsIn (listed (start .args .p))) (start .args .constant) (relationOf (start .args .relation)) (start .args .budget)) (tables (start .args .head .now) (start .args .names .now) (start .args .reals .now) (start .args .rows .now)) (tables (start .args .whead .now) (start .args .wnames .now) (start .args .wreals .now) (start .args .wrows .now)) (tables (at-enter .enter .last .1 .1 .1 .1 .0) (at-enter .enter .last .1 .1 .1 .1 .1 .0) (at-enter .enter .last .1 .1 .1 .1 .1 .1 .0) (at-enter .enter .last .1 .1 .1 .1 .1 .1 .1 .0)) (tables (at-add-if .add-if .last .1 .0) (at-add-if .add-if .last .1 .1 .0) (at-add-if .add-if .last .1 .1 .1 .0) (at-add-if .add-if .last .1 .1 .1 .1 .0)) (at-add-if .add-if .result) (at-enter .enter .ensures .0) (at-enter .enter .ensures .1) (at-add-if .add-if .ensures) (at-leave .leave .ensures .0) (omega (arith, at-add-if .add-if .kept .1 .0, at-enter .enter .kept .1 .1 .1 .1 .0)) (omega (arith, at-add-if .add-if .kept .1 .1 .0, at-enter .enter .kept .1 .1 .1 .1 .1 .0)) (omega (arith, at-add-if .add-if .kept .1 .1 .1 .0, at-enter .enter .kept .1 .1 .1 .1 .1 .1 .0)) (omega (arith, at-add-if .add-if .kept .1 .1 .1 .1 .0, at-enter .enter .kept .1 .1 .1 .1 .1 .1 .1 .0)) (at-leave .leave .ensures .1)
 
 pub add-spec : {M : Type 1} → statement M
 add-spec =

@@ -5,7 +5,7 @@ use Rattle.creating.specs.Created.{tagBy, termsIn}
 use Rattle.adding.specs.Adding.{addedOf}
 use Rattle.creating.specs.Tags.{relationOf}
 use Rattle.finishing.specs.Begin.{spare-at-start}
-use Rattle.constraints.specs.Adding.{add-opens, add-stands, addition-refused, addition-accepted, refused-left, accepted-left}
+use Rattle.constraints.specs.Adding.{add-opens, add-stands, addition-refused, addition-accepted}
 use borrow.Author.Needs.{needs}
 use Rattle.constraints.proofs.add.add_known.Statement.{statement}
 use Rattle.constraints.proofs.add.add_known.Tie as tie
@@ -33,7 +33,7 @@ returns c =
     let at-add-steps = c .before .before .before .before .before .before .before .before .before in
     let t = tables (start .args .head .now) (start .args .names .now) (start .args .reals .now) (start .args .rows .now) in
     let u = tables (at-add-steps .add-steps .last .0) (at-add-steps .add-steps .last .1 .0) (at-add-steps .add-steps .last .1 .1 .0) (at-add-steps .add-steps .last .1 .1 .1 .0) in
-    (addition-refused (start .args .n) (start .args .budget) (start .args .p) (start .args .constant) (relationOf (start .args .relation)) t (start .pre .0) (start .pre .1) (at-stored-mark .stored-mark .result) (at-stored-mark .stored-mark .ensures) (at-term-item .term-item .result) (at-term-real .term-real .result) (at-term-item .term-item .ensures) (at-term-real .term-real .ensures) (at-add-steps .add-steps .result .ended) (at-add-steps .add-steps .result .marker) (at-add-steps .add-steps .result .other) u (at-add-steps .add-steps .ensures .0) (c .answer-of .result) (c .answer-of .ensures) (c .before .if1 .taken) u, refused-left (start .args .n) (start .args .budget) (start .args .p) (start .args .constant) (relationOf (start .args .relation)) t (start .pre .0) (start .pre .1) (at-stored-mark .stored-mark .result) (at-stored-mark .stored-mark .ensures) (at-term-item .term-item .result) (at-term-real .term-real .result) (at-term-item .term-item .ensures) (at-term-real .term-real .ensures) (at-add-steps .add-steps .result .ended) (at-add-steps .add-steps .result .marker) (at-add-steps .add-steps .result .other) u (at-add-steps .add-steps .ensures .0) (c .answer-of .result) (c .answer-of .ensures) (c .before .if1 .taken) u)
+    addition-refused (start .args .n) (start .args .budget) (start .args .p) (start .args .constant) (relationOf (start .args .relation)) t (start .pre .0) (start .pre .1) (at-stored-mark .stored-mark .result) (at-stored-mark .stored-mark .ensures) (at-term-item .term-item .result) (at-term-real .term-real .result) (at-term-item .term-item .ensures) (at-term-real .term-real .ensures) (at-add-steps .add-steps .result .ended) (at-add-steps .add-steps .result .marker) (at-add-steps .add-steps .result .other) u (at-add-steps .add-steps .ensures .0) (c .answer-of .result) (c .answer-of .ensures) (c .before .if1 .taken) u
 
 with-constraint-requires : tie.Need-with-constraint-requires
 unfolding addedOf tagBy termsIn
@@ -60,7 +60,7 @@ returns-2 c =
     let t = tables (start .args .head .now) (start .args .names .now) (start .args .reals .now) (start .args .rows .now) in
     let u = tables (at-add-steps .add-steps .last .0) (at-add-steps .add-steps .last .1 .0) (at-add-steps .add-steps .last .1 .1 .0) (at-add-steps .add-steps .last .1 .1 .1 .0) in
     let v = tables (at-with-constraint .with-constraint .last .0) (at-with-constraint .with-constraint .last .1 .0) (at-with-constraint .with-constraint .last .1 .1 .0) (at-add-steps .add-steps .last .1 .1 .1 .0) in
-    (addition-accepted (start .args .n) (start .args .budget) (start .args .p) (start .args .constant) (relationOf (start .args .relation)) t (start .pre .0) (start .pre .1) (at-stored-mark .stored-mark .result) (at-stored-mark .stored-mark .ensures) (at-term-item .term-item .result) (at-term-real .term-real .result) (at-term-item .term-item .ensures) (at-term-real .term-real .ensures) (at-add-steps .add-steps .result .ended) (at-add-steps .add-steps .result .marker) (at-add-steps .add-steps .result .other) u (at-add-steps .add-steps .ensures .0) (c .answer-of2 .result) (c .answer-of2 .ensures) (at-add-steps .add-steps .ensures .1) (at-if1 .if1 .left) (at-constraint-item .constraint-item .result) (at-constraint-real .constraint-real .result) v (at-constraint-item .constraint-item .ensures) (rw (← c .before .before .before .before .before .before .before .before .before .before .before .before .before .strength-of .ensures) (at-constraint-real .constraint-real .ensures)) (at-with-constraint .with-constraint .ensures), accepted-left (start .args .n) (start .args .budget) (start .args .p) (start .args .constant) (relationOf (start .args .relation)) t (start .pre .0) (start .pre .1) (at-stored-mark .stored-mark .result) (at-stored-mark .stored-mark .ensures) (at-term-item .term-item .result) (at-term-real .term-real .result) (at-term-item .term-item .ensures) (at-term-real .term-real .ensures) (at-add-steps .add-steps .result .ended) (at-add-steps .add-steps .result .marker) (at-add-steps .add-steps .result .other) u (at-add-steps .add-steps .ensures .0) (c .answer-of2 .result) (c .answer-of2 .ensures) (at-add-steps .add-steps .ensures .1) (at-if1 .if1 .left) (at-constraint-item .constraint-item .result) (at-constraint-real .constraint-real .result) v (at-constraint-item .constraint-item .ensures) (at-with-constraint .with-constraint .ensures))
+    addition-accepted (start .args .n) (start .args .budget) (start .args .p) (start .args .constant) (relationOf (start .args .relation)) t (start .pre .0) (start .pre .1) (at-stored-mark .stored-mark .result) (at-stored-mark .stored-mark .ensures) (at-term-item .term-item .result) (at-term-real .term-real .result) (at-term-item .term-item .ensures) (at-term-real .term-real .ensures) (at-add-steps .add-steps .result .ended) (at-add-steps .add-steps .result .marker) (at-add-steps .add-steps .result .other) u (at-add-steps .add-steps .ensures .0) (c .answer-of2 .result) (c .answer-of2 .ensures) (at-add-steps .add-steps .ensures .1) (at-if1 .if1 .left) (at-constraint-item .constraint-item .result) (at-constraint-real .constraint-real .result) v (at-constraint-item .constraint-item .ensures) (rw (← c .before .before .before .before .before .before .before .before .before .before .before .before .before .strength-of .ensures) (at-constraint-real .constraint-real .ensures)) (at-with-constraint .with-constraint .ensures)
 
 pub add-known-spec : {M : Type 1} → statement M
 add-known-spec =
