@@ -2,6 +2,8 @@
 ghost use mathlib.Core.Path.{_≡_};
 ghost use mathlib.Core.Bool.{false};
 ghost use Prim.Native.Nat.{_-_};
+ghost use lib.ListN.{replicate};
+ghost use Rattle.steps.specs.Number.{zero64};
 ghost use Rattle.steps.specs.Add.{addCreated, addSteps};
 ghost use Rattle.keeps.specs.Passes.{Free};
 ghost use Rattle.layout.specs.Layout.{tables, symbolOf};
@@ -141,7 +143,9 @@ fn add_row(
 }
 
 // A row that is yet to be built: its content plays no part.
-fn zero_row() -> [f64; 130] {
+fn zero_row() -> [f64; 130]
+    ensures { λ r. ⌜ r ≡ replicate 130 zero64 ⌝ }
+{
     [0.0; 130]
 }
 

@@ -1,6 +1,6 @@
 -- What a caller in C hands to add, as the steps take it. Assumes nothing.
-use Prim.Native.Nat.{ℕ, zero, suc, _≤_}
-use mathlib.Core.Path.{_≡_, refl}
+use Prim.Native.Nat.{ℕ, _≤_}
+use mathlib.Core.Path.{_≡_, refl, _∙_}
 use mathlib.Core.Bool.{Bool, true, false, _&&_, cond}
 use mathlib.Core.List.{List}
 use native.Mathlib.Nat.{sub-zero}
@@ -9,8 +9,8 @@ use lib.Dec.{eqb, ltb}
 use lib.ListN.{length, getD}
 use lib.Ieee.{Float, nan}
 use borrow.Author.Tests.{eqb-true, ne-eqb}
-use Rattle.laws.specs.Loops.{turns, run}
-use Rattle.laws.specs.Lists.{tab, listOf}
+use Rattle.laws.specs.Loops.{run}
+use Rattle.laws.specs.Lists.{listOf}
 use Rattle.steps.specs.State as steps
 use Rattle.steps.specs.Calls.{Answer, add}
 use Rattle.layout.specs.Layout.{Tables}
@@ -21,7 +21,9 @@ use Rattle.creating.specs.declared.tag.Relation.the-variants.{AtMost, Equal, At
 use Rattle.creating.specs.Tags.{relationOf}
 use Rattle.terms.specs.declared.Term.{Term}
 use Rattle.terms.specs.declared.Pack.{Pack}
-use Rattle.terms.specs.Terms.{noPack, pushed, packFrom, packOf, termsIn}
+use Rattle.terms.specs.Terms.{noPack, pushed, packOf, termsIn, listed}
+use Rattle.terms.specs.Listed.{gathered}
+use Rattle.constraints.specs.Listed.{listed-call}
 
 -- the i-th term is the i-th variable times the i-th coefficient
 unfoldable pub termAt : List ℕ → List Float → ℕ → Term
@@ -48,11 +50,6 @@ addOf n vars coefs constant kind strength budget work t =
 -- the turn at place i
 abbrev pub gathers : List ℕ → List Float → ℕ → Pack → Pack
 gathers vars coefs i p = pushed p (termAt vars coefs i)
-
-gathered : (g : ℕ → Term) (n i : ℕ) (p : Pack) → turns (λ j q. pushed q (g j)) n i p ≡ packFrom p (tab g i n)
-unfolding turns packFrom tab
-gathered g zero i p = refl
-gathered g (suc n) i p = gathered g n (suc i) (pushed p (g i))
 
 pub gather-starts : (vars : List ℕ) (coefs : List Float) {p : Pack} → p ≡ noPack → run (gathers vars coefs) 0 (length vars) p ≡ packOf (given vars coefs)
 unfolding run packOf given listOf
@@ -83,7 +80,7 @@ module _ (n : ℕ) (vars : List ℕ) (coefs : List Float) (constant : Float) (ki
   add-unfit e f g = rw (e, f, g) refl
 
   pub add-fit : {p : Pack} (r : Relation) (c : Called) → fitting vars coefs kind ≡ true → p ≡ packOf (given vars coefs) → relationOf r ≡ relationBy kind strength
-      → ((ts : List Term) → p ≡ packOf ts → c ≡ callOf (add n (termsIn ts) constant (relationOf r) budget) work t)
+      → c ≡ callOf (add n (termsIn (listed p)) constant (relationOf r) budget) work t
       → c ≡ addOf n vars coefs constant kind strength budget work t
   unfolding addOf
-  add-fit r c e f g h = rw e (rw (← g) (h (given vars coefs) f))
+  add-fit r c e f g h = rw e (rw (← g) (h ∙ listed-call n budget constant (relationOf r) work t (given vars coefs) f))

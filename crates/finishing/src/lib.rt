@@ -1,4 +1,6 @@
-// The end of an accepted call: the infeasible list is pruned and the mark stored, then the call's record comes, goes or changes.
+// What a changing call begins with (`begin`), and the end of an accepted one: the infeasible list is pruned and the mark stored, then the call's record comes, goes or changes.
+pub mod begin;
+
 ghost use mathlib.Core.Path.{_≡_};
 ghost use mathlib.Core.Bool.{false};
 ghost use mathlib.Core.List.{[]};

@@ -3,7 +3,7 @@ use Prim.Native.Nat.{ℕ, _+_, _-_, _%_}
 use mathlib.Core.Bool.{Bool, true, false, _&&_, _||_}
 use mathlib.Core.List.{List, []}
 use lib.Dec.{eqb, leb, ltb}
-use lib.ListN.{getD, replicate}
+use lib.ListN.{getD, set, replicate}
 use lib.Ieee.{Float, isNan}
 use Rattle.steps.specs.Number.{isFinite}
 use Rattle.steps.specs.Readable.{tagKinds}
@@ -25,6 +25,14 @@ numbersAscend n a c = allIn (λ i. ltb (numberOf (getD n (a + (i - 1)) [])) (num
 -- which of the c items from row a on has the number x, c if none
 unfoldable pub nameAt : List (List ℕ) → ℕ → ℕ → ℕ → ℕ
 nameAt n a c x = placeIn (λ j. numberOf (getD n (a + j) [])) c x
+
+-- the slot of a variable: its number's last eight bits
+unfoldable pub slotOf : ℕ → ℕ
+slotOf x = x % 256
+
+-- each variable's place in its slot, the last one's where variables share one
+unfoldable pub slotsOf : List (List ℕ) → ℕ → List ℕ → List ℕ
+slotsOf n v s = run (λ i l. set l (slotOf (numberOf (getD n i []))) i) 0 v s
 
 -- ---- one by one
 

@@ -7,7 +7,7 @@ ghost use lib.ListN.{getD, length};
 ghost use Rattle.layout.specs.Layout.{itemsSize, usesOf};
 ghost use Rattle.layout.specs.Copy.{most16};
 ghost use Rattle.places.specs.Shares.{shares, stock};
-ghost use Rattle.items.specs.Items.{isU32, numbersAscend, nameAt, variableFits, variablesFit, kindsFit, constraintFits, constraintsFit, editFits, editsFit, takeVariable, takeTerms, takeConstraints, takeEdits, noUses, usesFit, itemsFit};
+ghost use Rattle.items.specs.Items.{isU32, numbersAscend, nameAt, slotOf, slotsOf, variableFits, variablesFit, kindsFit, constraintFits, constraintsFit, editFits, editsFit, takeVariable, takeTerms, takeConstraints, takeEdits, noUses, usesFit, itemsFit};
 
 pub fn is_u32(x: u64) -> bool
     ensures { λ r. ⌜ r ≡ isU32 x ⌝ }
@@ -56,6 +56,7 @@ pub fn name_at(names: &[[u64; 20]], a: usize, c: usize, x: u64) -> usize
 pub fn fill_numbers(slots: &mut [u8; 256], names: &[[u64; 20]], v: usize)
     requires { ⌜ length (now names) ≡ itemsSize ⌝ }
     requires { ⌜ v ≤ 32 ⌝ }
+    ensures { λ _. ⌜ now (slots .exit) ≡ slotsOf (now (names .entry)) v (now (slots .entry)) ⌝ }
 {
     let mut i = 0;
     while i < v {
@@ -64,11 +65,15 @@ pub fn fill_numbers(slots: &mut [u8; 256], names: &[[u64; 20]], v: usize)
     }
 }
 
-fn wide(x: u8) -> usize {
+fn wide(x: u8) -> usize
+    ensures { λ r. ⌜ r ≡ x ⌝ }
+{
     x as usize
 }
 
-fn guess(slots: &[u8; 256], x: u64) -> usize {
+fn guess(slots: &[u8; 256], x: u64) -> usize
+    ensures { λ r. ⌜ r ≡ getD (now (slots .entry)) (slotOf x) 0 ⌝ }
+{
     wide(slots[(x % 256) as usize])
 }
 

@@ -25,7 +25,7 @@ use Rattle.places.specs.Finding.{at-all}
 use Rattle.items.specs.Items.{isU32}
 use Rattle.moves.specs.Room.{no-more}
 use Rattle.reading.specs.Reads.{codesFit, reads}
-use Rattle.calls.specs.Begin.{few-symbols}
+use Rattle.finishing.specs.Begin.{few-symbols}
 use Rattle.lasting.specs.Narrow.{Narrow}
 
 -- ---- an element of a list

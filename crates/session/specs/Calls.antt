@@ -1,6 +1,6 @@
 -- Every call's answer and what it leaves: `replyOf`, of the call that a line names; and how the code's three steps through the calls give it.
 use Prim.Native.Nat.{ℕ, _+_, _≤_, _<_}
-use mathlib.Core.Path.{_≡_, refl, ap}
+use mathlib.Core.Path.{_≡_, refl, sym, ap, _∙_}
 use mathlib.Core.Bool.{false}
 use mathlib.Core.List.{List, [], _∷_, map}
 use mathlib.Core.Option.{Option, none, some}
@@ -27,7 +27,8 @@ use Rattle.shell.specs.declared.Answer as code
 use Rattle.fetching.specs.Fetch.{fetchOf, places}
 use Rattle.terms.specs.declared.Term.{Term}
 use Rattle.terms.specs.declared.Pack.{Pack}
-use Rattle.terms.specs.Terms.{noPack, packFrom, packOf, termOf, termsIn}
+use Rattle.terms.specs.Terms.{noPack, packFrom, packOf, termOf, termsIn, listed}
+use Rattle.constraints.specs.Listed.{listed-call}
 use Rattle.text.specs.declared.calls.Call.{Call}
 use Rattle.text.specs.declared.calls.Call.the-variants.{Reset, Add, Remove, AddEdit, RemoveEdit, Suggest, Value, HasCon, HasEdit, Fetch, Create, Clip, Bad}
 use Rattle.text.specs.declared.calls.Line.{Line}
@@ -103,9 +104,22 @@ callSaid (Create a b c k) ts w t = editOf (Create a b c k) w t
 callSaid (Clip s) ts w t = editOf (Clip s) w t
 callSaid Bad ts w t = editOf Bad w t
 
--- whatever terms the pack was made of
-abbrev pub SpokenCall : Call → Pack → Tables → Tables → List ℕ → List ℕ → ℕ → ℕ → Tables → Type 0
-SpokenCall call p w t before after at next u = (ts : List Term) → p ≡ packOf ts → Spoken (callSaid call ts w t) before after at next u
+-- the list of a list's pack is spoken of as the list
+said-listed : (call : Call) (w t : Tables) (ts : List Term) {p : Pack} → p ≡ packOf ts → callSaid call (listed p) w t ≡ callSaid call ts w t
+unfolding callSaid
+said-listed Reset w t ts e = refl
+said-listed (Add n b r k) w t ts e = ap saidBy (listed-call n b k (relationOf r) w t ts e)
+said-listed (Remove n b) w t ts e = refl
+said-listed (AddEdit v s b) w t ts e = refl
+said-listed (RemoveEdit v b) w t ts e = refl
+said-listed (Suggest v x b) w t ts e = refl
+said-listed (Value v) w t ts e = refl
+said-listed (HasCon c) w t ts e = refl
+said-listed (HasEdit v) w t ts e = refl
+said-listed Fetch w t ts e = refl
+said-listed (Create a b c k) w t ts e = refl
+said-listed (Clip x) w t ts e = refl
+said-listed Bad w t ts e = refl
 
 -- ---- one call
 
@@ -219,11 +233,11 @@ said-as (some (setsNext n)) w t = refl
 
 module _ (line : List ℕ) (w t : Tables) (a b : List ℕ) (i j : ℕ) {u : Tables} where
   -- the line that was read, its call and its terms
-  pub line-said : (l : Line) → l ≡ lineOf (format.callOf (wordsOf line)) → SpokenCall (l .call) (l .terms) w t a b i j u → Spoken (lineReply line w t) a b i j u
+  pub line-said : (l : Line) → l ≡ lineOf (format.callOf (wordsOf line)) → Spoken (callSaid (l .call) (listed (l .terms)) w t) a b i j u → Spoken (lineReply line w t) a b i j u
   unfolding lineReply
   line-said l e p =
       let o : Option session.Call = format.callOf (wordsOf line) in
-      spoken-as a b i j (said-as o w t) ((rw e at p) (map asTerm (given o)) (packed-as o))
+      spoken-as a b i j (said-as o w t ∙ sym (said-listed (asCall o) w t (map asTerm (given o)) (packed-as o))) (rw e at p)
 
 module _ (line : List ℕ) (held : ℕ) (w t : Tables) (long : length line ≡ 4096) where
   pub held-long : length line < held → heldReply (heldOf line held) w t ≡ said unreadText t

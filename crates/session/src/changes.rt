@@ -2,8 +2,9 @@
 ghost use Prim.Native.Nat.{_+_, _≤_};
 ghost use lib.ListN.{length};
 ghost use Rattle.layout.specs.Layout.{tables};
+ghost use Rattle.terms.specs.Terms.{listed};
 ghost use Rattle.session.specs.Said.{Spoken};
-ghost use Rattle.session.specs.Calls.{editOf, SpokenCall};
+ghost use Rattle.session.specs.Calls.{editOf, callSaid};
 use crate::queries::say_query;
 use terms::Pack;
 use text::calls::Call;
@@ -27,15 +28,15 @@ fn say_edit(
 {
     match call {
         Call::AddEdit(v, s, b) => {
-            let a = calls::add_edit::add_edit(h, n, r, w, h2, n2, r2, w2, v, s, b as u32);
+            let a = edits::add_edit::add_edit(h, n, r, w, h2, n2, r2, w2, v, s, b as u32);
             put_answer(out, at, a.number, a.pivots, a.whole)
         }
         Call::RemoveEdit(v, b) => {
-            let a = calls::remove_edit::remove_edit(h, n, r, w, h2, n2, r2, w2, v, b as u32);
+            let a = edits::remove_edit::remove_edit(h, n, r, w, h2, n2, r2, w2, v, b as u32);
             put_answer(out, at, a.number, a.pivots, a.whole)
         }
         Call::Suggest(v, x, b) => {
-            let a = calls::suggest::suggest(h, n, r, w, h2, n2, r2, w2, v, x, b as u32);
+            let a = edits::suggest::suggest(h, n, r, w, h2, n2, r2, w2, v, x, b as u32);
             put_answer(out, at, a.number, a.pivots, a.whole)
         }
         _ => say_query(call, h, n, r, w, out, at),
@@ -58,7 +59,7 @@ pub fn say_call(
     at: usize,
 ) -> usize
     requires { ⌜ at + 2000 ≤ length (now out) ⌝ }
-    ensures { λ z. ⌜ SpokenCall call p (tables (now (h2 .entry)) (now (n2 .entry)) (now (r2 .entry)) (now (w2 .entry))) (tables (now (h .entry)) (now (n .entry)) (now (r .entry)) (now (w .entry))) (now (out .entry)) (now (out .exit)) at z (tables (now (h .exit)) (now (n .exit)) (now (r .exit)) (now (w .exit))) ⌝ }
+    ensures { λ z. ⌜ Spoken (callSaid call (listed p) (tables (now (h2 .entry)) (now (n2 .entry)) (now (r2 .entry)) (now (w2 .entry))) (tables (now (h .entry)) (now (n .entry)) (now (r .entry)) (now (w .entry)))) (now (out .entry)) (now (out .exit)) at z (tables (now (h .exit)) (now (n .exit)) (now (r .exit)) (now (w .exit))) ⌝ }
 {
     match call {
         Call::Reset => {
@@ -66,11 +67,11 @@ pub fn say_call(
             put_answer(out, at, a.number, a.pivots, a.whole)
         }
         Call::Add(c, b, rel, k) => {
-            let a = calls::add::add(h, n, r, w, h2, n2, r2, w2, c, p, k, rel, b as u32);
+            let a = constraints::add::add(h, n, r, w, h2, n2, r2, w2, c, p, k, rel, b as u32);
             put_answer(out, at, a.number, a.pivots, a.whole)
         }
         Call::Remove(c, b) => {
-            let a = calls::remove::remove(h, n, r, w, h2, n2, r2, w2, c, b as u32);
+            let a = constraints::remove::remove(h, n, r, w, h2, n2, r2, w2, c, b as u32);
             put_answer(out, at, a.number, a.pivots, a.whole)
         }
         _ => say_edit(call, h, n, r, w, h2, n2, r2, w2, out, at),

@@ -1,9 +1,9 @@
 -- The tableau's part of the reading test, place by place, as the code runs it.
-use Prim.Native.Nat.{ℕ, _+_, _-_, _/_}
+use Prim.Native.Nat.{ℕ, _+_, _-_, _/_, _%_}
 use mathlib.Core.Bool.{Bool, true, false, not, _&&_, cond}
 use mathlib.Core.List.{List, []}
 use lib.Dec.{eqb, ltb}
-use lib.ListN.{getD, replicate}
+use lib.ListN.{getD, set, replicate}
 use lib.Ieee.{Float, nan}
 use Rattle.steps.specs.Number.{isFinite}
 use Rattle.steps.specs.Symbol.{absent}
@@ -24,6 +24,14 @@ idsBounded h k next = allIn (λ i. ltb 0 (getD h (symbolsAt + i) 0 / 4) && ltb (
 -- which of the k symbols x is, k if none
 unfoldable pub placeOf : List ℕ → ℕ → ℕ → ℕ
 placeOf h k x = placeIn (λ j. getD h (symbolsAt + j) 0) k x
+
+-- the slot of a symbol: its id's last eight bits
+unfoldable pub slotOf : ℕ → ℕ
+slotOf x = x / 4 % 256
+
+-- each symbol's place in its slot, the last one's where symbols share one
+unfoldable pub slotsOf : List ℕ → ℕ → List ℕ → List ℕ
+slotsOf h k s = run (λ i l. set l (slotOf (getD h (symbolsAt + i) 0)) i) 0 k s
 
 -- ---- rows
 

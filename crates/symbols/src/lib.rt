@@ -3,10 +3,10 @@ ghost use mathlib.Core.Path.{_≡_};
 ghost use mathlib.Core.Bool.{true, false, _&&_};
 ghost use mathlib.Core.List.{List, []};
 ghost use Prim.Native.Nat.{ℕ, _+_, _-_, _<_, _≤_};
-ghost use lib.ListN.{getD, length};
+ghost use lib.ListN.{getD, length, replicate};
 ghost use Rattle.layout.specs.Layout.{symbolsAt, headSize, itemsSize, rowsSize};
 ghost use Rattle.places.specs.Shares.{shares, stock};
-ghost use Rattle.symbols.specs.Symbols.{idsAscend, idsBounded, placeOf, columnClear, basicFits, basicsFit, rowFinite, rowsFinite, entriesDiffer, idsDiffer, entriesFit, tableauFits, takeSymbol, takeOther, takeTag, takeVariables, takeTags, noShares, ownedFit};
+ghost use Rattle.symbols.specs.Symbols.{idsAscend, idsBounded, placeOf, slotOf, slotsOf, columnClear, basicFits, basicsFit, rowFinite, rowsFinite, entriesDiffer, idsDiffer, entriesFit, tableauFits, takeSymbol, takeOther, takeTag, takeVariables, takeTags, noShares, ownedFit};
 
 pub fn ids_ascend(head: &[u64], a: usize, n: usize) -> bool
     requires { ⌜ a + n ≤ length (now head) ⌝ }
@@ -53,13 +53,16 @@ fn look_along(head: &[u64], k: usize, x: u64) -> usize
 }
 
 // Slots guess a place by the id's last eight bits: a guess is looked at, and if it is wrong the symbols are looked along.
-pub fn no_slots() -> [u8; 256] {
+pub fn no_slots() -> [u8; 256]
+    ensures { λ r. ⌜ r ≡ replicate 256 0 ⌝ }
+{
     [0; 256]
 }
 
 pub fn fill_slots(slots: &mut [u8; 256], head: &[u64], k: usize)
     requires { ⌜ symbolsAt + k ≤ length (now head) ⌝ }
     requires { ⌜ k ≤ 129 ⌝ }
+    ensures { λ _. ⌜ now (slots .exit) ≡ slotsOf (now (head .entry)) k (now (slots .entry)) ⌝ }
 {
     let mut i = 0;
     while i < k {
@@ -68,11 +71,15 @@ pub fn fill_slots(slots: &mut [u8; 256], head: &[u64], k: usize)
     }
 }
 
-fn wide(x: u8) -> usize {
+fn wide(x: u8) -> usize
+    ensures { λ r. ⌜ r ≡ x ⌝ }
+{
     x as usize
 }
 
-fn guess(slots: &[u8; 256], x: u64) -> usize {
+fn guess(slots: &[u8; 256], x: u64) -> usize
+    ensures { λ r. ⌜ r ≡ getD (now (slots .entry)) (slotOf x) 0 ⌝ }
+{
     wide(slots[(x / 4 % 256) as usize])
 }
 

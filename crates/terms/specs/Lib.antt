@@ -1,3 +1,4 @@
 pub mod Terms
 pub mod Packed
 pub mod Kept
+pub mod Listed

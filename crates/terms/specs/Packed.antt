@@ -34,11 +34,11 @@ module _ (p : Pack) (t : Term) where
   unfolding pushed
   pushed-room h = rw (lt-ltb (p .count) 16 h) refl
 
-  pushed-full : 16 ≤ p .count → pushed p t ≡ record { count = 17; finite = p .finite && isFinite (t .coefficient); vars = p .vars; coefs = p .coefs }
+  pub pushed-full : 16 ≤ p .count → pushed p t ≡ record { count = 17; finite = p .finite && isFinite (t .coefficient); vars = p .vars; coefs = p .coefs }
   unfolding pushed
   pushed-full h = rw (le-ltb (p .count) 16 h) refl
 
-  pushed-finite : pushed p t .finite ≡ p .finite && isFinite (t .coefficient)
+  pub pushed-finite : pushed p t .finite ≡ p .finite && isFinite (t .coefficient)
   pushed-finite = go (ltb (p .count) 16) refl
     where
       go : (b : Bool) → ltb (p .count) 16 ≡ b → pushed p t .finite ≡ p .finite && isFinite (t .coefficient)
@@ -58,7 +58,7 @@ none-sized = (refl, refl)
 
 -- ---- finite
 
-and-true : (a : Bool) → a && true ≡ a
+pub and-true : (a : Bool) → a && true ≡ a
 and-true true = refl
 and-true false = refl
 

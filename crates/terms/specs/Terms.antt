@@ -1,8 +1,8 @@
 -- A list of terms, gathered into two rows of sixteen; and what is read from the pack.
 use Prim.Native.Nat.{ℕ, _+_}
 use mathlib.Core.Bool.{Bool, true, _&&_, cond}
-use mathlib.Core.List.{List, [], _∷_, map}
-use lib.Dec.{ltb}
+use mathlib.Core.List.{List, [], _∷_, _++_, map}
+use lib.Dec.{leb, ltb}
 use lib.ListN.{getD, set, replicate}
 use lib.Ieee.{nan}
 use Rattle.steps.specs.Number.{zero64, cellBound, nearZero, isFinite}
@@ -67,3 +67,19 @@ pushedKept p t = cond (nearZero (t .coefficient)) p (pushed p t)
 -- the terms of a pack that are not near zero
 unfoldable pub keptOf : Pack → Pack
 keptOf p = run (λ j q. pushedKept q (termIn p j)) 0 (most16 (p .count)) noPack
+
+-- ---- the list that any pack stands for, one filled by hand too
+
+-- its terms, the first sixteen where it counts more
+unfoldable pub shownIn : Pack → List Term
+shownIn p = listOf (most16 (p .count)) (termIn p)
+
+abbrev pub zeroTerm : Term
+zeroTerm = record { variable = 0; coefficient = zero64 }
+
+-- past these: where it says that not all are finite, one that is not; where it counts more than sixteen, one more
+unfoldable pub pastIn : Pack → List Term
+pastIn p = cond (p .finite) (cond (leb (p .count) 16) [] (zeroTerm ∷ [])) (noTerm ∷ [])
+
+unfoldable pub listed : Pack → List Term
+listed p = shownIn p ++ pastIn p

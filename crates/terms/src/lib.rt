@@ -3,7 +3,7 @@ ghost use mathlib.Core.Path.{_≡_};
 ghost use Prim.Native.Nat.{_+_, _<_, _≤_};
 ghost use lib.ListN.{length, getD};
 ghost use Rattle.layout.specs.Copy.{most16};
-ghost use Rattle.terms.specs.Terms.{noTerm, noPack, pushed, packOf, termIn, wholePack, pushedKept, keptOf};
+ghost use Rattle.terms.specs.Terms.{noTerm, noPack, pushed, packOf, termIn, wholePack, pushedKept, keptOf, shownIn, listed};
 
 // "A term is one record, a variable number and an f64 coefficient, and the terms of a constraint come as a lent list of such records."
 #[repr(C)]
@@ -128,6 +128,49 @@ pub fn kept(p: Pack) -> Pack
         let t = packed(p, i);
         q = push_kept(q, t);
         i += 1;
+    }
+    q
+}
+
+// ---- any pack, one filled by hand too
+
+// The pack of its terms, the first sixteen where it counts more.
+fn shown_again(p: Pack) -> Pack
+    ensures { λ r. ⌜ r ≡ packOf (shownIn p) ⌝ }
+{
+    let n = shown(p);
+    let mut q = none();
+    let mut i = 0;
+    while i < n {
+        let t = packed(p, i);
+        q = push(q, t);
+        i += 1;
+    }
+    q
+}
+
+// The pack of the list that it stands for: what it says of its count and of its coefficients is said of terms.
+pub fn proper(p: Pack) -> Pack
+    ensures { λ r. ⌜ r ≡ packOf (listed p) ⌝ }
+{
+    let q = shown_again(p);
+    if !p.finite {
+        return push(
+            q,
+            Term {
+                variable: 0,
+                coefficient: 0.0 / 0.0,
+            },
+        );
+    }
+    if p.count > 16 {
+        return push(
+            q,
+            Term {
+                variable: 0,
+                coefficient: 0.0,
+            },
+        );
     }
     q
 }

@@ -6,6 +6,7 @@ use types.Run.{OneOf, miss}
 use denote.Enum.Declared.{tagOf}
 use Rattle.layout.specs.Layout.{Tables, tables}
 use Rattle.terms.specs.declared.Term.{Term}
+use Rattle.terms.specs.Terms.{listed}
 use Rattle.text.specs.declared.calls.Call.{Call}
 use Rattle.text.specs.declared.calls.Call.the-variants.{Reset, Add, Remove, AddEdit, RemoveEdit, Suggest, Value, HasCon, HasEdit, Fetch, Create, Clip, Bad}
 use Rattle.text.proofs.calls.Call.{the-type}
@@ -87,7 +88,8 @@ returns c =
     let a = c .before .before .before .before .before .before .before .before .before .before .before .before .before .before .before .before .before .before .before .args in
     let p = c .before .before .put-answer in
     let d = c .before .before .before .before .before .before .before .before .before .reset in
-    λ ts _. reset-said (tables (a .h2 .now) (a .n2 .now) (a .r2 .now) (a .w2 .now)) (tables (a .h .now) (a .n .now) (a .r .now) (a .w .now)) (a .out .now) (p .last .0) (a .at) (p .result) (d .result) ts (c .before .before .before .before .before .before .before .before .before .before .before .before .before .before .enum-told .given .1) (d .ensures) (p .ensures)
+    let ts = listed (a .p) in
+    reset-said (tables (a .h2 .now) (a .n2 .now) (a .r2 .now) (a .w2 .now)) (tables (a .h .now) (a .n .now) (a .r .now) (a .w .now)) (a .out .now) (p .last .0) (a .at) (p .result) (d .result) ts (c .before .before .before .before .before .before .before .before .before .before .before .before .before .before .enum-told .given .1) (d .ensures) (p .ensures)
 
 same-length-6 : tie.Need-same-length-6
 same-length-6 c = search needs
@@ -121,7 +123,8 @@ returns-2 c =
     let a = c .before .before .before .before .before .before .before .before .before .before .before .before .before .before .before .before .before .before .before .before .before .before .before .before .before .before .before .before .before .args in
     let p = c .before .before .put-answer2 in
     let d = c .before .before .before .before .before .before .before .before .before .before .before .before .before .before .add in
-    λ ts e. add-said (tables (a .h2 .now) (a .n2 .now) (a .r2 .now) (a .w2 .now)) (tables (a .h .now) (a .n .now) (a .r .now) (a .w .now)) (a .out .now) (p .last .0) (a .at) (p .result) (d .result) ts (c .before .before .before .before .before .before .before .before .before .before .before .before .before .before .before .before .before .before .before .before .before .before .before .before .call .given .1) (d .ensures .0 ts e) (p .ensures)
+    let ts = listed (a .p) in
+    add-said (tables (a .h2 .now) (a .n2 .now) (a .r2 .now) (a .w2 .now)) (tables (a .h .now) (a .n .now) (a .r .now) (a .w .now)) (a .out .now) (p .last .0) (a .at) (p .result) (d .result) ts (c .before .before .before .before .before .before .before .before .before .before .before .before .before .before .before .before .before .before .before .before .before .before .before .before .call .given .1) (d .ensures .0) (p .ensures)
 
 same-length-15 : tie.Need-same-length-15
 same-length-15 c = search needs
@@ -155,7 +158,8 @@ returns-3 c =
     let a = c .before .before .before .before .before .before .before .before .before .before .before .before .before .before .before .before .before .before .before .before .before .before .before .before .before .before .before .before .before .args in
     let p = c .before .before .put-answer3 in
     let d = c .before .before .before .before .before .before .before .before .before .before .before .before .before .before .remove in
-    λ ts _. remove-said (tables (a .h2 .now) (a .n2 .now) (a .r2 .now) (a .w2 .now)) (tables (a .h .now) (a .n .now) (a .r .now) (a .w .now)) (a .out .now) (p .last .0) (a .at) (p .result) (d .result) ts (c .before .before .before .before .before .before .before .before .before .before .before .before .before .before .before .before .before .before .before .before .before .before .before .before .call2 .given .1) (d .ensures .0) (p .ensures)
+    let ts = listed (a .p) in
+    remove-said (tables (a .h2 .now) (a .n2 .now) (a .r2 .now) (a .w2 .now)) (tables (a .h .now) (a .n .now) (a .r .now) (a .w .now)) (a .out .now) (p .last .0) (a .at) (p .result) (d .result) ts (c .before .before .before .before .before .before .before .before .before .before .before .before .before .before .before .before .before .before .before .before .before .before .before .before .call2 .given .1) (d .ensures .0) (p .ensures)
 
 same-length-24 : tie.Need-same-length-24
 same-length-24 c = search needs
@@ -188,7 +192,8 @@ returns-4 : tie.Need-returns-4
 returns-4 c =
     let a = c .before .before .before .before .before .before .before .before .before .before .before .before .before .before .before .before .before .before .before .before .before .before .before .before .before .before .args in
     let p = c .before .before .before .before .before .before .before .before .before .before .before .before .say-edit in
-    λ ts _. spoken-as (a .out .now) (p .last .1 .1 .1 .1 .1 .1 .1 .1 .1 .0) (a .at) (p .result) (rest (a .call) ts (tables (a .h2 .now) (a .n2 .now) (a .r2 .now) (a .w2 .now)) (tables (a .h .now) (a .n .now) (a .r .now) (a .w .now)) (c .before .before .before .before .before .before .before .before .before .before .before .before .before .before .before .before .before .before .before .before .before .before .match .keys4)) (p .ensures)
+    let ts = listed (a .p) in
+    spoken-as (a .out .now) (p .last .1 .1 .1 .1 .1 .1 .1 .1 .1 .0) (a .at) (p .result) (rest (a .call) ts (tables (a .h2 .now) (a .n2 .now) (a .r2 .now) (a .w2 .now)) (tables (a .h .now) (a .n .now) (a .r .now) (a .w .now)) (c .before .before .before .before .before .before .before .before .before .before .before .before .before .before .before .before .before .before .before .before .before .before .match .keys4)) (p .ensures)
 
 pub say-call-spec : {M : Type 1} → statement M
 say-call-spec =

@@ -1,9 +1,0 @@
-// The five changing calls over lent tables: the tables are tested and copied into the working room, the steps run there, an accepted call's state goes back, the room is cleared.
-pub mod add;
-pub mod add_edit;
-pub mod begin;
-pub mod one;
-pub mod pack;
-pub mod remove;
-pub mod remove_edit;
-pub mod suggest;

@@ -1,0 +1,51 @@
+// The terms of a pack as an item of the tables holds them, and the record of an added constraint.
+ghost use Rattle.constraints.specs.Packing.{Names, Reals, Recorded, Weighed};
+use terms::Pack;
+
+pub fn term_item(p: Pack) -> [u64; 20]
+    ensures { λ r. ⌜ Names p r ⌝ }
+{
+    let vars = p.vars;
+    let mut item = [0; 20];
+    item[3] = terms::shown(p) as u64;
+    let mut i = 0;
+    while i < 16 {
+        item[4 + i] = vars[i] as u64;
+        i += 1;
+    }
+    item
+}
+
+pub fn term_real(p: Pack) -> [f64; 17]
+    ensures { λ r. ⌜ Reals p r ⌝ }
+{
+    let coefs = p.coefs;
+    let mut real = [0.0; 17];
+    let mut i = 0;
+    while i < 16 {
+        real[1 + i] = coefs[i];
+        i += 1;
+    }
+    real
+}
+
+// "its terms are those whose coefficient is not near zero"
+pub fn constraint_item(p: Pack, n: u64, marker: u64, other: u64) -> [u64; 20]
+    ensures { λ r. ⌜ Recorded p n marker other r ⌝ }
+{
+    let kept = terms::kept(p);
+    let mut item = term_item(kept);
+    item[0] = n;
+    item[1] = marker;
+    item[2] = other;
+    item
+}
+
+pub fn constraint_real(p: Pack, strength: f64) -> [f64; 17]
+    ensures { λ r. ⌜ Weighed p strength r ⌝ }
+{
+    let kept = terms::kept(p);
+    let mut real = term_real(kept);
+    real[0] = strength;
+    real
+}

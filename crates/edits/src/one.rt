@@ -1,0 +1,20 @@
+// An edit's one term, the variable times 1, as a stored item has it.
+ghost use mathlib.Core.Path.{_≡_};
+ghost use Rattle.edits.specs.One.{oneItem, oneReal};
+
+pub fn one_item(n: u64) -> [u64; 20]
+    ensures { λ r. ⌜ r ≡ oneItem n ⌝ }
+{
+    let mut item = [0; 20];
+    item[3] = 1;
+    item[4] = n;
+    item
+}
+
+pub fn one_real() -> [f64; 17]
+    ensures { λ r. ⌜ r ≡ oneReal ⌝ }
+{
+    let mut real = [0.0; 17];
+    real[1] = 1.0;
+    real
+}

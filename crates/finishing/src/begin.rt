@@ -1,0 +1,58 @@
+// What every call begins and ends with: the stored mark, the rows' widths, and the answer.
+ghost use mathlib.Core.Path.{_≡_};
+ghost use mathlib.Core.List.{[]};
+ghost use Prim.Native.Nat.{_≤_};
+ghost use lib.ListN.{length};
+ghost use Rattle.layout.specs.Layout.{tables};
+ghost use Rattle.layout.specs.Rooms.{Wide};
+ghost use Rattle.rows.specs.Marks.{markOf};
+ghost use Rattle.shell.specs.Shell.{answerOf};
+ghost use Rattle.finishing.specs.Begin.{storedMark};
+ghost use Rattle.finishing.specs.Concluding.{byTest, answered};
+use rows::number::Wrote;
+use shell::Answer;
+use standing::Ended;
+
+pub fn stored_mark(head: &[u64]) -> Wrote
+    requires { ⌜ length (now head) ≡ 326 ⌝ }
+    ensures { λ r. ⌜ markOf r ≡ storedMark (now (head .entry)) ⌝ }
+{
+    Wrote {
+        finite: true,
+        whole: head[8] == 1,
+    }
+}
+
+pub fn widths(names: &[[u64; 20]], reals: &[[f64; 17]], rows: &[[f64; 130]])
+    ensures { λ _. ⌜ Wide (tables [] (now (names .entry)) (now (reals .entry)) (now (rows .entry))) ⌝ }
+{
+    room::wide_names(names);
+    room::wide_reals(reals);
+    room::wide_rows(rows);
+}
+
+// "A refusal answers the stored mark"
+pub fn by_test(head: &[u64], number: u64) -> Answer
+    requires { ⌜ length (now head) ≡ 326 ⌝ }
+    requires { ⌜ number ≤ 18 ⌝ }
+    ensures { λ r. ⌜ answerOf r ≡ byTest number (now (head .entry)) ⌝ }
+{
+    Answer {
+        number: number as u32,
+        pivots: 0,
+        whole: head[8] == 1,
+    }
+}
+
+// The answer of the steps.
+pub fn answer_of(e: Ended) -> Answer
+    ensures { λ r. ⌜ answerOf r ≡ answered e ⌝ }
+{
+    let wrote = e.wrote;
+    let whole = crate::says_yes(wrote);
+    Answer {
+        number: e.number,
+        pivots: e.pivots,
+        whole,
+    }
+}
