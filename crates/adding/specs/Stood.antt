@@ -33,8 +33,8 @@ use Rattle.tableau.specs.Notes.{noted}
 use Rattle.tableau.specs.NotesKept.{ItemsKept, items-by}
 use Rattle.tableau.specs.Working.{workOf, artificialIn, work-parts, symbols-by, length-symbols, Ready}
 use Rattle.tableau.specs.EnterRead.{keep-read, ready-kept}
-use Rattle.creating.specs.Tags.{frame, appendIn}
-use Rattle.creating.specs.Read.{workIn, readFrame, Open, append-read}
+use Rattle.tags.specs.Tags.{frame, appendIn}
+use Rattle.tags.specs.Read.{workIn, readFrame, Open, append-read}
 use Rattle.creating.specs.Leaves.{HeadLeft, symbol-head-left}
 use Rattle.creating.specs.Stands.{held-left}
 use Rattle.standing.specs.Standing.{Listed, Standing, Beside}

@@ -33,8 +33,8 @@ use Rattle.standing.specs.Opening.{Opening, newIn}
 use Rattle.terms.specs.declared.Pack.{Pack}
 use Rattle.terms.specs.Terms.{keptOf, termsOf}
 use Rattle.terms.specs.Kept.{most-le, terms-length, kept-terms}
-use Rattle.creating.specs.declared.tag.Relation.the-variants.{Equal}
-use Rattle.creating.specs.Tags.{relationOf}
+use Rattle.tags.specs.declared.Relation.the-variants.{Equal}
+use Rattle.tags.specs.Tags.{relationOf}
 use Rattle.dragging.specs.DragRead.{tagFrom}
 use Rattle.tests.specs.Refusals as refusals
 use Rattle.tests.specs.Refusals.{editPack, addEditRefusal}

@@ -6,7 +6,7 @@ ghost use Rattle.laws.specs.Given.{Then};
 ghost use Rattle.steps.specs.State.{strengthOf};
 ghost use Rattle.layout.specs.Layout.{tables};
 ghost use Rattle.room.specs.Room.{cleared};
-ghost use Rattle.creating.specs.Tags.{relationOf};
+ghost use Rattle.tags.specs.Tags.{relationOf};
 ghost use Rattle.tests.specs.Refusals.{addRefusal};
 ghost use Rattle.shell.specs.Shell.{Ready, Left};
 ghost use Rattle.calls.specs.Adding.{Adds, AddsIf, CalledAdd};
@@ -20,8 +20,8 @@ use crate::pack::term_item;
 use crate::pack::term_real;
 use adding::add::add_steps;
 use adding::inputs::strength_of;
-use creating::tag::Relation;
 use shell::Answer;
+use tags::Relation;
 use terms::Pack;
 
 // The tests passed.

@@ -16,8 +16,8 @@ use crate::begin::widths;
 use crate::one::one_item;
 use crate::one::one_real;
 use adding::add::add_steps;
-use creating::tag::Relation;
 use shell::Answer;
+use tags::Relation;
 
 fn edit_item(n: u64, marker: u64, other: u64) -> [u64; 20]
     ensures { λ r. ⌜ r ≡ editItem n marker other ⌝ }

@@ -2,7 +2,7 @@
 -- Assumes nothing.
 use native.Mathlib.Omega.{arith}
 use lib.Dec.{eqb}
-use Rattle.creating.specs.Tags.{relationOf}
+use Rattle.tags.specs.Tags.{relationOf}
 use Rattle.layout.specs.Layout.{tables}
 use Rattle.shell.specs.Shell.{steps-ready, leave-ready}
 use Rattle.calls.specs.Adding.{add-done}

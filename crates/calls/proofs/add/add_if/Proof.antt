@@ -3,7 +3,7 @@
 use mathlib.Core.Path.{sym, ap, _∙_}
 use borrow.Author.Tests.{not-true, not-false}
 use Rattle.layout.specs.Layout.{tables}
-use Rattle.creating.specs.Tags.{relationOf}
+use Rattle.tags.specs.Tags.{relationOf}
 use Rattle.tests.specs.Refusals.{addRefusal}
 use Rattle.calls.specs.Numbers.{add-low}
 use Rattle.calls.specs.Concluding.{ready-if}

@@ -1,13 +1,13 @@
--- `creating::tag::add_tag` meets its contract.
+-- `tags::add_tag` meets its contract.
 -- Assumes nothing.
 use lib.Ieee.{ofBits, neg}
 use Rattle.steps.specs.Number.{one64, minusOne64}
 use Rattle.rows.specs.Marks.{markOf}
-use Rattle.creating.specs.Turns.{at-most-is, equal-is, at-least-is}
-use Rattle.creating.specs.Tags.{frame}
+use Rattle.tags.specs.Turns.{at-most-is, equal-is, at-least-is}
+use Rattle.tags.specs.Tags.{frame}
 use borrow.Author.Needs.{needs}
-use Rattle.creating.proofs.tag.add_tag.Statement.{statement}
-use Rattle.creating.proofs.tag.add_tag.Tie as tie
+use Rattle.tags.proofs.add_tag.Statement.{statement}
+use Rattle.tags.proofs.add_tag.Tie as tie
 
 returns : tie.Need-returns
 unfolding one64

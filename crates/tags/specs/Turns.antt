@@ -13,9 +13,9 @@ use Rattle.steps.specs.State.{atMost, equal, atLeast}
 use Rattle.rows.specs.Table.{insertSymbolAt, insertSymbolMark}
 use Rattle.moves.specs.Moves.{Board, board, appendedHead, appendedSymbol, clearedColumn}
 use Rattle.moves.specs.Counts.{appended-same, appended-id, appended-symbols}
-use Rattle.creating.specs.Tags.{Frame, frame, newPlace, appendIn, insertAtPlace, addSymbolIn, insertInObjectiveAt, addErrorIn, Tags, tags, nextCode, secondCode, inequalityIn, softEqualityIn, requiredEqualityIn, equalityIn, addTagIn, relationOf, Grew}
-use Rattle.creating.specs.declared.tag.Relation.{Relation as Given}
-use Rattle.creating.specs.declared.tag.Relation.the-variants.{AtMost, Equal, AtLeast}
+use Rattle.tags.specs.Tags.{Frame, frame, newPlace, appendIn, insertAtPlace, addSymbolIn, insertInObjectiveAt, addErrorIn, Tags, tags, nextCode, secondCode, inequalityIn, softEqualityIn, requiredEqualityIn, equalityIn, addTagIn, relationOf, Grew}
+use Rattle.tags.specs.declared.Relation.{Relation as Given}
+use Rattle.tags.specs.declared.Relation.the-variants.{AtMost, Equal, AtLeast}
 
 -- what stands in the tables after a symbol came
 pub grew-of : (kind : ℕ) (h : List ℕ) (w : List (List Float)) {g : List ℕ} {v : List (List Float)} → length h ≡ 326 → getD h 1 0 < 129 → board g v ≡ appendedSymbol kind (board h w) → Grew h g

@@ -11,9 +11,9 @@ use Rattle.steps.specs.State.{Relation, atMost, equal, atLeast}
 use Rattle.rows.specs.Marks.{markOf}
 use Rattle.rows.specs.Table.{insertSymbolAt, insertSymbolMark}
 use Rattle.moves.specs.Moves.{appendedHead, clearedColumn}
-use Rattle.creating.specs.declared.tag.Relation.{Relation as Given}
-use Rattle.creating.specs.declared.tag.Relation.the-variants.{AtMost, Equal, AtLeast}
-use Rattle.creating.specs.declared.tag.Tagged.{Tagged}
+use Rattle.tags.specs.declared.Relation.{Relation as Given}
+use Rattle.tags.specs.declared.Relation.the-variants.{AtMost, Equal, AtLeast}
+use Rattle.tags.specs.declared.Tagged.{Tagged}
 
 -- "A relation carries its strength: at most, equal, or at least, each with an f64."
 unfoldable pub relationOf : Given → Relation

@@ -1,12 +1,12 @@
--- `creating::tag::inequality` meets its contract.
+-- `tags::inequality` meets its contract.
 -- Assumes nothing.
 use Rattle.steps.specs.Strength.{required}
 use Rattle.rows.specs.Marks.{markOf}
-use Rattle.creating.specs.Turns.{soft-is, slack-is}
-use Rattle.creating.specs.Tags.{frame}
+use Rattle.tags.specs.Turns.{soft-is, slack-is}
+use Rattle.tags.specs.Tags.{frame}
 use borrow.Author.Needs.{needs}
-use Rattle.creating.proofs.tag.inequality.Statement.{statement}
-use Rattle.creating.proofs.tag.inequality.Tie as tie
+use Rattle.tags.proofs.inequality.Statement.{statement}
+use Rattle.tags.proofs.inequality.Tie as tie
 
 returns : tie.Need-returns
 unfolding required

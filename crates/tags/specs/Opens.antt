@@ -15,9 +15,9 @@ use Rattle.rows.specs.Table.{insertSymbolAt}
 use Rattle.rows.specs.Stays.{length-insertSymbolAt}
 use Rattle.moves.specs.Moves.{Board, board, appendedHead, clearedColumn}
 use Rattle.moves.specs.Counts.{appended-length, appended-same, appended-id, appended-symbols, appended-code}
-use Rattle.creating.specs.Tags.{Frame, frame, newPlace, appendIn, insertAtPlace, addSymbolIn, insertInObjectiveAt, addErrorIn}
-use Rattle.creating.specs.Read.{readFrame, Open, new-place, add-symbol-read}
-use Rattle.creating.specs.Errors.{objective-read}
+use Rattle.tags.specs.Tags.{Frame, frame, newPlace, appendIn, insertAtPlace, addSymbolIn, insertInObjectiveAt, addErrorIn}
+use Rattle.tags.specs.Read.{readFrame, Open, new-place, add-symbol-read}
+use Rattle.tags.specs.Errors.{objective-read}
 
 module _ (f : Frame) (o : Open f) (kind : ℕ) (small : kind < 4) (k : Float) where
   abbrev h : List ℕ

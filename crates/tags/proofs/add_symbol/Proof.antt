@@ -1,14 +1,14 @@
--- `creating::tag::add_symbol` meets its contract.
+-- `tags::add_symbol` meets its contract.
 -- Assumes nothing.
 use mathlib.Core.Path.{refl}
 use native.Mathlib.Omega.{arith}
 use Rattle.steps.specs.Number.{cellBound}
 use Rattle.rows.specs.Marks.{markOf, joined-mark}
-use Rattle.creating.specs.Turns.{symbol-is, grew-of}
-use Rattle.creating.specs.Tags.{frame}
+use Rattle.tags.specs.Turns.{symbol-is, grew-of}
+use Rattle.tags.specs.Tags.{frame}
 use borrow.Author.Needs.{needs}
-use Rattle.creating.proofs.tag.add_symbol.Statement.{statement}
-use Rattle.creating.proofs.tag.add_symbol.Tie as tie
+use Rattle.tags.proofs.add_symbol.Statement.{statement}
+use Rattle.tags.proofs.add_symbol.Tie as tie
 
 returns : tie.Need-returns
 unfolding cellBound

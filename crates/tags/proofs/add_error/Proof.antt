@@ -1,13 +1,13 @@
--- `creating::tag::add_error` meets its contract.
+-- `tags::add_error` meets its contract.
 -- Assumes nothing.
 use mathlib.Core.Path.{refl}
 use Rattle.steps.specs.Number.{objectiveBound}
 use Rattle.rows.specs.Marks.{markOf, joined-mark}
-use Rattle.creating.specs.Turns.{error-is}
-use Rattle.creating.specs.Tags.{frame}
+use Rattle.tags.specs.Turns.{error-is}
+use Rattle.tags.specs.Tags.{frame}
 use borrow.Author.Needs.{needs}
-use Rattle.creating.proofs.tag.add_error.Statement.{statement}
-use Rattle.creating.proofs.tag.add_error.Tie as tie
+use Rattle.tags.proofs.add_error.Statement.{statement}
+use Rattle.tags.proofs.add_error.Tie as tie
 
 returns : tie.Need-returns
 unfolding objectiveBound

@@ -1,13 +1,13 @@
--- `creating::tag::soft_equality` meets its contract.
+-- `tags::soft_equality` meets its contract.
 -- Assumes nothing.
 use lib.Ieee.{ofBits, neg}
 use Rattle.steps.specs.Number.{one64, minusOne64}
 use Rattle.rows.specs.Marks.{markOf}
-use Rattle.creating.specs.Turns.{errors-are}
-use Rattle.creating.specs.Tags.{frame}
+use Rattle.tags.specs.Turns.{errors-are}
+use Rattle.tags.specs.Tags.{frame}
 use borrow.Author.Needs.{needs}
-use Rattle.creating.proofs.tag.soft_equality.Statement.{statement}
-use Rattle.creating.proofs.tag.soft_equality.Tie as tie
+use Rattle.tags.proofs.soft_equality.Statement.{statement}
+use Rattle.tags.proofs.soft_equality.Tie as tie
 
 returns : tie.Need-returns
 unfolding one64 minusOne64 ofBits neg

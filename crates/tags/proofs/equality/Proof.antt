@@ -1,12 +1,12 @@
--- `creating::tag::equality` meets its contract.
+-- `tags::equality` meets its contract.
 -- Assumes nothing.
 use Rattle.steps.specs.Strength.{required}
 use Rattle.rows.specs.Marks.{markOf}
-use Rattle.creating.specs.Turns.{equal-soft, equal-required}
-use Rattle.creating.specs.Tags.{frame}
+use Rattle.tags.specs.Turns.{equal-soft, equal-required}
+use Rattle.tags.specs.Tags.{frame}
 use borrow.Author.Needs.{needs}
-use Rattle.creating.proofs.tag.equality.Statement.{statement}
-use Rattle.creating.proofs.tag.equality.Tie as tie
+use Rattle.tags.proofs.equality.Statement.{statement}
+use Rattle.tags.proofs.equality.Tie as tie
 
 returns : tie.Need-returns
 unfolding required

@@ -20,8 +20,8 @@ use Rattle.rows.specs.Table.{insertSymbolAt, insertSymbolMark}
 use Rattle.rows.specs.Place.{PlaceOf}
 use Rattle.rows.specs.Reading.{insert-symbol-values, insert-symbol-marks}
 use Rattle.choose.specs.Reading.{symbolsIn, basicsIn, entriesIn, rowIn, tableauIn}
-use Rattle.creating.specs.Tags.{Frame, frame, newPlace, appendIn, insertAtPlace, addSymbolIn, insertInObjectiveAt, addErrorIn}
-use Rattle.creating.specs.Read.{workIn, readFrame, parts, work-is, length-symbols, Open}
+use Rattle.tags.specs.Tags.{Frame, frame, newPlace, appendIn, insertAtPlace, addSymbolIn, insertInObjectiveAt, addErrorIn}
+use Rattle.tags.specs.Read.{workIn, readFrame, parts, work-is, length-symbols, Open}
 
 basics-kept : (h : List ℕ) (w : List (List Float)) (x : List Float) → basicsIn h (set w 0 x) ≡ basicsIn h w
 unfolding basicsIn listOf

@@ -1,4 +1,4 @@
-// Step 2: the tag's symbols come, into the tableau, the row and the objective.
+// Add's step 2, the tag of a new row: its slack, error and dummy symbols come, into the tableau, the row and the objective.
 ghost use mathlib.Core.Path.{_≡_};
 ghost use mathlib.Core.List.{[]};
 ghost use Prim.Native.Nat.{ℕ, _+_, _<_, _≤_};
@@ -6,7 +6,7 @@ ghost use lib.ListN.{getD, length};
 ghost use lib.Ieee.{neg};
 ghost use Rattle.steps.specs.Number.{one64, minusOne64};
 ghost use Rattle.rows.specs.Marks.{markOf};
-ghost use Rattle.creating.specs.Tags.{Grew, frame, taggedOf, relationOf, addSymbolIn, addErrorIn, inequalityIn, softEqualityIn, requiredEqualityIn, equalityIn, addTagIn};
+ghost use Rattle.tags.specs.Tags.{Grew, frame, taggedOf, relationOf, addSymbolIn, addErrorIn, inequalityIn, softEqualityIn, requiredEqualityIn, equalityIn, addTagIn};
 use moves::append_symbol;
 use rows::number::CELL_BOUND;
 use rows::number::OBJECTIVE_BOUND;

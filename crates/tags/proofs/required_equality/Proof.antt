@@ -1,12 +1,12 @@
--- `creating::tag::required_equality` meets its contract.
+-- `tags::required_equality` meets its contract.
 -- Assumes nothing.
 use Rattle.steps.specs.Number.{one64}
 use Rattle.rows.specs.Marks.{markOf}
-use Rattle.creating.specs.Turns.{dummy-is}
-use Rattle.creating.specs.Tags.{frame}
+use Rattle.tags.specs.Turns.{dummy-is}
+use Rattle.tags.specs.Tags.{frame}
 use borrow.Author.Needs.{needs}
-use Rattle.creating.proofs.tag.required_equality.Statement.{statement}
-use Rattle.creating.proofs.tag.required_equality.Tie as tie
+use Rattle.tags.proofs.required_equality.Statement.{statement}
+use Rattle.tags.proofs.required_equality.Tie as tie
 
 returns : tie.Need-returns
 unfolding one64

@@ -22,9 +22,9 @@ use Rattle.choose.specs.Chosen.{as-cond}
 use Rattle.moves.specs.Moves.{Board, board, appendedHead}
 use Rattle.moves.specs.Counts.{appended-id}
 use Rattle.moves.specs.Columns.{new-symbol}
-use Rattle.creating.specs.Tags.{Frame, frame, appendIn, insertAtPlace, addSymbolIn, insertInObjectiveAt, addErrorIn, Tags, tags, nextCode, secondCode, inequalityIn, softEqualityIn, requiredEqualityIn, equalityIn, addTagIn}
-use Rattle.creating.specs.Read.{workIn, readFrame, Open, add-symbol-read}
-use Rattle.creating.specs.Opens.{open-after, error-open, add-error-read}
+use Rattle.tags.specs.Tags.{Frame, frame, appendIn, insertAtPlace, addSymbolIn, insertInObjectiveAt, addErrorIn, Tags, tags, nextCode, secondCode, inequalityIn, softEqualityIn, requiredEqualityIn, equalityIn, addTagIn}
+use Rattle.tags.specs.Read.{workIn, readFrame, Open, add-symbol-read}
+use Rattle.tags.specs.Opens.{open-after, error-open, add-error-read}
 
 inequality-is : (sign strength : Float) (b : Building) → inequality sign strength b
     ≡ cond (lt strength required)

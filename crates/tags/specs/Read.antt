@@ -28,7 +28,7 @@ use Rattle.moves.specs.Counts.{appended-same, appended-symbols, appended-code}
 use Rattle.moves.specs.Columns.{Wide, appended-row, appended-tableau}
 use Rattle.records.specs.Region.{regionOf}
 use Rattle.records.specs.Read.{read-regions}
-use Rattle.creating.specs.Tags.{Frame, frame, newPlace, appendIn, insertAtPlace, addSymbolIn}
+use Rattle.tags.specs.Tags.{Frame, frame, newPlace, appendIn, insertAtPlace, addSymbolIn}
 
 -- no artificial objective stands while a row is being built
 unfoldable pub workIn : Mark → ℕ → Tables → Work
