@@ -37,7 +37,8 @@ use Rattle.standing.specs.Kept.{standing-worse}
 use Rattle.tags.specs.declared.Tagged.{Tagged as Tags}
 use Rattle.creating.specs.Created.{tagBy, createdOf}
 use Rattle.adding.specs.declared.add.Added.{Added}
-use Rattle.adding.specs.Adding.{createdBy, Made, addedOf}
+use Rattle.temporary.specs.Temporary.{createdBy}
+use Rattle.adding.specs.Adding.{Made, addedOf}
 
 -- ---- after the row is created
 

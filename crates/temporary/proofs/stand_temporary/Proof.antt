@@ -1,11 +1,11 @@
--- `adding::temporary::stand_temporary` meets its contract.
+-- `temporary::stand_temporary` meets its contract.
 -- Assumes nothing.
 use native.Mathlib.Omega.{arith}
 use lib.ListN.{length-set}
-use Rattle.adding.specs.Stood.{stood-calls}
+use Rattle.temporary.specs.Stood.{stood-calls}
 use borrow.Author.Needs.{needs}
-use Rattle.adding.proofs.temporary.stand_temporary.Statement.{statement}
-use Rattle.adding.proofs.temporary.stand_temporary.Tie as tie
+use Rattle.temporary.proofs.stand_temporary.Statement.{statement}
+use Rattle.temporary.proofs.stand_temporary.Tie as tie
 
 same-length-2 : tie.Need-same-length-2
 same-length-2 c = simp length-set (omega (arith, c .before .before .before .before .keep-row .kept, c .before .before .before .before .before .before .before .before .before .before .before .append-symbol .kept))

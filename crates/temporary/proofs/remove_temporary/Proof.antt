@@ -1,12 +1,12 @@
--- `adding::temporary::remove_temporary` meets its contract.
+-- `temporary::remove_temporary` meets its contract.
 -- Assumes nothing.
 use mathlib.Core.Path.{sym, _∙_}
 use native.Mathlib.Omega.{arith}
 use Rattle.choose.specs.Better.{within}
-use Rattle.adding.specs.Removed.{not-basic, is-empty, not-empty}
+use Rattle.temporary.specs.Removed.{not-basic, is-empty, not-empty}
 use borrow.Author.Needs.{needs}
-use Rattle.adding.proofs.temporary.remove_temporary.Statement.{statement}
-use Rattle.adding.proofs.temporary.remove_temporary.Tie as tie
+use Rattle.temporary.proofs.remove_temporary.Statement.{statement}
+use Rattle.temporary.proofs.remove_temporary.Tie as tie
 
 returns : tie.Need-returns
 returns c = not-basic _ _ _ _ _ _ _ (c .before .before .before .before .before .before .before .before .before .row-of .ensures .0) _ _ (c .before .before .before .before .before .before .before .enum-told .given .1) (c .before .before .before .purge-temporary .ensures .0, c .before .before .before .purge-temporary .ensures .1)

@@ -1,9 +1,9 @@
--- `adding::temporary::purge_temporary` meets its contract.
+-- `temporary::purge_temporary` meets its contract.
 -- Assumes nothing.
-use Rattle.adding.specs.Removed.{purge-calls}
+use Rattle.temporary.specs.Removed.{purge-calls}
 use borrow.Author.Needs.{needs}
-use Rattle.adding.proofs.temporary.purge_temporary.Statement.{statement}
-use Rattle.adding.proofs.temporary.purge_temporary.Tie as tie
+use Rattle.temporary.proofs.purge_temporary.Statement.{statement}
+use Rattle.temporary.proofs.purge_temporary.Tie as tie
 
 returns : tie.Need-returns
 returns c = purge-calls _ _ _ _ _ _ _ _ _ (c .before .before .before .before .before .before .before .pre) (c .before .before .before .purge .ensures .0)

@@ -22,9 +22,9 @@ use Rattle.standing.specs.declared.Ended.{Ended}
 use Rattle.standing.specs.Standing.{Standing, Beside, beside-then}
 use Rattle.standing.specs.Ending.{outcomeOf, Goes}
 use Rattle.standing.specs.Bound.{is-refused, refused-then, going-then, none-then, goes-after}
-use Rattle.adding.specs.Adding.{createdBy, Fitting, temporaryCode, stoodOf}
-use Rattle.adding.specs.Stood.{temporary-is, stood-read, stood-stands, stood-beside}
-use Rattle.adding.specs.Removed.{closingOf}
+use Rattle.temporary.specs.Temporary.{createdBy, Fitting, temporaryCode, stoodOf}
+use Rattle.temporary.specs.Stood.{temporary-is, stood-read, stood-stands, stood-beside}
+use Rattle.temporary.specs.Removed.{closingOf}
 
 module _ (past : Wrote) (h : List ℕ) (n : List (List ℕ)) (reals w : List (List Float)) (row : List Float) (s : Fitting (markOf past) (tables h n reals w) row) (long : length row ≡ 130) (h₁ : List ℕ) (w₁ : List (List Float))
     (stood : board h₁ w₁ ≡ stoodOf row (board h w)) where

@@ -1,14 +1,14 @@
--- `adding::temporary::pivot_temporary` meets its contract.
+-- `temporary::pivot_temporary` meets its contract.
 -- Assumes nothing.
 use mathlib.Core.Path.{sym, _∙_}
 use native.Mathlib.Omega.{arith}
 use borrow.Author.Tests.{eq-eqb, ne-eqb}
 use Rattle.choose.specs.Better.{within}
 use Rattle.standing.specs.Places.{found-within}
-use Rattle.adding.specs.Removed.{pivotable-at, pivotable-none, pivot-refused, pivot-gone}
+use Rattle.temporary.specs.Removed.{pivotable-at, pivotable-none, pivot-refused, pivot-gone}
 use borrow.Author.Needs.{needs}
-use Rattle.adding.proofs.temporary.pivot_temporary.Statement.{statement}
-use Rattle.adding.proofs.temporary.pivot_temporary.Tie as tie
+use Rattle.temporary.proofs.pivot_temporary.Statement.{statement}
+use Rattle.temporary.proofs.pivot_temporary.Tie as tie
 
 mul-any-pivotable-symbol : tie.Need-mul-any-pivotable-symbol
 mul-any-pivotable-symbol c =

@@ -40,7 +40,7 @@ use Rattle.creating.specs.Stands.{held-left}
 use Rattle.standing.specs.Standing.{Listed, Standing, Beside}
 use Rattle.standing.specs.Kept.{standing-by, beside-by}
 use Rattle.standing.specs.Places.{fits-parts, ready-of, all-places}
-use Rattle.adding.specs.Adding.{Holds, grownRow, temporaryCode, stoodOf}
+use Rattle.temporary.specs.Temporary.{Holds, grownRow, temporaryCode, stoodOf}
 
 pub stood-calls : (row : List Float) (b : Board) {code : ℕ} {grown : List Float} {u v : Board}
     → code ≡ temporaryCode (b .head) → grown ≡ grownRow (b .head) row → u ≡ appendedSymbol 1 b → v ≡ keptRow code grown u

@@ -1,11 +1,11 @@
--- `adding::temporary::add_with_artificial` meets its contract.
+-- `temporary::add_with_artificial` meets its contract.
 -- Assumes nothing.
 use borrow.Author.Tests.{eq-eqb, ne-eqb}
 use Rattle.laws.specs.Given.{then-given}
-use Rattle.adding.specs.Alone.{temporary-stands, pass-refused, pass-closed}
+use Rattle.temporary.specs.Alone.{temporary-stands, pass-refused, pass-closed}
 use borrow.Author.Needs.{needs}
-use Rattle.adding.proofs.temporary.add_with_artificial.Statement.{statement}
-use Rattle.adding.proofs.temporary.add_with_artificial.Tie as tie
+use Rattle.temporary.proofs.add_with_artificial.Statement.{statement}
+use Rattle.temporary.proofs.add_with_artificial.Tie as tie
 
 optimise-requires : tie.Need-optimise-requires
 optimise-requires c κs = temporary-stands _ _ _ _ _ _ (c .before .before .before .before .before .before .before .before .before .before .before .before .before .pre) (c .before .before .before .before .before .before .before .before .before .before .wide .ensures) _ _ (c .before .before .before .before .before .before .stand-temporary .ensures .1)

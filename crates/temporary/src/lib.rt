@@ -1,4 +1,4 @@
-// Add's step 6: a row without a subject. The temporary slack comes and goes.
+// Add's step 6, a row without a subject, over the lent tables: the temporary slack comes, its row is optimised, and it goes.
 ghost use mathlib.Core.Path.{_≡_};
 ghost use mathlib.Core.Bool.{true, false};
 ghost use Prim.Native.Nat.{_≤_, _/_};
@@ -13,8 +13,8 @@ ghost use Rattle.moves.specs.Moves.{board};
 ghost use Rattle.tableau.specs.Working.{workOf};
 ghost use Rattle.standing.specs.Standing.{Standing};
 ghost use Rattle.standing.specs.Ending.{outcomeOf, Goes};
-ghost use Rattle.adding.specs.Adding.{createdBy, Fitting, stoodOf, temporaryCode};
-ghost use Rattle.adding.specs.Removed.{outOf, closingOf};
+ghost use Rattle.temporary.specs.Temporary.{createdBy, Fitting, stoodOf, temporaryCode};
+ghost use Rattle.temporary.specs.Removed.{outOf, closingOf};
 use choose::Found;
 use choose::any_pivotable_symbol;
 use choose::is_empty_row;

@@ -1,10 +1,10 @@
--- `adding::temporary::close_temporary` meets its contract.
+-- `temporary::close_temporary` meets its contract.
 -- Assumes nothing.
 use Rattle.standing.specs.Bound.{plain-stands}
-use Rattle.adding.specs.Removed.{not-near, near}
+use Rattle.temporary.specs.Removed.{not-near, near}
 use borrow.Author.Needs.{needs}
-use Rattle.adding.proofs.temporary.close_temporary.Statement.{statement}
-use Rattle.adding.proofs.temporary.close_temporary.Tie as tie
+use Rattle.temporary.proofs.close_temporary.Statement.{statement}
+use Rattle.temporary.proofs.close_temporary.Tie as tie
 
 remove-temporary-requires : tie.Need-remove-temporary-requires
 remove-temporary-requires c κs = plain-stands _ _ (c .before .before .before .before .before .before .before .pre)
