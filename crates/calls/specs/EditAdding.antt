@@ -35,7 +35,7 @@ use Rattle.terms.specs.Terms.{keptOf, termsOf}
 use Rattle.terms.specs.Kept.{most-le, terms-length, kept-terms}
 use Rattle.tags.specs.declared.Relation.the-variants.{Equal}
 use Rattle.tags.specs.Tags.{relationOf}
-use Rattle.dragging.specs.DragRead.{tagFrom}
+use Rattle.drags.specs.DragRead.{tagFrom}
 use Rattle.tests.specs.Refusals as refusals
 use Rattle.tests.specs.Refusals.{editPack, addEditRefusal}
 use Rattle.tests.specs.New.{new-is}

@@ -24,7 +24,7 @@ use Rattle.tableau.specs.Working.{workOf}
 use Rattle.standing.specs.declared.Ended.{Ended}
 use Rattle.standing.specs.Standing.{Standing}
 use Rattle.standing.specs.Ending.{outcomeOf, Goes}
-use Rattle.dragging.specs.DragRead.{tagFrom}
+use Rattle.drags.specs.DragRead.{tagFrom}
 use Rattle.tests.specs.Refusals.{liveIn, removeRefusal, removeEditRefusal}
 use Rattle.tests.specs.Known as known
 use Rattle.finishing.specs.Stored.{Ends}

@@ -13,9 +13,9 @@ use crate::begin::answer_of;
 use crate::begin::by_test;
 use crate::begin::stored_mark;
 use crate::begin::widths;
-use dragging::record::edit_record;
-use dragging::record::suggested_if;
 use dragging::suggest::suggest_steps;
+use drags::record::edit_record;
+use drags::record::suggested_if;
 use shell::Answer;
 
 // The tests passed: the variable has an edit, and the suggestion is finite.
