@@ -37,7 +37,8 @@ use Rattle.standing.specs.Ending.{outcomeOf, Goes, ended}
 use Rattle.standing.specs.Bound.{is-refused}
 use Rattle.standing.specs.Places.{found-id, found-within, symbol-live, fits-parts, code-of-live, code-not-nothing}
 use Rattle.creating.specs.Created.{tagBy}
-use Rattle.adding.specs.Adding.{createdBy, Fitting, Subject, Made}
+use Rattle.temporary.specs.Temporary.{createdBy, Fitting}
+use Rattle.adding.specs.Adding.{Subject, Made}
 
 -- ---- the steps, by what is chosen
 

@@ -35,7 +35,8 @@ use Rattle.standing.specs.Ending.{outcomeOf, Goes, checkedOf, checked-is}
 use Rattle.standing.specs.Places.{place-of-symbol, symbol-found}
 use Rattle.standing.specs.Kept.{standing-worse}
 use Rattle.standing.specs.Entered.{left, enter-reads, enter-stands, enter-beside}
-use Rattle.adding.specs.Adding.{createdBy, Subject}
+use Rattle.temporary.specs.Temporary.{createdBy}
+use Rattle.adding.specs.Adding.{Subject}
 
 module _ (a : Mark) (p : ℕ) (h : List ℕ) (n : List (List ℕ)) (reals w : List (List Float)) (row : List Float) (s : Subject a p (tables h n reals w) row) (long : length row ≡ 130) where
   abbrev code : ℕ

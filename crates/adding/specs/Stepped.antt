@@ -34,10 +34,11 @@ use Rattle.standing.specs.Opening.{Opening}
 use Rattle.standing.specs.Ending.{outcomeOf, Goes, checkedOf, checked-is}
 use Rattle.standing.specs.Bound.{is-refused, refused-then, going-then, none-then, goes-after}
 use Rattle.standing.specs.Kept.{standing-worse}
-use Rattle.creating.specs.declared.tag.Tagged.{Tagged as Tags}
+use Rattle.tags.specs.declared.Tagged.{Tagged as Tags}
 use Rattle.creating.specs.Created.{tagBy, createdOf}
 use Rattle.adding.specs.declared.add.Added.{Added}
-use Rattle.adding.specs.Adding.{createdBy, Made, addedOf}
+use Rattle.temporary.specs.Temporary.{createdBy}
+use Rattle.adding.specs.Adding.{Made, addedOf}
 
 -- ---- after the row is created
 

@@ -11,25 +11,26 @@ ghost use Rattle.rows.specs.Marks.{markOf};
 ghost use Rattle.tableau.specs.Working.{workOf};
 ghost use Rattle.standing.specs.Opening.{Opening};
 ghost use Rattle.standing.specs.Ending.{outcomeOf, Goes};
-ghost use Rattle.creating.specs.Tags.{relationOf};
+ghost use Rattle.tags.specs.Tags.{relationOf};
 ghost use Rattle.creating.specs.Created.{Spare, termsIn};
-ghost use Rattle.adding.specs.Adding.{createdBy, Fitting, Made, addedOf};
+ghost use Rattle.temporary.specs.Temporary.{createdBy, Fitting};
+ghost use Rattle.adding.specs.Adding.{Made, addedOf};
 ghost use Rattle.adding.specs.Chosen.{dummiesOf, unchosenOf};
 ghost use Rattle.adding.specs.Stepped.{addedRow};
 use crate::inputs::mark_inputs;
 use crate::subject::add_with_subject;
-use crate::temporary::add_with_artificial;
 use choose::Found;
 use choose::all_dummies;
 use choose::place_of;
 use choose::subject::choose_subject;
 use creating::create::create_row;
-use creating::tag::Relation;
 use passes::optimise;
 use rows::number::Wrote;
 use rows::number::near_zero;
 use standing::Ended;
 use standing::check_finite;
+use tags::Relation;
+use temporary::add_with_artificial;
 
 // How the steps end, and the symbols of the constraint, other 0 if there is none.
 pub struct Added {

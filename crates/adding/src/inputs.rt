@@ -6,15 +6,15 @@ ghost use Rattle.steps.specs.Number.{worse, wholeIf};
 ghost use Rattle.steps.specs.State.{strengthOf};
 ghost use Rattle.steps.specs.Add.{wholeTerms, wholeInputs};
 ghost use Rattle.rows.specs.Marks.{markOf};
-ghost use Rattle.creating.specs.Tags.{relationOf};
+ghost use Rattle.tags.specs.Tags.{relationOf};
 ghost use Rattle.creating.specs.Created.{termsIn};
-use creating::tag::Relation;
 use rows::number::CELL_BOUND;
 use rows::number::CONSTANT_BOUND;
 use rows::number::Wrote;
 use rows::number::is_whole;
 use rows::number::joined;
 use rows::number::whole_within;
+use tags::Relation;
 
 // "skipped coefficients too"
 fn whole_terms(item: &[u64; 20], real: &[f64; 17]) -> bool

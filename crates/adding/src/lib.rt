@@ -2,4 +2,3 @@
 pub mod add;
 pub mod inputs;
 pub mod subject;
-pub mod temporary;

@@ -16,9 +16,9 @@ use Rattle.steps.specs.Calls.{Answer, add}
 use Rattle.layout.specs.Layout.{Tables}
 use Rattle.layout.specs.Rooms.{both}
 use Rattle.shell.specs.Shell.{Called, called, refused18, callOf}
-use Rattle.creating.specs.declared.tag.Relation.{Relation}
-use Rattle.creating.specs.declared.tag.Relation.the-variants.{AtMost, Equal, AtLeast}
-use Rattle.creating.specs.Tags.{relationOf}
+use Rattle.tags.specs.declared.Relation.{Relation}
+use Rattle.tags.specs.declared.Relation.the-variants.{AtMost, Equal, AtLeast}
+use Rattle.tags.specs.Tags.{relationOf}
 use Rattle.terms.specs.declared.Term.{Term}
 use Rattle.terms.specs.declared.Pack.{Pack}
 use Rattle.terms.specs.Terms.{noPack, pushed, packOf, termsIn, listed}

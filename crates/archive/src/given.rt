@@ -3,9 +3,9 @@ ghost use mathlib.Core.Path.{_≡_};
 ghost use Prim.Native.Nat.{_≤_};
 ghost use lib.ListN.{length};
 ghost use Rattle.terms.specs.Terms.{packOf};
-ghost use Rattle.creating.specs.Tags.{relationOf};
+ghost use Rattle.tags.specs.Tags.{relationOf};
 ghost use Rattle.archive.specs.Given.{given, relationBy};
-use creating::tag::Relation;
+use tags::Relation;
 use terms::Pack;
 use terms::Term;
 

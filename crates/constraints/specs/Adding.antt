@@ -31,7 +31,7 @@ use Rattle.terms.specs.declared.Term.{Term}
 use Rattle.terms.specs.declared.Pack.{Pack}
 use Rattle.terms.specs.Terms.{packOf, termsIn, termsOf}
 use Rattle.terms.specs.Packed.{pack-terms}
-use Rattle.dragging.specs.DragRead.{tagFrom}
+use Rattle.drags.specs.DragRead.{tagFrom}
 use Rattle.tests.specs.Refusals.{addRefusal}
 use Rattle.tests.specs.Tested.{few-terms}
 use Rattle.tests.specs.Passed.{Room, add-refused, add-passes, add-passed}

@@ -18,7 +18,7 @@ use Rattle.terms.specs.declared.Pack.{Pack}
 use Rattle.terms.specs.Terms as terms
 use Rattle.terms.specs.Terms.{keptOf, termIn, termsOf}
 use Rattle.terms.specs.Kept.{most-le, kept-terms}
-use Rattle.dragging.specs.DragRead.{tagFrom}
+use Rattle.drags.specs.DragRead.{tagFrom}
 
 -- a row of names, and one of reals, that hold the pack's terms
 pub record Names (p : Pack) (item : List ℕ) : Type 0 where

@@ -21,7 +21,7 @@ use Rattle.choose.specs.Reading.{symbolsIn}
 use Rattle.tableau.specs.Working.{workOf}
 use Rattle.standing.specs.declared.Ended.{Ended}
 use Rattle.standing.specs.Ending.{outcomeOf, Goes}
-use Rattle.dragging.specs.DragRead.{tagFrom}
+use Rattle.drags.specs.DragRead.{tagFrom}
 use Rattle.tests.specs.Refusals.{liveIn, removeRefusal}
 use Rattle.tests.specs.Known as known
 use Rattle.finishing.specs.Stored.{Ends}

@@ -5,7 +5,7 @@ ghost use Rattle.steps.specs.State.{strengthOf};
 ghost use Rattle.steps.specs.Calls.{add};
 ghost use Rattle.layout.specs.Layout.{tables};
 ghost use Rattle.room.specs.Room.{cleared};
-ghost use Rattle.creating.specs.Tags.{relationOf};
+ghost use Rattle.tags.specs.Tags.{relationOf};
 ghost use Rattle.tests.specs.Refusals.{addRefusal};
 ghost use Rattle.terms.specs.Terms.{termsIn, listed};
 ghost use Rattle.shell.specs.Shell.{answerOf, called, callOf, Ready};
@@ -17,12 +17,12 @@ use crate::pack::term_item;
 use crate::pack::term_real;
 use adding::add::add_steps;
 use adding::inputs::strength_of;
-use creating::tag::Relation;
 use finishing::begin::answer_of;
 use finishing::begin::by_test;
 use finishing::begin::stored_mark;
 use finishing::begin::widths;
 use shell::Answer;
+use tags::Relation;
 use terms::Pack;
 
 // The tests passed. What is said is said of every list that the pack is of.

@@ -20,10 +20,10 @@ use Rattle.rows.specs.Reading.{rowOf, reverse-read}
 use Rattle.choose.specs.Reading.{rowIn}
 use Rattle.records.specs.Records.{countedUse}
 use Rattle.records.specs.Uses.{Counted, counted-use}
-use Rattle.creating.specs.Tags.{Frame, frame}
+use Rattle.tags.specs.Tags.{Frame, frame}
 use Rattle.creating.specs.Terms.{Desk, desk}
 use Rattle.creating.specs.Create.{reversedIf}
-use Rattle.creating.specs.Read.{workIn, readFrame}
+use Rattle.tags.specs.Read.{workIn, readFrame}
 use Rattle.creating.specs.NewRead.{frameOf, readDesk}
 
 -- "its use count grows by one"

@@ -14,8 +14,8 @@ use Rattle.rows.specs.Marks.{markOf}
 use Rattle.rows.specs.Table.{reverseSignIn}
 use Rattle.moves.specs.Moves.{board}
 use Rattle.moves.specs.Counts.{appended-length, appended-symbols}
-use Rattle.creating.specs.declared.tag.Tagged.{Tagged}
-use Rattle.creating.specs.Tags.{Frame, frame, appendIn, insertAtPlace, addSymbolIn, insertInObjectiveAt, addErrorIn, Tags, tags, nextCode, secondCode, inequalityIn, softEqualityIn, requiredEqualityIn, equalityIn, addTagIn}
+use Rattle.tags.specs.declared.Tagged.{Tagged}
+use Rattle.tags.specs.Tags.{Frame, frame, appendIn, insertAtPlace, addSymbolIn, insertInObjectiveAt, addErrorIn, Tags, tags, nextCode, secondCode, inequalityIn, softEqualityIn, requiredEqualityIn, equalityIn, addTagIn}
 use Rattle.creating.specs.Terms.{Desk, desk, Build, build, insertTermsIn}
 
 -- "Row constant is the constraint's."

@@ -27,13 +27,13 @@ use Rattle.moves.specs.Room.{Held}
 use Rattle.tableau.specs.Working.{workOf}
 use Rattle.standing.specs.Standing.{Standing, Beside}
 use Rattle.standing.specs.Opening.{newIn, Opening}
-use Rattle.creating.specs.Tags.{Frame, frame}
+use Rattle.tags.specs.Tags.{Frame, frame}
 use Rattle.creating.specs.Terms.{Desk, desk, Build, build, Roomy, insertTermsIn}
 use Rattle.creating.specs.Create.{startedRow, closedRow, Made, createRowIn}
 use Rattle.creating.specs.Created.{termsIn, tagBy, Spare}
-use Rattle.creating.specs.Read.{workIn, readFrame}
+use Rattle.tags.specs.Read.{workIn, readFrame}
 use Rattle.creating.specs.StartRead.{started-read, turned, close-read}
-use Rattle.creating.specs.TagsRead.{readTags}
+use Rattle.tags.specs.TagsRead.{readTags}
 use Rattle.creating.specs.NewRead.{readDesk}
 use Rattle.creating.specs.Left.{Leaves, FrameLeft, closed-left}
 use Rattle.creating.specs.Stands.{tablesOf, held-left, stands-left, beside-left}

@@ -11,7 +11,7 @@ use Rattle.layout.specs.Layout.{Tables, symbolOf, otherOf, termCount, termOf, v
 use Rattle.rows.specs.Marks.{markOf}
 use Rattle.choose.specs.Reading.{rowIn}
 use Rattle.tableau.specs.Working.{workOf}
-use Rattle.creating.specs.declared.tag.Tagged.{Tagged}
+use Rattle.tags.specs.declared.Tagged.{Tagged}
 
 -- the terms of a stored constraint
 unfoldable pub termsIn : List ℕ → List Float → List Term

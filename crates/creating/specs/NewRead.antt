@@ -20,10 +20,10 @@ use Rattle.moves.specs.Moves.{Board, board, appendedHead, clearedColumn}
 use Rattle.moves.specs.Counts.{appended-length, appended-same}
 use Rattle.records.specs.Records.{Items, items, keptItem, variableItem, variableReal, keptVariable}
 use Rattle.records.specs.Kept.{kept-variable, new-variable}
-use Rattle.creating.specs.Tags.{Frame, frame, newPlace, appendIn}
+use Rattle.tags.specs.Tags.{Frame, frame, newPlace, appendIn}
 use Rattle.creating.specs.Terms.{Desk, desk, newVariableIn}
-use Rattle.creating.specs.Read.{workIn, readFrame, Open, append-read}
-use Rattle.creating.specs.TagsRead.{next-is}
+use Rattle.tags.specs.Read.{workIn, readFrame, Open, append-read}
+use Rattle.tags.specs.TagsRead.{next-is}
 
 abbrev pub frameOf : Desk → Mark → Frame
 frameOf d a = frame (d .head) (d .rows) (d .row) a

@@ -21,10 +21,10 @@ use Rattle.layout.specs.Layout.{symbolOf, cellsOf}
 use Rattle.rows.specs.Cells.{cells-constant}
 use Rattle.rows.specs.Stays.{length-insertSymbolAt}
 use Rattle.choose.specs.Reading.{symbolsIn, rowIn}
-use Rattle.creating.specs.Tags.{Frame, frame, newPlace, appendIn, insertAtPlace, addSymbolIn, insertInObjectiveAt, addErrorIn, Tags, tags, nextCode, secondCode, inequalityIn, softEqualityIn, requiredEqualityIn, equalityIn, addTagIn}
+use Rattle.tags.specs.Tags.{Frame, frame, newPlace, appendIn, insertAtPlace, addSymbolIn, insertInObjectiveAt, addErrorIn, Tags, tags, nextCode, secondCode, inequalityIn, softEqualityIn, requiredEqualityIn, equalityIn, addTagIn}
 use Rattle.creating.specs.Create.{startedRow, reversedIf, closedRow, tag-few}
-use Rattle.creating.specs.Read.{readFrame, Open}
-use Rattle.creating.specs.TagsRead.{readTags, add-tag-read}
+use Rattle.tags.specs.Read.{readFrame, Open}
+use Rattle.tags.specs.TagsRead.{readTags, add-tag-read}
 use Rattle.creating.specs.CloseRead.{reversed-read}
 
 -- "Row constant is the constraint's.", and no cell is present yet

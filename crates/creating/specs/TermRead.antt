@@ -36,9 +36,9 @@ use Rattle.standing.specs.Places.{Lives, lives-found, fits-parts, all-places, p
 use Rattle.records.specs.Records.{Between, numberAt, moreUses, usedOnce, countedUse}
 use Rattle.records.specs.Uses.{variable-found}
 use Rattle.records.specs.Dropped.{at-between}
-use Rattle.creating.specs.Tags.{frame}
+use Rattle.tags.specs.Tags.{frame}
 use Rattle.creating.specs.Terms.{Desk, desk, hasRoom, newVariableIn, knownIn, Marked, marked, insertVariableIn, insertKnownIn, Build, build, insertTermIn}
-use Rattle.creating.specs.Read.{workIn, readFrame, Open}
+use Rattle.tags.specs.Read.{workIn, readFrame, Open}
 use Rattle.creating.specs.TermsRead.{insert-variable-read}
 use Rattle.creating.specs.NewRead.{frameOf, readDesk, add-variable-read}
 use Rattle.creating.specs.CloseRead.{count-use-read}

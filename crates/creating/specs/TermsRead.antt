@@ -23,9 +23,9 @@ use Rattle.choose.specs.Choose.{Within, onFound, idAt, placeOf}
 use Rattle.choose.specs.Own.{first-within}
 use Rattle.choose.specs.Chosen.{row-found}
 use Rattle.choose.specs.Reading.{symbolsIn, basicsIn, rowIn, tableauIn}
-use Rattle.creating.specs.Tags.{Frame, frame, insertAtPlace}
+use Rattle.tags.specs.Tags.{Frame, frame, insertAtPlace}
 use Rattle.creating.specs.Terms.{Marked, marked, insertPlaceIn, insertVariableIn}
-use Rattle.creating.specs.Read.{workIn, readFrame, work-is, insert-read}
+use Rattle.tags.specs.Read.{workIn, readFrame, work-is, insert-read}
 
 basics-are : (h : List ℕ) (w : List (List Float)) → tableauIn h w .rows ≡ basicsIn h w
 unfolding tableauIn

@@ -12,16 +12,16 @@ ghost use Rattle.tableau.specs.Working.{workOf};
 ghost use Rattle.standing.specs.Standing.{Standing, Beside};
 ghost use Rattle.standing.specs.Opening.{Opening};
 ghost use Rattle.rows.specs.Marks.{markOf};
-ghost use Rattle.creating.specs.Tags.{frame, taggedOf, relationOf};
+ghost use Rattle.tags.specs.Tags.{frame, taggedOf, relationOf};
 ghost use Rattle.creating.specs.Terms.{Roomy, desk};
 ghost use Rattle.creating.specs.Created.{termsIn, createdOf, Spare};
 ghost use Rattle.creating.specs.Create.{startedRow, reversedIf, closedRow, madeOf, createRowIn};
-use crate::tag::Relation;
-use crate::tag::Tagged;
-use crate::tag::add_tag;
 use crate::term::insert_terms;
 use rows::number::Wrote;
 use rows::row::reverse_sign;
+use tags::Relation;
+use tags::Tagged;
+use tags::add_tag;
 
 // The row constant is the constraint's, and no cell is present yet.
 fn start_row(row: &mut [f64; 130], constant: f64, k: usize)

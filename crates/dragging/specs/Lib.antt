@@ -1,8 +1,4 @@
 -- What the contracts of `dragging` cite, and the laws that its definitions read as the steps' suggestion.
-pub mod Drag
-pub mod DragRead
-pub mod Record
-pub mod Stored
 pub mod Shifting
 pub mod ShiftRead
 pub mod PushRead

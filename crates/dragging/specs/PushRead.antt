@@ -26,8 +26,8 @@ use Rattle.moves.specs.Room.{Held}
 use Rattle.moves.specs.Held.{room, cond-held}
 use Rattle.rows.specs.Table.{shiftConstantIn}
 use Rattle.rows.specs.Reading.{rowOf}
-use Rattle.dragging.specs.declared.drag.Drag.{Drag}
-use Rattle.dragging.specs.Drag.{cellOr, shiftBy}
+use Rattle.drags.specs.declared.drag.Drag.{Drag}
+use Rattle.drags.specs.Drag.{cellOr, shiftBy}
 use Rattle.dragging.specs.Shifting.{pushesBy, shiftRowIn, pushShift}
 use Rattle.dragging.specs.ShiftRead.{row, gotten, basic, shiftedAt, written-at}
 

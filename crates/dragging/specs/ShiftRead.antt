@@ -26,8 +26,8 @@ use Rattle.rows.specs.Stays.{length-shiftConstantIn}
 use Rattle.rows.specs.Reading.{rowOf, writtenOf, shift-read}
 use Rattle.tableau.specs.Notes.{Noted, varChangedIf, changed-if-head}
 use Rattle.tableau.specs.NotesRead.{changesIn, Flags, changed-if-read, changed-if-flags, changed-if-length}
-use Rattle.dragging.specs.declared.drag.Drag.{Drag}
-use Rattle.dragging.specs.Drag.{shiftBy}
+use Rattle.drags.specs.declared.drag.Drag.{Drag}
+use Rattle.drags.specs.Drag.{shiftBy}
 use Rattle.dragging.specs.Shifting.{changesBy, shiftRowIn, shiftRowMark, noteShift, Shifting, shifting, shiftTurn}
 
 -- one row

@@ -15,8 +15,8 @@ use Rattle.rows.specs.Table.{shiftConstantIn, shiftConstantMark}
 use Rattle.moves.specs.Moves.{pushIf}
 use Rattle.moves.specs.Counts.{push-if-same}
 use Rattle.tableau.specs.Notes.{Noted, varChangedIf, changed-if-head}
-use Rattle.dragging.specs.declared.drag.Drag.{Drag}
-use Rattle.dragging.specs.Drag.{shiftBy, dragOf}
+use Rattle.drags.specs.declared.drag.Drag.{Drag}
+use Rattle.drags.specs.Drag.{shiftBy, dragOf}
 
 -- the counts of symbols, rows and variables stay
 abbrev pub Keeps : List ℕ → List ℕ → Type 0

@@ -17,7 +17,7 @@ use Rattle.tableau.specs.Working.{workOf, symbols-by, Ready}
 use Rattle.standing.specs.Standing.{Standing, Beside}
 use Rattle.standing.specs.Places.{ready-of}
 use Rattle.standing.specs.Kept.{standing-by, beside-by, row-seen, listed-by}
-use Rattle.dragging.specs.DragRead.{tagFrom}
+use Rattle.drags.specs.DragRead.{tagFrom}
 use Rattle.dragging.specs.Shifting.{Dragged, shiftConstantsIn}
 use Rattle.dragging.specs.PushRead.{Roomy}
 use Rattle.dragging.specs.Suggest.{Around, shift-constants-read, ready-dragged, around-dragged}

@@ -26,9 +26,9 @@ use Rattle.tableau.specs.Notes.{Noted, noted}
 use Rattle.tableau.specs.NotesRead.{changesIn}
 use Rattle.tableau.specs.NotesKept.{ItemsKept, items-then, items-by, items-same, note-kept}
 use Rattle.tableau.specs.Working.{workOf, work, artificialIn, work-parts, symbols-same, entries-same, basics-same, artificial-by, list-changed, Ready}
-use Rattle.dragging.specs.declared.drag.Drag.{Drag}
-use Rattle.dragging.specs.Drag.{dragOf}
-use Rattle.dragging.specs.DragRead.{tagFrom, shift-is}
+use Rattle.drags.specs.declared.drag.Drag.{Drag}
+use Rattle.drags.specs.Drag.{dragOf}
+use Rattle.drags.specs.DragRead.{tagFrom, shift-is}
 use Rattle.dragging.specs.Shifting.{shiftRowIn, noteShift, noteShifts, Dragged, Shifting, shifting, shiftRowsOf, pushShifts, draggedBy, shiftConstantsIn}
 use Rattle.dragging.specs.ShiftRead.{row, gotten, basic, shiftedAt, rows-tab, written-at, Left, left, Notes, notes-left}
 use Rattle.dragging.specs.PushRead.{Roomy, Pushed, pushed}

@@ -24,9 +24,9 @@ use Rattle.standing.specs.Standing.{Standing, Beside}
 use Rattle.standing.specs.Ending.{outcomeOf, Goes, checkedOf, checked-is}
 use Rattle.standing.specs.Next.{step-goes, step-ends, goes-after}
 use Rattle.standing.specs.Kept.{standing-worse}
-use Rattle.dragging.specs.declared.record.EditRecord.{EditRecord}
-use Rattle.dragging.specs.DragRead.{tagFrom}
-use Rattle.dragging.specs.Record.{editRecordAt, record-read}
+use Rattle.drags.specs.declared.record.EditRecord.{EditRecord}
+use Rattle.drags.specs.DragRead.{tagFrom}
+use Rattle.drags.specs.Record.{editRecordAt, record-read}
 use Rattle.dragging.specs.Shifting.{Dragged, dragged, shiftConstantsIn}
 use Rattle.dragging.specs.Stands.{shift-read, shift-stands, shift-beside}
 

@@ -1,5 +1,3 @@
-// Dragging: which rows a suggestion shifts, the shift of their constants, the edit records that hold the suggestions, and the suggestion itself.
-pub mod drag;
-pub mod record;
+// Dragging: the shift of the constants that a suggestion moves, and the suggestion itself.
 pub mod shifting;
 pub mod suggest;

@@ -29,9 +29,9 @@ use Rattle.standing.specs.declared.Ended.{Ended}
 use Rattle.standing.specs.Standing.{Standing}
 use Rattle.standing.specs.Ending.{Goes}
 use Rattle.standing.specs.Opening.{Opening}
-use Rattle.creating.specs.declared.tag.Relation.the-variants.{Equal}
-use Rattle.creating.specs.Tags.{relationOf}
-use Rattle.dragging.specs.DragRead.{tagFrom}
+use Rattle.tags.specs.declared.Relation.the-variants.{Equal}
+use Rattle.tags.specs.Tags.{relationOf}
+use Rattle.drags.specs.DragRead.{tagFrom}
 use Rattle.tests.specs.Refusals.{editPack, addEditRefusal}
 use Rattle.tests.specs.Tested.{edit-terms}
 use Rattle.tests.specs.Passed.{Room, add-edit-refused, add-edit-passes, add-edit-passed}

@@ -24,9 +24,9 @@ use Rattle.tableau.specs.Working.{workOf}
 use Rattle.standing.specs.declared.Ended.{Ended}
 use Rattle.standing.specs.Standing.{Standing}
 use Rattle.standing.specs.Ending.{outcomeOf, Goes}
-use Rattle.dragging.specs.declared.record.EditRecord.{EditRecord}
-use Rattle.dragging.specs.Record.{editRecordAt, withSuggestion, withRecord, record-read}
-use Rattle.dragging.specs.Stored.{stored-in-place}
+use Rattle.drags.specs.declared.record.EditRecord.{EditRecord}
+use Rattle.drags.specs.Record.{editRecordAt, withSuggestion, withRecord, record-read}
+use Rattle.drags.specs.Stored.{stored-in-place}
 use Rattle.dragging.specs.Suggested.{editBy, suggest-stored}
 use Rattle.tests.specs.Refusals.{liveIn, suggestRefusal}
 use Rattle.tests.specs.Known as known

@@ -12,12 +12,12 @@ ghost use Rattle.edits.specs.Adding.{editItem, editReal};
 use crate::one::one_item;
 use crate::one::one_real;
 use adding::add::add_steps;
-use creating::tag::Relation;
 use finishing::begin::answer_of;
 use finishing::begin::by_test;
 use finishing::begin::stored_mark;
 use finishing::begin::widths;
 use shell::Answer;
+use tags::Relation;
 
 fn edit_item(n: u64, marker: u64, other: u64) -> [u64; 20]
     ensures { λ r. ⌜ r ≡ editItem n marker other ⌝ }

@@ -19,7 +19,7 @@ use Rattle.places.specs.Finding.{place-is}
 use Rattle.items.specs.Items.{nameAt}
 use Rattle.asking.specs.Asked.{constraint-found, edit-found}
 use Rattle.tests.specs.Refusals.{liveIn}
-use Rattle.dragging.specs.Stored.{Ascending}
+use Rattle.drags.specs.Stored.{Ascending}
 use Rattle.finishing.specs.Begin.{constraints-count, edits-count}
 
 -- ---- ascending numbers

@@ -26,8 +26,8 @@ use Rattle.records.specs.Region.{place-between, regionOf}
 use Rattle.records.specs.Read.{read-regions, region-same, came-before, went-before}
 use Rattle.records.specs.Kept.{withConstraintsIn, withEditsIn, kept-constraint, kept-edit}
 use Rattle.records.specs.Dropped.{at-between, dropped-constraint, dropped-edit}
-use Rattle.dragging.specs.declared.record.EditRecord.{EditRecord}
-use Rattle.dragging.specs.Record.{taggedRow, suggestedRow, withRecord, edits-put}
+use Rattle.drags.specs.declared.record.EditRecord.{EditRecord}
+use Rattle.drags.specs.Record.{taggedRow, suggestedRow, withRecord, edits-put}
 use Rattle.tableau.specs.Working.{workOf}
 use Rattle.standing.specs.Standing.{Standing}
 use Rattle.finishing.specs.Closing.{closedHead, Flagged, closed-same, closed-length, closed-read, closed-flagged}

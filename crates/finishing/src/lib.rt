@@ -9,11 +9,11 @@ ghost use lib.ListN.{getD, length, set};
 ghost use Rattle.steps.specs.Tests.{keepConstraint, dropConstraint, keepEdit, dropEdit};
 ghost use Rattle.layout.specs.Layout.{tables, bitOf, constraintOf, editOf, constraintsOf, editsOf};
 ghost use Rattle.rows.specs.Marks.{markOf};
-ghost use Rattle.dragging.specs.Record.{withRecord};
+ghost use Rattle.drags.specs.Record.{withRecord};
 ghost use Rattle.standing.specs.Standing.{Standing};
 ghost use Rattle.finishing.specs.Closing.{saysYes, closedHead};
 ghost use Rattle.finishing.specs.Stored.{Ends};
-use dragging::record::EditRecord;
+use drags::record::EditRecord;
 use rows::number::Wrote;
 
 pub fn says_yes(wrote: Wrote) -> bool
@@ -124,5 +124,5 @@ pub fn with_record(
     ensures { λ _. ⌜ Ends wrote (tables (now (head .entry)) (now (names .entry)) (now (reals .entry)) (now (rows .entry))) (constraintsOf (tables (now (head .entry)) (now (names .entry)) (now (reals .entry)) (now (rows .entry)))) (set (editsOf (tables (now (head .entry)) (now (names .entry)) (now (reals .entry)) (now (rows .entry)))) j (withRecord e (editOf (getD (now (names .entry)) (80 + j) []) (getD (now (reals .entry)) (80 + j) [])))) (tables (now (head .exit)) (now (names .exit)) (now (reals .exit)) (now (rows .entry))) ⌝ }
 {
     close(head, rows, wrote);
-    dragging::record::put_edit_record(names, reals, 80 + j, e);
+    drags::record::put_edit_record(names, reals, 80 + j, e);
 }

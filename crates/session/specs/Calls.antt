@@ -18,8 +18,8 @@ use Rattle.steps.specs.Tests.{hasConstraint, hasEdit}
 use Rattle.steps.specs.Session as session
 use Rattle.steps.specs.Session.{resets, adds, removes, addsEdit, removesEdit, suggests, valueOf, fetches, hasConstraints, hasEdits, creates, clips, reads, dumps, setsNext}
 use Rattle.layout.specs.Layout.{Tables}
-use Rattle.creating.specs.declared.tag.Relation.{Relation}
-use Rattle.creating.specs.Tags.{relationOf}
+use Rattle.tags.specs.declared.Relation.{Relation}
+use Rattle.tags.specs.Tags.{relationOf}
 use Rattle.asking.specs.Asked.{asked}
 use Rattle.shell.specs.Shell.{Called, called, answerOf, callOf}
 use Rattle.shell.specs.Reset.{resetOf}

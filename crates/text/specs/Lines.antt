@@ -19,8 +19,8 @@ use Rattle.text.specs.declared.floats.Budget.{Budget}
 use Rattle.text.specs.declared.floats.Budget.the-variants.{Is16, No16}
 use Rattle.text.specs.declared.floats.Real.{Real}
 use Rattle.text.specs.declared.floats.Real.the-variants.{Number, NoReal}
-use Rattle.creating.specs.declared.tag.Relation.{Relation}
-use Rattle.creating.specs.declared.tag.Relation.the-variants.{AtMost, Equal, AtLeast}
+use Rattle.tags.specs.declared.Relation.{Relation}
+use Rattle.tags.specs.declared.Relation.the-variants.{AtMost, Equal, AtLeast}
 use Rattle.text.specs.declared.calls.Related.{Related}
 use Rattle.text.specs.declared.calls.Related.the-variants.{By, NoRelation}
 use Rattle.text.specs.declared.calls.Call.{Call}

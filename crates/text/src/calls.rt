@@ -9,7 +9,7 @@ use crate::digits;
 use crate::floats::Budget;
 use crate::floats::Id;
 use crate::floats::Real;
-use creating::tag::Relation;
+use tags::Relation;
 use terms::Pack;
 
 pub enum Related {

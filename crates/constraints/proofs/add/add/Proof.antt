@@ -4,7 +4,7 @@ use native.Mathlib.Omega.{arith}
 use lib.Dec.{eqb}
 use Rattle.steps.specs.Changing.{adds}
 use Rattle.terms.specs.Terms.{termsIn, listed}
-use Rattle.creating.specs.Tags.{relationOf}
+use Rattle.tags.specs.Tags.{relationOf}
 use Rattle.layout.specs.Layout.{tables}
 use Rattle.shell.specs.Shell.{steps-ready, leave-ready}
 use Rattle.finishing.specs.Whole.{call-done}

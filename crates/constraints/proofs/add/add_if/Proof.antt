@@ -5,7 +5,7 @@ use borrow.Author.Tests.{not-true, not-false}
 use Rattle.layout.specs.Layout.{tables}
 use Rattle.steps.specs.Calls.{add}
 use Rattle.terms.specs.Terms.{termsIn, listed}
-use Rattle.creating.specs.Tags.{relationOf}
+use Rattle.tags.specs.Tags.{relationOf}
 use Rattle.tests.specs.Refusals.{addRefusal}
 use Rattle.finishing.specs.Numbers.{add-low}
 use Rattle.finishing.specs.Concluding.{ready-if, if-not, if-done}

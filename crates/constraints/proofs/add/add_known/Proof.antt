@@ -3,7 +3,7 @@
 use Rattle.layout.specs.Layout.{tables}
 use Rattle.creating.specs.Created.{tagBy, termsIn}
 use Rattle.adding.specs.Adding.{addedOf}
-use Rattle.creating.specs.Tags.{relationOf}
+use Rattle.tags.specs.Tags.{relationOf}
 use Rattle.finishing.specs.Begin.{spare-at-start}
 use Rattle.constraints.specs.Adding.{add-opens, add-stands, addition-refused, addition-accepted}
 use borrow.Author.Needs.{needs}

@@ -3,7 +3,7 @@
 use native.Mathlib.Omega.{arith}
 use Rattle.rows.specs.Marks.{markOf}
 use Rattle.creating.specs.Create.{tag-few, few-of, closed-is}
-use Rattle.creating.specs.Tags.{frame, relationOf}
+use Rattle.tags.specs.Tags.{frame, relationOf}
 use borrow.Author.Needs.{needs}
 use Rattle.creating.proofs.create.close_row.Statement.{statement}
 use Rattle.creating.proofs.create.close_row.Tie as tie

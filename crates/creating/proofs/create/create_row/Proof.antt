@@ -1,7 +1,7 @@
 -- `creating::create::create_row` meets its contract.
 -- Assumes nothing.
 use Rattle.rows.specs.Marks.{markOf}
-use Rattle.creating.specs.Tags.{relationOf}
+use Rattle.tags.specs.Tags.{relationOf}
 use Rattle.creating.specs.Terms.{desk}
 use Rattle.creating.specs.Created.{createdOf}
 use Rattle.creating.specs.CreateRead.{opens, create-calls}

@@ -1,7 +1,7 @@
 -- `creating::create::make_row` meets its contract.
 -- Assumes nothing.
 use Rattle.rows.specs.Marks.{markOf}
-use Rattle.creating.specs.Tags.{relationOf}
+use Rattle.tags.specs.Tags.{relationOf}
 use Rattle.creating.specs.Create.{created-is}
 use Rattle.creating.specs.Terms.{desk}
 use borrow.Author.Needs.{needs}

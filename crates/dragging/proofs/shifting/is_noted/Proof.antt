@@ -8,7 +8,7 @@ use lib.Dec.{eqb}
 use lib.Ieee.{Float, ne}
 use Rattle.steps.specs.Number.{zero64}
 use Rattle.choose.specs.Kinds.{external}
-use Rattle.dragging.specs.Drag.{gets, optional}
+use Rattle.drags.specs.Drag.{gets, optional}
 use Rattle.dragging.specs.Shifting.{changesBy}
 use Rattle.dragging.proofs.shifting.is_noted.Statement.{statement}
 use Rattle.dragging.proofs.shifting.is_noted.Tie as tie

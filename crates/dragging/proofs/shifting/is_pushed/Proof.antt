@@ -8,7 +8,7 @@ use lib.Dec.{eqb}
 use lib.Ieee.{Float, lt}
 use Rattle.steps.specs.Number.{zero64, belowZero}
 use Rattle.choose.specs.Kinds.{restricted}
-use Rattle.dragging.specs.Drag.{gets, optional}
+use Rattle.drags.specs.Drag.{gets, optional}
 use Rattle.dragging.specs.Shifting.{pushesBy}
 use Rattle.dragging.proofs.shifting.is_pushed.Statement.{statement}
 use Rattle.dragging.proofs.shifting.is_pushed.Tie as tie

@@ -3,7 +3,7 @@
 use mathlib.Core.Path.{refl}
 use borrow.Author.Needs.{needs}
 use Rattle.rows.specs.Marks.{mark-clean}
-use Rattle.dragging.specs.Drag.{gets, optional}
+use Rattle.drags.specs.Drag.{gets, optional}
 use Rattle.dragging.specs.Shifting.{shiftRowIn, shiftRowMark}
 use Rattle.dragging.proofs.shifting.shift_row.Statement.{statement}
 use Rattle.dragging.proofs.shifting.shift_row.Tie as tie
