@@ -4,9 +4,9 @@ ghost use Rattle.steps.specs.Calls.{remove, addEdit, removeEdit, suggest};
 ghost use Rattle.layout.specs.Layout.{tables};
 ghost use Rattle.room.specs.Room.{cleared};
 ghost use Rattle.shell.specs.Shell.{answerOf, called, callOf};
-ghost use Rattle.archive.specs.Given.{addOf};
-use crate::given::gather;
-use crate::given::relation;
+ghost use Rattle.archive.specs.Adding.{addOf};
+use given::gather;
+use given::relation;
 use shell::Answer;
 
 // The i-th term is the i-th variable times the i-th coefficient; the kind is 0 for at most, 1 for equal, 2 for at least.

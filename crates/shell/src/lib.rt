@@ -55,10 +55,10 @@ fn put_over(
     requires { ⌜ Counts (now whead) ⌝ }
     ensures { λ _. ⌜ tables (now (head .exit)) (now (names .exit)) (now (reals .exit)) (now (rows .exit)) ≡ putOver (tables (now (whead .entry)) (now (wnames .entry)) (now (wreals .entry)) (now (wrows .entry))) (tables (now (head .entry)) (now (names .entry)) (now (reals .entry)) (now (rows .entry))) ⌝ }
 {
-    room::put_head(head, whead);
-    room::put_all_names(names, wnames, whead);
-    room::put_all_reals(reals, wreals, wnames, whead);
-    room::put_tableau(rows, wrows, whead);
+    copying::put_head(head, whead);
+    copying::put_all_names(names, wnames, whead);
+    copying::put_all_reals(reals, wreals, wnames, whead);
+    copying::put_tableau(rows, wrows, whead);
 }
 
 // The tables read as a state and the room is long enough: then the room reads as the same state.

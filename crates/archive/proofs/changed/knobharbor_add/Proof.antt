@@ -2,7 +2,7 @@
 use borrow.Author.Needs.{needs}
 use borrow.Author.Tests.{not-true, not-false}
 use Rattle.layout.specs.Layout.{tables}
-use Rattle.archive.specs.Given.{one-each, add-unfit, add-fit}
+use Rattle.archive.specs.Adding.{one-each, add-unfit, add-fit}
 use Rattle.archive.proofs.changed.knobharbor_add.Statement.{statement}
 use Rattle.archive.proofs.changed.knobharbor_add.Tie as tie
 

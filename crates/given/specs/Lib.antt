@@ -1,0 +1,2 @@
+-- What a caller in C hands to add.
+pub mod Given
