@@ -49,7 +49,7 @@ fn written(v: f64, bound: f64) {
     no_longer_whole_unless(v.abs() <= bound);
 }
 
-pub fn cell(row: RowType, v: f64) {
+pub(crate) fn cell(row: RowType, v: f64) {
     written(v, match row {
         RowType::InTable => CELLS,
         RowType::Objective => OBJECTIVE

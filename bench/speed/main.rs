@@ -1,7 +1,10 @@
 //! Times the solver, the crate as published and the patched crate on the same layouts, in one run; `bench/run speed` builds
 //! and runs it. The values after each case are compared: with the patched crate bit by bit, with the published one as numbers.
-use std::hint::black_box;
 use std::time::Instant;
+
+#[path = "../black_box.rs"]
+mod black_box;
+use black_box::black_box;
 
 #[derive(Clone, Copy)]
 enum Kind {

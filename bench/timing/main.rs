@@ -1,8 +1,11 @@
 // Times insert row, substitute and one pivot of the proved code beside the same loops in Rust, in one run, on the same
 // tables; the tables after each are compared bit by bit. `bench/run timing` builds and runs it.
 #![allow(improper_ctypes)]
-use std::hint::black_box;
 use std::time::Instant;
+
+#[path = "../black_box.rs"]
+mod black_box;
+use black_box::black_box;
 
 type Row = [f64; 130];
 type Name = [u64; 20];

@@ -1,0 +1,36 @@
+#!/usr/bin/env python3
+"""Puts the tables of `bench/run speed`, read from standard input, into docs/SPEED.md, with the machine and the versions."""
+import os
+import platform
+import subprocess
+import sys
+
+BEGIN = "<!-- bench/run speed writes from here -->"
+END = "<!-- to here -->"
+
+
+def said(command):
+    return subprocess.run(command, capture_output=True, text=True, check=True).stdout.strip()
+
+
+def processor():
+    with open("/proc/cpuinfo") as f:
+        for line in f:
+            if line.startswith("model name"):
+                return line.split(":", 1)[1].strip()
+    return "an unnamed processor"
+
+
+def main():
+    path, rounds = sys.argv[1], sys.argv[2]
+    tables = sys.stdin.read().strip()
+    with open(path) as f:
+        text = f.read()
+    head, rest = text.split(BEGIN)
+    tail = rest.split(END)[1]
+    facts = f"{platform.machine()}, {processor()}, {os.cpu_count()} cores; {said(['rustc', '--version'])}; {said(['rt', 'version'])}; medians of {rounds} rounds:"
+    with open(path, "w") as f:
+        f.write(f"{head}{BEGIN}\n{facts}\n\n{tables}\n{END}{tail}")
+
+
+main()
