@@ -18,6 +18,20 @@ macro_rules! operators {
     };
 }
 
+/// A difference is the sum with the right side's negative.
+macro_rules! differences {
+    ($($left:ty, $right:ty;)*) => {
+        $(
+            impl ops::Sub<$right> for $left {
+                type Output = Expression;
+                fn sub(self, other: $right) -> Expression {
+                    self + -other
+                }
+            }
+        )*
+    };
+}
+
 /// An `f32` on the right, or on the left, is the `f64` of its value.
 macro_rules! narrow {
     ($($op:ident, $method:ident { $($left:ident, $right:ident -> $out:ident;)* })*) => {
@@ -101,23 +115,6 @@ operators! {
         (k: f64, e: Expression) -> Expression = plus(e, k);
         (e: Expression, f: Expression) -> Expression = joined(e, f);
     }
-    Sub, sub {
-        (v: Variable, k: f64) -> Expression = one(v) - k;
-        (k: f64, v: Variable) -> Expression = k - one(v);
-        (v: Variable, w: Variable) -> Expression = one(v) - one(w);
-        (v: Variable, t: Term) -> Expression = one(v) - t;
-        (t: Term, v: Variable) -> Expression = t - one(v);
-        (v: Variable, e: Expression) -> Expression = with_term(-e, one(v));
-        (e: Expression, v: Variable) -> Expression = with_term(e, -v);
-        (t: Term, k: f64) -> Expression = t + -k;
-        (k: f64, t: Term) -> Expression = k + -t;
-        (t: Term, u: Term) -> Expression = t + -u;
-        (t: Term, e: Expression) -> Expression = with_term(-e, t);
-        (e: Expression, t: Term) -> Expression = with_term(e, -t);
-        (e: Expression, k: f64) -> Expression = plus(e, -k);
-        (k: f64, e: Expression) -> Expression = plus(-e, k);
-        (e: Expression, f: Expression) -> Expression = joined(e, -f);
-    }
     Mul, mul {
         (v: Variable, k: f64) -> Term = Term::new(v, k);
         (k: f64, v: Variable) -> Term = Term::new(v, k);
@@ -131,6 +128,24 @@ operators! {
         (t: Term, k: f64) -> Term = Term::new(t.variable, t.coefficient / k);
         (e: Expression, k: f64) -> Expression = each(e, |x| x / k);
     }
+}
+
+differences! {
+    Variable, f64;
+    f64, Variable;
+    Variable, Variable;
+    Variable, Term;
+    Term, Variable;
+    Variable, Expression;
+    Expression, Variable;
+    Term, f64;
+    f64, Term;
+    Term, Term;
+    Term, Expression;
+    Expression, Term;
+    Expression, f64;
+    f64, Expression;
+    Expression, Expression;
 }
 
 narrow! {
