@@ -1,7 +1,6 @@
 // The operations on one row: place 0 the constant, places 1 to `width` the cells, the places past them the lender's.
 ghost use mathlib.Core.Path.{_≡_};
-ghost use mathlib.Core.Bool.{false};
-ghost use Prim.Native.Nat.{_<_, _≤_, _+_};
+ghost use Prim.Native.Nat.{_<_};
 ghost use lib.ListN.{length, getD, set};
 ghost use lib.Ieee.{nan, ne};
 ghost use Rattle.steps.specs.Number.{zero64};
@@ -213,21 +212,6 @@ pub fn substitute_cells(
     }
     row[at] = 0.0;
     insert_cells(row, other, k, width, bound)
-}
-
-pub fn clear_cell(row: &mut [f64; 130], at: usize)
-    requires { ⌜ at < 130 ⌝ }
-    ensures { λ _. ⌜ now (row .exit) ≡ set (now (row .entry)) at zero64 ⌝ }
-{
-    row[at] = 0.0;
-}
-
-// The place of a new symbol, past the last one.
-pub fn append_cell(row: &mut [f64; 130], width: usize)
-    requires { ⌜ width + 1 < 130 ⌝ }
-    ensures { λ _. ⌜ now (row .exit) ≡ set (now (row .entry)) (width + 1) zero64 ⌝ }
-{
-    row[width + 1] = 0.0;
 }
 
 pub fn shift_constant(row: &mut [f64; 130], d: f64) -> Inserted
