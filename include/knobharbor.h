@@ -1,4 +1,4 @@
-/* The solver's calls, as libarchive.a has them (`rt staticlib archive`). Everything that a call answers and leaves is proved of
+/* The solver's calls, as libarchive.a has them (`rt staticlib archive`; it is for x86-64). Everything that a call answers and leaves is proved of
    the code behind it (crates/archive, docs/CLAIMS.md); that this header says the same as that code is not proved.
 
    All memory is the caller's. A state lives in four lent tables; a changing call is lent a working room of four tables more.
@@ -86,7 +86,8 @@ typedef enum knobharbor_number {
 typedef struct knobharbor_answer {
     uint32_t number; /* a knobharbor_number */
     uint32_t pivots; /* pivots made, no more than the budget */
-    bool whole;      /* every step so far was in whole numbers within bounds: the values are exact */
+    bool whole;      /* yes: every step since the reset was in whole numbers within bounds, refused calls' aside; the values meet
+                        every required constraint exactly, and no fractions do better */
 } knobharbor_answer;
 
 typedef struct knobharbor_fetched {
@@ -104,7 +105,8 @@ typedef enum knobharbor_kind {
 /* ---- changing calls
 
    Each tests, takes its steps in the working room, and writes to the tables if it is accepted. A refusal changes no table. The
-   working room is all zero after every call, refused or not. The tests come in the order that is given with each call. */
+   working room is all zero after every call, refused or not. The tests come in the order that is given with each call. A call
+   makes at most `budget` pivots; any number is taken, and the document's are 0 to 65,535. */
 
 /* No variable, constraint or edit is left; the mark is yes. Refuses only wrong lengths. */
 knobharbor_answer knobharbor_reset(uint64_t *head, size_t heads, knobharbor_name *names, size_t named, knobharbor_real *reals,
@@ -148,8 +150,9 @@ knobharbor_answer knobharbor_suggest(uint64_t *head, size_t heads, knobharbor_na
 
 /* ---- fetch changes */
 
-/* Lists the variables whose value is not the one last fetched, by ascending number, with their values; a second fetch straight
-   after lists none. Both lists have 32 places and are zero past the count; on 18, which wrong lengths of the lists give too, they
+/* Lists the variables that calls have moved and whose value is not the one last fetched, by ascending number, with their values;
+   a second fetch straight after lists none. A variable that no constraint or edit names any more is forgotten without notice,
+   and a new one that stands at 0 is not listed: ask its value. Both lists have 32 places and are zero past the count; on 18, which wrong lengths of the lists give too, they
    are all zero and no table changes. The rows are only read. */
 knobharbor_fetched knobharbor_fetch(uint64_t *head, size_t heads, knobharbor_name *names, size_t named, knobharbor_real *reals,
                                     size_t valued, knobharbor_row *rows, size_t rowed, uint64_t *numbers,

@@ -5,6 +5,7 @@ use std::time::Instant;
 #[path = "../black_box.rs"]
 mod black_box;
 use black_box::black_box;
+mod floor;
 
 #[derive(Clone, Copy)]
 enum Kind {
@@ -295,5 +296,11 @@ fn main() {
     println!("|---|---|---|---|---|");
     for l in &layouts {
         workings(l, rounds);
+    }
+    println!();
+    println!("| layout | live rows and columns | every live cell read once, us | copied once, us | the room cleared, us | two reads, two copies, one clearing, us |");
+    println!("|---|---|---|---|---|---|");
+    for l in &layouts {
+        floor::floor(l, rounds);
     }
 }

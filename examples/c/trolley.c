@@ -1,5 +1,5 @@
 /* The trolley's screen, six panes side by side: edge 1 is the left one, edge 7 the right one. The same calls as
-   examples/trolley.txt. `make run` in this folder builds the archive, builds this against it and runs it. With the archive at
+   examples/trolley.txt, then a pane that closes and a grip that goes. `make run` in this folder builds the archive, builds this against it and runs it. With the archive at
    hand, from the repository's root:
 
        gcc -Wall -Wextra -Werror -I include -o target/trolley examples/c/trolley.c target/staticlib/libarchive.a */
@@ -55,21 +55,46 @@ static void lay_out(void)
     static const double strength[6] = { 1, 1, 10, 10, 1, 1 };
     uint32_t first = 1;
     double one = 1.0;
-    knobharbor_add(KNOBHARBOR_LEND(&screen), KNOBHARBOR_LEND(&room), 1, &first, 1, &one, 1, 0.0, KNOBHARBOR_EQUAL, KNOBHARBOR_REQUIRED, 20);
+    knobharbor_answer a = knobharbor_add(KNOBHARBOR_LEND(&screen), KNOBHARBOR_LEND(&room), 1, &first, 1, &one, 1, 0.0, KNOBHARBOR_EQUAL, KNOBHARBOR_REQUIRED, 20);
+    expect(a.number == KNOBHARBOR_ACCEPTED, "the left edge is held");
     for (uint32_t i = 0; i < 6; i++)
         pane(2 + i, 1 + i, least[i], KNOBHARBOR_AT_LEAST, KNOBHARBOR_REQUIRED);
     for (uint32_t i = 0; i < 6; i++)
         pane(8 + i, 1 + i, liked[i], KNOBHARBOR_EQUAL, strength[i]);
 }
 
-static void grips(void)
+static void grip(uint32_t variable, double strength)
+{
+    knobharbor_answer a = knobharbor_add_edit(KNOBHARBOR_LEND(&screen), KNOBHARBOR_LEND(&room), variable, knobharbor_strength_clip(strength), 20);
+    expect(a.number == KNOBHARBOR_ACCEPTED && knobharbor_has_edit(KNOBHARBOR_LEND(&screen), variable), "an edge gets a grip");
+}
+
+/* Grips on edges 2 to 7, and each edge dragged to its place; the last drag's answer. */
+static knobharbor_answer grips(void)
 {
     static const double start[6] = { 160, 320, 560, 800, 920, 1040 };
-    knobharbor_add_edit(KNOBHARBOR_LEND(&screen), KNOBHARBOR_LEND(&room), 7, knobharbor_strength_create(1, 0, 0, 1), 20);
+    knobharbor_answer a = { 0, 0, false };
+    grip(7, knobharbor_strength_create(1, 0, 0, 1));
     for (uint32_t v = 2; v <= 6; v++)
-        knobharbor_add_edit(KNOBHARBOR_LEND(&screen), KNOBHARBOR_LEND(&room), v, knobharbor_strength_create(0, 1, 0, 1), 20);
-    for (uint32_t v = 7; v >= 2; v--)
-        expect(drag(v, start[v - 2], 20).number == KNOBHARBOR_ACCEPTED, "an edge goes to its place");
+        grip(v, knobharbor_strength_create(0, 1, 0, 1));
+    for (uint32_t v = 7; v >= 2; v--) {
+        a = drag(v, start[v - 2], 20);
+        expect(a.number == KNOBHARBOR_ACCEPTED, "an edge goes to its place");
+    }
+    return a;
+}
+
+/* The liked width of pane 1 is given up, and edge 2 loses its grip. */
+static void let_go(void)
+{
+    knobharbor_answer a = knobharbor_remove(KNOBHARBOR_LEND(&screen), KNOBHARBOR_LEND(&room), 8, 20);
+    show("pane 1 as wide as may be", a);
+    expect(a.number == KNOBHARBOR_ACCEPTED && !knobharbor_has_constraint(KNOBHARBOR_LEND(&screen), 8), "a constraint goes");
+    expect(knobharbor_has_constraint(KNOBHARBOR_LEND(&screen), 2), "its neighbour stays");
+    a = knobharbor_remove_edit(KNOBHARBOR_LEND(&screen), KNOBHARBOR_LEND(&room), 2, 20);
+    show("edge 2 without its grip", a);
+    expect(a.number == KNOBHARBOR_ACCEPTED && !knobharbor_has_edit(KNOBHARBOR_LEND(&screen), 2), "a grip goes");
+    expect(drag(2, 100, 20).number == KNOBHARBOR_NO_EDIT, "and cannot be dragged by");
 }
 
 /* what a display redraws */
@@ -90,10 +115,11 @@ int main(void)
     knobharbor_answer a = knobharbor_reset(KNOBHARBOR_LEND(&screen));
     expect(a.number == KNOBHARBOR_ACCEPTED && a.whole, "a reset is accepted");
     lay_out();
-    grips();
+    a = grips();
     show("laid out", a);
     redraw();
 
+    expect(drag(3, 330, 20).number == KNOBHARBOR_ACCEPTED, "edge 3 follows");
     a = drag(3, 340, 20);
     show("edge 3 to 340", a);
     expect(edge(3) == 340 && edge(4) == 560, "edge 3 follows, edge 4 stays");
@@ -114,6 +140,9 @@ int main(void)
     a = drag(7, 900, 20);
     show("edge 7 to 900", a);
     expect(edge(6) == 860 && edge(7) == 900 && edge(5) == 800, "edge 6 yields to the least width of pane 6");
+    redraw();
+
+    let_go();
     redraw();
 
     screen.head[2] += 1;

@@ -1,4 +1,4 @@
-//! Finds the proved archive, `libarchive.a`: in the folder that KNOBHARBOR_ARCHIVE names, or where `rt staticlib archive` leaves it.
+//! Finds the proved archive, `libarchive.a`: in the folder that KNOBHARBOR_ARCHIVE names (as an absolute path: cargo runs this in the crate's own folder), or where `rt staticlib archive` leaves it.
 use std::env;
 use std::path::PathBuf;
 
@@ -12,7 +12,7 @@ fn main() {
     println!("cargo:rerun-if-changed={}", file.display());
     if !file.exists() {
         panic!(
-            "{} is not there: run `rt staticlib archive` in the repository's root, which proves and builds it, or let KNOBHARBOR_ARCHIVE name its folder",
+            "{} is not there: run `rt staticlib archive` in the repository's root, which proves and builds it, or let KNOBHARBOR_ARCHIVE name its folder by an absolute path",
             file.display()
         );
     }

@@ -305,17 +305,14 @@ module _ (n : ℕ) (kind : ℕ → KindZ) (w : Work) (S : StateZ) (a : Vec) (G :
       by-positive none h = by-last h (lastExternalRow e xs none bs) (last-external kind xs (S .B) (S .R) e e≢0 none tt bs known)
       by-positive (some l) h = at-positive l h
 
-    by-negative : (t : Option Symbol) → Leaving kind xs bs (w .tableau .objective) (w .artificial) (S .B) (S .R) (S .o) a H e e≢0 t
-        → Found (elim t [ some b ↦ some b | none ↦ elim (smallestRatio (positiveRatios e xs bs)) [ some b ↦ some b | none ↦ lastExternalRow e xs none bs ] ])
-    by-negative none h = by-positive h (smallestRatio (positiveRatios e xs bs)) (positive-is kind xs bs (w .tableau .objective) (w .artificial) (S .B) (S .R) (S .o) a H e e≢0)
-    by-negative (some l) h = at-negative l h
-
   -- "the leaving row is, in rank: .."
   pub marker-row : Found (getMarkerLeavingRow e w)
   unfolding getMarkerLeavingRow
-  marker-row = go (firstDummyRow e xs bs) (first-dummy kind xs (S .B) (S .R) e e≢0 bs known)
+  marker-row = ranks (firstDummyRow e xs bs) (smallestRatio (negativeRatios e xs bs)) (first-dummy kind xs (S .B) (S .R) e e≢0 bs known) (leaving-is kind xs bs (w .tableau .objective) (w .artificial) (S .B) (S .R) (S .o) a H e e≢0)
     where
-      go : (t : Option Symbol) → FirstDummy kind xs (S .B) (S .R) e e≢0 bs t
-          → Found (elim t [ some b ↦ some b | none ↦ elim (smallestRatio (negativeRatios e xs bs)) [ some b ↦ some b | none ↦ elim (smallestRatio (positiveRatios e xs bs)) [ some b ↦ some b | none ↦ lastExternalRow e xs none bs ] ] ])
-      go none h = by-negative (empty dummy h) (smallestRatio (negativeRatios e xs bs)) (leaving-is kind xs bs (w .tableau .objective) (w .artificial) (S .B) (S .R) (S .o) a H e e≢0)
-      go (some l) h = at-dummy l h
+      ranks : (t u : Option Symbol) → FirstDummy kind xs (S .B) (S .R) e e≢0 bs t → Leaving kind xs bs (w .tableau .objective) (w .artificial) (S .B) (S .R) (S .o) a H e e≢0 u
+          → Found (elim t [ some b ↦ some b | none ↦ elim u [ some b ↦ some b | none ↦ elim (smallestRatio (positiveRatios e xs bs)) [ some b ↦ some b | none ↦ lastExternalRow e xs none bs ] ] ])
+      ranks (some l) (some m) h k = at-dummy l h
+      ranks (some l) none h k = at-dummy l h
+      ranks none (some m) h k = at-negative (empty dummy h) m k
+      ranks none none h k = by-positive (empty dummy h) k (smallestRatio (positiveRatios e xs bs)) (positive-is kind xs bs (w .tableau .objective) (w .artificial) (S .B) (S .R) (S .o) a H e e≢0)

@@ -1,4 +1,5 @@
-//! The example of cassowary's documentation: two boxes in a window whose width is edited. The `use` lines are changed, nothing else.
+//! The example of cassowary's documentation: two boxes in a window whose width is edited. Changed: the `use` lines, and what a Rust
+//! of today would write otherwise; a suggestion's answer is looked at.
 use knobharbor::strength::{MEDIUM, REQUIRED, STRONG, WEAK};
 use knobharbor::WeightedRelation::*;
 use knobharbor::{Solver, Variable};

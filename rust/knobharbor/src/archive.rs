@@ -189,9 +189,11 @@ pub fn has_edit(t: &Tables, variable: u32) -> bool {
 }
 
 pub fn strength_create(a: f64, b: f64, c: f64, w: f64) -> f64 {
+    // numbers alone, no pointer
     unsafe { knobharbor_strength_create(a, b, c, w) }
 }
 
 pub fn strength_clip(s: f64) -> f64 {
+    // numbers alone, no pointer
     unsafe { knobharbor_strength_clip(s) }
 }

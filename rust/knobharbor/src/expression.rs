@@ -9,13 +9,14 @@ static NEXT_VARIABLE: AtomicU32 = AtomicU32::new(0);
 pub struct Variable(pub(crate) u32);
 
 impl Variable {
-    /// A variable unlike every other.
+    /// A variable unlike every other that `new` made.
     #[allow(clippy::new_without_default)]
     pub fn new() -> Variable {
         Variable(NEXT_VARIABLE.fetch_add(1, Ordering::Relaxed))
     }
 
-    /// The variable of this number: firmware that numbers its own edges keeps its numbers.
+    /// The variable of this number: firmware that numbers its own edges keeps its numbers. It is the same as one that `new` made
+    /// with this number, so use one of the two.
     pub fn from_number(number: u32) -> Variable {
         Variable(number)
     }

@@ -12,7 +12,7 @@ pub enum Refusal {
     DuplicateConstraint = 4,
     UnknownConstraint = 5,
     DuplicateEditVariable = 6,
-    RequiredEdit = 7,
+    BadRequiredStrength = 7,
     UnknownEditVariable = 8,
     TooManyVariables = 9,
     TooManyConstraints = 10,
@@ -36,7 +36,7 @@ impl Refusal {
     pub(crate) fn of(number: u32) -> Option<Refusal> {
         use Refusal::*;
         let all = [
-            NotFinite, NegativeStrength, TooManyTerms, DuplicateConstraint, UnknownConstraint, DuplicateEditVariable, RequiredEdit,
+            NotFinite, NegativeStrength, TooManyTerms, DuplicateConstraint, UnknownConstraint, DuplicateEditVariable, BadRequiredStrength,
             UnknownEditVariable, TooManyVariables, TooManyConstraints, IdsUsedUp, UnsatisfiableConstraint, ArithmeticNotFinite,
             BudgetUsedUp, NoLeavingRow, NoEnteringSymbol, NoMarkerRow,
         ];
@@ -56,7 +56,7 @@ impl fmt::Display for Refusal {
             Refusal::DuplicateConstraint => "the constraint is in the solver already",
             Refusal::UnknownConstraint => "the constraint is not in the solver",
             Refusal::DuplicateEditVariable => "the variable has an edit already",
-            Refusal::RequiredEdit => "an edit cannot be required",
+            Refusal::BadRequiredStrength => "an edit cannot be required",
             Refusal::UnknownEditVariable => "the variable has no edit",
             Refusal::TooManyVariables => "there would be more than 32 variables",
             Refusal::TooManyConstraints => "there are 48 constraints already, edits counted",

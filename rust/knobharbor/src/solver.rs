@@ -43,8 +43,8 @@ impl Solver {
         self.last.pivots
     }
 
-    /// Whether the last changing call answered that every step so far was in whole numbers within bounds. While this says yes, the
-    /// values meet every required constraint exactly, and no fractions do better.
+    /// Whether the last changing call answered that every step since the reset was in whole numbers within bounds, refused calls'
+    /// aside. If yes, the values meet every required constraint exactly, and no fractions do better.
     pub fn is_whole(&self) -> bool {
         self.last.whole
     }
@@ -141,6 +141,8 @@ impl Solver {
     }
 
     /// The variables whose values changed since the last fetch, by ascending number; a second fetch straight after reports none.
+    /// A variable that no constraint or edit names any more is forgotten without notice, and a new one that stands at 0 is not
+    /// reported: ask `get_value`.
     pub fn fetch_changes(&mut self) -> &[(Variable, f64)] {
         let mut numbers = [0; PLACES];
         let mut values = [0.0; PLACES];

@@ -54,6 +54,44 @@ fn what_cannot_be_met_is_refused_and_forgotten() {
 }
 
 #[test]
+fn an_edit_comes_and_goes() {
+    let x = Variable::new();
+    let mut solver = Solver::new();
+    assert!(!solver.has_edit_variable(&x));
+    assert_eq!(solver.remove_edit_variable(x), Err(Refusal::UnknownEditVariable));
+    assert_eq!(solver.add_edit_variable(x, REQUIRED), Err(Refusal::BadRequiredStrength));
+    solver.add_edit_variable(x, STRONG).unwrap();
+    assert_eq!(solver.add_edit_variable(x, STRONG), Err(Refusal::DuplicateEditVariable));
+    solver.suggest_value(x, 7.0).unwrap();
+    assert!(solver.has_edit_variable(&x));
+    assert_eq!(solver.get_value(x), 7.0);
+
+    solver.remove_edit_variable(x).unwrap();
+    assert!(!solver.has_edit_variable(&x));
+    assert_eq!(solver.get_value(x), 0.0);
+    assert_eq!(solver.suggest_value(x, 8.0), Err(Refusal::UnknownEditVariable));
+}
+
+#[test]
+fn a_reset_forgets_all_but_the_budget() {
+    let (x, y) = (Variable::new(), Variable::new());
+    let held: Constraint = x |EQ(REQUIRED)| 5.0;
+    let mut solver = Solver::new();
+    solver.set_budget(30);
+    solver.add_constraint(held.clone()).unwrap();
+    solver.add_edit_variable(y, STRONG).unwrap();
+    solver.suggest_value(y, 3.0).unwrap();
+
+    solver.reset();
+    assert!(!solver.has_constraint(&held) && !solver.has_edit_variable(&y));
+    assert_eq!((solver.get_value(x), solver.get_value(y)), (0.0, 0.0));
+    assert_eq!((solver.pivots(), solver.is_whole(), solver.budget()), (0, true, 30));
+    assert_eq!(solver.remove_constraint(&held), Err(Refusal::UnknownConstraint));
+    solver.add_constraint(held.clone()).unwrap();
+    assert_eq!(solver.fetch_changes(), &[(x, 5.0)]);
+}
+
+#[test]
 fn seventeen_terms_are_too_many() {
     let mut solver = Solver::new();
     let sum = (0..17).fold(knobharbor::Expression::from_constant(0.0), |e, _| e + Variable::new());
