@@ -1,4 +1,4 @@
-// Tests place by place that know no table's layout: finite numbers, and shares that are taken one by one.
+// Tests place by place that know no table's layout: finite numbers, cells under marks, and shares that are taken one by one.
 ghost use mathlib.Core.Path.{_≡_};
 ghost use mathlib.Core.Bool.{_||_};
 ghost use mathlib.Core.List.{List, []};
@@ -6,8 +6,8 @@ ghost use Prim.Native.Nat.{ℕ, _+_, _-_, _<_, _≤_};
 ghost use lib.ListN.{getD, length, set, replicate};
 ghost use lib.Ieee.{nan, isNan};
 ghost use Rattle.steps.specs.Number.{isFinite};
-ghost use Rattle.steps.specs.Symbol.{absent};
 ghost use Rattle.places.specs.Shares.{shares, take, noneLeft, finiteIn};
+ghost use Rattle.places.specs.Marked.{Marks, Hits, fitsIn, hitsIn};
 
 // a product with 0.0 is 0.0 of what is finite, and NaN of what is not
 pub fn is_finite(x: f64) -> bool
@@ -16,30 +16,11 @@ pub fn is_finite(x: f64) -> bool
     x * 0.0 == 0.0
 }
 
-pub fn is_absent(x: f64) -> bool
-    ensures { λ r. ⌜ r ≡ absent x ⌝ }
-{
-    x == 0.0
-}
-
 // "a variable's old value may be NaN"
 pub fn old_fits(x: f64) -> bool
     ensures { λ r. ⌜ r ≡ isFinite x || isNan x ⌝ }
 {
     is_finite(x) | (x != x)
-}
-
-pub fn row_finite(row: &[f64; 130], a: usize, n: usize) -> bool
-    requires { ⌜ a + n ≤ 130 ⌝ }
-    ensures { λ r. ⌜ r ≡ finiteIn (now (row .entry)) a n ⌝ }
-{
-    let mut ok = true;
-    let mut i = 0;
-    while i < n {
-        ok = ok & is_finite(row[a + i]);
-        i += 1;
-    }
-    ok
 }
 
 pub fn real_finite(row: &[f64; 17], a: usize, n: usize) -> bool
@@ -54,6 +35,42 @@ pub fn real_finite(row: &[f64; 17], a: usize, n: usize) -> bool
     }
     ok
 }
+
+// ---- cells under marks: 1.0 where a cell has to be absent, 0.0 where it has to be finite
+
+// the product is 0.0 just then
+fn cell_hit(x: f64, m: f64) -> usize
+    ensures { λ r. ⌜ Hits m x r ⌝ }
+    ensures { λ r. ⌜ r ≤ 1 ⌝ }
+{
+    if x * m == 0.0 { 1 } else { 0 }
+}
+
+// Counted, not joined: a loop that counts is run over several cells at once.
+fn row_hits(row: &[f64; 130], marks: &[f64; 130], a: usize, e: usize) -> usize
+    requires { ⌜ e ≤ 130 ⌝ }
+    requires { ⌜ Marks (now marks) ⌝ }
+    ensures { λ r. ⌜ r ≡ hitsIn (now (row .entry)) (now (marks .entry)) a e ⌝ }
+{
+    let mut hits = 0;
+    let mut j = a;
+    while j < e {
+        hits += cell_hit(row[j], marks[j]);
+        j += 1;
+    }
+    hits
+}
+
+pub fn row_fits(row: &[f64; 130], marks: &[f64; 130], a: usize, e: usize) -> bool
+    requires { ⌜ a ≤ e ⌝ }
+    requires { ⌜ e ≤ 130 ⌝ }
+    requires { ⌜ Marks (now marks) ⌝ }
+    ensures { λ r. ⌜ r ≡ fitsIn (now (row .entry)) (now (marks .entry)) a e ⌝ }
+{
+    row_hits(row, marks, a, e) == e - a
+}
+
+// ---- shares
 
 fn less_one(x: u64) -> u64
     ensures { λ r. ⌜ r ≡ x - 1 ⌝ }

@@ -3,10 +3,13 @@ ghost use mathlib.Core.Path.{_≡_};
 ghost use mathlib.Core.Bool.{true, false, _&&_};
 ghost use mathlib.Core.List.{List, []};
 ghost use Prim.Native.Nat.{ℕ, _+_, _-_, _<_, _≤_};
+ghost use lib.Dec.{ltb};
 ghost use lib.ListN.{getD, length, replicate};
 ghost use Rattle.layout.specs.Layout.{symbolsAt, headSize, itemsSize, rowsSize};
 ghost use Rattle.places.specs.Shares.{shares, stock};
-ghost use Rattle.symbols.specs.Symbols.{idsAscend, idsBounded, placeOf, slotOf, slotsOf, columnClear, basicFits, basicsFit, rowFinite, rowsFinite, entriesDiffer, idsDiffer, entriesFit, tableauFits, takeSymbol, takeOther, takeTag, takeVariables, takeTags, noShares, ownedFit};
+ghost use Rattle.places.specs.Marked.{Marks};
+ghost use Rattle.symbols.specs.Symbols.{idsAscend, idsBounded, placeOf, slotOf, slotsOf, entriesDiffer, idsDiffer, entriesFit, tableauFits, takeSymbol, takeOther, takeTag, takeVariables, takeTags, noShares, ownedFit};
+ghost use Rattle.symbols.specs.Marks.{noMarks, markAt, marksOf, basicsLive, rowsFit, cellsFit};
 
 pub fn ids_ascend(head: &[u64], a: usize, n: usize) -> bool
     requires { ⌜ a + n ≤ length (now head) ⌝ }
@@ -100,80 +103,67 @@ pub fn place_of(slots: &[u8; 256], head: &[u64], k: usize, x: u64) -> usize
 
 // ---- rows
 
-fn column_clear(rows: &[[f64; 130]], e: usize, p: usize) -> bool
-    requires { ⌜ e ≤ length (now rows) ⌝ }
-    requires { ⌜ p < 130 ⌝ }
-    ensures { λ r. ⌜ r ≡ columnClear (now (rows .entry)) e p ⌝ }
+// Each column of a row's symbol is marked with 1.0: no row, nor the objective, may have a cell there. All other cells have to be finite.
+fn no_marks() -> [f64; 130]
+    ensures { λ r. ⌜ r ≡ noMarks ⌝ }
 {
-    let mut ok = true;
-    let mut i = 0;
-    while i < e {
-        ok = ok & places::is_absent(rows[i][p]);
-        i += 1;
-    }
-    ok
+    [0.0; 130]
 }
 
-fn basic_fits(
-    slots: &[u8; 256],
-    head: &[u64],
-    rows: &[[f64; 130]],
-    k: usize,
-    r: usize,
-    x: u64,
-) -> bool
-    requires { ⌜ length (now head) ≡ headSize ⌝ }
-    requires { ⌜ length (now rows) ≡ rowsSize ⌝ }
+fn mark_live(marks: &mut [f64; 130], k: usize, p: usize) -> bool
     requires { ⌜ k ≤ 129 ⌝ }
-    requires { ⌜ r ≤ 48 ⌝ }
-    requires { ⌜ idsAscend (now head) symbolsAt k ≡ true ⌝ }
-    ensures { λ b. ⌜ b ≡ basicFits (now (head .entry)) (now (rows .entry)) k r x ⌝ }
+    ensures { λ b. ⌜ b ≡ ltb p k ⌝ }
+    ensures { λ _. ⌜ now (marks .exit) ≡ markAt k p (now (marks .entry)) ⌝ }
 {
-    let p = place_of(slots, head, k, x);
     if p < k {
-        column_clear(rows, 1 + r, 1 + p)
-    } else {
-        false
+        marks[1 + p] = 1.0;
+        return true;
     }
+    false
 }
 
-fn basics_fit(slots: &[u8; 256], head: &[u64], rows: &[[f64; 130]], k: usize, r: usize) -> bool
+fn mark_basics(marks: &mut [f64; 130], slots: &[u8; 256], head: &[u64], k: usize, r: usize) -> bool
     requires { ⌜ length (now head) ≡ headSize ⌝ }
-    requires { ⌜ length (now rows) ≡ rowsSize ⌝ }
     requires { ⌜ k ≤ 129 ⌝ }
     requires { ⌜ r ≤ 48 ⌝ }
     requires { ⌜ idsAscend (now head) symbolsAt k ≡ true ⌝ }
-    ensures { λ b. ⌜ b ≡ basicsFit (now (head .entry)) (now (rows .entry)) k r ⌝ }
+    ensures { λ b. ⌜ b ≡ basicsLive (now (head .entry)) k r ⌝ }
+    ensures { λ _. ⌜ now (marks .exit) ≡ marksOf (now (head .entry)) k r (now (marks .entry)) ⌝ }
 {
     let mut ok = true;
     let mut i = 0;
     while i < r {
-        ok = ok & basic_fits(slots, head, rows, k, r, head[layout::ROWS + i]);
+        let p = place_of(slots, head, k, head[layout::ROWS + i]);
+        ok = ok & mark_live(marks, k, p);
         i += 1;
     }
     ok
 }
 
-fn row_fits(row: &[f64; 130], k: usize) -> bool
-    requires { ⌜ k ≤ 129 ⌝ }
-    ensures { λ b. ⌜ b ≡ rowFinite (now (row .entry)) k ⌝ }
-{
-    places::is_finite(row[0]) & places::row_finite(row, 1, k)
-}
-
-fn rows_finite(rows: &[[f64; 130]], k: usize, r: usize) -> bool
+fn rows_fit(rows: &[[f64; 130]], marks: &[f64; 130], k: usize, r: usize) -> bool
     requires { ⌜ length (now rows) ≡ rowsSize ⌝ }
     requires { ⌜ k ≤ 129 ⌝ }
     requires { ⌜ r ≤ 48 ⌝ }
-    ensures { λ b. ⌜ b ≡ rowsFinite (now (rows .entry)) k r ⌝ }
+    requires { ⌜ Marks (now marks) ⌝ }
+    ensures { λ b. ⌜ b ≡ rowsFit (now (rows .entry)) (now (marks .entry)) k r ⌝ }
 {
     let mut ok = true;
     let mut i = 0;
     while i < r {
-        ok = ok & row_fits(&rows[1 + i], k);
+        ok = ok & places::row_fits(&rows[1 + i], marks, 0, 1 + k);
         i += 1;
     }
     ok
+}
+
+fn cells_fit(rows: &[[f64; 130]], marks: &[f64; 130], k: usize, r: usize) -> bool
+    requires { ⌜ length (now rows) ≡ rowsSize ⌝ }
+    requires { ⌜ k ≤ 129 ⌝ }
+    requires { ⌜ r ≤ 48 ⌝ }
+    requires { ⌜ Marks (now marks) ⌝ }
+    ensures { λ b. ⌜ b ≡ cellsFit (now (rows .entry)) (now (marks .entry)) k r ⌝ }
+{
+    places::row_fits(&rows[0], marks, 1, 1 + k) & rows_fit(rows, marks, k, r)
 }
 
 // ---- the list
@@ -237,10 +227,11 @@ pub fn tableau_fits(
     requires { ⌜ idsAscend (now head) symbolsAt k ≡ true ⌝ }
     ensures { λ b. ⌜ b ≡ tableauFits (now (head .entry)) (now (rows .entry)) k r q ⌝ }
 {
+    let mut marks = no_marks();
+    let live = mark_basics(&mut marks, slots, head, k, r);
     ids_ascend(head, layout::ROWS, r)
-        & basics_fit(slots, head, rows, k, r)
-        & places::row_finite(&rows[0], 1, k)
-        & rows_finite(rows, k, r)
+        & live
+        & cells_fit(rows, &marks, k, r)
         & entries_fit(head, k, q)
 }
 

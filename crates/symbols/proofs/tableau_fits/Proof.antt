@@ -1,25 +1,47 @@
 -- `symbols::tableau_fits` meets its contract.
 -- Assumes nothing.
-use Rattle.symbols.specs.Symbols.{tableauFits}
+use Prim.Native.Nat.{ℕ, _≤_}
+use mathlib.Core.Path.{_≡_, refl, sym, _∙_, subst}
+use mathlib.Core.Bool.{Bool, _&&_}
+use mathlib.Core.List.{List}
+use lib.Ieee.{Float}
+use Rattle.layout.specs.Layout.{rowsAt}
+use Rattle.places.specs.Marked.{Marks}
+use Rattle.symbols.specs.Symbols.{idsAscend, entriesFit, tableauFits}
+use Rattle.symbols.specs.Marks.{noMarks, marksOf, basicsLive, cellsFit, marks-are, walked-tableau}
 use borrow.Author.Needs.{needs}
 use Rattle.symbols.proofs.tableau_fits.Statement.{statement}
 use Rattle.symbols.proofs.tableau_fits.Tie as tie
 
-basics-fit-requires : tie.Need-basics-fit-requires
-basics-fit-requires c κs = (c .before .before .pre .0, (c .before .before .pre .1 .0, (c .before .before .pre .1 .1 .0, (c .before .before .pre .1 .1 .1 .0, c .before .before .pre .1 .1 .1 .1 .1))))
+module _ (h : List ℕ) (k r : ℕ) (few : k ≤ 129) {n m : List Float} (s : n ≡ noMarks) (e : m ≡ marksOf h k r n) where
+  made : m ≡ marksOf h k r noMarks
+  made = e ∙ rw s refl
+
+  made-marks : Marks m
+  made-marks = subst (λ (l : List Float). Marks l) (sym made) (marks-are h k r few)
+
+  glue : (w : List (List Float)) (q : ℕ) {a b c d : Bool} → a ≡ idsAscend h rowsAt r → b ≡ basicsLive h k r → c ≡ cellsFit w m k r → d ≡ entriesFit h k q → a && b && c && d ≡ tableauFits h w k r q
+  glue w q ia ib ic id = rw (ia, ib, ic, id, made) (walked-tableau h w k r few q)
+
+cells-fit-requires : tie.Need-cells-fit-requires
+cells-fit-requires c κs =
+    let p = c .before .before .before .before .before .before .pre in (
+      p .1 .0,
+      (p .1 .1 .0, (p .1 .1 .1 .0, made-marks _ _ _ (p .1 .1 .0) (c .before .before .before .before .no-marks .ensures) (c .before .before .mark-basics .ensures .1))),
+    )
 
 returns : tie.Need-returns
-unfolding tableauFits
-returns c = cc
+returns c =
+    let p = c .before .before .before .before .before .before .before .before .pre in
+    glue _ _ _ (p .1 .1 .0) (c .before .before .before .before .before .before .no-marks .ensures) (c .before .before .before .before .mark-basics .ensures .1) _ _ (c .before .before .before .ids-ascend .ensures) (c .before .before .before .before .mark-basics .ensures .0) (c .before .cells-fit .ensures) (c .entries-fit .ensures)
 
 pub tableau-fits-spec : {M : Type 1} → statement M
 tableau-fits-spec =
     tie.close
     (tie.spec
     (λ c κs. search needs)
-    basics-fit-requires
-    (λ c. search needs)
     (λ c κs. search needs)
     (λ c κs. search needs)
+    cells-fit-requires
     (λ c κs. search needs)
     returns)
