@@ -1,22 +1,26 @@
 -- DEMAND 2. After every call of a whole run the values are whole, meet every required demand exactly, and no assignment by fractions that meets them
--- has less weighted error; and a call that answers 12 asked for something that nothing meets together with what is live. Assumes nothing.
-use mathlib.Core.Path.{_≡_, sym, _∙_, subst}
+-- has less weighted error; and a call that answers 12 asked for something that nothing meets together with what is live. Whole runs are more than it
+-- takes: the stored mark, and the mark of the answer 12, are enough. Assumes nothing.
+use mathlib.Core.Path.{_≡_, refl, sym, _∙_, subst}
 use mathlib.Core.Logic.{_⊎_, inl, inr, _≢_}
 use mathlib.Core.Bool.{Bool, true, false, not, true≢false}
 use mathlib.Core.List.{List, [], _∷_, _++_}
-use Prim.Native.Nat.{ℕ}
+use Prim.Native.Nat.{ℕ, zero, suc}
 use native.Mathlib.Omega.{arith}
-use lib.Dec.{T}
+use lib.Dec.{T, eqb, eqb·suc-zero}
 use Rattle.steps.specs.State.{State}
 use Rattle.steps.specs.Tests.{member}
+use Rattle.steps.specs.Changes.{fetchChanges}
+use Rattle.steps.specs.Changing as changing
 use Rattle.steps.specs.Changing.{Changing, made, testNumbers, stepNumbers}
 use Rattle.steps.proofs.Numbers.{number-listed}
-use Rattle.steps.proofs.Marks.{not-finite-says-no}
+use Rattle.steps.proofs.Refusals.{refusal-keeps}
+use Rattle.steps.proofs.Marks.{yes-only-if-stored, accepted-mark, lost-until-reset, yes-stays, not-finite-says-no}
 use Rattle.simplex.specs.Choose.{All}
-use Rattle.steps.specs.Calls.{reset}
+use Rattle.steps.specs.Calls.{empty, reset}
 use Rattle.steps.specs.Readable.{readable}
 use Rattle.keeps.specs.Keeps.{empty-reads, reset-reads, add-reads, remove-reads, addEdit-reads, removeEdit-reads, suggest-reads, fetch-reads}
-use Rattle.run.specs.Demand.{Demand, Call, resets, fetches, adds, removes, addsEdit, removesEdit, suggests, make, accepted, Moment, next, start, after, Whole, Best, None}
+use Rattle.run.specs.Demand.{Call, resets, fetches, adds, removes, addsEdit, removesEdit, suggests, make, accepted, liveAfter, Moment, next, start, after, Whole, Best, None}
 use Rattle.run.specs.Inv.{Inv}
 use Rattle.run.specs.AtRest.{at-rest}
 use Rattle.run.specs.Start.{start-inv, reset-inv, fetch-inv}
@@ -47,20 +51,82 @@ inv-next (addsEdit v k b) m I h w = addEdit-inv artificial-ends m v k b I w
 inv-next (removesEdit v b) m I h w = removeEdit-inv m v b I h w
 inv-next (suggests v x b) m I h w = suggest-inv m v x b I h w
 
-pub record Sound (m : Moment) : Type 0 where
-  pub inv : Inv m
-  pub reads : readable (m .state) ≡ true
-
-pub run-sound : (cs : List Call) → Whole cs → Sound (after cs)
+-- every state of a run reads as one, whatever the marks
+after-reads : (cs : List Call) → readable (after cs .state) ≡ true
 unfolding after next start
-run-sound [] w = record { inv = start-inv; reads = empty-reads }
-run-sound (c ∷ cs) w = let s = run-sound cs (w .0) in record { inv = inv-next c (after cs) (s .inv) (s .reads) (w .1); reads = reads-next c (after cs .state) (s .reads) }
+after-reads [] = empty-reads
+after-reads (c ∷ cs) = reads-next c (after cs .state) (after-reads cs)
+
+-- ---- the stored mark: what a refused call answers is not stored
+
+-- a call is a reset, a fetch, or a changing call of the steps
+data Sort (c : Call) : Type 0 where
+  anew : c ≡ resets → Sort c
+  looks : c ≡ fetches → Sort c
+  changes : (d : Changing) → ((s : State) → make c s ≡ made d s) → Sort c
+
+sort : (c : Call) → Sort c
+unfolding make
+sort resets = anew refl
+sort fetches = looks refl
+sort (adds n ts k r b) = changes (changing.adds n ts k r b) (λ s. refl)
+sort (removes n b) = changes (changing.removes n b) (λ s. refl)
+sort (addsEdit v k b) = changes (changing.addsEdit v k b) (λ s. refl)
+sort (removesEdit v b) = changes (changing.removesEdit v b) (λ s. refl)
+sort (suggests v x b) = changes (changing.suggests v x b) (λ s. refl)
+
+-- after an answer that says yes the stored mark is yes
+pub yes-stored : (c : Call) (s : State) → make c s .answer .whole ≡ true → make c s .state .whole ≡ true
+unfolding make fetchChanges reset empty
+yes-stored c s = go (sort c)
+  where
+    go : Sort c → make c s .answer .whole ≡ true → make c s .state .whole ≡ true
+    go (anew e) w = rw e refl
+    go (looks e) w = rw e (rw e at w)
+    go (changes d e) w = rw (e s) (yes-stays d s (rw (e s) at w))
+
+-- a refused call leaves the state, and what is live
+refused-inv : (c : Call) (m : Moment) → eqb (make c (m .state) .answer .number) 0 ≡ false → make c (m .state) .state ≡ m .state → Inv m → Inv (next c m)
+unfolding next liveAfter
+refused-inv c m n e I = rw (n, e) I
+
+-- a call that leaves the mark yes: it was yes before, and if the call is accepted its answer says yes
+marked-next : (c : Call) (m : Moment) → (m .state .whole ≡ true → Inv m) → readable (m .state) ≡ true → make c (m .state) .state .whole ≡ true → Inv (next c m)
+unfolding make fetchChanges
+marked-next c m I h = go (sort c)
+  where
+    ends : (d : Changing) (k : ℕ) → make c (m .state) ≡ made d (m .state) → made d (m .state) .answer .number ≡ k → made d (m .state) .state .whole ≡ true → Inv (next c m)
+    ends d zero e n w = inv-next c m (I (lost-until-reset d (m .state) w)) h (rw e (accepted-mark d (m .state) n ∙ w))
+    ends d (suc k) e n w = refused-inv c m (rw (e, n) (eqb·suc-zero k)) (rw e (refusal-keeps d (m .state) (λ z. omega (arith, z, n)))) (I (lost-until-reset d (m .state) w))
+
+    go : Sort c → make c (m .state) .state .whole ≡ true → Inv (next c m)
+    go (anew e) w = rw e (reset-inv m)
+    go (looks e) w = rw e (fetch-inv m (I (rw e at w)))
+    go (changes d e) w = ends d (made d (m .state) .answer .number) (e (m .state)) refl (rw (e (m .state)) at w)
+
+marked-inv : (cs : List Call) → after cs .state .whole ≡ true → Inv (after cs)
+unfolding after next start
+marked-inv [] w = start-inv
+marked-inv (c ∷ cs) w = marked-next c (after cs) (marked-inv cs) (after-reads cs) w
+
+-- a changing call that answers yes, refused or not, found what a run rests on
+pub inv-before : (d : Changing) (cs : List Call) → made d (after cs .state) .answer .whole ≡ true → Inv (after cs)
+inv-before d cs w = marked-inv cs (yes-only-if-stored d (after cs .state) w)
 
 -- ---- the theorems
 
+-- "The mark says whether every step so far was in whole numbers within bounds; while it says yes, the values are exact and the best that any fractions give."
+pub marked-best : (cs : List Call) → after cs .state .whole ≡ true → Best (after cs)
+marked-best cs w = at-rest (after cs) (marked-inv cs w)
+
+whole-marked : (cs : List Call) → Whole cs → after cs .state .whole ≡ true
+unfolding after next start empty
+whole-marked [] w = refl
+whole-marked (c ∷ cs) w = yes-stored c (after cs .state) (w .1)
+
 -- "In a whole run (document 01) the values meet every required constraint exactly, no assignment by fractions that meets them has less weighted error"
 pub whole-run-best : (cs : List Call) → Whole cs → Best (after cs)
-whole-run-best cs w = at-rest (after cs) (run-sound cs w .inv)
+whole-run-best cs w = marked-best cs (whole-marked cs w)
 
 -- a number that a call does not have
 other-number : (k : ℕ) (c : Changing) (s : State) → T (not (member k (0 ∷ testNumbers c ++ stepNumbers c))) → made c s .answer .number ≡ k → ⊥
@@ -82,43 +148,46 @@ none-of k j a b c (inr (inr p)) = c p
 zero≢12 : _≡_ {A = ℕ} 0 12 → ⊥
 zero≢12 p = omega arith
 
--- "and "cannot be met" (12) is said only when none meets them": the live demands with the one that the call asked for
-pub whole-run-12 : (c : Call) (cs : List Call) → Whole (c ∷ cs) → make c (after cs .state) .answer .number ≡ 12 → None (accepted c (after cs .live))
+-- "and "cannot be met" (12) is said only when none meets them": the live demands with the one that the call asked for, where the answer says yes
+pub marked-12 : (c : Call) (cs : List Call) → make c (after cs .state) .answer .whole ≡ true → make c (after cs .state) .answer .number ≡ 12 → None (accepted c (after cs .live))
 unfolding make accepted member reset
-whole-run-12 resets cs w e = absurd (zero≢12 e)
-whole-run-12 fetches cs w e = absurd (zero≢12 e)
-whole-run-12 (adds n ts k r b) cs w e = add-12 artificial-ends (after cs) n ts k r b (run-sound cs (w .0) .inv) (w .1) e
-whole-run-12 (removes n b) cs w e = absurd (other-number 12 (Rattle.steps.specs.Changing.removes n b) (after cs .state) tt e)
-whole-run-12 (addsEdit v k b) cs w e = addEdit-12 artificial-ends (after cs) v k b (run-sound cs (w .0) .inv) (w .1) e
-whole-run-12 (removesEdit v b) cs w e = absurd (other-number 12 (Rattle.steps.specs.Changing.removesEdit v b) (after cs .state) tt e)
-whole-run-12 (suggests v x b) cs w e = absurd (other-number 12 (Rattle.steps.specs.Changing.suggests v x b) (after cs .state) tt e)
+marked-12 resets cs w e = absurd (zero≢12 e)
+marked-12 fetches cs w e = absurd (zero≢12 e)
+marked-12 (adds n ts k r b) cs w e = add-12 artificial-ends (after cs) n ts k r b (inv-before (changing.adds n ts k r b) cs w) w e
+marked-12 (removes n b) cs w e = absurd (other-number 12 (changing.removes n b) (after cs .state) tt e)
+marked-12 (addsEdit v k b) cs w e = addEdit-12 artificial-ends (after cs) v k b (inv-before (changing.addsEdit v k b) cs w) w e
+marked-12 (removesEdit v b) cs w e = absurd (other-number 12 (changing.removesEdit v b) (after cs .state) tt e)
+marked-12 (suggests v x b) cs w e = absurd (other-number 12 (changing.suggests v x b) (after cs .state) tt e)
+
+pub whole-run-12 : (c : Call) (cs : List Call) → Whole (c ∷ cs) → make c (after cs .state) .answer .number ≡ 12 → None (accepted c (after cs .live))
+whole-run-12 c cs w = marked-12 c cs (w .1)
 
 each : {n : ℕ} → n ≢ 13 → n ≢ 15 → n ≢ 16 → n ≢ 17 → All (λ (k : ℕ). n ≢ k) (13 ∷ 15 ∷ 16 ∷ 17 ∷ [])
 each a b c d = (a, (b, (c, (d, tt))))
 
--- Beyond the demand: in a whole run 13, 15, 16 and 17 are never answered.
-pub whole-run-numbers : (c : Call) (cs : List Call) → Whole (c ∷ cs) → All (λ (k : ℕ). make c (after cs .state) .answer .number ≢ k) (13 ∷ 15 ∷ 16 ∷ 17 ∷ [])
+-- Beyond the demand: where the answer says yes, as in a whole run, it is none of 13, 15, 16 and 17.
+pub marked-numbers : (c : Call) (cs : List Call) → make c (after cs .state) .answer .whole ≡ true → All (λ (k : ℕ). make c (after cs .state) .answer .number ≢ k) (13 ∷ 15 ∷ 16 ∷ 17 ∷ [])
 unfolding make member reset
-whole-run-numbers resets cs w = each (λ e. omega arith) (λ e. omega arith) (λ e. omega arith) (λ e. omega arith)
-whole-run-numbers fetches cs w = each (λ e. omega arith) (λ e. omega arith) (λ e. omega arith) (λ e. omega arith)
-whole-run-numbers (adds n ts k r b) cs w =
-    let c : Changing = Rattle.steps.specs.Changing.adds n ts k r b in
-    each (finite-yes c (after cs .state) (w .1)) (add-15 artificial-ends (after cs) n ts k r b (run-sound cs (w .0) .inv) (w .1)) (other-number 16 c (after cs .state) tt) (other-number 17 c (after cs .state) tt)
-whole-run-numbers (removes n b) cs w =
-    let c : Changing = Rattle.steps.specs.Changing.removes n b in
-    each (finite-yes c (after cs .state) (w .1)) (away 15 (λ p. omega arith) (λ p. omega arith) (λ p. omega arith)) (other-number 16 c (after cs .state) tt) (away 17 (λ p. omega arith) (λ p. omega arith) (λ p. omega arith))
+marked-numbers resets cs w = each (λ e. omega arith) (λ e. omega arith) (λ e. omega arith) (λ e. omega arith)
+marked-numbers fetches cs w = each (λ e. omega arith) (λ e. omega arith) (λ e. omega arith) (λ e. omega arith)
+marked-numbers (adds n ts k r b) cs w =
+    let c : Changing = changing.adds n ts k r b in
+    each (finite-yes c (after cs .state) w) (add-15 artificial-ends (after cs) n ts k r b (inv-before c cs w) w) (other-number 16 c (after cs .state) tt) (other-number 17 c (after cs .state) tt)
+marked-numbers (removes n b) cs w =
+    let c : Changing = changing.removes n b in
+    each (finite-yes c (after cs .state) w) (away 15 (λ p. omega arith) (λ p. omega arith) (λ p. omega arith)) (other-number 16 c (after cs .state) tt) (away 17 (λ p. omega arith) (λ p. omega arith) (λ p. omega arith))
   where
     away : (k : ℕ) → k ≢ 0 → k ≢ 5 → k ≢ 14 → make (removes n b) (after cs .state) .answer .number ≢ k
-    away k p q r e = none-of k 5 p q r (subst (λ (j : ℕ). (j ≡ 0) ⊎ ((j ≡ 5) ⊎ (j ≡ 14))) e (remove-refusals (after cs) n b (run-sound cs (w .0) .inv) (run-sound cs (w .0) .reads) (w .1)))
-whole-run-numbers (addsEdit v k b) cs w =
-    let c : Changing = Rattle.steps.specs.Changing.addsEdit v k b in
-    each (finite-yes c (after cs .state) (w .1)) (addEdit-15 artificial-ends (after cs) v k b (run-sound cs (w .0) .inv) (w .1)) (other-number 16 c (after cs .state) tt) (other-number 17 c (after cs .state) tt)
-whole-run-numbers (removesEdit v b) cs w =
-    let c : Changing = Rattle.steps.specs.Changing.removesEdit v b in
-    each (finite-yes c (after cs .state) (w .1)) (away 15 (λ p. omega arith) (λ p. omega arith) (λ p. omega arith)) (other-number 16 c (after cs .state) tt) (away 17 (λ p. omega arith) (λ p. omega arith) (λ p. omega arith))
+    away k p q r e = none-of k 5 p q r (subst (λ (j : ℕ). (j ≡ 0) ⊎ ((j ≡ 5) ⊎ (j ≡ 14))) e (remove-refusals (after cs) n b (inv-before (changing.removes n b) cs w) (after-reads cs) w))
+marked-numbers (addsEdit v k b) cs w =
+    let c : Changing = changing.addsEdit v k b in
+    each (finite-yes c (after cs .state) w) (addEdit-15 artificial-ends (after cs) v k b (inv-before c cs w) w) (other-number 16 c (after cs .state) tt) (other-number 17 c (after cs .state) tt)
+marked-numbers (removesEdit v b) cs w =
+    let c : Changing = changing.removesEdit v b in
+    each (finite-yes c (after cs .state) w) (away 15 (λ p. omega arith) (λ p. omega arith) (λ p. omega arith)) (other-number 16 c (after cs .state) tt) (away 17 (λ p. omega arith) (λ p. omega arith) (λ p. omega arith))
   where
     away : (k : ℕ) → k ≢ 0 → k ≢ 8 → k ≢ 14 → make (removesEdit v b) (after cs .state) .answer .number ≢ k
-    away k p q r e = none-of k 8 p q r (subst (λ (j : ℕ). (j ≡ 0) ⊎ ((j ≡ 8) ⊎ (j ≡ 14))) e (removeEdit-refusals (after cs) v b (run-sound cs (w .0) .inv) (run-sound cs (w .0) .reads) (w .1)))
-whole-run-numbers (suggests v x b) cs w =
-    let c : Changing = Rattle.steps.specs.Changing.suggests v x b in
-    each (finite-yes c (after cs .state) (w .1)) (other-number 15 c (after cs .state) tt) (suggest-16 (after cs) v x b (run-sound cs (w .0) .inv) (w .1)) (other-number 17 c (after cs .state) tt)
+    away k p q r e = none-of k 8 p q r (subst (λ (j : ℕ). (j ≡ 0) ⊎ ((j ≡ 8) ⊎ (j ≡ 14))) e (removeEdit-refusals (after cs) v b (inv-before (changing.removesEdit v b) cs w) (after-reads cs) w))
+marked-numbers (suggests v x b) cs w =
+    let c : Changing = changing.suggests v x b in
+    each (finite-yes c (after cs .state) w) (other-number 15 c (after cs .state) tt) (suggest-16 (after cs) v x b (inv-before c cs w) w) (other-number 17 c (after cs .state) tt)

@@ -20,6 +20,7 @@ use Rattle.steps.specs.Add.{Added, wholeTerms, wholeInputs, wholeWithin, addSte
 use Rattle.steps.specs.Edit.{editTerms, addEditSteps}
 use Rattle.steps.specs.Tests.{firstRefusal, addTests, addEditTests, keepConstraint, keepEdit, keptTerms}
 use Rattle.steps.specs.Calls.{Result, begin, finish, refusedBy, concludeAdd, add, addEdit}
+use Rattle.steps.specs.Changing as changing
 use Rattle.bridge.specs.Nums.{zero64-z, belowZero-z}
 use Rattle.bridge.specs.Finds.{none≢some}
 use Rattle.run.specs.Demand.{ofConstraint, ofEdit, Call, resets, fetches, adds, removes, addsEdit, removesEdit, suggests, make, Moment, after}
@@ -28,8 +29,8 @@ use Rattle.run.specs.Words.{whole-z}
 use Rattle.run.specs.Inputs.{both, required-z}
 use Rattle.run.specs.AddMarks.{markAdded, whole-steps}
 use Rattle.run.specs.Add.{passed, not-above, ids-left, added-whole}
-use Rattle.run.specs.Run.{run-sound}
-use Rattle.stall.specs.Stall.{PassStart, addPasses, passesOf, budgetOf, NeverStalls}
+use Rattle.run.specs.Run.{inv-before}
+use Rattle.stall.specs.Stall.{PassStart, addPasses, passesOf, budgetOf, Demand3, NeverStalls}
 use Rattle.stall.proofs.Pass.{Starts}
 use Rattle.stall.proofs.Calls.{unmarred, demand-3}
 use Rattle.stall.proofs.AddStarts.{add-starts}
@@ -118,17 +119,21 @@ edit-start m I v k b = go (firstRefusal (addEditTests v (clip k) (m .state))) re
         add-starts m I (record { key = ofEdit v; terms = editTerms v; constant = zero64; relation = equal (clip k) }) b
         (clip-up k (whole-strength (editTerms v) zero64 (clip k) (whole-steps b (editTerms v) zero64 (equal (clip k)) (begin (m .state)) q .inputs))) (one-term v) (edit-low v (clip k) (m .state) e) q
 
--- ---- every call's passes start well
-pub starts : (m : Moment) → Inv m → (c : Call) (b : ℕ) → budgetOf c ≡ some b → make c (m .state) .answer .whole ≡ true → All Starts (passesOf c (m .state))
-unfolding budgetOf
-starts m I resets b e w = absurd (none≢some e)
-starts m I fetches b e w = absurd (none≢some e)
-starts m I (adds n ts k r x) b e w = adds-start m I n ts k r x w
-starts m I (removes n x) b e w = remove-starts m I n x (unmarred b (removes n x) (m .state) e w)
-starts m I (addsEdit v k x) b e w = edit-start m I v k x w
-starts m I (removesEdit v x) b e w = removeEdit-starts m I v x (unmarred b (removesEdit v x) (m .state) e w)
-starts m I (suggests v k x) b e w = absurd (none≢some e)
+-- ---- every call's passes start well, if its answer says yes
+starts : (cs : List Call) (c : Call) (b : ℕ) → budgetOf c ≡ some b → make c (after cs .state) .answer .whole ≡ true → All Starts (passesOf c (after cs .state))
+unfolding budgetOf make
+starts cs resets b e w = absurd (none≢some e)
+starts cs fetches b e w = absurd (none≢some e)
+starts cs (adds n ts k r x) b e w = adds-start (after cs) (inv-before (changing.adds n ts k r x) cs w) n ts k r x w
+starts cs (removes n x) b e w = remove-starts (after cs) (inv-before (changing.removes n x) cs w) n x (unmarred b (removes n x) (after cs .state) e w)
+starts cs (addsEdit v k x) b e w = edit-start (after cs) (inv-before (changing.addsEdit v k x) cs w) v k x w
+starts cs (removesEdit v x) b e w = removeEdit-starts (after cs) (inv-before (changing.removesEdit v x) cs w) v x (unmarred b (removesEdit v x) (after cs .state) e w)
+starts cs (suggests v k x) b e w = absurd (none≢some e)
+
+-- the mark of the call's own answer is enough
+pub marked-never-stalls : (cs : List Call) (c : Call) (b : ℕ) → budgetOf c ≡ some b → make c (after cs .state) .answer .whole ≡ true → Demand3 b c (after cs .state)
+marked-never-stalls cs c b e w = demand-3 b c (after cs .state) e w (starts cs c b e w)
 
 -- DEMAND 3
 pub never-stalls : NeverStalls
-never-stalls cs c b e w = demand-3 b c (after cs .state) e (w .1) (starts (after cs) (run-sound cs (w .0) .inv) c b e (w .1))
+never-stalls cs c b e w = marked-never-stalls cs c b e (w .1)

@@ -43,10 +43,26 @@ reset-accepts s = (refl, refl, refl)
 
 -- ---- fetch
 
--- all but the variables' changed flags, their old values and the toggle stays
+-- a variable but for its changed flag and its old value
+abbrev pub named : Variable → Variable
+named v = record { number = v .number; symbol = v .symbol; old = zero64; uses = v .uses; changed = false }
+
+same-named : (f : Variable → Variable) → ((v : Variable) → named (f v) ≡ named v) → (vs : List Variable) → map named (map f vs) ≡ map named vs
+same-named f h [] = refl
+same-named f h (v ∷ vs) = rw (h v, same-named f h vs) refl
+
+-- all but the variables' changed flags, their old values and the toggle stays: each variable keeps its place, its number, its symbol and its uses
 pub fetch-keeps : (s : State) → (fetchChanges s .state .tableau ≡ s .tableau) × (fetchChanges s .state .constraints ≡ s .constraints) × (fetchChanges s .state .edits ≡ s .edits) × (fetchChanges s .state .whole ≡ s .whole)
-unfolding fetchChanges
-fetch-keeps s = (refl, refl, refl, refl)
+    × (map named (fetchChanges s .state .changes .variables) ≡ map named (s .changes .variables))
+unfolding fetchChanges reported withFlag clearChanged
+fetch-keeps s = (refl, refl, refl, refl, same-named (reported (s .tableau .rows)) (λ v. refl) (before (s .changes .shouldClear)) ∙ go (s .changes .shouldClear))
+  where
+    before : Bool → List Variable
+    before b = cond b (clearChanged (s .changes .variables)) (s .changes .variables)
+
+    go : (b : Bool) → map named (before b) ≡ map named (s .changes .variables)
+    go true = same-named (withFlag false) (λ v. refl) (s .changes .variables)
+    go false = refl
 
 -- "a second straight after reports none": of variables that are out of the changed set nothing is listed
 no-news : (rows : List Basic) (vs : List Variable) → newsOf rows (clearChanged vs) ≡ []
