@@ -3,7 +3,7 @@
 use Prim.Native.Nat.{ℕ, zero, suc, _+_, _≤_, _<_}
 use mathlib.Core.Path.{_≡_, refl}
 use mathlib.Core.Bool.{Bool, true, false, _&&_, cond}
-use mathlib.Core.List.{List, [], _∷_, map}
+use mathlib.Core.List.{List, [], _∷_}
 use native.Mathlib.Omega.{arith}
 use lib.Dec.{eqb, leb}
 use lib.ListN.{length, getD, replicate}
@@ -14,7 +14,7 @@ use Rattle.laws.specs.Loops.{mapIn}
 use Rattle.laws.specs.Lists.{allIn}
 use Rattle.steps.specs.Number.{zero64}
 use Rattle.steps.specs.State.{Basic, Variable, State}
-use Rattle.steps.specs.Changes.{Change, withFlag, clearChanged, valueOf, isNews, newsOf, reported, fetchChanges}
+use Rattle.steps.specs.Changes.{Change, valueOf, isNews, newsOf, fetchChanges}
 use Rattle.steps.specs.Readable.{readable}
 use Rattle.steps.proofs.Queries.{second-fetch}
 use Rattle.keeps.specs.Keeps.{fetch-reads}
@@ -167,24 +167,9 @@ module _ (t : Tables) (ok : reads t ≡ true) (w : Wide t) where
 
 -- ---- a second fetch
 
--- of a set that was cleared nothing is listed
-quiet : (rows : List Basic) (vs : List Variable) → newsOf rows (map (reported rows) (clearChanged vs)) ≡ []
-unfolding newsOf isNews clearChanged withFlag reported
-quiet rows [] = refl
-quiet rows (v ∷ vs) = quiet rows vs
-
--- "a second straight after reports none", whether the first one reported or not
-pub second-none : (s : State) → fetchChanges (fetchChanges s .state) .list ≡ []
-unfolding fetchChanges
-second-none s = go (s .changes .shouldClear) refl
-  where
-    go : (b : Bool) → s .changes .shouldClear ≡ b → fetchChanges (fetchChanges s .state) .list ≡ []
-    go true e = rw e (quiet (s .tableau .rows) (s .changes .variables))
-    go false e = second-fetch s e
-
 -- "Fetch fills lists of 32 places": the second fetch is accepted, and its two lists are all zero
 pub fetched-again : (t : Tables) → reads t ≡ true → Wide t
     → (fetchOf places places (fetchOf places places t .tables) .number ≡ 0) × (fetchOf places places (fetchOf places places t .tables) .count ≡ 0) × (fetchOf places places (fetchOf places places t .tables) .numbers ≡ replicate places 0) × (fetchOf places places (fetchOf places places t .tables) .values ≡ replicate places zero64)
 unfolding fetchIn fetchOf over
 fetched-again t ok w =
-    rw (ok, left-reads t ok w, read-left t ok w, second-none (read t)) (refl, refl, laid-nil (λ (x _ : ℕ). x) 0 (replicate places 0), laid-nil (λ (x _ : Float). x) 0 (replicate places zero64))
+    rw (ok, left-reads t ok w, read-left t ok w, second-fetch (read t)) (refl, refl, laid-nil (λ (x _ : ℕ). x) 0 (replicate places 0), laid-nil (λ (x _ : Float). x) 0 (replicate places zero64))

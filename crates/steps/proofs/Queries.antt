@@ -1,7 +1,7 @@
 -- What queries, fetch and reset leave as it was. Assumes nothing.
 use Prim.Native.Nat.{ℕ}
 use mathlib.Core.Path.{_≡_, refl, sym, ap, _∙_, subst}
-use mathlib.Core.Bool.{Bool, true, false, cond}
+use mathlib.Core.Bool.{Bool, true, false, not, cond}
 use mathlib.Core.List.{List, [], _∷_, map}
 use mathlib.Core.Option.{Option, none, some}
 use lib.Dec.{eqb}
@@ -64,16 +64,32 @@ fetch-keeps s = (refl, refl, refl, refl, same-named (reported (s .tableau .rows)
     go true = same-named (withFlag false) (λ v. refl) (s .changes .variables)
     go false = refl
 
--- "a second straight after reports none": of variables that are out of the changed set nothing is listed
+-- of variables that are out of the changed set nothing is listed
 no-news : (rows : List Basic) (vs : List Variable) → newsOf rows (clearChanged vs) ≡ []
 unfolding newsOf isNews clearChanged withFlag
 no-news rows [] = refl
 no-news rows (v ∷ vs) = no-news rows vs
 
--- "Changes: `fetch_changes` toggles as in the crate: a first fetch reports, a second straight after reports none."
-pub second-fetch : (s : State) → s .changes .shouldClear ≡ false → fetchChanges (fetchChanges s .state) .list ≡ []
+-- nor after a fetch has gone over them
+still-no-news : (rows : List Basic) (vs : List Variable) → newsOf rows (map (reported rows) (clearChanged vs)) ≡ []
+unfolding newsOf isNews clearChanged withFlag reported
+still-no-news rows [] = refl
+still-no-news rows (v ∷ vs) = still-no-news rows vs
+
+-- "Changes: `fetch_changes` toggles as in the crate: a first fetch reports, a second straight after reports none.": whether the first one reported or not
+pub second-fetch : (s : State) → fetchChanges (fetchChanges s .state) .list ≡ []
 unfolding fetchChanges
-second-fetch s e = rw e (no-news (s .tableau .rows) (map (reported (s .tableau .rows)) (s .changes .variables)))
+second-fetch s = go (s .changes .shouldClear)
+  where
+    rows : List Basic
+    rows = s .tableau .rows
+
+    vs : Bool → List Variable
+    vs b = cond b (clearChanged (s .changes .variables)) (s .changes .variables)
+
+    go : (b : Bool) → newsOf rows (cond (not b) (clearChanged (map (reported rows) (vs b))) (map (reported rows) (vs b))) ≡ []
+    go true = still-no-news rows (s .changes .variables)
+    go false = no-news rows (map (reported rows) (s .changes .variables))
 
 -- the value of a variable that was looked up
 found : List Basic → Option Variable → Float
