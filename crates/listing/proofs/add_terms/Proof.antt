@@ -251,6 +251,7 @@ module _ {M : Type 1} (𝓤 : URA M) (H : Heap 𝓤) (A : Atoms 𝓤) (W : Given
       adds : (d : Pack) (v : Val) → d ≡ packOf (terms .now) → Seq Go W (Held (P.the-row .own d (v ∷ [])) token (passed ++ v ∷ lent-all)) (runs C Λ En mirs.t-18 (atRet En Post))
       adds d v e =
           move ! (0 ∷ 2 ∷ 3 ∷ []) $ use3 W (raw (Add 𝓤 H A mem run .pre (to-add d v))) (goes-add d v) $
+          -- [what `add` asks; the terms' token; local i at 2 + 2 · i]
           calls-at ! fm (Add 𝓤 H A mem run) known-add (to-add d v) (and-then ! (load ! (from ! (stop !)) (look ! 34 refl)) (and-then ! (load ! (from ! (stop !)) (look ! 38 refl)) (and-then ! (load ! (from ! (stop !)) (look ! 42 refl)) (and-then ! (load ! (from ! (stop !)) (look ! 46 refl)) (and-then ! (load ! (from ! (stop !)) (look ! 50 refl)) (and-then ! (load ! (from ! (stop !)) (look ! 54 refl)) (and-then ! (load ! (from ! (stop !)) (look ! 58 refl)) (and-then ! (load ! (from ! (stop !)) (look ! 62 refl)) (and-then ! (load ! (from ! (stop !)) (look ! 20 refl)) (and-then ! (load ! (from ! (stop !)) (look ! 30 refl)) (and-then ! (load ! (from ! (stop !)) (look ! 24 refl)) (and-then ! (load ! (from ! (stop !)) (look ! 26 refl)) (and-then ! (load ! (from ! (stop !)) (look ! 28 refl)) (no-more !)))))))))))))) (λ w.
           use1 W (later (some (λ (r : Answer). (‵ (chain tokens ftrue) ⊛ ‵ (N.the-row .own r (w ∷ []))) ⊛ raw (ensured 𝓤 H A add.ended (add.clauses 𝓤 H A mem run) κs₈ (args d) tt r)))) (id⊢ 𝓤 _) $ await ! tt $ pick ! (λ r.
           split ! $ split ! $ move ! (1 ∷ []) $ peeks ! N.the-row (Is N.the-row) (shows 𝓤 H A N.the-row) r (w ∷ []) (λ is.
@@ -287,6 +288,7 @@ module _ {M : Type 1} (𝓤 : URA M) (H : Heap 𝓤) (A : Atoms 𝓤) (W : Given
       collects : Seq Go W (Held token mine passed) (runs C Λ En mirs.t-1 (atRet En Post))
       collects =
           use2 W (raw (Collect 𝓤 H A mem run .pre to-collect)) goes-collect $
+          -- [what `collect` asks; the tables' tokens; what the other parameters own; local i at 3 + 2 · i]
           calls-at ! fm (Collect 𝓤 H A mem run) known-collect to-collect (and-then ! (load ! (from ! (stop !)) (look ! 23 refl)) (no-more !)) (λ v.
           use1 W (later (some (λ (d : Pack). ((‵ token ⊛ ‵ ftrue) ⊛ ‵ (P.the-row .own d (v ∷ []))) ⊛ raw (ensured 𝓤 H A collect.ended (collect.clauses 𝓤 H A mem run) (κ, tt) (terms, tt) tt d)))) (id⊢ 𝓤 _) $ await ! tt $ pick ! (λ d.
           split ! $ move ! (1 ∷ []) $ use1 W (raw (fact 𝓤 (d ≡ packOf (terms .now)))) (said-collect 𝓤 H A mem run κ terms d) $ heard ! (d ≡ packOf (terms .now)) (λ e. split ! $ move ! (1 ∷ []) $
