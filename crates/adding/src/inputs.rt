@@ -21,11 +21,11 @@ fn whole_terms(item: &[u64; 20], real: &[f64; 17]) -> bool
     requires { ⌜ getD (now item) 3 0 ≤ 16 ⌝ }
     ensures { λ r. ⌜ r ≡ wholeTerms (termsIn (now (item .entry)) (now (real .entry))) ⌝ }
 {
-    let n = item[3] as usize;
+    let n = item[layout::TERM_COUNT] as usize;
     let mut ok = true;
     let mut i = 0;
     while i < n {
-        ok = ok & whole_within(CELL_BOUND, real[1 + i]);
+        ok = ok & whole_within(CELL_BOUND, real[layout::COEFFICIENTS + i]);
         i += 1;
     }
     ok

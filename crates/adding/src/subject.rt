@@ -32,8 +32,8 @@ pub fn add_with_subject(
     ensures { λ r. ⌜ Goes false r (tables (now (head .entry)) (now (names .entry)) (now (reals .entry)) (now (rows .entry))) (tables (now (head .exit)) (now (names .exit)) (now (reals .entry)) (now (rows .exit))) ⌝ }
 {
     wide(row);
-    let code = head[15 + p];
-    let width = head[1] as usize;
+    let code = head[layout::BEFORE_SYMBOLS + p];
+    let width = head[layout::SYMBOL_COUNT] as usize;
     let u = solve_for(row, p, width);
     let v = enter_basis(false, head, names, rows, code, p, row);
     let past = joined(before, u);

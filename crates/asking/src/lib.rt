@@ -44,10 +44,15 @@ fn value_in(head: &[u64], names: &[[u64; 20]], rows: &[[f64; 130]], n: u64) -> f
     requires { ⌜ variableCount (now head) ≤ 32 ⌝ }
     ensures { λ f. ⌜ f ≡ valueIn (now (head .entry)) (now (names .entry)) (now (rows .entry)) n ⌝ }
 {
-    let v = head[4] as usize;
+    let v = head[layout::VARIABLE_COUNT] as usize;
     let p = items::name_at(names, 0, v, n);
     if p < v {
-        constant_at(head, rows, head[2] as usize, names[p][1] / 4)
+        constant_at(
+            head,
+            rows,
+            head[layout::ROW_COUNT] as usize,
+            names[p][layout::SYMBOL] / 4,
+        )
     } else {
         0.0
     }
@@ -65,7 +70,7 @@ pub fn has_constraint(
     if !reading::reads_as_state(head, names, reals, rows) {
         return false;
     }
-    let c = head[5] as usize;
+    let c = head[layout::CONSTRAINT_COUNT] as usize;
     items::name_at(names, layout::CONSTRAINTS, c, n as u64) < c
 }
 
@@ -81,7 +86,7 @@ pub fn has_edit(
     if !reading::reads_as_state(head, names, reals, rows) {
         return false;
     }
-    let e = head[6] as usize;
+    let e = head[layout::EDIT_COUNT] as usize;
     items::name_at(names, layout::EDITS, e, n as u64) < e
 }
 

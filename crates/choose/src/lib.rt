@@ -44,7 +44,12 @@ pub fn place_of(head: &[u64], id: u64) -> Found
     ensures { λ r. ⌜ r ≡ placeOf id (now (head .entry)) ⌝ }
     ensures { λ r. ⌜ Within (getD (now (head .entry)) 1 0) r ⌝ }
 {
-    find_id(head, 15, head[1] as usize, id)
+    find_id(
+        head,
+        layout::BEFORE_SYMBOLS,
+        head[layout::SYMBOL_COUNT] as usize,
+        id,
+    )
 }
 
 pub fn row_of(head: &[u64], id: u64) -> Found
@@ -53,7 +58,12 @@ pub fn row_of(head: &[u64], id: u64) -> Found
     ensures { λ r. ⌜ r ≡ rowOf id (now (head .entry)) ⌝ }
     ensures { λ r. ⌜ Within (getD (now (head .entry)) 2 0) r ⌝ }
 {
-    find_id(head, 145, head[2] as usize, id)
+    find_id(
+        head,
+        layout::BEFORE_ROWS,
+        head[layout::ROW_COUNT] as usize,
+        id,
+    )
 }
 
 // ---- the first symbol of a row, by its kind and its cell
@@ -70,10 +80,10 @@ pub fn get_entering_symbol(head: &[u64], objective: &[f64; 130]) -> Found
     ensures { λ r. ⌜ r ≡ enteringOf (now (head .entry)) (now (objective .entry)) ⌝ }
     ensures { λ r. ⌜ Within (getD (now (head .entry)) 1 0) r ⌝ }
 {
-    let k = head[1] as usize;
+    let k = head[layout::SYMBOL_COUNT] as usize;
     let mut p = 1;
     while p <= k {
-        if can_enter(head[15 + p], objective[p]) {
+        if can_enter(head[layout::BEFORE_SYMBOLS + p], objective[p]) {
             return Found::At(p);
         }
         p += 1;
@@ -113,10 +123,10 @@ fn first_held(want: Want, head: &[u64], row: &[f64; 130]) -> Found
     ensures { λ r. ⌜ r ≡ heldOf want (now (head .entry)) (now (row .entry)) ⌝ }
     ensures { λ r. ⌜ Within (getD (now (head .entry)) 1 0) r ⌝ }
 {
-    let k = head[1] as usize;
+    let k = head[layout::SYMBOL_COUNT] as usize;
     let mut p = 1;
     while p <= k {
-        if is_held(want, head[15 + p], row[p]) {
+        if is_held(want, head[layout::BEFORE_SYMBOLS + p], row[p]) {
             return Found::At(p);
         }
         p += 1;
@@ -219,11 +229,11 @@ pub fn get_leaving_row(head: &[u64], rows: &[[f64; 130]], at: usize) -> Found
     ensures { λ r. ⌜ r ≡ leavingOf at (now (head .entry)) (now (rows .entry)) ⌝ }
     ensures { λ r. ⌜ Within (getD (now (head .entry)) 2 0) r ⌝ }
 {
-    let n = head[2] as usize;
+    let n = head[layout::ROW_COUNT] as usize;
     let mut b = no_best();
     let mut i = 1;
     while i <= n {
-        b = negative_better(i, head[145 + i], rows[i][at], rows[i][0], b);
+        b = negative_better(i, head[layout::BEFORE_ROWS + i], rows[i][at], rows[i][0], b);
         i += 1;
     }
     found_of(b, n)
@@ -248,11 +258,11 @@ fn get_positive_row(head: &[u64], rows: &[[f64; 130]], at: usize) -> Found
     ensures { λ r. ⌜ r ≡ positiveOf at (now (head .entry)) (now (rows .entry)) ⌝ }
     ensures { λ r. ⌜ Within (getD (now (head .entry)) 2 0) r ⌝ }
 {
-    let n = head[2] as usize;
+    let n = head[layout::ROW_COUNT] as usize;
     let mut b = no_best();
     let mut i = 1;
     while i <= n {
-        b = positive_better(i, head[145 + i], rows[i][at], rows[i][0], b);
+        b = positive_better(i, head[layout::BEFORE_ROWS + i], rows[i][at], rows[i][0], b);
         i += 1;
     }
     found_of(b, n)
@@ -275,11 +285,11 @@ pub fn get_dual_entering_symbol(head: &[u64], row: &[f64; 130], objective: &[f64
     ensures { λ r. ⌜ r ≡ dualEnteringOf (now (head .entry)) (now (row .entry)) (now (objective .entry)) ⌝ }
     ensures { λ r. ⌜ Within (getD (now (head .entry)) 1 0) r ⌝ }
 {
-    let k = head[1] as usize;
+    let k = head[layout::SYMBOL_COUNT] as usize;
     let mut b = no_best();
     let mut p = 1;
     while p <= k {
-        b = dual_better(p, head[15 + p], row[p], objective[p], b);
+        b = dual_better(p, head[layout::BEFORE_SYMBOLS + p], row[p], objective[p], b);
         p += 1;
     }
     found_of(b, k)
@@ -301,10 +311,10 @@ fn first_dummy_row(head: &[u64], rows: &[[f64; 130]], at: usize) -> Found
     ensures { λ r. ⌜ r ≡ dummyRowOf at (now (head .entry)) (now (rows .entry)) ⌝ }
     ensures { λ r. ⌜ Within (getD (now (head .entry)) 2 0) r ⌝ }
 {
-    let n = head[2] as usize;
+    let n = head[layout::ROW_COUNT] as usize;
     let mut i = 1;
     while i <= n {
-        if holds_as_dummy(head[145 + i], rows[i][at]) {
+        if holds_as_dummy(head[layout::BEFORE_ROWS + i], rows[i][at]) {
             return Found::At(i);
         }
         i += 1;
@@ -326,9 +336,9 @@ fn last_external_row(head: &[u64], rows: &[[f64; 130]], at: usize) -> Found
     ensures { λ r. ⌜ r ≡ externalRowOf at (now (head .entry)) (now (rows .entry)) ⌝ }
     ensures { λ r. ⌜ Within (getD (now (head .entry)) 2 0) r ⌝ }
 {
-    let mut i = head[2] as usize;
+    let mut i = head[layout::ROW_COUNT] as usize;
     while 0 < i {
-        if holds_as_external(head[145 + i], rows[i][at]) {
+        if holds_as_external(head[layout::BEFORE_ROWS + i], rows[i][at]) {
             return Found::At(i);
         }
         i -= 1;

@@ -27,9 +27,9 @@ pub fn pop_below(head: &[u64], rows: &[[f64; 130]]) -> Found
     ensures { λ r. ⌜ r ≡ popBelowOf (now (head .entry)) (now (rows .entry)) ⌝ }
     ensures { λ r. ⌜ Within (getD (now (head .entry)) 3 0) r ⌝ }
 {
-    let mut j = head[3] as usize;
+    let mut j = head[layout::ENTRY_COUNT] as usize;
     while 0 < j {
-        if is_below(head, rows, head[195 + j]) {
+        if is_below(head, rows, head[layout::BEFORE_LIST + j]) {
             return Found::At(j);
         }
         j -= 1;

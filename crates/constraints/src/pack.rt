@@ -7,10 +7,10 @@ pub fn term_item(p: Pack) -> [u64; 20]
 {
     let vars = p.vars;
     let mut item = [0; 20];
-    item[3] = terms::shown(p) as u64;
+    item[layout::TERM_COUNT] = terms::shown(p) as u64;
     let mut i = 0;
     while i < 16 {
-        item[4 + i] = vars[i] as u64;
+        item[layout::TERMS + i] = vars[i] as u64;
         i += 1;
     }
     item
@@ -23,7 +23,7 @@ pub fn term_real(p: Pack) -> [f64; 17]
     let mut real = [0.0; 17];
     let mut i = 0;
     while i < 16 {
-        real[1 + i] = coefs[i];
+        real[layout::COEFFICIENTS + i] = coefs[i];
         i += 1;
     }
     real
@@ -35,9 +35,9 @@ pub fn constraint_item(p: Pack, n: u64, marker: u64, other: u64) -> [u64; 20]
 {
     let kept = terms::kept(p);
     let mut item = term_item(kept);
-    item[0] = n;
-    item[1] = marker;
-    item[2] = other;
+    item[layout::NUMBER] = n;
+    item[layout::MARKER] = marker;
+    item[layout::OTHER] = other;
     item
 }
 
@@ -46,6 +46,6 @@ pub fn constraint_real(p: Pack, strength: f64) -> [f64; 17]
 {
     let kept = terms::kept(p);
     let mut real = term_real(kept);
-    real[0] = strength;
+    real[layout::STRENGTH] = strength;
     real
 }

@@ -30,12 +30,17 @@ fn remove_known(
 {
     widths(names, reals, rows);
     let before = stored_mark(head);
-    let k = items::name_at(names, layout::CONSTRAINTS, head[5] as usize, n as u64);
+    let k = items::name_at(
+        names,
+        layout::CONSTRAINTS,
+        head[layout::CONSTRAINT_COUNT] as usize,
+        n as u64,
+    );
     let item = names[layout::CONSTRAINTS + k];
     let real = reals[layout::CONSTRAINTS + k];
-    let marker = item[1];
-    let other = item[2];
-    let strength = real[0];
+    let marker = item[layout::MARKER];
+    let other = item[layout::OTHER];
+    let strength = real[layout::STRENGTH];
     let e = remove_steps(
         head,
         names,

@@ -79,7 +79,7 @@ fn put_names(
 {
     let mut i = a;
     while i < e {
-        let w = base + put_count(counted, from[i][3]);
+        let w = base + put_count(counted, from[i][layout::TERM_COUNT]);
         put_name(&mut to[i], &from[i], w);
         i += 1;
     }
@@ -123,7 +123,7 @@ fn put_reals(
 {
     let mut i = a;
     while i < e {
-        let n = put_count(counted, names[i][3]);
+        let n = put_count(counted, names[i][layout::TERM_COUNT]);
         put_real(&mut to[i], &from[i], real_width(base, n));
         i += 1;
     }
@@ -137,9 +137,9 @@ pub fn put_head(head: &mut [u64], whead: &[u64])
     requires { ⌜ Counts (now whead) ⌝ }
     ensures { λ _. ⌜ now (head .exit) ≡ headOver (now (whead .entry)) (now (head .entry)) ⌝ }
 {
-    let k = whead[1] as usize;
-    let r = whead[2] as usize;
-    let q = whead[3] as usize;
+    let k = whead[layout::SYMBOL_COUNT] as usize;
+    let r = whead[layout::ROW_COUNT] as usize;
+    let q = whead[layout::ENTRY_COUNT] as usize;
     put_span(head, whead, 0, 9);
     put_span(head, whead, layout::SYMBOLS, layout::SYMBOLS + k);
     put_span(head, whead, layout::ROWS, layout::ROWS + r);
@@ -153,16 +153,16 @@ pub fn put_all_names(names: &mut [[u64; 20]], wnames: &[[u64; 20]], whead: &[u64
     requires { ⌜ Counts (now whead) ⌝ }
     ensures { λ _. ⌜ now (names .exit) ≡ namesOver (now (whead .entry)) (now (wnames .entry)) (now (names .entry)) ⌝ }
 {
-    let v = whead[4] as usize;
-    let c = whead[5] as usize;
-    let e = whead[6] as usize;
-    put_names(names, wnames, 0, v, 4, false);
+    let v = whead[layout::VARIABLE_COUNT] as usize;
+    let c = whead[layout::CONSTRAINT_COUNT] as usize;
+    let e = whead[layout::EDIT_COUNT] as usize;
+    put_names(names, wnames, layout::VARIABLES, v, 4, false);
     put_names(
         names,
         wnames,
         layout::CONSTRAINTS,
         layout::CONSTRAINTS + c,
-        4,
+        layout::TERMS,
         true,
     );
     put_names(names, wnames, layout::EDITS, layout::EDITS + e, 3, false);
@@ -181,17 +181,17 @@ pub fn put_all_reals(
     requires { ⌜ Counts (now whead) ⌝ }
     ensures { λ _. ⌜ now (reals .exit) ≡ realsOver (now (whead .entry)) (now (wnames .entry)) (now (wreals .entry)) (now (reals .entry)) ⌝ }
 {
-    let v = whead[4] as usize;
-    let c = whead[5] as usize;
-    let e = whead[6] as usize;
-    put_reals(reals, wreals, wnames, 0, v, 1, false);
+    let v = whead[layout::VARIABLE_COUNT] as usize;
+    let c = whead[layout::CONSTRAINT_COUNT] as usize;
+    let e = whead[layout::EDIT_COUNT] as usize;
+    put_reals(reals, wreals, wnames, layout::VARIABLES, v, 1, false);
     put_reals(
         reals,
         wreals,
         wnames,
         layout::CONSTRAINTS,
         layout::CONSTRAINTS + c,
-        1,
+        layout::COEFFICIENTS,
         true,
     );
     put_reals(
@@ -212,8 +212,13 @@ pub fn put_tableau(rows: &mut [[f64; 130]], wrows: &[[f64; 130]], whead: &[u64])
     requires { ⌜ Counts (now whead) ⌝ }
     ensures { λ _. ⌜ now (rows .exit) ≡ rowsOver (now (whead .entry)) (now (wrows .entry)) (now (rows .entry)) ⌝ }
 {
-    let k = whead[1] as usize;
-    let r = whead[2] as usize;
-    put_row(&mut rows[0], &wrows[0], 1, 1 + k);
+    let k = whead[layout::SYMBOL_COUNT] as usize;
+    let r = whead[layout::ROW_COUNT] as usize;
+    put_row(
+        &mut rows[layout::OBJECTIVE],
+        &wrows[layout::OBJECTIVE],
+        1,
+        1 + k,
+    );
     put_rows(rows, wrows, k, r);
 }

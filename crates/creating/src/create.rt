@@ -62,7 +62,7 @@ fn close_row(
     ensures { λ r. ⌜ taggedOf (now (head .exit)) (now (rows .exit)) (now (row .exit)) r ≡ closedRow (relationOf relation) (frame (now (head .entry)) (now (rows .entry)) (now (row .entry)) (markOf past)) ⌝ }
 {
     let t = add_tag(head, rows, row, relation, past);
-    reverse_below(row, head[1] as usize);
+    reverse_below(row, head[layout::SYMBOL_COUNT] as usize);
     t
 }
 
@@ -87,7 +87,7 @@ fn make_row(
     requires { ⌜ getD (now item) 3 0 ≤ 16 ⌝ }
     ensures { λ r. ⌜ madeOf (desk (now (head .exit)) (now (names .exit)) (now (reals .exit)) (now (rows .exit)) (now (row .exit))) r ≡ createRowIn (now (item .entry)) (now (real .entry)) constant (relationOf relation) (markOf before) (desk (now (head .entry)) (now (names .entry)) (now (reals .entry)) (now (rows .entry)) (now (row .entry))) ⌝ }
 {
-    start_row(row, constant, head[1] as usize);
+    start_row(row, constant, head[layout::SYMBOL_COUNT] as usize);
     let w = insert_terms(head, names, reals, rows, row, item, real, before);
     close_row(head, rows, row, relation, w)
 }

@@ -22,7 +22,9 @@ fn has_room(head: &[u64]) -> bool
     requires { ⌜ length (now head) ≡ 326 ⌝ }
     ensures { λ r. ⌜ r ≡ hasRoom (now (head .entry)) ⌝ }
 {
-    (head[0] < 4294900016) & (head[1] < 126) & (head[4] < 32)
+    (head[layout::NEXT_ID] < 4294900016)
+        & (head[layout::SYMBOL_COUNT] < 126)
+        & (head[layout::VARIABLE_COUNT] < 32)
 }
 
 // A new variable with a new symbol.
@@ -108,7 +110,7 @@ fn insert_variable(
     let Found::At(i) = f else {
         return insert_place(head, row, code / 4, k, past);
     };
-    let w = insert_row(row, &rows[i], k, head[1] as usize);
+    let w = insert_row(row, &rows[i], k, head[layout::SYMBOL_COUNT] as usize);
     joined(past, w.wrote)
 }
 
@@ -134,7 +136,7 @@ fn insert_known(
     let Found::At(i) = f else {
         return past;
     };
-    insert_variable(head, rows, row, names[i][1], k, past)
+    insert_variable(head, rows, row, names[i][layout::SYMBOL], k, past)
 }
 
 // One term whose coefficient is not near zero.
@@ -205,11 +207,20 @@ pub fn insert_terms(
     ensures { λ r. ⌜ build (desk (now (head .exit)) (now (names .exit)) (now (reals .exit)) (now (rows .exit)) (now (row .exit))) (markOf r) ≡ insertTermsIn (now (item .entry)) (now (real .entry)) (build (desk (now (head .entry)) (now (names .entry)) (now (reals .entry)) (now (rows .entry)) (now (row .entry))) (markOf past)) ⌝ }
     ensures { λ _. ⌜ Roomy (now (head .exit)) ⌝ }
 {
-    let e = item[3] as usize;
+    let e = item[layout::TERM_COUNT] as usize;
     let mut w = past;
     let mut j = 0;
     while j < e {
-        w = insert_kept(head, names, reals, rows, row, item[4 + j], real[1 + j], w);
+        w = insert_kept(
+            head,
+            names,
+            reals,
+            rows,
+            row,
+            item[layout::TERMS + j],
+            real[layout::COEFFICIENTS + j],
+            w,
+        );
         j += 1;
     }
     w

@@ -46,7 +46,7 @@ pub fn note_shifts(
 {
     let mut i = 1;
     while i <= count {
-        let code = head[145 + i];
+        let code = head[layout::BEFORE_ROWS + i];
         let s = shift_of(d, code, &rows[i]);
         var_changed_if(is_noted(code, s), head, names, code / 4);
         i += 1;
@@ -82,7 +82,7 @@ pub fn shift_rows(
     let mut w = before;
     let mut i = 1;
     while i <= count {
-        let s = shift_of(d, head[145 + i], &rows[i]);
+        let s = shift_of(d, head[layout::BEFORE_ROWS + i], &rows[i]);
         let v = shift_row(&mut rows[i], s);
         w = joined(w, v);
         i += 1;
@@ -120,7 +120,7 @@ pub fn push_shifts(head: &mut [u64], rows: &[[f64; 130]], count: usize, d: Drag)
 {
     let mut i = 1;
     while i <= count {
-        let code = head[145 + i];
+        let code = head[layout::BEFORE_ROWS + i];
         let s = shift_of(d, code, &rows[i]);
         push_if(is_pushed(code, s, rows[i][0]), head, code / 4);
         i += 1;
@@ -147,7 +147,7 @@ pub fn shift_constants(
     ensures { λ _. ⌜ Keeps (now (head .exit)) (now (head .entry)) ⌝ }
 {
     let d = drag_of(head, marker, other, delta);
-    let count = head[2] as usize;
+    let count = head[layout::ROW_COUNT] as usize;
     note_shifts(head, names, rows, count, d);
     let w = shift_rows(head, rows, count, d, before);
     push_shifts(head, rows, count, d);

@@ -20,9 +20,9 @@ pub fn edit_record(names: &[[u64; 20]], reals: &[[f64; 17]], at: usize) -> EditR
     ensures { λ r. ⌜ r ≡ editRecordAt at (now (names .entry)) (now (reals .entry)) ⌝ }
 {
     EditRecord {
-        marker: names[at][1],
-        other: names[at][2],
-        suggestion: reals[at][1],
+        marker: names[at][layout::MARKER],
+        other: names[at][layout::OTHER],
+        suggestion: reals[at][layout::SUGGESTION],
     }
 }
 
@@ -43,14 +43,14 @@ pub fn suggested_if(accepted: bool, r: EditRecord, new: f64) -> EditRecord
 fn put_tag(name: &mut [u64; 20], r: EditRecord)
     ensures { λ _. ⌜ now (name .exit) ≡ taggedRow r (now (name .entry)) ⌝ }
 {
-    name[1] = r.marker;
-    name[2] = r.other;
+    name[layout::MARKER] = r.marker;
+    name[layout::OTHER] = r.other;
 }
 
 fn put_suggestion(real: &mut [f64; 17], r: EditRecord)
     ensures { λ _. ⌜ now (real .exit) ≡ suggestedRow r (now (real .entry)) ⌝ }
 {
-    real[1] = r.suggestion;
+    real[layout::SUGGESTION] = r.suggestion;
 }
 
 pub fn put_edit_record(names: &mut [[u64; 20]], reals: &mut [[f64; 17]], at: usize, r: EditRecord)

@@ -23,9 +23,9 @@ fn edit_item(n: u64, marker: u64, other: u64) -> [u64; 20]
     ensures { λ r. ⌜ r ≡ editItem n marker other ⌝ }
 {
     let mut item = [0; 20];
-    item[0] = n;
-    item[1] = marker;
-    item[2] = other;
+    item[layout::NUMBER] = n;
+    item[layout::MARKER] = marker;
+    item[layout::OTHER] = other;
     item
 }
 
@@ -34,7 +34,7 @@ fn edit_real(strength: f64) -> [f64; 17]
     ensures { λ r. ⌜ r ≡ editReal strength ⌝ }
 {
     let mut real = [0.0; 17];
-    real[0] = strength;
+    real[layout::STRENGTH] = strength;
     real
 }
 

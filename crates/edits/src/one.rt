@@ -6,8 +6,8 @@ pub fn one_item(n: u64) -> [u64; 20]
     ensures { λ r. ⌜ r ≡ oneItem n ⌝ }
 {
     let mut item = [0; 20];
-    item[3] = 1;
-    item[4] = n;
+    item[layout::TERM_COUNT] = 1;
+    item[layout::TERMS] = n;
     item
 }
 
@@ -15,6 +15,6 @@ pub fn one_real() -> [f64; 17]
     ensures { λ r. ⌜ r ≡ oneReal ⌝ }
 {
     let mut real = [0.0; 17];
-    real[1] = 1.0;
+    real[layout::COEFFICIENTS] = 1.0;
     real
 }

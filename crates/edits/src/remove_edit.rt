@@ -32,10 +32,15 @@ fn remove_edit_known(
 {
     widths(names, reals, rows);
     let before = stored_mark(head);
-    let k = items::name_at(names, layout::EDITS, head[6] as usize, n as u64);
-    let marker = names[layout::EDITS + k][1];
-    let other = names[layout::EDITS + k][2];
-    let strength = reals[layout::EDITS + k][0];
+    let k = items::name_at(
+        names,
+        layout::EDITS,
+        head[layout::EDIT_COUNT] as usize,
+        n as u64,
+    );
+    let marker = names[layout::EDITS + k][layout::MARKER];
+    let other = names[layout::EDITS + k][layout::OTHER];
+    let strength = reals[layout::EDITS + k][layout::STRENGTH];
     let item = one_item(n as u64);
     let real = one_real();
     let e = remove_steps(

@@ -35,7 +35,12 @@ fn suggest_known(
 {
     widths(names, reals, rows);
     let before = stored_mark(head);
-    let j = items::name_at(names, layout::EDITS, head[6] as usize, n as u64);
+    let j = items::name_at(
+        names,
+        layout::EDITS,
+        head[layout::EDIT_COUNT] as usize,
+        n as u64,
+    );
     let edit = edit_record(names, reals, layout::EDITS + j);
     let e = suggest_steps(head, names, reals, rows, edit, new, budget, before);
     let next = suggested_if(e.number == 0, edit, new);

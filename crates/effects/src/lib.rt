@@ -30,7 +30,13 @@ fn insert_row_in_objective(
     ensures { λ r. ⌜ effected (now (rows .exit)) (markOf r) ≡ rowInObjective width i k (effected (now (rows .entry)) (markOf before)) ⌝ }
 {
     let other = rows[i];
-    let w = insert_cells(&mut rows[0], &other, k, width, OBJECTIVE_BOUND);
+    let w = insert_cells(
+        &mut rows[layout::OBJECTIVE],
+        &other,
+        k,
+        width,
+        OBJECTIVE_BOUND,
+    );
     joined(before, w)
 }
 
@@ -51,7 +57,7 @@ pub fn insert_in_objective(
     let Found::At(p) = f else {
         return before;
     };
-    let w = insert_symbol(&mut rows[0], p, k, OBJECTIVE_BOUND);
+    let w = insert_symbol(&mut rows[layout::OBJECTIVE], p, k, OBJECTIVE_BOUND);
     joined(before, w)
 }
 
@@ -76,7 +82,13 @@ pub fn remove_marker_effects(
     let Found::At(i) = f else {
         return insert_in_objective(head, rows, code / 4, -strength, before);
     };
-    insert_row_in_objective(rows, head[1] as usize, i, -strength, before)
+    insert_row_in_objective(
+        rows,
+        head[layout::SYMBOL_COUNT] as usize,
+        i,
+        -strength,
+        before,
+    )
 }
 
 // "take each error symbol's strength out of the objective, marker's first (by its row if basic)"; 0 is no other symbol, and no Error.
@@ -106,7 +118,7 @@ pub fn note_leaving(head: &mut [u64], names: &mut [[u64; 20]], rows: &[[f64; 130
     requires { ⌜ length (now rows) ≡ 51 ⌝ }
     ensures { λ _. ⌜ noted (now (head .exit)) (now (names .exit)) ≡ noteLeavingIn i (now (rows .entry)) (noted (now (head .entry)) (now (names .entry))) ⌝ }
 {
-    let code = head[145 + i];
+    let code = head[layout::BEFORE_ROWS + i];
     let on = (code % 4 == 0) & (rows[i][0] != 0.0);
     var_changed_if(on, head, names, code / 4);
 }

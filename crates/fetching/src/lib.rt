@@ -50,11 +50,16 @@ fn note_news(
     ensures { λ r. ⌜ entry (now (real .exit)) (now (numbers .exit)) (now (values .exit)) r ≡ noteNews (basicsIn (now (head .entry)) (now (rows .entry))) (now (name .entry)) (entry (now (real .entry)) (now (numbers .entry)) (now (values .entry)) count) ⌝ }
     ensures { λ r. ⌜ r ≤ count + 1 ⌝ }
 {
-    let v = asking::constant_at(head, rows, head[2] as usize, name[1] / 4);
-    if (name[3] == 1) & (real[0] != v) {
-        numbers[count as usize] = name[0];
+    let v = asking::constant_at(
+        head,
+        rows,
+        head[layout::ROW_COUNT] as usize,
+        name[layout::SYMBOL] / 4,
+    );
+    if (name[layout::CHANGED] == 1) & (real[layout::OLD_VALUE] != v) {
+        numbers[count as usize] = name[layout::NUMBER];
         values[count as usize] = v;
-        real[0] = v;
+        real[layout::OLD_VALUE] = v;
         return count + 1;
     }
     count
@@ -78,7 +83,7 @@ fn list_news(
     requires { ⌜ length (now values) ≡ places ⌝ }
     ensures { λ r. ⌜ listing (now (reals .exit)) (now (numbers .exit)) (now (values .exit)) r ≡ listAll (basicsIn (now (head .entry)) (now (rows .entry))) (now (names .entry)) (variableCount (now (head .entry))) (listing (now (reals .entry)) (now (numbers .entry)) (now (values .entry)) 0) ⌝ }
 {
-    let k = head[4] as usize;
+    let k = head[layout::VARIABLE_COUNT] as usize;
     let mut count = 0;
     let mut i = 0;
     while i < k {
@@ -103,9 +108,13 @@ fn fetch_in(
     ensures { λ r. ⌜ fetch 0 r (now (numbers .exit)) (now (values .exit)) (tables (now (head .exit)) (now (names .exit)) (now (reals .exit)) (now (rows .entry))) ≡ fetchIn (tables (now (head .entry)) (now (names .entry)) (now (reals .entry)) (now (rows .entry))) ⌝ }
 {
     tableau::notes::wide_names(names);
-    tableau::notes::clear_changed_if(head[7] == 1, names, head[4] as usize);
+    tableau::notes::clear_changed_if(
+        head[layout::SHOULD_CLEAR] == 1,
+        names,
+        head[layout::VARIABLE_COUNT] as usize,
+    );
     let count = list_news(head, names, reals, rows, numbers, values);
-    head[7] = 1 - head[7];
+    head[layout::SHOULD_CLEAR] = 1 - head[layout::SHOULD_CLEAR];
     count
 }
 

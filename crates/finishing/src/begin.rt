@@ -19,7 +19,7 @@ pub fn stored_mark(head: &[u64]) -> Wrote
 {
     Wrote {
         finite: true,
-        whole: head[8] == 1,
+        whole: head[layout::WHOLE] == 1,
     }
 }
 
@@ -40,7 +40,7 @@ pub fn by_test(head: &[u64], number: u64) -> Answer
     Answer {
         number: number as u32,
         pivots: 0,
-        whole: head[8] == 1,
+        whole: head[layout::WHOLE] == 1,
     }
 }
 

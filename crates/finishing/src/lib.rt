@@ -38,7 +38,7 @@ fn close(head: &mut [u64], rows: &[[f64; 130]], wrote: Wrote)
 {
     moves::prune(head, rows);
     let yes = says_yes(wrote);
-    head[8] = bit(yes);
+    head[layout::WHOLE] = bit(yes);
 }
 
 // A constraint comes to its place by ascending number.
@@ -124,5 +124,5 @@ pub fn with_record(
     ensures { λ _. ⌜ Ends wrote (tables (now (head .entry)) (now (names .entry)) (now (reals .entry)) (now (rows .entry))) (constraintsOf (tables (now (head .entry)) (now (names .entry)) (now (reals .entry)) (now (rows .entry)))) (set (editsOf (tables (now (head .entry)) (now (names .entry)) (now (reals .entry)) (now (rows .entry)))) j (withRecord e (editOf (getD (now (names .entry)) (80 + j) []) (getD (now (reals .entry)) (80 + j) [])))) (tables (now (head .exit)) (now (names .exit)) (now (reals .exit)) (now (rows .entry))) ⌝ }
 {
     close(head, rows, wrote);
-    drags::record::put_edit_record(names, reals, 80 + j, e);
+    drags::record::put_edit_record(names, reals, layout::EDITS + j, e);
 }

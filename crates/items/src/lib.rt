@@ -29,7 +29,7 @@ pub fn numbers_ascend(names: &[[u64; 20]], a: usize, c: usize) -> bool
     let mut ok = true;
     let mut i = 1;
     while i < c {
-        ok = ok & (names[a + (i - 1)][0] < names[a + i][0]);
+        ok = ok & (names[a + (i - 1)][layout::NUMBER] < names[a + i][layout::NUMBER]);
         i += 1;
     }
     ok
@@ -44,7 +44,7 @@ pub fn name_at(names: &[[u64; 20]], a: usize, c: usize, x: u64) -> usize
 {
     let mut i = 0;
     while i < c {
-        if x == names[a + i][0] {
+        if x == names[a + i][layout::NUMBER] {
             return i;
         }
         i += 1;
@@ -60,7 +60,7 @@ pub fn fill_numbers(slots: &mut [u8; 256], names: &[[u64; 20]], v: usize)
 {
     let mut i = 0;
     while i < v {
-        slots[(names[i][0] % 256) as usize] = i as u8;
+        slots[(names[i][layout::NUMBER] % 256) as usize] = i as u8;
         i += 1;
     }
 }
@@ -85,7 +85,7 @@ pub fn variable_at(slots: &[u8; 256], names: &[[u64; 20]], v: usize, x: u64) -> 
 {
     let g = guess(slots, x);
     if g < v {
-        if x == names[g][0] {
+        if x == names[g][layout::NUMBER] {
             return g;
         }
     }
@@ -97,7 +97,10 @@ pub fn variable_at(slots: &[u8; 256], names: &[[u64; 20]], v: usize, x: u64) -> 
 fn variable_fits(name: &[u64; 20], real: &[f64; 17]) -> bool
     ensures { λ b. ⌜ b ≡ variableFits (now (name .entry)) (now (real .entry)) ⌝ }
 {
-    is_u32(name[0]) & (name[1] % 4 == 0) & (name[3] <= 1) & places::old_fits(real[0])
+    is_u32(name[layout::NUMBER])
+        & (name[layout::SYMBOL] % 4 == 0)
+        & (name[layout::CHANGED] <= 1)
+        & places::old_fits(real[layout::OLD_VALUE])
 }
 
 fn variables_fit(names: &[[u64; 20]], reals: &[[f64; 17]], v: usize) -> bool
@@ -133,11 +136,19 @@ fn kinds_fit(strength: f64, m: u64, o: u64) -> bool
 fn constraint_fits(name: &[u64; 20], real: &[f64; 17]) -> bool
     ensures { λ b. ⌜ b ≡ constraintFits (now (name .entry)) (now (real .entry)) ⌝ }
 {
-    is_u32(name[0])
-        & (name[3] <= 16)
-        & kinds_fit(real[0], name[1], name[2])
-        & places::is_finite(real[0])
-        & places::real_finite(real, 1, at_most_16(name[3]))
+    is_u32(name[layout::NUMBER])
+        & (name[layout::TERM_COUNT] <= 16)
+        & kinds_fit(
+            real[layout::STRENGTH],
+            name[layout::MARKER],
+            name[layout::OTHER],
+        )
+        & places::is_finite(real[layout::STRENGTH])
+        & places::real_finite(
+            real,
+            layout::COEFFICIENTS,
+            at_most_16(name[layout::TERM_COUNT]),
+        )
 }
 
 fn constraints_fit(names: &[[u64; 20]], reals: &[[f64; 17]], c: usize) -> bool
@@ -162,10 +173,14 @@ fn constraints_fit(names: &[[u64; 20]], reals: &[[f64; 17]], c: usize) -> bool
 fn edit_fits(name: &[u64; 20], real: &[f64; 17]) -> bool
     ensures { λ b. ⌜ b ≡ editFits (now (name .entry)) (now (real .entry)) ⌝ }
 {
-    (name[1] % 4 == 2)
-        & kinds_fit(real[0], name[1], name[2])
-        & places::is_finite(real[0])
-        & places::is_finite(real[1])
+    (name[layout::MARKER] % 4 == 2)
+        & kinds_fit(
+            real[layout::STRENGTH],
+            name[layout::MARKER],
+            name[layout::OTHER],
+        )
+        & places::is_finite(real[layout::STRENGTH])
+        & places::is_finite(real[layout::SUGGESTION])
 }
 
 fn edits_fit(names: &[[u64; 20]], reals: &[[f64; 17]], e: usize) -> bool
@@ -215,7 +230,7 @@ fn take_terms(
     requires { ⌜ numbersAscend (now names) 0 v ≡ true ⌝ }
     ensures { λ r. ⌜ shares (now (left .exit)) r ≡ takeTerms (now (names .entry)) v (now (row .entry)) (shares (now (left .entry)) start) ⌝ }
 {
-    let n = at_most_16(row[3]);
+    let n = at_most_16(row[layout::TERM_COUNT]);
     let mut ok = start;
     let mut i = 0;
     while i < n {
@@ -267,7 +282,14 @@ fn take_edits(
     let mut ok = start;
     let mut i = 0;
     while i < e {
-        ok = take_variable(left, slots, names, v, names[layout::EDITS + i][0], ok);
+        ok = take_variable(
+            left,
+            slots,
+            names,
+            v,
+            names[layout::EDITS + i][layout::NUMBER],
+            ok,
+        );
         i += 1;
     }
     ok
@@ -286,7 +308,7 @@ fn stock_uses(left: &mut [u64], names: &[[u64; 20]], v: usize)
 {
     let mut i = 0;
     while i < v {
-        left[i] = names[i][2];
+        left[i] = names[i][layout::USES];
         i += 1;
     }
 }

@@ -114,11 +114,11 @@ pub fn drop_row(head: &mut [u64], rows: &mut [[f64; 130]], i: usize)
     ensures { λ _. ⌜ board (now (head .exit)) (now (rows .exit)) ≡ droppedRow i (board (now (head .entry)) (now (rows .entry))) ⌝ }
     ensures { λ _. ⌜ Fits (now (head .exit)) (getD (now (head .entry)) 1 0) (getD (now (head .entry)) 2 0 - 1) (getD (now (head .entry)) 3 0) ⌝ }
 {
-    let r = head[2];
+    let r = head[layout::ROW_COUNT];
     let e = r as usize;
     close_rows(rows, i, e);
-    close_head(head, 145 + i, 145 + e);
-    head[2] = r - 1;
+    close_head(head, layout::BEFORE_ROWS + i, layout::BEFORE_ROWS + e);
+    head[layout::ROW_COUNT] = r - 1;
 }
 
 // The row of the symbol with this id goes, if it is basic.
@@ -144,10 +144,10 @@ fn row_place(head: &[u64], id: u64) -> usize
     ensures { λ r. ⌜ 1 ≤ r ⌝ }
     ensures { λ r. ⌜ r ≤ 1 + getD (now (head .entry)) 2 0 ⌝ }
 {
-    let n = head[2] as usize;
+    let n = head[layout::ROW_COUNT] as usize;
     let mut i = 1;
     while i <= n {
-        if id < head[145 + i] / 4 {
+        if id < head[layout::BEFORE_ROWS + i] / 4 {
             return i;
         }
         i += 1;
@@ -163,12 +163,12 @@ pub fn keep_row(head: &mut [u64], rows: &mut [[f64; 130]], code: u64, row: &[f64
     ensures { λ _. ⌜ board (now (head .exit)) (now (rows .exit)) ≡ keptRow code (now (row .entry)) (board (now (head .entry)) (now (rows .entry))) ⌝ }
     ensures { λ _. ⌜ Fits (now (head .exit)) (getD (now (head .entry)) 1 0) (getD (now (head .entry)) 2 0 + 1) (getD (now (head .entry)) 3 0) ⌝ }
 {
-    let r = head[2];
+    let r = head[layout::ROW_COUNT];
     let e = r as usize;
     let p = row_place(head, code / 4);
     open_rows(rows, p, 1 + e, row);
-    open_head(head, 145 + p, 146 + e, code);
-    head[2] = r + 1;
+    open_head(head, layout::BEFORE_ROWS + p, layout::ROWS + e, code);
+    head[layout::ROW_COUNT] = r + 1;
 }
 
 // ---- symbols
@@ -203,15 +203,15 @@ pub fn append_symbol(
     ensures { λ _. ⌜ board (now (head .exit)) (now (rows .exit)) ≡ appendedSymbol kind (board (now (head .entry)) (now (rows .entry))) ⌝ }
     ensures { λ _. ⌜ Fits (now (head .exit)) (getD (now (head .entry)) 1 0 + 1) (getD (now (head .entry)) 2 0) (getD (now (head .entry)) 3 0) ⌝ }
 {
-    let id = head[0];
-    let k = head[1];
-    let r = head[2] as usize;
+    let id = head[layout::NEXT_ID];
+    let k = head[layout::SYMBOL_COUNT];
+    let r = head[layout::ROW_COUNT] as usize;
     let at = k as usize;
     clear_column(rows, 1 + at, 1 + r);
     row[1 + at] = 0.0;
-    head[16 + at] = id * 4 + kind;
-    head[1] = k + 1;
-    head[0] = id + 1;
+    head[layout::SYMBOLS + at] = id * 4 + kind;
+    head[layout::SYMBOL_COUNT] = k + 1;
+    head[layout::NEXT_ID] = id + 1;
     id * 4 + kind
 }
 
@@ -239,12 +239,12 @@ pub fn close_column(head: &mut [u64], rows: &mut [[f64; 130]], p: usize)
     ensures { λ _. ⌜ board (now (head .exit)) (now (rows .exit)) ≡ closedColumn p (board (now (head .entry)) (now (rows .entry))) ⌝ }
     ensures { λ _. ⌜ Fits (now (head .exit)) (getD (now (head .entry)) 1 0 - 1) (getD (now (head .entry)) 2 0) (getD (now (head .entry)) 3 0) ⌝ }
 {
-    let k = head[1];
-    let r = head[2] as usize;
+    let k = head[layout::SYMBOL_COUNT];
+    let r = head[layout::ROW_COUNT] as usize;
     let e = k as usize;
     close_columns(rows, 1 + r, p, e);
-    close_head(head, 15 + p, 15 + e);
-    head[1] = k - 1;
+    close_head(head, layout::BEFORE_SYMBOLS + p, layout::BEFORE_SYMBOLS + e);
+    head[layout::SYMBOL_COUNT] = k - 1;
 }
 
 fn close_column_of(head: &mut [u64], rows: &mut [[f64; 130]], id: u64)
@@ -284,8 +284,8 @@ fn entry_at(head: &[u64], id: u64) -> usize
     ensures { λ r. ⌜ r ≡ entryAt id (now (head .entry)) ⌝ }
     ensures { λ r. ⌜ 196 ≤ r ⌝ }
 {
-    let e = 196 + head[3] as usize;
-    let mut j = 196;
+    let e = layout::LIST + head[layout::ENTRY_COUNT] as usize;
+    let mut j = layout::LIST;
     while j < e {
         if id == head[j] {
             return j;
@@ -302,17 +302,17 @@ pub fn push(head: &mut [u64], id: u64)
     ensures { λ _. ⌜ now (head .exit) ≡ pushOf id (now (head .entry)) ⌝ }
     ensures { λ _. ⌜ Fits (now (head .exit)) (getD (now (head .entry)) 1 0) (getD (now (head .entry)) 2 0) 130 ⌝ }
 {
-    let q = head[3];
+    let q = head[layout::ENTRY_COUNT];
     let e = q as usize;
     let p = entry_at(head, id);
-    if p < 196 + e {
-        close_head(head, p, 195 + e);
-        head[195 + e] = id;
+    if p < layout::LIST + e {
+        close_head(head, p, layout::BEFORE_LIST + e);
+        head[layout::BEFORE_LIST + e] = id;
         return;
     }
     if q < 130 {
-        head[196 + e] = id;
-        head[3] = q + 1;
+        head[layout::LIST + e] = id;
+        head[layout::ENTRY_COUNT] = q + 1;
     }
 }
 
@@ -342,10 +342,10 @@ pub fn push_below(head: &mut [u64], rows: &[[f64; 130]])
     ensures { λ _. ⌜ now (head .exit) ≡ pushBelowOf (now (rows .entry)) (now (head .entry)) ⌝ }
     ensures { λ _. ⌜ Fits (now (head .exit)) (getD (now (head .entry)) 1 0) (getD (now (head .entry)) 2 0) 130 ⌝ }
 {
-    let n = head[2] as usize;
+    let n = head[layout::ROW_COUNT] as usize;
     let mut i = 1;
     while i <= n {
-        let code = head[145 + i];
+        let code = head[layout::BEFORE_ROWS + i];
         push_if(is_low(code, rows[i][0]), head, code / 4);
         i += 1;
     }
@@ -358,7 +358,7 @@ fn keep_if(on: bool, head: &mut [u64], n: usize, x: u64) -> usize
     ensures { λ r. ⌜ r ≤ n + 1 ⌝ }
 {
     if on {
-        head[196 + n] = x;
+        head[layout::LIST + n] = x;
         return n + 1;
     }
     n
@@ -373,13 +373,13 @@ pub fn prune(head: &mut [u64], rows: &[[f64; 130]])
     ensures { λ _. ⌜ now (head .exit) ≡ pruneOf (now (rows .entry)) (now (head .entry)) ⌝ }
     ensures { λ _. ⌜ Fits (now (head .exit)) (getD (now (head .entry)) 1 0) (getD (now (head .entry)) 2 0) (getD (now (head .entry)) 3 0) ⌝ }
 {
-    let q = head[3] as usize;
+    let q = head[layout::ENTRY_COUNT] as usize;
     let mut n = 0;
     let mut j = 1;
     while j <= q {
-        let x = head[195 + j];
+        let x = head[layout::BEFORE_LIST + j];
         n = keep_if(choose::list::is_below(head, rows, x), head, n, x);
         j += 1;
     }
-    head[3] = n as u64;
+    head[layout::ENTRY_COUNT] = n as u64;
 }

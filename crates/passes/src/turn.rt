@@ -40,7 +40,7 @@ pub fn pivot_on(
     requires { ⌜ Free (now head) (now rows) p ⌝ }
     ensures { λ r. ⌜ Pivots art before (getD (now (head .entry)) (145 + i) 0 / 4) (symbolOf (getD (now (head .entry)) (15 + p) 0)) (tables (now (head .entry)) (now (names .entry)) (now (reals .entry)) (now (rows .entry))) r (tables (now (head .exit)) (now (names .exit)) (now (reals .entry)) (now (rows .exit))) ⌝ }
 {
-    let f = place_of(head, head[145 + i] / 4);
+    let f = place_of(head, head[layout::BEFORE_ROWS + i] / 4);
     let Found::At(q) = f else {
         return before;
     };

@@ -41,14 +41,18 @@ fn counts_fit(head: &[u64]) -> bool
     requires { ⌜ length (now head) ≡ headSize ⌝ }
     ensures { λ r. ⌜ r ≡ countsFit (now (head .entry)) ⌝ }
 {
-    items::is_u32(head[0])
-        & (0 < head[0])
-        & (head[1] <= 129)
-        & (head[3] <= 130)
-        & (head[4] <= 32)
-        & (head[7] <= 1)
-        & (head[8] <= 1)
-        & room_for(head[5], head[6], head[2])
+    items::is_u32(head[layout::NEXT_ID])
+        & (0 < head[layout::NEXT_ID])
+        & (head[layout::SYMBOL_COUNT] <= 129)
+        & (head[layout::ENTRY_COUNT] <= 130)
+        & (head[layout::VARIABLE_COUNT] <= 32)
+        & (head[layout::SHOULD_CLEAR] <= 1)
+        & (head[layout::WHOLE] <= 1)
+        & room_for(
+            head[layout::CONSTRAINT_COUNT],
+            head[layout::EDIT_COUNT],
+            head[layout::ROW_COUNT],
+        )
 }
 
 fn in_order(head: &[u64], names: &[[u64; 20]]) -> bool
@@ -57,8 +61,12 @@ fn in_order(head: &[u64], names: &[[u64; 20]]) -> bool
     requires { ⌜ Counted (now head) ⌝ }
     ensures { λ r. ⌜ r ≡ inOrder (now (head .entry)) (now (names .entry)) ⌝ }
 {
-    symbols::ids_ascend(head, layout::SYMBOLS, head[1] as usize)
-        & items::numbers_ascend(names, 0, head[4] as usize)
+    symbols::ids_ascend(head, layout::SYMBOLS, head[layout::SYMBOL_COUNT] as usize)
+        & items::numbers_ascend(
+            names,
+            layout::VARIABLES,
+            head[layout::VARIABLE_COUNT] as usize,
+        )
 }
 
 fn content_fits(head: &[u64], names: &[[u64; 20]], reals: &[[f64; 17]], rows: &[[f64; 130]]) -> bool
@@ -68,17 +76,17 @@ fn content_fits(head: &[u64], names: &[[u64; 20]], reals: &[[f64; 17]], rows: &[
     requires { ⌜ numbersAscend (now names) 0 (variableCount (now head)) ≡ true ⌝ }
     ensures { λ r. ⌜ r ≡ contentFits (tables (now (head .entry)) (now (names .entry)) (now (reals .entry)) (now (rows .entry))) ⌝ }
 {
-    let k = head[1] as usize;
-    let r = head[2] as usize;
-    let q = head[3] as usize;
-    let v = head[4] as usize;
-    let c = head[5] as usize;
-    let e = head[6] as usize;
+    let k = head[layout::SYMBOL_COUNT] as usize;
+    let r = head[layout::ROW_COUNT] as usize;
+    let q = head[layout::ENTRY_COUNT] as usize;
+    let v = head[layout::VARIABLE_COUNT] as usize;
+    let c = head[layout::CONSTRAINT_COUNT] as usize;
+    let e = head[layout::EDIT_COUNT] as usize;
     let mut slots = symbols::no_slots();
     symbols::fill_slots(&mut slots, head, k);
     let mut numbers = symbols::no_slots();
     items::fill_numbers(&mut numbers, names, v);
-    symbols::ids_bounded(head, k, head[0])
+    symbols::ids_bounded(head, k, head[layout::NEXT_ID])
         & symbols::owned_fit(&slots, head, names, k, v, c, e)
         & symbols::tableau_fits(&slots, head, rows, k, r, q)
         & items::items_fit(&numbers, names, reals, v, c, e)

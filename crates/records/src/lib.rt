@@ -6,6 +6,12 @@ ghost use lib.ListN.{getD, length};
 ghost use Rattle.moves.specs.Close.{closed, opened};
 ghost use Rattle.records.specs.Records.{Between, items, numberAt, numberPlace, keptItem, droppedItem, dropItemOf, variableItem, variableReal, keptVariable, moreUses, usedOnce, countedUse, lost, lostUse, useLessOf};
 use choose::Found;
+use layout::CONSTRAINT_COUNT;
+use layout::CONSTRAINTS;
+use layout::EDIT_COUNT;
+use layout::EDITS;
+use layout::VARIABLE_COUNT;
+use layout::VARIABLES;
 
 // ---- by number
 
@@ -18,7 +24,7 @@ fn number_at(names: &[[u64; 20]], a: usize, e: usize, n: u64) -> Found
 {
     let mut j = a;
     while j < e {
-        if n == names[j][0] {
+        if n == names[j][layout::NUMBER] {
             return Found::At(j);
         }
         j += 1;
@@ -36,7 +42,7 @@ fn number_place(names: &[[u64; 20]], a: usize, e: usize, n: u64) -> usize
 {
     let mut j = a;
     while j < e {
-        if n < names[j][0] {
+        if n < names[j][layout::NUMBER] {
             return j;
         }
         j += 1;
@@ -51,7 +57,7 @@ pub fn find_variable(head: &[u64], names: &[[u64; 20]], n: u64) -> Found
     ensures { λ r. ⌜ r ≡ numberAt 0 (getD (now (head .entry)) 4 0) n (now (names .entry)) ⌝ }
     ensures { λ r. ⌜ Between 0 (getD (now (head .entry)) 4 0) r ⌝ }
 {
-    number_at(names, 0, head[4] as usize, n)
+    number_at(names, VARIABLES, head[VARIABLE_COUNT] as usize, n)
 }
 
 pub fn find_constraint(head: &[u64], names: &[[u64; 20]], n: u64) -> Found
@@ -61,7 +67,12 @@ pub fn find_constraint(head: &[u64], names: &[[u64; 20]], n: u64) -> Found
     ensures { λ r. ⌜ r ≡ numberAt 32 (32 + getD (now (head .entry)) 5 0) n (now (names .entry)) ⌝ }
     ensures { λ r. ⌜ Between 32 (32 + getD (now (head .entry)) 5 0) r ⌝ }
 {
-    number_at(names, 32, 32 + head[5] as usize, n)
+    number_at(
+        names,
+        CONSTRAINTS,
+        CONSTRAINTS + head[CONSTRAINT_COUNT] as usize,
+        n,
+    )
 }
 
 pub fn find_edit(head: &[u64], names: &[[u64; 20]], n: u64) -> Found
@@ -71,7 +82,7 @@ pub fn find_edit(head: &[u64], names: &[[u64; 20]], n: u64) -> Found
     ensures { λ r. ⌜ r ≡ numberAt 80 (80 + getD (now (head .entry)) 6 0) n (now (names .entry)) ⌝ }
     ensures { λ r. ⌜ Between 80 (80 + getD (now (head .entry)) 6 0) r ⌝ }
 {
-    number_at(names, 80, 80 + head[6] as usize, n)
+    number_at(names, EDITS, EDITS + head[EDIT_COUNT] as usize, n)
 }
 
 // ---- by one place
@@ -145,7 +156,7 @@ fn keep_item(
 {
     let k = head[c];
     let e = a + k as usize;
-    let p = number_place(names, a, e, item[0]);
+    let p = number_place(names, a, e, item[layout::NUMBER]);
     open_names(names, p, e, item);
     open_reals(reals, p, e, real);
     head[c] = k + 1;
@@ -180,8 +191,8 @@ fn variable_item(n: u64, code: u64) -> [u64; 20]
     ensures { λ r. ⌜ r ≡ variableItem n code ⌝ }
 {
     let mut item = [0; 20];
-    item[0] = n;
-    item[1] = code;
+    item[layout::NUMBER] = n;
+    item[layout::SYMBOL] = code;
     item
 }
 
@@ -208,7 +219,7 @@ pub fn keep_variable(
 {
     let item = variable_item(n, code);
     let real = variable_real();
-    keep_item(head, names, reals, 4, 0, &item, &real);
+    keep_item(head, names, reals, VARIABLE_COUNT, VARIABLES, &item, &real);
 }
 
 // A count at the end of its range stays there: no state that reads comes near it.
@@ -225,7 +236,7 @@ fn more_uses(on: bool, uses: u64) -> u64
 fn use_once(item: &mut [u64; 20], n: u64)
     ensures { λ _. ⌜ now (item .exit) ≡ usedOnce n (now (item .entry)) ⌝ }
 {
-    item[2] = more_uses(n == item[0], item[2]);
+    item[layout::USES] = more_uses(n == item[layout::NUMBER], item[layout::USES]);
 }
 
 // One use of the variable more.
@@ -234,7 +245,7 @@ pub fn count_use(head: &[u64], names: &mut [[u64; 20]], n: u64)
     requires { ⌜ getD (now head) 4 0 ≤ length (now names) ⌝ }
     ensures { λ _. ⌜ now (names .exit) ≡ countedUse n (getD (now (head .entry)) 4 0) (now (names .entry)) ⌝ }
 {
-    let e = head[4] as usize;
+    let e = head[VARIABLE_COUNT] as usize;
     let mut i = 0;
     while i < e {
         use_once(&mut names[i], n);
@@ -262,13 +273,13 @@ fn lose_use(head: &mut [u64], names: &mut [[u64; 20]], reals: &mut [[f64; 17]], 
     requires { ⌜ length (now reals) ≡ 128 ⌝ }
     ensures { λ r. ⌜ lost (items (now (head .exit)) (now (names .exit)) (now (reals .exit))) r ≡ lostUse i (items (now (head .entry)) (now (names .entry)) (now (reals .entry))) ⌝ }
 {
-    let uses = names[i][2];
+    let uses = names[i][layout::USES];
     if uses == 1 {
-        let code = names[i][1];
-        drop_item(head, names, reals, 4, 0, i);
+        let code = names[i][layout::SYMBOL];
+        drop_item(head, names, reals, VARIABLE_COUNT, VARIABLES, i);
         return Gone::Symbol(code);
     }
-    names[i][2] = less_one(uses);
+    names[i][layout::USES] = less_one(uses);
     Gone::Stays
 }
 
@@ -302,7 +313,15 @@ pub fn keep_constraint(
     requires { ⌜ length (now reals) ≡ 128 ⌝ }
     ensures { λ _. ⌜ items (now (head .exit)) (now (names .exit)) (now (reals .exit)) ≡ keptItem 5 32 (now (item .entry)) (now (real .entry)) (items (now (head .entry)) (now (names .entry)) (now (reals .entry))) ⌝ }
 {
-    keep_item(head, names, reals, 5, 32, item, real);
+    keep_item(
+        head,
+        names,
+        reals,
+        CONSTRAINT_COUNT,
+        CONSTRAINTS,
+        item,
+        real,
+    );
 }
 
 pub fn keep_edit(
@@ -318,7 +337,7 @@ pub fn keep_edit(
     requires { ⌜ length (now reals) ≡ 128 ⌝ }
     ensures { λ _. ⌜ items (now (head .exit)) (now (names .exit)) (now (reals .exit)) ≡ keptItem 6 80 (now (item .entry)) (now (real .entry)) (items (now (head .entry)) (now (names .entry)) (now (reals .entry))) ⌝ }
 {
-    keep_item(head, names, reals, 6, 80, item, real);
+    keep_item(head, names, reals, EDIT_COUNT, EDITS, item, real);
 }
 
 pub fn drop_constraint(head: &mut [u64], names: &mut [[u64; 20]], reals: &mut [[f64; 17]], n: u64)
@@ -332,7 +351,7 @@ pub fn drop_constraint(head: &mut [u64], names: &mut [[u64; 20]], reals: &mut [[
     let Found::At(i) = f else {
         return;
     };
-    drop_item(head, names, reals, 5, 32, i);
+    drop_item(head, names, reals, CONSTRAINT_COUNT, CONSTRAINTS, i);
 }
 
 pub fn drop_edit(head: &mut [u64], names: &mut [[u64; 20]], reals: &mut [[f64; 17]], n: u64)
@@ -346,5 +365,5 @@ pub fn drop_edit(head: &mut [u64], names: &mut [[u64; 20]], reals: &mut [[f64; 1
     let Found::At(i) = f else {
         return;
     };
-    drop_item(head, names, reals, 6, 80, i);
+    drop_item(head, names, reals, EDIT_COUNT, EDITS, i);
 }

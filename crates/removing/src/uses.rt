@@ -11,7 +11,7 @@ use records::use_less;
 fn term_count(item: &[u64; 20]) -> usize
     ensures { λ r. ⌜ r ≡ termCount (now (item .entry)) ⌝ }
 {
-    item[3] as usize
+    item[layout::TERM_COUNT] as usize
 }
 
 // The variable of term j; past the 16 places it reads as 0.
@@ -19,7 +19,7 @@ fn variable_at(item: [u64; 20], j: usize) -> u64
     ensures { λ r. ⌜ r ≡ getD item (4 + j) 0 ⌝ }
 {
     if j < 16 {
-        return item[4 + j];
+        return item[layout::TERMS + j];
     }
     0
 }

@@ -142,15 +142,15 @@ fn reset_head(head: &mut [u64])
     requires { ⌜ length (now head) ≡ headSize ⌝ }
     ensures { λ _. ⌜ now (head .exit) ≡ resetHead (now (head .entry)) ⌝ }
 {
-    head[0] = 1;
-    head[1] = 0;
-    head[2] = 0;
-    head[3] = 0;
-    head[4] = 0;
-    head[5] = 0;
-    head[6] = 0;
-    head[7] = 0;
-    head[8] = 1;
+    head[layout::NEXT_ID] = 1;
+    head[layout::SYMBOL_COUNT] = 0;
+    head[layout::ROW_COUNT] = 0;
+    head[layout::ENTRY_COUNT] = 0;
+    head[layout::VARIABLE_COUNT] = 0;
+    head[layout::CONSTRAINT_COUNT] = 0;
+    head[layout::EDIT_COUNT] = 0;
+    head[layout::SHOULD_CLEAR] = 0;
+    head[layout::WHOLE] = 1;
 }
 
 // "Reset refuses only wrong lengths."

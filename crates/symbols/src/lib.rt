@@ -163,7 +163,7 @@ fn cells_fit(rows: &[[f64; 130]], marks: &[f64; 130], k: usize, r: usize) -> boo
     requires { ⌜ Marks (now marks) ⌝ }
     ensures { λ b. ⌜ b ≡ cellsFit (now (rows .entry)) (now (marks .entry)) k r ⌝ }
 {
-    places::row_fits(&rows[0], marks, 1, 1 + k) & rows_fit(rows, marks, k, r)
+    places::row_fits(&rows[layout::OBJECTIVE], marks, 1, 1 + k) & rows_fit(rows, marks, k, r)
 }
 
 // ---- the list
@@ -279,8 +279,8 @@ fn take_tag(
     requires { ⌜ idsAscend (now head) symbolsAt k ≡ true ⌝ }
     ensures { λ r. ⌜ shares (now (left .exit)) r ≡ takeTag (now (head .entry)) k (now (row .entry)) (shares (now (left .entry)) ok) ⌝ }
 {
-    let marker = take_symbol(left, slots, head, k, row[1], ok);
-    take_other(left, slots, head, k, row[2], marker)
+    let marker = take_symbol(left, slots, head, k, row[layout::MARKER], ok);
+    take_other(left, slots, head, k, row[layout::OTHER], marker)
 }
 
 fn take_variables(
@@ -301,7 +301,7 @@ fn take_variables(
     let mut ok = start;
     let mut i = 0;
     while i < v {
-        ok = take_symbol(left, slots, head, k, names[i][1], ok);
+        ok = take_symbol(left, slots, head, k, names[i][layout::SYMBOL], ok);
         i += 1;
     }
     ok

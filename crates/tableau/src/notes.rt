@@ -29,7 +29,7 @@ pub fn wide_names(names: &[[u64; 20]])
 fn clear_flag(name: &mut [u64; 20])
     ensures { λ _. ⌜ now (name .exit) ≡ clearedRow (now (name .entry)) ⌝ }
 {
-    name[3] = 0;
+    name[layout::CHANGED] = 0;
 }
 
 fn clear_changed(names: &mut [[u64; 20]], count: usize)
@@ -55,8 +55,8 @@ pub fn clear_changed_if(on: bool, names: &mut [[u64; 20]], count: usize)
 fn flag_if_symbol(name: &mut [u64; 20], id: u64)
     ensures { λ _. ⌜ now (name .exit) ≡ flaggedRow id (now (name .entry)) ⌝ }
 {
-    if id == name[1] / 4 {
-        name[3] = 1;
+    if id == name[layout::SYMBOL] / 4 {
+        name[layout::CHANGED] = 1;
     }
 }
 
@@ -77,9 +77,9 @@ pub fn var_changed(head: &mut [u64], names: &mut [[u64; 20]], id: u64)
     requires { ⌜ getD (now head) 4 0 ≤ length (now names) ⌝ }
     ensures { λ _. ⌜ noted (now (head .exit)) (now (names .exit)) ≡ varChangedIn id (noted (now (head .entry)) (now (names .entry))) ⌝ }
 {
-    let count = head[4] as usize;
-    clear_changed_if(head[7] == 1, names, count);
-    head[7] = 0;
+    let count = head[layout::VARIABLE_COUNT] as usize;
+    clear_changed_if(head[layout::SHOULD_CLEAR] == 1, names, count);
+    head[layout::SHOULD_CLEAR] = 0;
     flag_symbol(names, count, id);
 }
 

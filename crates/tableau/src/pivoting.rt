@@ -71,8 +71,8 @@ pub fn pivot(
     ensures { λ r. ⌜ substitution (now (head .exit)) (now (names .exit)) (now (rows .exit)) (markOf r) ≡ pivotOf art i leaving entering (noted (now (head .entry)) (now (names .entry))) (now (rows .entry)) ⌝ }
     ensures { λ _. ⌜ Fits (now (head .exit)) (getD (now (head .entry)) 1 0) (getD (now (head .entry)) 2 0) 130 ⌝ }
 {
-    let width = head[1] as usize;
-    let code = head[15 + entering];
+    let width = head[layout::SYMBOL_COUNT] as usize;
+    let code = head[layout::BEFORE_SYMBOLS + entering];
     let mut row = rows[i];
     let u = solve_for_symbols(&mut row, leaving, entering, width);
     drop_row(head, rows, i);

@@ -55,7 +55,13 @@ pub fn substitute_objective(
     ensures { λ r. ⌜ markOf r ≡ substituteObjectiveMark at width (now (pivot .entry)) (now (rows .entry)) ⌝ }
     ensures { λ _. ⌜ now (rows .exit) ≡ substituteObjectiveIn at width (now (pivot .entry)) (now (rows .entry)) ⌝ }
 {
-    substitute_cells(&mut rows[0], at, pivot, width, OBJECTIVE_BOUND)
+    substitute_cells(
+        &mut rows[layout::OBJECTIVE],
+        at,
+        pivot,
+        width,
+        OBJECTIVE_BOUND,
+    )
 }
 
 pub fn substitute_artificial(
@@ -72,7 +78,7 @@ pub fn substitute_artificial(
     ensures { λ _. ⌜ now (rows .exit) ≡ substituteArtificialIn art at width (now (pivot .entry)) (now (rows .entry)) ⌝ }
 {
     if art {
-        let r = substitute_row(&mut rows[50], at, pivot, width);
+        let r = substitute_row(&mut rows[layout::ARTIFICIAL], at, pivot, width);
         r.wrote
     } else {
         nothing()
@@ -105,7 +111,7 @@ pub fn note_rows(
     let c = pivot[0];
     let mut i = 1;
     while i <= count {
-        let code = head[145 + i];
+        let code = head[layout::BEFORE_ROWS + i];
         let on = is_noted(code, rows[i][at], c);
         var_changed_if(on, head, names, code / 4);
         i += 1;
@@ -131,8 +137,8 @@ fn substitute_and_note(
     ensures { λ _. ⌜ Fits (now (head .exit)) (getD (now (head .entry)) 1 0) (getD (now (head .entry)) 2 0) (getD (now (head .entry)) 3 0) ⌝ }
     ensures { λ _. ⌜ getD (now (head .exit)) 4 0 ≡ getD (now (head .entry)) 4 0 ⌝ }
 {
-    let width = head[1] as usize;
-    let count = head[2] as usize;
+    let width = head[layout::SYMBOL_COUNT] as usize;
+    let count = head[layout::ROW_COUNT] as usize;
     note_rows(head, names, rows, count, at, pivot);
     let u = substitute_rows(rows, count, width, at, pivot);
     let v = substitute_objective(rows, width, at, pivot);

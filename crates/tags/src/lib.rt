@@ -47,7 +47,7 @@ pub fn add_symbol(
     ensures { λ r. ⌜ frame (now (head .exit)) (now (rows .exit)) (now (row .exit)) (markOf r) ≡ addSymbolIn kind k (frame (now (head .entry)) (now (rows .entry)) (now (row .entry)) (markOf past)) ⌝ }
     ensures { λ _. ⌜ Grew (now (head .entry)) (now (head .exit)) ⌝ }
 {
-    let p = 1 + head[1] as usize;
+    let p = 1 + head[layout::SYMBOL_COUNT] as usize;
     append_symbol(head, rows, row, kind);
     let w = insert_symbol(row, p, k, CELL_BOUND);
     joined(past, w)
@@ -70,9 +70,9 @@ pub fn add_error(
     ensures { λ r. ⌜ frame (now (head .exit)) (now (rows .exit)) (now (row .exit)) (markOf r) ≡ addErrorIn k strength (frame (now (head .entry)) (now (rows .entry)) (now (row .entry)) (markOf past)) ⌝ }
     ensures { λ _. ⌜ Grew (now (head .entry)) (now (head .exit)) ⌝ }
 {
-    let p = 1 + head[1] as usize;
+    let p = 1 + head[layout::SYMBOL_COUNT] as usize;
     let v = add_symbol(head, rows, row, 2, k, past);
-    let w = insert_symbol(&mut rows[0], p, strength, OBJECTIVE_BOUND);
+    let w = insert_symbol(&mut rows[layout::OBJECTIVE], p, strength, OBJECTIVE_BOUND);
     joined(v, w)
 }
 
@@ -92,7 +92,7 @@ fn inequality(
     requires { ⌜ length (now rows) ≡ 51 ⌝ }
     ensures { λ r. ⌜ taggedOf (now (head .exit)) (now (rows .exit)) (now (row .exit)) r ≡ inequalityIn sign strength (frame (now (head .entry)) (now (rows .entry)) (now (row .entry)) (markOf past)) ⌝ }
 {
-    let id = head[0];
+    let id = head[layout::NEXT_ID];
     let v = add_symbol(head, rows, row, 1, sign, past);
     if strength < REQUIRED {
         let w = add_error(head, rows, row, -sign, strength, v);
@@ -124,7 +124,7 @@ fn soft_equality(
     requires { ⌜ length (now rows) ≡ 51 ⌝ }
     ensures { λ r. ⌜ taggedOf (now (head .exit)) (now (rows .exit)) (now (row .exit)) r ≡ softEqualityIn strength (frame (now (head .entry)) (now (rows .entry)) (now (row .entry)) (markOf past)) ⌝ }
 {
-    let id = head[0];
+    let id = head[layout::NEXT_ID];
     let v = add_error(head, rows, row, -1.0, strength, past);
     let w = add_error(head, rows, row, 1.0, strength, v);
     Tagged {
@@ -148,7 +148,7 @@ fn required_equality(
     requires { ⌜ length (now rows) ≡ 51 ⌝ }
     ensures { λ r. ⌜ taggedOf (now (head .exit)) (now (rows .exit)) (now (row .exit)) r ≡ requiredEqualityIn (frame (now (head .entry)) (now (rows .entry)) (now (row .entry)) (markOf past)) ⌝ }
 {
-    let id = head[0];
+    let id = head[layout::NEXT_ID];
     let w = add_symbol(head, rows, row, 3, 1.0, past);
     Tagged {
         marker: id * 4 + 3,

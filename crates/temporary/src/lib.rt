@@ -42,7 +42,7 @@ fn stand_temporary(head: &mut [u64], rows: &mut [[f64; 130]], row: &mut [f64; 13
 {
     let code = append_symbol(head, rows, row, 1);
     keep_row(head, rows, code, row);
-    rows[50] = *row;
+    rows[layout::ARTIFICIAL] = *row;
     code
 }
 
@@ -139,7 +139,7 @@ fn close_temporary(
     ensures { λ r. ⌜ outcomeOf false r (tables (now (head .exit)) (now (names .exit)) (now (reals .entry)) (now (rows .exit))) ≡ closingOf (symbolOf code) (workOf true (markOf before) pivots (tables (now (head .entry)) (now (names .entry)) (now (reals .entry)) (now (rows .entry)))) ⌝ }
     ensures { λ r. ⌜ Goes false r (tables (now (head .entry)) (now (names .entry)) (now (reals .entry)) (now (rows .entry))) (tables (now (head .exit)) (now (names .exit)) (now (reals .entry)) (now (rows .exit))) ⌝ }
 {
-    if near_zero(rows[50][0]) {
+    if near_zero(rows[layout::ARTIFICIAL][0]) {
         return remove_temporary(head, names, reals, rows, code, pivots, before);
     }
     Ended {

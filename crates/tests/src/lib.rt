@@ -76,7 +76,7 @@ pub fn constraints_full(head: &[u64]) -> bool
     requires { ⌜ editCount (now head) ≤ 48 ⌝ }
     ensures { λ r. ⌜ r ≡ constraintsFullIn (now (head .entry)) ⌝ }
 {
-    48 <= head[5] + head[6]
+    48 <= head[layout::CONSTRAINT_COUNT] + head[layout::EDIT_COUNT]
 }
 
 pub fn variables_full(head: &[u64], names: &[[u64; 20]], p: terms::Pack) -> bool
@@ -85,7 +85,7 @@ pub fn variables_full(head: &[u64], names: &[[u64; 20]], p: terms::Pack) -> bool
     requires { ⌜ variableCount (now head) ≤ 32 ⌝ }
     ensures { λ r. ⌜ r ≡ variablesFullIn (now (head .entry)) (now (names .entry)) p ⌝ }
 {
-    let v = head[4];
+    let v = head[layout::VARIABLE_COUNT];
     let kept = terms::kept(p);
     32 < v + new_variables(names, v as usize, kept)
 }
@@ -94,7 +94,7 @@ pub fn ids_used(head: &[u64]) -> bool
     requires { ⌜ length (now head) ≡ headSize ⌝ }
     ensures { λ r. ⌜ r ≡ idsUsedIn (now (head .entry)) ⌝ }
 {
-    4294900000 < head[0]
+    4294900000 < head[layout::NEXT_ID]
 }
 
 // "10, 9, 11"
@@ -140,7 +140,7 @@ pub fn add_tests(
     ensures { λ r. ⌜ r ≡ addRefusal n p constant strength (now (head .entry)) (now (names .entry)) ⌝ }
 {
     let room = room_tests(head, names, p);
-    let c = head[5] as usize;
+    let c = head[layout::CONSTRAINT_COUNT] as usize;
     let live = refusal(is_live(names, layout::CONSTRAINTS, c, n as u64), 4, room);
     input_tests(p, constant, strength, live)
 }
@@ -169,7 +169,7 @@ pub fn add_edit_tests(head: &[u64], names: &[[u64; 20]], n: u32, strength: f64) 
 {
     let room = room_tests(head, names, edit_pack(n));
     let required = refusal(strength == rows::strength::REQUIRED, 7, room);
-    let e = head[6] as usize;
+    let e = head[layout::EDIT_COUNT] as usize;
     refusal(is_live(names, layout::EDITS, e, n as u64), 6, required)
 }
 
@@ -191,7 +191,7 @@ pub fn remove_tests(head: &[u64], names: &[[u64; 20]], n: u32) -> u64
     requires { ⌜ constraintCount (now head) ≤ 48 ⌝ }
     ensures { λ r. ⌜ r ≡ removeRefusal n (now (head .entry)) (now (names .entry)) ⌝ }
 {
-    let c = head[5] as usize;
+    let c = head[layout::CONSTRAINT_COUNT] as usize;
     refusal(!is_live(names, layout::CONSTRAINTS, c, n as u64), 5, 0)
 }
 
@@ -202,6 +202,6 @@ pub fn remove_edit_tests(head: &[u64], names: &[[u64; 20]], n: u32) -> u64
     requires { ⌜ editCount (now head) ≤ 48 ⌝ }
     ensures { λ r. ⌜ r ≡ removeEditRefusal n (now (head .entry)) (now (names .entry)) ⌝ }
 {
-    let e = head[6] as usize;
+    let e = head[layout::EDIT_COUNT] as usize;
     refusal(!is_live(names, layout::EDITS, e, n as u64), 8, 0)
 }
