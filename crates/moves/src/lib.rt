@@ -10,7 +10,6 @@ ghost use Rattle.steps.specs.Symbol.{isRestricted};
 ghost use Rattle.layout.specs.Layout.{symbolOf};
 ghost use Rattle.laws.specs.Loops.{mapIn};
 ghost use Rattle.moves.specs.Close.{closed, opened};
-ghost use Rattle.moves.specs.Columns.{Wide};
 ghost use Rattle.moves.specs.Counts.{Fits};
 ghost use Rattle.moves.specs.Moves.{board, droppedRow, dropRowOf, rowPlace, keptRow, appendedHead, clearedColumn, appendedSymbol, closedColumns, closedColumn, closeColumnOf, purgeOf, entryAt, pushOf, pushIf, pushBelowOf, pruned, keepIf, pruneOf};
 use choose::Found;
@@ -50,17 +49,6 @@ fn width(row: &[f64; 130])
     ensures { λ _. ⌜ length (now (row .entry)) ≡ 130 ⌝ }
 {
     told(*row);
-}
-
-// All rows are as wide as their type says: what reading the tables after a move rests on.
-pub fn widths(rows: &[[f64; 130]])
-    ensures { λ _. ⌜ Wide (now (rows .entry)) (length (now (rows .entry))) ⌝ }
-{
-    let mut i = 0;
-    while i < rows.len() {
-        width(&rows[i]);
-        i += 1;
-    }
 }
 
 fn close_cells(row: &mut [f64; 130], i: usize, e: usize)

@@ -3,7 +3,7 @@ ghost use mathlib.Core.Path.{_≡_};
 ghost use Prim.Native.Nat.{_+_, _<_, _≤_};
 ghost use lib.ListN.{length, getD};
 ghost use Rattle.layout.specs.Copy.{most16};
-ghost use Rattle.terms.specs.Terms.{noTerm, noPack, pushed, packOf, termIn, wholePack, pushedKept, keptOf, shownIn, listed};
+ghost use Rattle.terms.specs.Terms.{noTerm, noPack, pushed, packOf, termIn, pushedKept, keptOf, shownIn, listed};
 
 // "A term is one record, a variable number and an f64 coefficient, and the terms of a constraint come as a lent list of such records."
 #[repr(C)]
@@ -91,20 +91,6 @@ pub fn shown(p: Pack) -> usize
 {
     let n = p.count;
     if n <= 16 { n } else { 16 }
-}
-
-pub fn whole_terms(p: Pack) -> bool
-    ensures { λ r. ⌜ r ≡ wholePack p ⌝ }
-{
-    let n = shown(p);
-    let mut ok = true;
-    let mut i = 0;
-    while i < n {
-        let t = packed(p, i);
-        ok = ok & rows::number::whole_within(rows::number::CELL_BOUND, t.coefficient);
-        i += 1;
-    }
-    ok
 }
 
 fn push_kept(p: Pack, t: Term) -> Pack
