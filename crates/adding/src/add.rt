@@ -1,7 +1,6 @@
 // Add's steps, one to seven.
 ghost use mathlib.Core.Path.{_≡_};
 ghost use mathlib.Core.Bool.{false};
-ghost use Prim.Native.Nat.{_-_};
 ghost use lib.ListN.{replicate};
 ghost use Rattle.steps.specs.Number.{zero64};
 ghost use Rattle.steps.specs.Add.{addCreated, addSteps};

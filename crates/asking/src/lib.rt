@@ -1,9 +1,8 @@
 // The queries, over lent tables: has constraint, has edit, value. "Queries give false or 0.0 for an unknown number, and beside 18."
 ghost use mathlib.Core.Path.{_≡_};
-ghost use mathlib.Core.Bool.{true, false};
-ghost use mathlib.Core.List.{List, []};
-ghost use Prim.Native.Nat.{ℕ, _+_, _-_, _<_, _≤_};
-ghost use lib.ListN.{getD, length};
+ghost use mathlib.Core.Bool.{false};
+ghost use Prim.Native.Nat.{_≤_};
+ghost use lib.ListN.{length};
 ghost use Rattle.steps.specs.Number.{zero64};
 ghost use Rattle.steps.specs.Changes.{value};
 ghost use Rattle.steps.specs.Tests.{hasConstraint, hasEdit};

@@ -4,7 +4,7 @@ pub mod subject;
 
 ghost use mathlib.Core.Path.{_≡_};
 ghost use mathlib.Core.Bool.{true, not, _&&_};
-ghost use Prim.Native.Nat.{ℕ, _+_, _<_, _≤_};
+ghost use Prim.Native.Nat.{_+_, _<_, _≤_};
 ghost use lib.ListN.{getD, length};
 ghost use lib.Ieee.{lt, neg};
 ghost use Rattle.steps.specs.Number.{zero64, _/₆₄_, belowZero};

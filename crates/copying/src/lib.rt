@@ -1,6 +1,6 @@
 // The live part of tables put over others: into the working room, and back.
 ghost use mathlib.Core.Path.{_≡_};
-ghost use Prim.Native.Nat.{_+_, _≤_};
+ghost use Prim.Native.Nat.{_≤_};
 ghost use lib.ListN.{length};
 ghost use Rattle.layout.specs.Layout.{headSize, itemsSize, rowsSize};
 ghost use Rattle.layout.specs.Rooms.{Counts};

@@ -1,7 +1,7 @@
 // Steps 1 to 3: the row of a constraint with its tag, as it is added.
 ghost use mathlib.Core.Path.{_≡_};
 ghost use mathlib.Core.Bool.{false};
-ghost use Prim.Native.Nat.{ℕ, _+_, _<_, _≤_};
+ghost use Prim.Native.Nat.{_<_, _≤_};
 ghost use lib.ListN.{getD, length};
 ghost use Rattle.steps.specs.CreateRow.{createRow};
 ghost use Rattle.keeps.specs.Along.{ids};

@@ -1,7 +1,6 @@
 // Step 1: each term's variable is found or made, its use counted, and its row or its symbol inserted in the row that is being built.
 ghost use mathlib.Core.Path.{_≡_};
-ghost use mathlib.Core.List.{[]};
-ghost use Prim.Native.Nat.{ℕ, _+_, _/_, _<_, _≤_};
+ghost use Prim.Native.Nat.{_<_, _≤_};
 ghost use lib.ListN.{getD, length};
 ghost use Rattle.rows.specs.Marks.{markOf};
 ghost use Rattle.creating.specs.Terms.{Roomy, hasRoom, desk, build, marked, newVariableIn, knownIn, insertPlaceIn, insertVariableIn, insertKnownIn, insertTermIn, insertKeptIn, insertTermsIn};

@@ -1,8 +1,6 @@
 // Which rows a suggestion shifts, and by how much.
 ghost use mathlib.Core.Path.{_≡_};
-ghost use mathlib.Core.Bool.{not, _&&_};
 ghost use Prim.Native.Nat.{_<_, _≤_, _/_};
-ghost use lib.Dec.{eqb};
 ghost use lib.ListN.{length, getD};
 ghost use Rattle.choose.specs.Choose.{placeOf, rowOf};
 ghost use Rattle.drags.specs.Drag.{isFound, otherFound, placeOr, cellOr, shiftBy, optional, dragOf};

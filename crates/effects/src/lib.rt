@@ -1,9 +1,7 @@
 // The first steps of a removal: a constraint's errors go out of the objective, and a leaving External row is noted.
 ghost use mathlib.Core.Path.{_≡_};
-ghost use mathlib.Core.Bool.{_&&_};
-ghost use Prim.Native.Nat.{_+_, _≤_, _<_, _/_};
+ghost use Prim.Native.Nat.{_≤_, _<_};
 ghost use lib.ListN.{length, getD};
-ghost use lib.Ieee.{neg};
 ghost use Rattle.rows.specs.Marks.{markOf};
 ghost use Rattle.tableau.specs.Notes.{noted};
 ghost use Rattle.effects.specs.Effects.{effected, rowInObjective, inObjective, removeMarkerIn, removeEffectsIn, noteLeavingIn};

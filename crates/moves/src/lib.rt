@@ -1,17 +1,16 @@
 // Rows, symbols, list entries and items that come and go in the lent tables. The counts in the head follow.
 ghost use mathlib.Core.Path.{_≡_};
 ghost use mathlib.Core.List.{[]};
-ghost use Prim.Native.Nat.{ℕ, _+_, _-_, _*_, _/_, _<_, _≤_};
+ghost use Prim.Native.Nat.{_+_, _-_, _*_, _<_, _≤_};
 ghost use lib.ListN.{getD, length, set};
 ghost use lib.Ieee.{nan};
 ghost use mathlib.Core.Bool.{_&&_};
 ghost use Rattle.steps.specs.Number.{zero64, belowZero};
 ghost use Rattle.steps.specs.Symbol.{isRestricted};
 ghost use Rattle.layout.specs.Layout.{symbolOf};
-ghost use Rattle.laws.specs.Loops.{mapIn};
 ghost use Rattle.moves.specs.Close.{closed, opened};
 ghost use Rattle.moves.specs.Counts.{Fits};
-ghost use Rattle.moves.specs.Moves.{board, droppedRow, dropRowOf, rowPlace, keptRow, appendedHead, clearedColumn, appendedSymbol, closedColumns, closedColumn, closeColumnOf, purgeOf, entryAt, pushOf, pushIf, pushBelowOf, pruned, keepIf, pruneOf};
+ghost use Rattle.moves.specs.Moves.{board, droppedRow, dropRowOf, rowPlace, keptRow, clearedColumn, appendedSymbol, closedColumns, closedColumn, closeColumnOf, purgeOf, entryAt, pushOf, pushIf, pushBelowOf, pruned, keepIf, pruneOf};
 use choose::Found;
 
 // ---- by one place

@@ -1,10 +1,9 @@
 // Tests place by place that know no table's layout: finite numbers, cells under marks, and shares that are taken one by one.
 ghost use mathlib.Core.Path.{_≡_};
 ghost use mathlib.Core.Bool.{_||_};
-ghost use mathlib.Core.List.{List, []};
-ghost use Prim.Native.Nat.{ℕ, _+_, _-_, _<_, _≤_};
-ghost use lib.ListN.{getD, length, set, replicate};
-ghost use lib.Ieee.{nan, isNan};
+ghost use Prim.Native.Nat.{_+_, _-_, _<_, _≤_};
+ghost use lib.ListN.{length};
+ghost use lib.Ieee.{isNan};
 ghost use Rattle.steps.specs.Number.{isFinite};
 ghost use Rattle.places.specs.Shares.{shares, take, noneLeft, finiteIn};
 ghost use Rattle.places.specs.Marked.{Marks, Hits, fitsIn, hitsIn};

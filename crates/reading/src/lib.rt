@@ -1,10 +1,8 @@
 // The test that tables read as a state: refusal 18 of every call but reset.
 ghost use mathlib.Core.Path.{_≡_};
-ghost use mathlib.Core.Bool.{true, false, _&&_};
-ghost use mathlib.Core.List.{List, []};
-ghost use Prim.Native.Nat.{ℕ, _+_, _-_, _<_, _≤_};
-ghost use lib.ListN.{getD, length};
-ghost use Rattle.layout.specs.Layout.{tables, symbolsAt, headSize, itemsSize, rowsSize, nextIdOf, symbolCount, rowCount, entryCount, variableCount, constraintCount, editCount};
+ghost use mathlib.Core.Bool.{true};
+ghost use lib.ListN.{length};
+ghost use Rattle.layout.specs.Layout.{tables, symbolsAt, headSize, itemsSize, symbolCount, variableCount};
 ghost use Rattle.layout.specs.Rooms.{lengthsRight, Lengths};
 ghost use Rattle.symbols.specs.Symbols.{idsAscend};
 ghost use Rattle.items.specs.Items.{numbersAscend};

@@ -1,7 +1,7 @@
 // The stored records of variables, constraints and edits, each kept by ascending number: they come, go and are found. The counts in the head follow.
 ghost use mathlib.Core.Path.{_≡_};
 ghost use mathlib.Core.List.{[]};
-ghost use Prim.Native.Nat.{ℕ, _+_, _-_, _<_, _≤_};
+ghost use Prim.Native.Nat.{_+_, _-_, _<_, _≤_};
 ghost use lib.ListN.{getD, length};
 ghost use Rattle.moves.specs.Close.{closed, opened};
 ghost use Rattle.records.specs.Records.{Between, items, numberAt, numberPlace, keptItem, droppedItem, dropItemOf, variableItem, variableReal, keptVariable, moreUses, usedOnce, countedUse, lost, lostUse, useLessOf};

@@ -1,7 +1,6 @@
 // The numbers of document 01, by value, and what was written of them.
 ghost use mathlib.Core.Path.{_≡_};
-ghost use mathlib.Core.Bool.{true, false, _&&_};
-ghost use Rattle.steps.specs.Number.{cutoff, cellBound, constantBound, objectiveBound, magnitude, nearZero, isFinite, isWhole, within, markWrite};
+ghost use Rattle.steps.specs.Number.{magnitude, nearZero, isFinite, isWhole, within, markWrite};
 ghost use Rattle.steps.specs.Add.{wholeWithin};
 ghost use Rattle.rows.specs.Marks.{markOf, clean, join};
 

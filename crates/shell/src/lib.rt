@@ -1,11 +1,10 @@
 // The shell of every changing call: the tables are tested and their live part copied into the working room, the steps run there, an accepted call's state goes back, the room is cleared. And reset.
 ghost use mathlib.Core.Path.{_≡_};
-ghost use mathlib.Core.Bool.{true, false, _&&_, cond};
-ghost use mathlib.Core.List.{List, []};
-ghost use Prim.Native.Nat.{ℕ, _+_, _-_, _<_, _≤_};
-ghost use lib.ListN.{getD, length, set, replicate};
+ghost use mathlib.Core.Bool.{_&&_, cond};
+ghost use mathlib.Core.List.{[]};
+ghost use lib.ListN.{length};
 ghost use Rattle.laws.specs.Given.{Then};
-ghost use Rattle.layout.specs.Layout.{tables, headSize, itemsSize, rowsSize};
+ghost use Rattle.layout.specs.Layout.{tables, headSize};
 ghost use Rattle.layout.specs.Rooms.{lengthsRight, Lengths, Counts, Wide};
 ghost use Rattle.layout.specs.Copy.{putOver};
 ghost use Rattle.reading.specs.Reads.{reads};

@@ -1,8 +1,7 @@
 // The tableau's part of the reading test: symbols, rows and the infeasible list.
 ghost use mathlib.Core.Path.{_≡_};
-ghost use mathlib.Core.Bool.{true, false, _&&_};
-ghost use mathlib.Core.List.{List, []};
-ghost use Prim.Native.Nat.{ℕ, _+_, _-_, _<_, _≤_};
+ghost use mathlib.Core.Bool.{true};
+ghost use Prim.Native.Nat.{_+_, _<_, _≤_};
 ghost use lib.Dec.{ltb};
 ghost use lib.ListN.{getD, length, replicate};
 ghost use Rattle.layout.specs.Layout.{symbolsAt, headSize, itemsSize, rowsSize};

@@ -1,8 +1,8 @@
 // The changed set: a flag in each variable's record, and whether the set is to be cleared first.
 ghost use mathlib.Core.Path.{_≡_};
 ghost use mathlib.Core.Bool.{cond};
-ghost use Prim.Native.Nat.{_≤_, _<_, _/_};
-ghost use lib.ListN.{length, getD, set};
+ghost use Prim.Native.Nat.{_≤_};
+ghost use lib.ListN.{length, getD};
 ghost use Rattle.tableau.specs.Notes.{WideNames, clearedRow, clearedNames, flaggedRow, flaggedNames, noted, varChangedIn, varChangedIf};
 
 // An array by value tells its length, and one behind a reference does not: these hand it over, at no cost.

@@ -1,7 +1,7 @@
 // Substitution for one symbol, by the row that it is solved for.
 ghost use mathlib.Core.Path.{_≡_};
 ghost use mathlib.Core.Bool.{_&&_};
-ghost use Prim.Native.Nat.{_<_, _≤_, _+_};
+ghost use Prim.Native.Nat.{_<_, _≤_};
 ghost use lib.ListN.{length, getD};
 ghost use Rattle.steps.specs.Symbol.{isExternal};
 ghost use Rattle.layout.specs.Layout.{symbolOf};

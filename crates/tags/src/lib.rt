@@ -1,10 +1,7 @@
 // Add's step 2, the tag of a new row: its slack, error and dummy symbols come, into the tableau, the row and the objective.
 ghost use mathlib.Core.Path.{_≡_};
-ghost use mathlib.Core.List.{[]};
-ghost use Prim.Native.Nat.{ℕ, _+_, _<_, _≤_};
+ghost use Prim.Native.Nat.{_<_, _≤_};
 ghost use lib.ListN.{getD, length};
-ghost use lib.Ieee.{neg};
-ghost use Rattle.steps.specs.Number.{one64, minusOne64};
 ghost use Rattle.rows.specs.Marks.{markOf};
 ghost use Rattle.tags.specs.Tags.{Grew, frame, taggedOf, relationOf, addSymbolIn, addErrorIn, inequalityIn, softEqualityIn, requiredEqualityIn, equalityIn, addTagIn};
 use moves::append_symbol;

@@ -1,7 +1,7 @@
 // Add's step 6, a row without a subject, over the lent tables: the temporary slack comes, its row is optimised, and it goes.
 ghost use mathlib.Core.Path.{_≡_};
 ghost use mathlib.Core.Bool.{true, false};
-ghost use Prim.Native.Nat.{_≤_, _/_};
+ghost use Prim.Native.Nat.{_≤_};
 ghost use lib.ListN.{getD, length};
 ghost use Rattle.steps.specs.Work.{going, purge};
 ghost use Rattle.steps.specs.Artificial.{removeTemporary, addWithArtificialVariable};

@@ -1,6 +1,6 @@
 // The terms that a caller hands in: a lent list of records, gathered into a pack that goes by value. `term_at` and `collect` have a `&[Term]` and are proved by hand.
 ghost use mathlib.Core.Path.{_≡_};
-ghost use Prim.Native.Nat.{_+_, _<_, _≤_};
+ghost use Prim.Native.Nat.{_<_, _≤_};
 ghost use lib.ListN.{length, getD};
 ghost use Rattle.layout.specs.Copy.{most16};
 ghost use Rattle.terms.specs.Terms.{noTerm, noPack, pushed, packOf, termIn, pushedKept, keptOf, shownIn, listed};

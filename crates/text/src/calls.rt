@@ -1,7 +1,5 @@
 // What the words of a line must be for each call.
 ghost use mathlib.Core.Path.{_≡_};
-ghost use mathlib.Core.Option.{Option, some};
-ghost use mathlib.Core.List.{[]};
 ghost use Rattle.steps.specs.Session.{valueOf, hasConstraints, hasEdits, clips, removes, removesEdit, addsEdit, suggests};
 ghost use Rattle.text.specs.Format.{ofId, ofReal, ofIdBudget, ofEdit, ofReals, relationOf};
 ghost use Rattle.text.specs.Lines.{asCall, asRelated, headOf};

@@ -1,8 +1,7 @@
 // Words that are ids, budgets and floats.
 ghost use mathlib.Core.Path.{_≡_};
-ghost use lib.Ieee.{binary64, nan, ofBits};
+ghost use lib.Ieee.{binary64, ofBits};
 ghost use lib.Ieee.{toBits as Ieee·toBits};
-ghost use Rattle.text.specs.Digits.{upTo};
 ghost use Rattle.text.specs.Floats.{wholeReal, minusReal, bitsReal, wholeOf, patternOf, figureOf, floatOf, idOf, budgetOf};
 use crate::digits;
 use crate::digits::Whole;

@@ -1,6 +1,5 @@
 // The words of a line, split by one space.
 ghost use mathlib.Core.Path.{_≡_};
-ghost use mathlib.Core.List.{List};
 ghost use Prim.Native.Nat.{_≤_};
 ghost use lib.ListN.{length, take, drop};
 ghost use Rattle.text.specs.Words.{wordsOf, word};
