@@ -129,7 +129,7 @@ pub fn float_word(w: &[u8]) -> Real
         return Real::Number(0.0 / 0.0);
     }
     if digits::same(w, b"req") {
-        return Real::Number(1001001000.0);
+        return Real::Number(rows::strength::REQUIRED);
     }
     figure_word(w)
 }
