@@ -20,8 +20,8 @@ use adding::inputs::strength_of;
 use finishing::begin::answer_of;
 use finishing::begin::by_test;
 use finishing::begin::stored_mark;
-use finishing::begin::widths;
 use shell::Answer;
+use shell::widths;
 use tags::Relation;
 use terms::Pack;
 

@@ -11,9 +11,9 @@ ghost use Rattle.finishing.specs.Concluding.{Done, DoneIf};
 use finishing::begin::answer_of;
 use finishing::begin::by_test;
 use finishing::begin::stored_mark;
-use finishing::begin::widths;
 use removing::remove_steps;
 use shell::Answer;
+use shell::widths;
 
 // The test passed: the constraint is live.
 fn remove_known(

@@ -6,7 +6,6 @@ ghost use lib.ListN.{length, getD};
 ghost use Rattle.steps.specs.Symbol.{isExternal};
 ghost use Rattle.layout.specs.Layout.{symbolOf};
 ghost use Rattle.rows.specs.Marks.{markOf};
-ghost use Rattle.moves.specs.Moves.{pushIf};
 ghost use Rattle.tableau.specs.Notes.{noted};
 ghost use Rattle.drags.specs.Drag.{optional};
 ghost use Rattle.dragging.specs.Shifting.{Keeps, changesBy, pushesBy, shiftRowIn, shiftRowMark, noteShifts, shifting, shiftRowsOf, pushShifts, dragged, shiftConstantsIn};
@@ -14,7 +13,7 @@ use drags::drag::Drag;
 use drags::drag::Shift;
 use drags::drag::drag_of;
 use drags::drag::shift_of;
-use moves::push;
+use moves::push_if;
 use rows::number::Wrote;
 use rows::number::joined;
 use rows::number::nothing;
@@ -94,17 +93,6 @@ fn is_pushed(code: u64, s: Shift, constant: f64) -> bool
     ensures { λ r. ⌜ r ≡ pushesBy (optional s) code constant ⌝ }
 {
     s.on & (code % 4 != 0) & (constant < 0.0)
-}
-
-fn push_if(on: bool, head: &mut [u64], id: u64)
-    requires { ⌜ length (now head) ≡ 326 ⌝ }
-    requires { ⌜ getD (now head) 3 0 ≤ 130 ⌝ }
-    ensures { λ _. ⌜ now (head .exit) ≡ pushIf on id (now (head .entry)) ⌝ }
-    ensures { λ _. ⌜ getD (now (head .exit)) 3 0 ≤ 130 ⌝ }
-{
-    if on {
-        push(head, id);
-    }
 }
 
 // "Of these, restricted rows now below 0 are pushed": a shifted row's cells are those it had, so it is known by them.

@@ -15,8 +15,8 @@ use adding::add::add_steps;
 use finishing::begin::answer_of;
 use finishing::begin::by_test;
 use finishing::begin::stored_mark;
-use finishing::begin::widths;
 use shell::Answer;
+use shell::widths;
 use tags::Relation;
 
 fn edit_item(n: u64, marker: u64, other: u64) -> [u64; 20]

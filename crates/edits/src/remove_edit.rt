@@ -13,9 +13,9 @@ use crate::one::one_real;
 use finishing::begin::answer_of;
 use finishing::begin::by_test;
 use finishing::begin::stored_mark;
-use finishing::begin::widths;
 use removing::remove_steps;
 use shell::Answer;
+use shell::widths;
 
 // The test passed: the variable has an edit.
 fn remove_edit_known(

@@ -15,8 +15,8 @@ use drags::record::suggested_if;
 use finishing::begin::answer_of;
 use finishing::begin::by_test;
 use finishing::begin::stored_mark;
-use finishing::begin::widths;
 use shell::Answer;
+use shell::widths;
 
 // The tests passed: the variable has an edit, and the suggestion is finite.
 fn suggest_known(

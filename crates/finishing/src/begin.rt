@@ -1,10 +1,7 @@
-// What every call begins and ends with: the stored mark, the rows' widths, and the answer.
+// What every call begins and ends with: the stored mark, and the answer.
 ghost use mathlib.Core.Path.{_≡_};
-ghost use mathlib.Core.List.{[]};
 ghost use Prim.Native.Nat.{_≤_};
 ghost use lib.ListN.{length};
-ghost use Rattle.layout.specs.Layout.{tables};
-ghost use Rattle.layout.specs.Rooms.{Wide};
 ghost use Rattle.rows.specs.Marks.{markOf};
 ghost use Rattle.shell.specs.Shell.{answerOf};
 ghost use Rattle.finishing.specs.Begin.{storedMark};
@@ -21,14 +18,6 @@ pub fn stored_mark(head: &[u64]) -> Wrote
         finite: true,
         whole: head[layout::WHOLE] == 1,
     }
-}
-
-pub fn widths(names: &[[u64; 20]], reals: &[[f64; 17]], rows: &[[f64; 130]])
-    ensures { λ _. ⌜ Wide (tables [] (now (names .entry)) (now (reals .entry)) (now (rows .entry))) ⌝ }
-{
-    room::wide_names(names);
-    room::wide_reals(reals);
-    room::wide_rows(rows);
 }
 
 // "A refusal answers the stored mark"

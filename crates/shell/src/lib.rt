@@ -30,7 +30,8 @@ pub fn refuse18() -> Answer
     }
 }
 
-fn widths(names: &[[u64; 20]], reals: &[[f64; 17]], rows: &[[f64; 130]])
+// All rows are as wide as their types say.
+pub fn widths(names: &[[u64; 20]], reals: &[[f64; 17]], rows: &[[f64; 130]])
     ensures { λ _. ⌜ Wide (tables [] (now (names .entry)) (now (reals .entry)) (now (rows .entry))) ⌝ }
 {
     room::wide_names(names);
@@ -162,11 +163,7 @@ pub fn reset(
     ensures { λ r. ⌜ called (answerOf r) (tables (now (head .exit)) (now (names .exit)) (now (reals .exit)) (now (rows .exit))) ≡ resetOf (tables (now (head .entry)) (now (names .entry)) (now (reals .entry)) (now (rows .entry))) ⌝ }
 {
     if !reading::lengths_right(head, names, reals, rows) {
-        return Answer {
-            number: 18,
-            pivots: 0,
-            whole: false,
-        };
+        return refuse18();
     }
     reset_head(head);
     Answer {

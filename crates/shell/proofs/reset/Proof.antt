@@ -18,7 +18,7 @@ glue : (h g : List ℕ) (n : List (List ℕ)) (r w : List (List Float)) {b : Boo
 glue h g n r w e f q = rw q (reset-done (tables h n r w) e f)
 
 returns : tie.Need-returns
-returns c = reset-refused (tables (c .before .before .before .before .before .before .before .args .head .now) (c .before .before .before .before .before .before .before .args .names .now) (c .before .before .before .before .before .before .before .args .reals .now) (c .before .before .before .before .before .before .before .args .rows .now)) (c .before .lengths-right .ensures) (not-true _ (c .if1 .taken))
+returns c = rw (c .refuse18 .ensures) (reset-refused (tables (c .before .before .before .before .before .before .before .before .args .head .now) (c .before .before .before .before .before .before .before .before .args .names .now) (c .before .before .before .before .before .before .before .before .args .reals .now) (c .before .before .before .before .before .before .before .before .args .rows .now)) (c .before .before .lengths-right .ensures) (not-true _ (c .before .if1 .taken)))
 
 reset-head-requires : tie.Need-reset-head-requires
 reset-head-requires c κs = lengths _ (sym (c .before .before .lengths-right .ensures) ∙ not-false _ (c .before .if1 .left)) .0
@@ -30,6 +30,7 @@ pub reset-spec : {M : Type 1} → statement M
 reset-spec =
     tie.close
     (tie.spec
+    (λ c κs. search needs)
     (λ c κs. search needs)
     (λ c. search needs)
     (λ c. search needs)

@@ -22,7 +22,7 @@ loop-holds c = (refl, search needs, (refl, refl, refl), search needs, search nee
 loop-again : tie.Need-loop-again Inv-loop μ-loop
 loop-again c = (
   run-next _ _ _ _ (omega arith) (push-turn _ _ _ _ (c .before .before .before .before .before .before .shift-of .ensures) (c .before .before .before .before .is-pushed .ensures) (c .before .before .push-if .ensures .0)) (c .before .before .before .before .before .before .before .before .before .before .loop .inv .0),
-  c .before .before .push-if .ensures .1,
+  c .before .before .push-if .ensures .1 .2,
   push-counts _ _ _ (c .before .before .push-if .ensures .0) (omega (arith, c .before .before .before .before .before .before .before .before .before .before .loop .inv)) (omega (arith, c .before .before .before .before .before .before .before .before .before .before .loop .inv)) (c .before .before .before .before .before .before .before .before .before .before .loop .inv .2),
   omega (arith, c .before .before .push-if .kept, c .before .before .before .before .before .before .before .before .before .before .loop .inv),
   omega arith,
