@@ -13,7 +13,7 @@ ghost use Rattle.layout.specs.Layout.{symbolOf};
 ghost use Rattle.choose.specs.declared.Want.the-variants.{Pivotable, NonDummy, Any};
 ghost use Rattle.choose.specs.Choose.{Within, idAt, placeOf, rowOf, enteringOf, wants, heldOf, isNothing, noBest, betterOf, foundOf, leavingOf, positiveOf, dualEnteringOf, dummyRowOf, externalRowOf, markerLeavingOf};
 
-// A place: of a cell in its row, of a row in the table, or of an entry in the infeasible list, each from 1 on.
+// A place: of a cell in its row, of a row in the table or of an entry in the infeasible list, each from 1 on; or of a record in `names`, from 0 on.
 pub enum Found {
     At(usize),
     Nothing,

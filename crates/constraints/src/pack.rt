@@ -29,7 +29,7 @@ pub fn term_real(p: Pack) -> [f64; 17]
     real
 }
 
-// "its terms are those whose coefficient is not near zero"
+// Its terms are those whose coefficient is not near zero.
 pub fn constraint_item(p: Pack, n: u64, marker: u64, other: u64) -> [u64; 20]
     ensures { λ r. ⌜ Recorded p n marker other r ⌝ }
 {

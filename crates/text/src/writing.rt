@@ -124,7 +124,7 @@ pub fn put_fetch(out: &mut [u8], at: usize, numbers: &[u64], values: &[f64], cou
     put_changes(out, next, numbers, values, count as usize)
 }
 
-// "A line that is none of these is answered `?`."
+// "A line that is no call is answered `?`"
 pub fn put_unread(out: &mut [u8], at: usize) -> usize
     requires { ⌜ at < length (now out) ⌝ }
     ensures { λ r. ⌜ Wrote (now (out .entry)) (now (out .exit)) at r unreadText ⌝ }
