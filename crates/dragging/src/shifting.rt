@@ -27,7 +27,7 @@ fn is_noted(code: u64, s: Shift) -> bool
 }
 
 // "A product that isn't zero notes an External": before the rows are shifted, from what they will get.
-pub fn note_shifts(
+fn note_shifts(
     head: &mut [u64],
     names: &mut [[u64; 20]],
     rows: &[[f64; 130]],
@@ -65,13 +65,7 @@ fn shift_row(row: &mut [f64; 130], s: Shift) -> Wrote
 }
 
 // In the rows 1 to `count`; the mark is that of what was written so far and of these.
-pub fn shift_rows(
-    head: &[u64],
-    rows: &mut [[f64; 130]],
-    count: usize,
-    d: Drag,
-    before: Wrote,
-) -> Wrote
+fn shift_rows(head: &[u64], rows: &mut [[f64; 130]], count: usize, d: Drag, before: Wrote) -> Wrote
     requires { ⌜ length (now head) ≡ 326 ⌝ }
     requires { ⌜ count < 50 ⌝ }
     requires { ⌜ count < length (now rows) ⌝ }
@@ -96,7 +90,7 @@ fn is_pushed(code: u64, s: Shift, constant: f64) -> bool
 }
 
 // "Of these, restricted rows now below 0 are pushed": a shifted row's cells are those it had, so it is known by them.
-pub fn push_shifts(head: &mut [u64], rows: &[[f64; 130]], count: usize, d: Drag)
+fn push_shifts(head: &mut [u64], rows: &[[f64; 130]], count: usize, d: Drag)
     requires { ⌜ length (now head) ≡ 326 ⌝ }
     requires { ⌜ getD (now head) 3 0 ≤ 130 ⌝ }
     requires { ⌜ count < 50 ⌝ }

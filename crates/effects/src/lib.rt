@@ -39,7 +39,7 @@ fn insert_row_in_objective(
 }
 
 // "in the objective with the strength"
-pub fn insert_in_objective(
+fn insert_in_objective(
     head: &[u64],
     rows: &mut [[f64; 130]],
     id: u64,
@@ -60,7 +60,7 @@ pub fn insert_in_objective(
 }
 
 // One symbol's strength out of the objective, by its row if it is basic; a symbol that is no Error has none there.
-pub fn remove_marker_effects(
+fn remove_marker_effects(
     head: &[u64],
     rows: &mut [[f64; 130]],
     code: u64,

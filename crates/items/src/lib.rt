@@ -77,7 +77,7 @@ fn guess(slots: &[u8; 256], x: u64) -> usize
     wide(slots[(x % 256) as usize])
 }
 
-pub fn variable_at(slots: &[u8; 256], names: &[[u64; 20]], v: usize, x: u64) -> usize
+fn variable_at(slots: &[u8; 256], names: &[[u64; 20]], v: usize, x: u64) -> usize
     requires { ⌜ v ≤ length (now names) ⌝ }
     requires { ⌜ numbersAscend (now names) 0 v ≡ true ⌝ }
     ensures { λ r. ⌜ r ≡ nameAt (now (names .entry)) 0 v x ⌝ }

@@ -216,7 +216,7 @@ fn close_columns(rows: &mut [[f64; 130]], n: usize, p: usize, e: usize)
 }
 
 // The symbol at place p goes, with its cells.
-pub fn close_column(head: &mut [u64], rows: &mut [[f64; 130]], p: usize)
+fn close_column(head: &mut [u64], rows: &mut [[f64; 130]], p: usize)
     requires { ⌜ length (now head) ≡ 326 ⌝ }
     requires { ⌜ getD (now head) 1 0 ≤ 129 ⌝ }
     requires { ⌜ getD (now head) 2 0 ≤ 49 ⌝ }
@@ -283,7 +283,7 @@ fn entry_at(head: &[u64], id: u64) -> usize
 }
 
 // Pushes an id; one that is already there moves to the end.
-pub fn push(head: &mut [u64], id: u64)
+fn push(head: &mut [u64], id: u64)
     requires { ⌜ length (now head) ≡ 326 ⌝ }
     requires { ⌜ getD (now head) 3 0 ≤ 130 ⌝ }
     ensures { λ _. ⌜ now (head .exit) ≡ pushOf id (now (head .entry)) ⌝ }

@@ -60,7 +60,7 @@ pub fn find_variable(head: &[u64], names: &[[u64; 20]], n: u64) -> Found
     number_at(names, VARIABLES, head[VARIABLE_COUNT] as usize, n)
 }
 
-pub fn find_constraint(head: &[u64], names: &[[u64; 20]], n: u64) -> Found
+fn find_constraint(head: &[u64], names: &[[u64; 20]], n: u64) -> Found
     requires { ⌜ length (now head) ≡ 326 ⌝ }
     requires { ⌜ getD (now head) 5 0 ≤ 48 ⌝ }
     requires { ⌜ length (now names) ≡ 128 ⌝ }
@@ -75,7 +75,7 @@ pub fn find_constraint(head: &[u64], names: &[[u64; 20]], n: u64) -> Found
     )
 }
 
-pub fn find_edit(head: &[u64], names: &[[u64; 20]], n: u64) -> Found
+fn find_edit(head: &[u64], names: &[[u64; 20]], n: u64) -> Found
     requires { ⌜ length (now head) ≡ 326 ⌝ }
     requires { ⌜ getD (now head) 6 0 ≤ 48 ⌝ }
     requires { ⌜ length (now names) ≡ 128 ⌝ }

@@ -22,7 +22,7 @@ pub fn stored(c: f64) -> f64
     if c == 0.0 { 0.0 } else { c }
 }
 
-pub fn goes_if_near_zero(c: f64) -> f64
+fn goes_if_near_zero(c: f64) -> f64
     ensures { λ r. ⌜ r ≡ goesIfNearZero c ⌝ }
 {
     if near_zero(c) { 0.0 } else { c }

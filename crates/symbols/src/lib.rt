@@ -85,7 +85,7 @@ fn guess(slots: &[u8; 256], x: u64) -> usize
     wide(slots[(x / 4 % 256) as usize])
 }
 
-pub fn place_of(slots: &[u8; 256], head: &[u64], k: usize, x: u64) -> usize
+fn place_of(slots: &[u8; 256], head: &[u64], k: usize, x: u64) -> usize
     requires { ⌜ symbolsAt + k ≤ length (now head) ⌝ }
     requires { ⌜ idsAscend (now head) symbolsAt k ≡ true ⌝ }
     ensures { λ r. ⌜ r ≡ placeOf (now (head .entry)) k x ⌝ }
@@ -331,7 +331,7 @@ fn take_tags(
     ok
 }
 
-pub fn no_shares() -> [u64; 130]
+fn no_shares() -> [u64; 130]
     ensures { λ r. ⌜ r ≡ noShares ⌝ }
 {
     [0; 130]

@@ -72,7 +72,7 @@ fn flag_symbol(names: &mut [[u64; 20]], count: usize, id: u64)
 }
 
 // A set that a fetch has reported is cleared first.
-pub fn var_changed(head: &mut [u64], names: &mut [[u64; 20]], id: u64)
+fn var_changed(head: &mut [u64], names: &mut [[u64; 20]], id: u64)
     requires { ⌜ length (now head) ≡ 326 ⌝ }
     requires { ⌜ getD (now head) 4 0 ≤ length (now names) ⌝ }
     ensures { λ _. ⌜ noted (now (head .exit)) (now (names .exit)) ≡ varChangedIn id (noted (now (head .entry)) (now (names .entry))) ⌝ }

@@ -19,7 +19,7 @@ use rows::row::substitute_cells;
 use rows::row::substitute_row;
 
 // In the rows 1 to `count`.
-pub fn substitute_rows(
+fn substitute_rows(
     rows: &mut [[f64; 130]],
     count: usize,
     width: usize,
@@ -43,7 +43,7 @@ pub fn substitute_rows(
     w
 }
 
-pub fn substitute_objective(
+fn substitute_objective(
     rows: &mut [[f64; 130]],
     width: usize,
     at: usize,
@@ -64,7 +64,7 @@ pub fn substitute_objective(
     )
 }
 
-pub fn substitute_artificial(
+fn substitute_artificial(
     art: bool,
     rows: &mut [[f64; 130]],
     width: usize,
@@ -93,7 +93,7 @@ fn is_noted(code: u64, k: f64, c: f64) -> bool
 }
 
 // Before the rows are changed: an External row whose constant will change is noted.
-pub fn note_rows(
+fn note_rows(
     head: &mut [u64],
     names: &mut [[u64; 20]],
     rows: &[[f64; 130]],

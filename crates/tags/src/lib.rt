@@ -27,7 +27,7 @@ pub struct Tagged {
 }
 
 // A new symbol of this kind, in the row with k.
-pub fn add_symbol(
+fn add_symbol(
     head: &mut [u64],
     rows: &mut [[f64; 130]],
     row: &mut [f64; 130],
@@ -51,7 +51,7 @@ pub fn add_symbol(
 }
 
 // A new error, in the row with k and in the objective with the strength.
-pub fn add_error(
+fn add_error(
     head: &mut [u64],
     rows: &mut [[f64; 130]],
     row: &mut [f64; 130],

@@ -72,7 +72,7 @@ pub fn collect(terms: &[Term]) -> Pack
 // ---- over a pack
 
 // The term at place i.
-pub fn packed(p: Pack, i: usize) -> Term
+fn packed(p: Pack, i: usize) -> Term
     requires { ⌜ i < 16 ⌝ }
     ensures { λ r. ⌜ r ≡ termIn p i ⌝ }
 {

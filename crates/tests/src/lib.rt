@@ -69,7 +69,7 @@ fn new_variables(names: &[[u64; 20]], v: usize, p: terms::Pack) -> u64
 
 // ---- the tests that Add and Add edit share
 
-pub fn constraints_full(head: &[u64]) -> bool
+fn constraints_full(head: &[u64]) -> bool
     requires { ⌜ length (now head) ≡ headSize ⌝ }
     requires { ⌜ constraintCount (now head) ≤ 48 ⌝ }
     requires { ⌜ editCount (now head) ≤ 48 ⌝ }
@@ -78,7 +78,7 @@ pub fn constraints_full(head: &[u64]) -> bool
     48 <= head[layout::CONSTRAINT_COUNT] + head[layout::EDIT_COUNT]
 }
 
-pub fn variables_full(head: &[u64], names: &[[u64; 20]], p: terms::Pack) -> bool
+fn variables_full(head: &[u64], names: &[[u64; 20]], p: terms::Pack) -> bool
     requires { ⌜ length (now head) ≡ headSize ⌝ }
     requires { ⌜ length (now names) ≡ itemsSize ⌝ }
     requires { ⌜ variableCount (now head) ≤ 32 ⌝ }
@@ -89,7 +89,7 @@ pub fn variables_full(head: &[u64], names: &[[u64; 20]], p: terms::Pack) -> bool
     32 < v + new_variables(names, v as usize, kept)
 }
 
-pub fn ids_used(head: &[u64]) -> bool
+fn ids_used(head: &[u64]) -> bool
     requires { ⌜ length (now head) ≡ headSize ⌝ }
     ensures { λ r. ⌜ r ≡ idsUsedIn (now (head .entry)) ⌝ }
 {

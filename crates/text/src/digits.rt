@@ -15,7 +15,7 @@ fn is_from(low: u8, high: u8, b: u8) -> bool
 }
 
 // A hexadecimal digit's worth, 16 for what is none.
-pub fn digit(b: u8) -> u64
+fn digit(b: u8) -> u64
     ensures { λ r. ⌜ r ≡ digitOf b ⌝ }
 {
     if is_from(48, 57, b) {

@@ -41,7 +41,7 @@ pub fn budget_word(w: &[u8]) -> Budget
 }
 
 // The float of a bit pattern; every NaN's pattern is the one NaN.
-pub fn float_of_bits(n: u64) -> f64
+fn float_of_bits(n: u64) -> f64
     ensures { λ r. ⌜ r ≡ ofBits binary64 n ⌝ }
 {
     if 9218868437227405312 < n % 9223372036854775808 {

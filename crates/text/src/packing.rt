@@ -20,7 +20,7 @@ pub struct Packed {
     pub terms: Pack,
 }
 
-pub fn no_packed() -> Packed
+fn no_packed() -> Packed
     ensures { λ r. ⌜ r ≡ packed false noPack ⌝ }
 {
     let t = terms::none();

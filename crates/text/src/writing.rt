@@ -49,7 +49,7 @@ fn put_hex(out: &mut [u8], at: usize, n: u64, k: usize) -> usize
     put_byte(out, next, glyph(n % 16))
 }
 
-pub fn put_number(out: &mut [u8], at: usize, n: u64) -> usize
+fn put_number(out: &mut [u8], at: usize, n: u64) -> usize
     requires { ⌜ at + 20 ≤ length (now out) ⌝ }
     ensures { λ r. ⌜ Wrote (now (out .entry)) (now (out .exit)) at r (numberText n) ⌝ }
 {
@@ -87,7 +87,7 @@ pub fn put_answer(out: &mut [u8], at: usize, refusal: u32, pivots: u32, whole: b
 }
 
 // One entry of a fetch.
-pub fn put_change(out: &mut [u8], at: usize, v: u64, x: f64) -> usize
+fn put_change(out: &mut [u8], at: usize, v: u64, x: f64) -> usize
     requires { ⌜ at + 38 ≤ length (now out) ⌝ }
     ensures { λ r. ⌜ Wrote (now (out .entry)) (now (out .exit)) at r (changeText v x) ⌝ }
 {
