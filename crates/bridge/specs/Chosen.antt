@@ -3,7 +3,7 @@ use mathlib.Core.Path.{_≡_, refl, sym, ap, ap₂, _∙_, subst}
 use mathlib.Core.Logic.{_⊎_, inl, inr, _≢_}
 use mathlib.Core.List.{List, [], _∷_}
 use mathlib.Core.Option.{Option, none, some}
-use Prim.Native.Nat.{ℕ, _*_, _^_, _≤_, _<_}
+use Prim.Native.Nat.{ℕ, _^_, _≤_, _<_}
 use native.Mathlib.Omega.{arith}
 use mathlib.Core.Bool.{Bool, true, false, not, _&&_, true≢false}
 use lib.Dec.{T}
@@ -12,7 +12,7 @@ use lib.Signed.{ltZ, ltZ-yes, ltZ-no}
 use lib.Ieee.{Float, neg, lt}
 use Rattle.laws.specs.Z.{abs-neg}
 use Rattle.exact.specs.Whole.{neg-z}
-use Rattle.laws.specs.Z.{_≼_, _≺_, P}
+use Rattle.laws.specs.Z.{_≼_, _≺_}
 use Rattle.laws.specs.Ring.{ring, v, k as κ, _⊠_, ⊟_}
 use Rattle.simplex.specs.Ord.{0ℤ, 1ℤ, ≼-of-eq, ≼-trans, ≺→≼, ≺-irrefl}
 use Rattle.simplex.specs.Lin.{Vec}

@@ -1,6 +1,6 @@
 -- The dual pass: the steps' entering symbol has the least ratio of objective cell to cell, by cross multiplication, the lowest id on a tie; a pivot that keeps the mark is the theory's dual move. Assumes nothing.
 use mathlib.Core.Path.{_≡_, refl, sym, ap, ap₂, _∙_, subst}
-use mathlib.Core.Logic.{_⊎_, inl, inr, _≢_}
+use mathlib.Core.Logic.{_⊎_, inl, inr}
 use mathlib.Core.List.{List, [], _∷_}
 use mathlib.Core.Option.{Option, none, some}
 use Prim.Native.Nat.{ℕ, zero, suc, _*_, _^_, _≤_, _<_}

@@ -1,5 +1,5 @@
 -- In a whole run an optimise pass pushes nothing: where every restricted row's constant is not below 0, the infeasible list stays. Assumes nothing.
-use mathlib.Core.Path.{_≡_, refl, sym, ap, ap₂, _∙_, subst}
+use mathlib.Core.Path.{_≡_, refl, sym, ap, _∙_, subst}
 use mathlib.Core.Logic.{_⊎_, inl, inr, _≢_}
 use mathlib.Core.List.{List, [], _∷_}
 use mathlib.Core.Option.{Option, none, some}
@@ -9,7 +9,7 @@ use mathlib.Core.Bool.{Bool, true, false, _&&_, cond, true≢false}
 use lib.Dec.{T, ltb}
 use lib.IntN.{ℤ}
 use lib.Signed.{ltZ, ltZ-yes}
-use Rattle.laws.specs.Z.{_≼_, _≺_}
+use Rattle.laws.specs.Z.{_≼_}
 use Rattle.simplex.specs.Ord.{0ℤ, clash, ≼-of-eq}
 use Rattle.simplex.specs.Lin.{Vec}
 use Rattle.simplex.specs.Choose.{All}
@@ -18,7 +18,7 @@ use Rattle.simplex.specs.Opt.{Kind as KindZ, const, external, slack, dummy}
 use Rattle.simplex.specs.Pass.{State, Good, step}
 use Rattle.simplex.specs.Bound.{Mem}
 use Rattle.simplex.specs.Search.{Asc}
-use Rattle.steps.specs.Number.{belowZero, Mark, allWhole}
+use Rattle.steps.specs.Number.{belowZero, allWhole}
 use Rattle.steps.specs.Symbol.{Symbol, isSymbol, isRestricted}
 use Rattle.steps.specs.Row.{Row, solveForSymbols}
 use Rattle.steps.specs.State.{Basic}
@@ -26,13 +26,13 @@ use Rattle.steps.specs.Work.{Work, Outcome, refused, going, _>>=_, refuse, coun
 use Rattle.steps.specs.Substitute.{substituteInRows, rowsOf, push, pushBelow, enterBasis, pivot}
 use Rattle.steps.specs.Optimise.{Goal, Choice as Chosen, ended, stuck, pivotOn, choosePivot, countedPivot, optimise}
 use Rattle.bridge.specs.Nums.{belowZero-z, finite≢}
-use Rattle.bridge.specs.Rows.{In, Sym?, is, isnt, sym?, ReadsRow}
+use Rattle.bridge.specs.Rows.{Sym?, is, isnt, sym?, ReadsRow}
 use Rattle.bridge.specs.Finds.{UpRows, up-from, find-hit, find-miss}
 use Rattle.bridge.specs.Table.{kindOf, RowAt, Live, ReadsWork, enter-parts}
 use Rattle.bridge.specs.Chosen.{restricted-is}
 use Rattle.bridge.specs.Looks.{Choose, at-end, row-less, pivots}
 use Rattle.bridge.specs.Runs.{markOf, optimise-mark, ReadsGoal, view, turned, counted-mark, turn-is, is-good, reads-on, count-reads, reads-of, objOf, artOf}
-use Rattle.bridge.specs.Drags.{Lists, pivot-lists, enter-list}
+use Rattle.bridge.specs.Drags.{pivot-lists, enter-list}
 
 -- ---- rows of which none is restricted and below 0
 

@@ -2,10 +2,10 @@
 -- Ranks order the floats as ℤ orders the ranks, and a rank stands to c * D, for every whole c of magnitude at most 2 ^ 40, as i stands to c * k: below, level or above. Assumes nothing.
 use mathlib.Core.Path.{_≡_, refl, sym, ap, _∙_, subst}
 use Prim.Native.Nat.{ℕ, zero, suc, _+_, _*_, _-_, _^_, _≤_, _<_}
-use native.Mathlib.Nat.{mul-one, mul-assoc, mul-comm, mul-left-comm, mul-right-comm, mul-pos, mul-lt-mul-of-pos-right, lt-of-mul-lt-mul-right, zero-mul, lt-of-lt-of-le}
+use native.Mathlib.Nat.{mul-one, mul-assoc, mul-comm, mul-left-comm, mul-right-comm, mul-pos, mul-lt-mul-of-pos-right, zero-mul, lt-of-lt-of-le}
 use native.Mathlib.Omega.{arith}
 use mathlib.Core.Bool.{Bool, true, false, not, _&&_, _||_, cond, true≢false}
-use lib.Dec.{T, ltb, eqb, ltb→lt, nltb→le, lt→ltb, eqb→eq, lit<, lit≤, leb·suc-zero, leb·suc-suc, leb·zero}
+use lib.Dec.{T, ltb, eqb, ltb→lt, nltb→le, eqb→eq, lit<, lit≤}
 use lib.Pow.{pow-pos}
 use lib.Signed.{ltZ, ltZ-yes}
 use lib.IntN.{ℤ, pos, negsuc, negℤ, natAbs, _*ℤ_}
@@ -18,7 +18,7 @@ use lib.Ieee.Fits.{down-pos, round-is}
 use lib.Ieee.Bits.{is-true}
 use Rattle.laws.specs.Z.{P, N, at, _⊗_, ⊖_, p, n, _≼_, _≺_, eqZ, ltZ↑, ltN, lt→N, N→lt, N→le}
 use Rattle.exact.specs.Whole.{IsZ, sgn}
-use Rattle.exact.specs.Compare.{bool-ext, below-z}
+use Rattle.exact.specs.Compare.{below-z}
 
 -- ---- the unit: 2 ^ 1074 of the format's smallest values are 1
 unfoldable pub D : ℕ

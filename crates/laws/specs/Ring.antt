@@ -1,13 +1,13 @@
 -- An identity of commutative rings in ℤ, by computation: `ring ρ e f refl` proves `ev ρ e ≡ ev ρ f` where the two expressions have one normal form, a sorted list of monomials. Assumes nothing.
-use mathlib.Core.Path.{_≡_, refl, sym, ap, _∙_, subst}
+use mathlib.Core.Path.{_≡_, refl, sym, ap, _∙_}
 use mathlib.Core.List.{List, [], _∷_}
-use Prim.Native.Nat.{ℕ, zero, suc, _+_, _*_, _≤_}
+use Prim.Native.Nat.{ℕ, zero, suc}
 use native.Mathlib.Omega.{arith}
-use mathlib.Core.Bool.{Bool, true, false, not, _&&_, cond}
+use mathlib.Core.Bool.{Bool, true, false, _&&_, cond}
 use lib.Dec.{T, ltb, leb, eqb, eqb→eq}
 use lib.IntN.{ℤ, pos, negsuc, negℤ, _+ℤ_, _*ℤ_}
 use lib.Ieee.Fits.{and-l, and-r}
-use Rattle.laws.specs.Z.{P, N, p, n, at, _⊕_, _⊗_, ⊖_, eqZ, eqZb, eqZb→, _≼_, leZ↑, leN, eqN, ≼-add, ≼-refl, mul-nonneg}
+use Rattle.laws.specs.Z.{at, _⊕_, _⊗_, ⊖_, eqZ, eqZb, eqZb→, _≼_, leZ↑, leN, eqN, ≼-add, ≼-refl, mul-nonneg}
 
 -- ---- expressions over variables, which are places in a list of integers
 pub data Ring : Type 0 where

@@ -1,5 +1,5 @@
 -- An accepted add's state meets the invariant of a whole run; a refusal 12 means that nothing meets the demands. For an add and an add edit alike. Assumes nothing.
-use Prim.Native.Nat.{ℕ, _-_, _≤_, _<_}
+use Prim.Native.Nat.{ℕ, _≤_, _<_}
 use native.Mathlib.Omega.{arith}
 use mathlib.Core.Path.{_≡_, refl, sym, ap, _∙_, subst}
 use mathlib.Core.Logic.{_≢_}

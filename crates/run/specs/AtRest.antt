@@ -1,32 +1,30 @@
 -- Between two calls of a whole run the values are the best: from the invariant to the statement of demand 2. Assumes nothing.
-use mathlib.Core.Path.{_≡_, refl, sym, ap, ap₂, _∙_, subst}
+use mathlib.Core.Path.{_≡_, refl, sym, ap, _∙_, subst}
 use mathlib.Core.Logic.{_≢_}
 use mathlib.Core.Bool.{Bool, true, false, true≢false, _&&_}
-use mathlib.Core.List.{List, [], _∷_, map}
+use mathlib.Core.List.{List, [], map}
 use mathlib.Core.Option.{Option, none, some}
-use Prim.Native.Nat.{ℕ, _<_, _≤_}
+use Prim.Native.Nat.{ℕ, _<_}
 use native.Mathlib.Omega.{arith}
 use lib.Dec.{T}
 use lib.IntN.{ℤ, pos, _*ℤ_}
 use lib.Ieee.{Float}
 use Rattle.laws.specs.Z.{_≼_, _≺_}
-use Rattle.exact.specs.Whole.{IsZ, val, int, isz-val, z-int}
+use Rattle.exact.specs.Whole.{IsZ, int, isz-val, z-int}
 use Rattle.simplex.specs.Ord.{0ℤ, 1ℤ}
-use Rattle.simplex.specs.Lin.{Vec, δ, δ-same}
+use Rattle.simplex.specs.Lin.{Vec, δ-same}
 use Rattle.simplex.specs.At.{at, at-here, at-there}
 use Rattle.simplex.specs.Choose.{All, all-map}
-use Rattle.simplex.specs.Opt.{Kind as KindZ, const, external, slack}
-use Rattle.simplex.specs.Pass.{State as StateZ, Good}
-use Rattle.simplex.specs.Problem.{Con, error}
+use Rattle.simplex.specs.Opt.{const, external}
+use Rattle.simplex.specs.Pass.{State as StateZ}
+use Rattle.simplex.specs.Problem.{error}
 use Rattle.simplex.specs.Final.{dragged}
 use Rattle.steps.specs.Number.{zero64, isWhole}
-use Rattle.steps.specs.State.{Term, Variable, Basic, State}
-use Rattle.steps.specs.Work.{findRow}
+use Rattle.steps.specs.State.{Term, Variable, State}
 use Rattle.steps.specs.Changes.{findVariable, valueOf, value}
 use Rattle.steps.specs.Add.{wholeTerms, wholeInputs}
 use Rattle.steps.specs.Tests.{keptTerms}
 use Rattle.steps.specs.Calls.{begin}
-use Rattle.bridge.specs.Rows.{In}
 use Rattle.bridge.specs.Nums.{zero64-z}
 use Rattle.bridge.specs.Ends.{valueAt, value-z}
 use Rattle.run.specs.Demand.{Demand, Moment, Meets, weighted, values, Best}

@@ -8,7 +8,7 @@ use mathlib.Core.Option.{Option, none, some}
 use mathlib.Core.Bool.{Bool, true, false, true≢false}
 use lib.ListN.{length}
 use lib.IntN.{ℤ, negsuc, negℤ, _+ℤ_, _*ℤ_}
-use Rattle.laws.specs.Z.{_≼_, _≺_}
+use Rattle.laws.specs.Z.{_≼_}
 use Rattle.laws.specs.Ring.{ring, v as ν, k as lit, _⊞_, _⊠_, ⊟_}
 use Rattle.exact.specs.Whole.{val}
 use Rattle.simplex.specs.Ord.{0ℤ, 1ℤ, ≺→≼, neg-nonneg}

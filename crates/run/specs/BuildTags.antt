@@ -9,7 +9,7 @@ use mathlib.Core.Bool.{Bool, true, false, cond, true≢false}
 use lib.Dec.{lit≤}
 use lib.IntN.{ℤ, negsuc, natAbs, _+ℤ_, _*ℤ_}
 use lib.Ieee.{Float, neg, lt}
-use Rattle.laws.specs.Ring.{ring, v as ν, k as lit, _⊞_, _⊠_, ⊟_, _⊟⊟_}
+use Rattle.laws.specs.Ring.{ring, v as ν, k as lit, _⊞_, _⊠_, _⊟⊟_}
 use Rattle.exact.specs.Whole.{IsZ, neg-z}
 use Rattle.simplex.specs.Ord.{0ℤ, 1ℤ}
 use Rattle.simplex.specs.Lin.{Vec, δ, dot, plus, dot-plus, dot-δ}

@@ -1,5 +1,5 @@
 -- Add's step 5 in a whole run: with a subject the new row enters, and the tableau models one demand more; a row of dummies alone with a constant cannot be met. Assumes nothing.
-use Prim.Native.Nat.{ℕ, _-_, _≤_, _<_}
+use Prim.Native.Nat.{ℕ, _≤_, _<_}
 use native.Mathlib.Omega.{arith}
 use mathlib.Core.Path.{_≡_, refl, sym, ap, _∙_, subst}
 use mathlib.Core.Logic.{_⊎_, inl, inr, _≢_}
@@ -8,7 +8,7 @@ use mathlib.Core.List.{List, [], _∷_, map}
 use mathlib.Core.Option.{Option, some}
 use lib.IntN.{ℤ, negsuc, negℤ, _*ℤ_}
 use lib.Ieee.{ne}
-use Rattle.laws.specs.Z.{_≼_, _≺_, mul-cancel, ≡→eqZb}
+use Rattle.laws.specs.Z.{_≺_, mul-cancel, ≡→eqZb}
 use Rattle.laws.specs.Ring.{ring, v as ν, k as lit, _⊠_, ⊟_}
 use Rattle.simplex.specs.Ord.{0ℤ, 1ℤ, ≼-of-eq, ≼-trans, ≺-irrefl}
 use Rattle.simplex.specs.Lin.{dot}

@@ -1,28 +1,26 @@
 -- Add's step 6, the temporary leaves: not basic it goes; basic at 0 its row holds a slack or an error, a pivot on it moves no constant, and then it goes. Assumes nothing.
-use mathlib.Core.Path.{_≡_, refl, sym, ap, ap₂, _∙_, subst}
+use mathlib.Core.Path.{_≡_, refl, sym, ap, _∙_, subst}
 use mathlib.Core.Logic.{_⊎_, inl, inr, _≢_, _↔_}
-use mathlib.Core.Bool.{Bool, true, false, not, true≢false}
+use mathlib.Core.Bool.{Bool, true, false, true≢false}
 use mathlib.Core.List.{List, [], _∷_, _++_, map}
 use mathlib.Core.Option.{Option, none, some}
 use Prim.Native.Nat.{ℕ, suc, _+_, _<_, _≤_}
 use native.Mathlib.Omega.{arith}
-use lib.IntN.{ℤ, _*ℤ_}
+use lib.IntN.{_*ℤ_}
 use Rattle.simplex.specs.Ord.{0ℤ, 1ℤ}
-use Rattle.simplex.specs.Lin.{Vec, δ, dot}
-use Rattle.simplex.specs.At.{at, At, here, there, at?, at-here, at-there}
+use Rattle.simplex.specs.Lin.{Vec, dot}
+use Rattle.simplex.specs.At.{at, at-here, at-there}
 use Rattle.simplex.specs.Choose.{All}
 use Rattle.simplex.specs.Tab.{Solves, pivoted, pivot-solves, pivot-objective, pivot as pivotZ}
-use Rattle.simplex.specs.Basis.{Mask, swap, Swapped, enters, leaves, stays, swapped, column-solves}
+use Rattle.simplex.specs.Basis.{swap, Swapped, enters, leaves, stays, swapped, column-solves}
 use Rattle.simplex.specs.Opt.{Kind as KindZ, const, external, slack, dummy, slack≢external, slack≢const}
 use Rattle.simplex.specs.Pass.{State as StateZ, Good, step}
 use Rattle.simplex.specs.Temp.{flat-good}
 use Rattle.simplex.specs.Change.{killed}
-use Rattle.simplex.specs.Problem.{Models}
 use Rattle.simplex.specs.Steps.{temp-row, temp-solves}
 use Rattle.steps.specs.Number.{Mark, allWhole, notWhole, notFinite}
 use Rattle.steps.specs.Symbol.{Kind, External, Slack, Error, Dummy, Symbol, isPivotable, isSymbol, holds, firstSymbol, deleteSymbol}
 use Rattle.steps.specs.Row.{Row}
-use Rattle.steps.specs.State.{Basic}
 use Rattle.steps.specs.Work.{Work, Outcome, refused, going, _>>=_, refuse, checkFinite, withTableau, withRows, withArtificial, findRow, newSymbol, appendSymbol, purge}
 use Rattle.steps.specs.Changes.{clearChanged}
 use Rattle.steps.specs.CreateRow.{Created, appendTo}
@@ -30,7 +28,7 @@ use Rattle.steps.specs.Substitute.{pivot}
 use Rattle.steps.specs.Artificial.{anyPivotableSymbol, isEmptyRow, standTemporary, removeTemporary}
 use Rattle.bridge.specs.Nums.{finite≢}
 use Rattle.bridge.specs.Rows.{In, NotIn, Sym?, is, isnt, sym?, ReadsRow}
-use Rattle.bridge.specs.Table.{kindOf, RowAt, Live, ReadsTable, ReadsWork, pivot-z}
+use Rattle.bridge.specs.Table.{kindOf, RowAt, Live, ReadsWork, pivot-z}
 use Rattle.bridge.specs.Looks.{in-or-not, is-live}
 use Rattle.bridge.specs.Runs.{markOf, pivot-pivots}
 use Rattle.bridge.specs.Quiet.{pivot-quiet}
@@ -38,7 +36,6 @@ use Rattle.run.specs.Demand.{Demand}
 use Rattle.run.specs.Inv.{Held, conOf}
 use Rattle.run.specs.Build.{newHeld, Built}
 use Rattle.run.specs.Steady.{Kept, kept-trans, pivot-kept}
-use Rattle.run.specs.Passes.{other-artificial}
 use Rattle.run.specs.Subject.{Holding, nobody, somebody, holding, pivotable-kind}
 use Rattle.run.specs.AddEnds.{Placed}
 use Rattle.run.specs.TempStart.{tid≢0, dead, no-t, good₁}

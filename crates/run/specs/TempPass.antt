@@ -1,19 +1,17 @@
 -- Add's step 6, its pass: on the artificial objective it ends at the temporary's lowest value, or uses its budget up; it always finds a leaving row. Assumes nothing.
 use mathlib.Core.Path.{_≡_, refl, sym, ap, _∙_, subst}
-use mathlib.Core.Logic.{_⊎_, inl, inr, _≢_, _↔_}
-use mathlib.Core.Bool.{Bool, true, false, true≢false}
+use mathlib.Core.Logic.{inl, inr, _≢_, _↔_}
+use mathlib.Core.Bool.{Bool, true, false}
 use mathlib.Core.List.{List, [], _∷_, _++_}
-use mathlib.Core.Option.{Option, none, some}
-use Prim.Native.Nat.{ℕ, suc, _+_, _<_, _≤_}
+use Prim.Native.Nat.{ℕ, _+_, _<_, _≤_}
 use native.Mathlib.Nat.{le-refl}
 use native.Mathlib.Omega.{arith}
-use lib.IntN.{ℤ}
 use Rattle.laws.specs.Z.{_≼_, _≺_}
 use Rattle.simplex.specs.Ord.{0ℤ, clash, ≼-of-eq, ≼-trans}
 use Rattle.simplex.specs.Lin.{Vec, dot}
 use Rattle.simplex.specs.At.{at, At, here, there, at?, at-here}
 use Rattle.simplex.specs.Choose.{All, all-map}
-use Rattle.simplex.specs.Basis.{Mask, Clear}
+use Rattle.simplex.specs.Basis.{Clear}
 use Rattle.simplex.specs.Tab.{Solves}
 use Rattle.simplex.specs.Opt.{Kind as KindZ, external, slack}
 use Rattle.simplex.specs.Pass.{State as StateZ, Good}
@@ -27,14 +25,13 @@ use Rattle.simplex.specs.Search.{Asc}
 use Rattle.simplex.specs.Temp.{Dead}
 use Rattle.steps.specs.Number.{allWhole}
 use Rattle.steps.specs.Symbol.{Symbol, Slack}
-use Rattle.steps.specs.Row.{Row}
 use Rattle.steps.specs.State.{Basic}
 use Rattle.steps.specs.Work.{Work, Outcome, refused, going, withTableau, withRows, withArtificial, newSymbol, appendSymbol}
 use Rattle.steps.specs.CreateRow.{Created, appendTo}
 use Rattle.steps.specs.Optimise.{optimise, theArtificial}
 use Rattle.steps.specs.Artificial.{standTemporary}
 use Rattle.bridge.specs.Rows.{In}
-use Rattle.bridge.specs.Table.{Live, ReadsWork}
+use Rattle.bridge.specs.Table.{ReadsWork}
 use Rattle.bridge.specs.Runs.{markOf, Standing, carried, Ran, rests, used-up, no-leaving, run}
 use Rattle.bridge.specs.Quiet.{Quiet, optimise-quiet}
 use Rattle.run.specs.Demand.{Demand}

@@ -4,8 +4,7 @@ use mathlib.Core.Logic.{_⊎_, inl, inr, _≢_, _↔_}
 use mathlib.Core.List.{List, [], _∷_}
 use Prim.Native.Nat.{ℕ, zero, _<_}
 use native.Mathlib.Omega.{arith}
-use mathlib.Core.Bool.{Bool, true, false, cond, true≢false}
-use lib.Dec.{T, eqb, eqb→eq, eqb-refl}
+use mathlib.Core.Bool.{Bool, true, false, true≢false}
 use lib.IntN.{ℤ, _+ℤ_, _-ℤ_, _*ℤ_, *ℤ-comm}
 use Rattle.laws.specs.Z.{_≼_, _≺_, at as num, _⊕_, ⊖_, leZ↑, leN}
 use Rattle.laws.specs.Ring.{ring, v, k, _⊞_, _⊠_, ⊟_, _⊟⊟_}
