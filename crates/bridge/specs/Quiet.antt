@@ -23,16 +23,16 @@ use Rattle.steps.specs.Symbol.{Symbol, isSymbol, isRestricted}
 use Rattle.steps.specs.Row.{Row, solveForSymbols}
 use Rattle.steps.specs.State.{Basic}
 use Rattle.steps.specs.Work.{Work, Outcome, refused, going, _>>=_, refuse, countPivot, findRow, dropRow, keepRow}
-use Rattle.steps.specs.Substitute.{substituteInRows, rowsOf, push, pushBelow, enterBasis, pivot}
+use Rattle.steps.specs.Substitute.{substituteInRows, rowsOf, push, pushBelow, pivot}
 use Rattle.steps.specs.Optimise.{Goal, Choice as Chosen, ended, stuck, pivotOn, choosePivot, countedPivot, optimise}
 use Rattle.bridge.specs.Nums.{belowZero-z, finite≢}
 use Rattle.bridge.specs.Rows.{Sym?, is, isnt, sym?, ReadsRow}
 use Rattle.bridge.specs.Finds.{UpRows, up-from, find-hit, find-miss}
-use Rattle.bridge.specs.Table.{kindOf, RowAt, Live, ReadsWork, enter-parts}
+use Rattle.bridge.specs.Table.{kindOf, RowAt, Live, ReadsWork}
 use Rattle.bridge.specs.Chosen.{restricted-is}
 use Rattle.bridge.specs.Looks.{Choose, at-end, row-less, pivots}
 use Rattle.bridge.specs.Runs.{markOf, optimise-mark, ReadsGoal, view, turned, counted-mark, turn-is, is-good, reads-on, count-reads, reads-of, objOf, artOf}
-use Rattle.bridge.specs.Drags.{pivot-lists, enter-list}
+use Rattle.bridge.specs.Drags.{pivot-lists}
 
 -- ---- rows of which none is restricted and below 0
 
@@ -110,13 +110,7 @@ module _ (n : ℕ) (kind : ℕ → KindZ) (x : Work) (S : State) (o a : Vec) (G 
       both [] l f = tt
       both (b ∷ bs) l f = (above b (l .0) (f .0), both bs (l .1) (f .1))
 
--- ---- what enters pushes nothing
-pub enter-quiet : (n : ℕ) (kind : ℕ → KindZ) (e : Symbol) (r : Row) (w : Work) (S : State) (o a : Vec) → Good n kind S → ReadsWork kind (enterBasis e r w) (S .B) (S .R) o a
-    → enterBasis e r w .tableau .infeasible ≡ w .tableau .infeasible
-enter-quiet n kind e r w S o a G H =
-    enter-list e r w ∙ push-none (rowsOf (substituteInRows (e .id) (w .tableau .symbols) r (w .tableau .rows))) (w .tableau .infeasible)
-    (all-kept Above (record { symbol = e; row = r }) (rowsOf (substituteInRows (e .id) (w .tableau .symbols) r (w .tableau .rows))) (subst (All Above) (enter-parts e r w .rows) (all-above n kind (enterBasis e r w) S o a G H)))
-
+-- ---- a pivot pushes nothing
 pivot-none : (l : ℕ) (e : Symbol) (w : Work) → findRow l (w .tableau .rows) ≡ none → pivot l e w ≡ w
 unfolding pivot
 pivot-none l e w q = rw (q, pivot) refl

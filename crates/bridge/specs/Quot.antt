@@ -55,26 +55,6 @@ lt-over {x = fin s m e} {y = fin t k d} {a} {b} h g =
     ∙ ap (λ (z : ℤ). ltZ z (sgn t (g .size))) (ap (λ (o : Bool). sgn o (h .size)) (h .has .0) ∙ h .is)
     ∙ ap (ltZ a) (ap (λ (o : Bool). sgn o (g .size)) (g .has .0) ∙ g .is)
 
-pub over-finite : {x : Float} {z : ℤ} → Over x z → T (finite x)
-over-finite {x = nan} h = absurd (h .has)
-over-finite {x = inf s} h = absurd (h .has)
-over-finite {x = fin s m e} h = tt
-
--- a whole float is c * D
-pub over-z : {x : Float} {c : ℤ} → IsZ x c → Over x (c *ℤ pos D)
-over-z {x = nan} h = absurd (h .has)
-over-z {x = inf s} h = absurd (h .has)
-over-z {x = fin s m e} {c} h = record {
-  sign = s;
-  size = h .size * D;
-  has = (refl, ap (λ (x : ℕ). x * D) (sym (mul-one (m * up e)) ∙ h .has .1) ∙ mul-right-comm (h .size) (down e) D);
-  is = times s (h .size) ∙ ap (λ (z : ℤ). z *ℤ pos D) (ap (λ (o : Bool). sgn o (h .size)) (h .has .0) ∙ h .is);
-}
-  where
-    times : (s : Bool) (k : ℕ) → sgn s (k * D) ≡ sgn s k *ℤ pos D
-    times false k = refl
-    times true k = eqZ (⊖ at (pos (k * D))) ((⊖ at (pos k)) ⊗ at (pos D)) (omega arith)
-
 -- ---- rounding a / b, not negative
 under-of-le : (q k : ℕ) (y : Float) → T (finite y) → T (le (units binary64 false q k) y) → q * 2 ^ k < overflow binary64
 unfolding units le lt eq
@@ -347,33 +327,5 @@ no {a} {b} h = go (ltZ a b) refl
     go false e = e
     go true e = absurd (lib.Signed.clashℤ {X = ⊥} (ltZ-yes (subst T (sym e) tt)) h)
 
-pub ≺-no : {a b : ℤ} → a ≺ b → ltZ b a ≡ false
-≺-no {a} {b} h = no (N→le a b (omega (arith, lt→N a b h)))
-
 pub ≡-no : {a b : ℤ} → a ≡ b → ltZ a b ≡ false
 ≡-no {a} {b} h = no (N→le b a (omega (arith, ap P h, ap N h)))
-
-pub quotient-lt : {q z : Float} {i k c : ℤ} → Quotient q i k → IsZ z c → natAbs c ≤ 2 ^ 40 → lt q z ≡ ltZ i (c *ℤ k)
-quotient-lt {q} {z} {i} {k} {c} h w l = lt-over (h .over) (over-z w) ∙ go (h .stands c l)
-  where
-    go : Stands i k (h .rank) c → ltZ (h .rank) (c *ℤ pos D) ≡ ltZ i (c *ℤ k)
-    go (lower u t) = yes t ∙ sym (yes u)
-    go (equal u t) = ≡-no t ∙ sym (≡-no u)
-    go (higher u t) = ≺-no t ∙ sym (≺-no u)
-
-pub lt-quotient : {q z : Float} {i k c : ℤ} → Quotient q i k → IsZ z c → natAbs c ≤ 2 ^ 40 → lt z q ≡ ltZ (c *ℤ k) i
-lt-quotient {q} {z} {i} {k} {c} h w l = lt-over (over-z w) (h .over) ∙ go (h .stands c l)
-  where
-    go : Stands i k (h .rank) c → ltZ (c *ℤ pos D) (h .rank) ≡ ltZ (c *ℤ k) i
-    go (lower u t) = ≺-no t ∙ sym (≺-no u)
-    go (equal u t) = ≡-no (sym t) ∙ sym (≡-no (sym u))
-    go (higher u t) = yes t ∙ sym (yes u)
-
--- blueprint's form of it
-pub div-lt : {x y z : Float} {i k c : ℤ} → IsZ x i → IsZ y k → IsZ z c → pos 0 ≺ k → natAbs k ≤ 1024 → natAbs i ≤ 2 ^ 40 → natAbs c ≤ 2 ^ 40
-    → (lt (div binary64 x y) z ≡ ltZ i (c *ℤ k)) × (lt z (div binary64 x y) ≡ ltZ (c *ℤ k) i) × T (finite (div binary64 x y))
-div-lt h g w kp ks is cs = let d = div-above h g kp ks is in (quotient-lt d w cs, lt-quotient d w cs, over-finite (d .over))
-
-pub div-lt-neg : {x y z : Float} {i k c : ℤ} → IsZ x i → IsZ y k → IsZ z c → k ≺ pos 0 → natAbs k ≤ 1024 → natAbs i ≤ 2 ^ 40 → natAbs c ≤ 2 ^ 40
-    → (lt (div binary64 x y) z ≡ ltZ (negℤ i) (c *ℤ negℤ k)) × (lt z (div binary64 x y) ≡ ltZ (c *ℤ negℤ k) (negℤ i)) × T (finite (div binary64 x y))
-div-lt-neg h g w kp ks is cs = let d = div-below h g kp ks is in (quotient-lt d w cs, lt-quotient d w cs, over-finite (d .over))

@@ -176,9 +176,6 @@ module _ (kind : ℕ → KindZ) (xs : List Symbol) (bs : List Basic) (cs : List 
         row-to xs (substituteInRow (e .id) xs solved mine .row) (plus (cleared (e .id) f) (f (e .id)) (pivoted l (e .id) R (δ (e .id)))) (pivoted l (e .id) R f)
         (substituted-row (e .id) (R l (e .id)) (eqn R l) f) (substituteInRow-z (e .id) xs solved mine (pivoted l (e .id) R (δ (e .id))) f e≢0 (H .up) (solves .1) h m)
 
-    new-rows : List Basic
-    new-rows = rowsOf (substituteInRows (e .id) xs solved (dropRow l bs))
-
     module _ (m-rows : marksOf (substituteInRows (e .id) xs solved (dropRow l bs)) ≡ allWhole) where
       other-rows : (j : ℕ) → j ≢ e .id → j ≢ l
           → RowAt xs (after-sub (e .id) xs solved (findRow j bs)) (B j) (pivotZ l (e .id) R j)

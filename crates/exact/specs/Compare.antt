@@ -69,10 +69,6 @@ level-sgn s t i j = bool-ext (level s i t j) (eqZb (sgn s i) (sgn t j))
     size-is : (s t : Bool) (i j : ℕ) → sgn s i ≡ sgn t j → i ≡ j
     size-is s t i j h = sym (abs-sgn s i) ∙ ap natAbs h ∙ abs-sgn t j
 
-    or-r : (a b : Bool) → T b → T (a || b)
-    or-r true b u = tt
-    or-r false b u = u
-
     zero-of : (i j : ℕ) → pos i ≡ negℤ (pos j) → i ≡ 0
     zero-of i zero h = ap natAbs h
     zero-of i (suc j) h = absurd (subst (λ (z : ℤ). T (leZ (pos 0) z)) h (leb·0 i))

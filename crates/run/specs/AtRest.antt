@@ -16,11 +16,10 @@ use Rattle.simplex.specs.Lin.{Vec, δ-same}
 use Rattle.simplex.specs.At.{at, at-here, at-there}
 use Rattle.simplex.specs.Choose.{All, all-map}
 use Rattle.simplex.specs.Opt.{const, external}
-use Rattle.simplex.specs.Pass.{State as StateZ}
 use Rattle.simplex.specs.Problem.{error}
 use Rattle.simplex.specs.Final.{dragged}
 use Rattle.steps.specs.Number.{zero64, isWhole}
-use Rattle.steps.specs.State.{Term, Variable, State}
+use Rattle.steps.specs.State.{Term, Variable}
 use Rattle.steps.specs.Changes.{findVariable, valueOf, value}
 use Rattle.steps.specs.Add.{wholeTerms, wholeInputs}
 use Rattle.steps.specs.Tests.{keptTerms}
@@ -48,15 +47,6 @@ whole-terms h w = go (wholeTerms (h .demand .terms)) _ _ (w .0)
     go false b c e = absurd (true≢false (sym e))
 
 module _ (m : Moment) (I : Inv m) where
-  s : State
-  s = m .state
-
-  S : StateZ
-  S = I .table
-
-  β : Vec
-  β = λ j. I .table .R j 0
-
   abbrev pub Known : ℕ → Type 0
   Known v = findVariable v (m .state .changes .variables) ≢ none
 

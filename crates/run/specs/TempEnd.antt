@@ -92,9 +92,6 @@ module _ (n : ℕ) (old : ℕ → KindZ) (S : StateZ) (held : List Held) (d : De
 
   -- ---- the temporary's value, at the end of the pass
   module _ (left : ℕ) (x : Work) (P : Passed n old S held d w c Q in-n room plain L left x) where
-    β : Vec
-    β = λ j. P .T .R j 0
-
     pub worth-0 : P .T .o 0 ≡ P .T .R t 0
     worth-0 = sym (at-column n (P .T .B) (P .T .R) (P .good .shape) 0 (P .good .shape .const) in-n (P .T .o) (P .good .clear)) ∙ P .art (λ j. P .T .R j 0) (basic-solves n (P .T .B) (P .T .R) (P .good .shape) in-n)
 

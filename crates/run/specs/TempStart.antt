@@ -67,9 +67,6 @@ module _ (n : ℕ) (old : ℕ → KindZ) (S : StateZ) (held : List Held) (d : De
   abbrev pub t : Symbol
   t = newSymbol Slack (c .work)
 
-  abbrev pub tid : ℕ
-  tid = c .work .tableau .nextId
-
   abbrev pub kind₁ : ℕ → KindZ
   kind₁ = at (c .work .tableau .nextId) slack (Q .kind)
 

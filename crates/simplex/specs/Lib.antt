@@ -28,5 +28,4 @@ pub mod Second
 pub mod Count
 pub mod Suggest
 pub mod Cells
-pub mod Dense
 pub mod Gone
