@@ -5,7 +5,7 @@ use mathlib.Core.List.{List, [], _∷_, _++_, map}
 use mathlib.Core.Option.{Option, none, some}
 use Prim.Native.Nat.{ℕ, zero, suc, _^_, _<_}
 use native.Mathlib.Omega.{arith}
-use mathlib.Core.Bool.{Bool, true, false, true≢false}
+use mathlib.Core.Bool.{Bool, true, false}
 use lib.IntN.{ℤ, negℤ, _+ℤ_, _*ℤ_}
 use lib.Ieee.{Float, neg}
 use Rattle.exact.specs.Whole.{Zb, neg-b}
@@ -27,10 +27,7 @@ use Rattle.steps.specs.Substitute.{substituteInRow, substituteInCells, substitu
 use Rattle.bridge.specs.Nums.{worse-l, worse-r, zero64-z, stored-z}
 use Rattle.bridge.specs.Rows.{Reads, NotIn, In, Up, Outside, Sym?, is, isnt, sym?, zb-to, ReadsRow, row-to, reads-to, cleared, Whole, solveForSymbol-z, substituteInRow-z, substituteInCells-z, insertRow-z, insertSymbolInRow-z}
 use Rattle.bridge.specs.Finds.{UpRows, find-hit, find-miss, find-none, find-keep-same, find-keep-other, after-sub, find-sub, find-mark, sub-up, sub-all, keep-up, keep-all}
-use Rattle.bridge.specs.Table.{kindOf, RowAt, ArtAt, Live, ReadsTable, ReadsWork, in-above, in-nonzero, art-mark, Parts, enter-parts}
-
-clash-bool : {X : Type 0} {a : Bool} → a ≡ true → a ≡ false → X
-clash-bool p q = absurd (true≢false (sym p ∙ q))
+use Rattle.bridge.specs.Table.{kindOf, RowAt, ArtAt, Live, ReadsTable, ReadsWork, in-above, in-nonzero, art-mark, Parts, enter-parts, clash-bool}
 
 -- ---- a row enters: s reads as "the equation r, solved for e"
 module _ (kind : ℕ → KindZ) (xs : List Symbol) (bs : List Basic) (cs : List Float) (art : Option Row) (B : Mask) (R : ℕ → Vec) (o a : Vec) (H : ReadsTable kind xs bs cs art B R o a)

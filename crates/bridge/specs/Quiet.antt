@@ -154,7 +154,7 @@ module _ (n : ℕ) (kind : ℕ → KindZ) (ids : List ℕ) (asc : Asc ids) (cove
       later l k e (refused n p m) q = tt
       later l k e (going x) q = q ∙ e
 
-      go : (c : Chosen) → Choose n kind w (S .B) (S .R) (objOf n kind ids asc cover inside g (S .o) z) (artOf n kind ids asc cover inside g (S .o) z) (reads-of n kind ids asc cover inside g w S z H) (S .o) G c
+      go : (c : Chosen) → Choose n kind w (S .B) (S .R) (objOf g (S .o) z) (artOf g (S .o) z) (reads-of n kind ids asc cover inside g w S z H) (S .o) G c
           → ((w : Work) (S : State) (z : Vec) → Good n kind S → ReadsGoal g kind w S z → markOf (optimise left g w) ≡ allWhole → Quiet (w .tableau .infeasible) (optimise left g w))
           → WholeQuiet (w .tableau .infeasible) (elim c [ ended ↦ going w | stuck ↦ refused 15 (w .pivots) (w .mark) | pivotOn l e ↦ countedPivot l e w >>= λ v. optimise left g v ])
       go c (at-end h) ih = λ m. refl
@@ -163,8 +163,8 @@ module _ (n : ℕ) (kind : ℕ → KindZ) (ids : List ℕ) (asc : Asc ids) (cove
         where
           on : markOf (optimise left g (countPivot (pivot (l .id) e w))) ≡ allWhole → Quiet (w .tableau .infeasible) (optimise left g (countPivot (pivot (l .id) e w)))
           on m =
-              let o = objOf n kind ids asc cover inside g (S .o) z in
-              let a = artOf n kind ids asc cover inside g (S .o) z in
+              let o = objOf g (S .o) z in
+              let a = artOf g (S .o) z in
               let H′ = reads-of n kind ids asc cover inside g w S z H in
               let pm : pivot (l .id) e w .mark ≡ allWhole = counted-mark (pivot (l .id) e w) (optimise-mark left g (countPivot (pivot (l .id) e w)) m) in
               let t = turn-is n kind ids asc cover inside w S G o a H′ l e E L pm in

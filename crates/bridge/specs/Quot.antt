@@ -17,7 +17,7 @@ use lib.Ieee.Order.{round-mono, transfer, kept, drop}
 use lib.Ieee.Fits.{down-pos, round-is}
 use lib.Ieee.Bits.{is-true}
 use Rattle.laws.specs.Z.{P, N, at, _⊗_, ⊖_, p, n, _≼_, _≺_, eqZ, ltZ↑, ltN, lt→N, N→lt, N→le}
-use Rattle.exact.specs.Whole.{IsZ, sgn}
+use Rattle.exact.specs.Whole.{IsZ, sgn, abs-sgn}
 use Rattle.exact.specs.Compare.{below-z}
 
 -- ---- the unit: 2 ^ 1074 of the format's smallest values are 1
@@ -226,11 +226,6 @@ rounded s a b bp bs sm = record {
   over = record { sign = s; size = grid binary64 a b; has = round-over a b bp bs sm s; is = refl };
   stands = λ c l. stands-of s a b (grid binary64 a b) bp c (tri a b bp bs sm) l;
 }
-
-abs-sgn : (s : Bool) (k : ℕ) → natAbs (sgn s k) ≡ k
-abs-sgn false k = refl
-abs-sgn true zero = refl
-abs-sgn true (suc k) = refl
 
 unlike-false : (s : Bool) → unlike s false ≡ s
 unlike-false false = refl

@@ -85,7 +85,7 @@ found-in Q j (b ∷ bs) r a f = go (sym? j (b .symbol)) (found-in Q j bs r (a .1
     go (is e p d) ih = subst Q (sym p) (a .0)
     go (isnt e p d) ih = ih (sym (find-miss j b bs e) ∙ f)
 
-clash-bool : {X : Type 0} {a : Bool} → a ≡ true → a ≡ false → X
+pub clash-bool : {X : Type 0} {a : Bool} → a ≡ true → a ≡ false → X
 clash-bool p q = absurd (true≢false (sym p ∙ q))
 
 -- ---- a pivot's parts

@@ -14,6 +14,7 @@ use Rattle.exact.specs.Whole.{IsZ, val, isz-val, neg-z}
 use Rattle.exact.specs.Compare.{le-z, lt-z, eq-z}
 use Rattle.simplex.specs.Ord.{0ℤ, ≺→≼}
 use Rattle.simplex.specs.Choose.{All}
+use Rattle.simplex.specs.Look.{both}
 use Rattle.steps.specs.Number.{zero64, constantBound, belowZero, isWhole, within}
 use Rattle.steps.specs.Strength.{required, clip}
 use Rattle.steps.specs.State.{Term, Relation, equal, strengthOf, Edit, State}
@@ -29,7 +30,7 @@ use Rattle.run.specs.Words.{whole-z}
 use Rattle.run.specs.Lookup.{find-keep-same, find-keep-other}
 use Rattle.run.specs.Perm.{found-hit, found-miss}
 use Rattle.run.specs.Suggest.{unchanged}
-use Rattle.run.specs.Inputs.{both, z-whole, required-z}
+use Rattle.run.specs.Inputs.{z-whole, required-z}
 use Rattle.run.specs.AddEnds.{ArtificialEnds}
 use Rattle.run.specs.AddMarks.{createdOf, whole-steps}
 use Rattle.run.specs.AddInv.{W, none-meet, after-add}
@@ -49,7 +50,7 @@ kept-up s h e = go (ltZ (val s) 0ℤ) refl
     go true q = absurd (subst T (sym (le-z h zero64-z) ∙ e) (≺→≼ {a = val s} {b = 0ℤ} (ltZ-yes (subst T (sym q) tt)) .le))
     go false q = belowZero-z h ∙ q
 
-clip-up : (s : Float) → isWhole (clip s) ≡ true → belowZero (clip s) ≡ false
+pub clip-up : (s : Float) → isWhole (clip s) ≡ true → belowZero (clip s) ≡ false
 unfolding clip
 clip-up s = go (le s zero64) refl (lt s required)
   where
@@ -82,7 +83,7 @@ edit-inputs ts r e =
     let g = both (wholeTerms ts) (wholeWithin constantBound zero64) (h .0) in
     ap₂ (λ (a b : Bool). a && b) (ap₂ (λ (a b : Bool). a && b) (g .0) zero-within) (h .1)
 
-whole-strength : (ts : List Term) (k s : Float) → wholeInputs ts k (equal s) ≡ true → isWhole s ≡ true
+pub whole-strength : (ts : List Term) (k s : Float) → wholeInputs ts k (equal s) ≡ true → isWhole s ≡ true
 unfolding wholeInputs strengthOf
 whole-strength ts k s e = both (wholeTerms ts && wholeWithin constantBound k) (isWhole s) e .1
 
@@ -114,7 +115,7 @@ numbers : (Q : ℕ → Type 0) → Q 6 → Q 7 → Q 10 → Q 9 → Q 11 → (n 
 unfolding addEditTests
 numbers Q a b c d e n strength s = (a, (b, (c, (d, (e, tt)))))
 
-one-term : (n : ℕ) → length (editTerms n) ≤ 16
+pub one-term : (n : ℕ) → length (editTerms n) ≤ 16
 unfolding editTerms
 one-term n = omega arith
 

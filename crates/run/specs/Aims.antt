@@ -12,21 +12,16 @@ use Rattle.simplex.specs.Ord.{0ℤ, ≼-of-eq, ≼-trans}
 use Rattle.simplex.specs.Lin.{Vec, δ, δ-other, plus}
 use Rattle.simplex.specs.At.{at, At, here, there, at?, at-there}
 use Rattle.simplex.specs.Choose.{All}
-use Rattle.simplex.specs.Opt.{Kind as KindZ, const, external, slack, dummy}
+use Rattle.simplex.specs.Opt.{Kind as KindZ, const, external, slack, dummy, slack≢dummy}
 use Rattle.simplex.specs.Pass.{State, Good}
 use Rattle.simplex.specs.Problem.{Con, Sound, Models}
 use Rattle.simplex.specs.Run.{Foreign}
 use Rattle.simplex.specs.Drag.{edit, edit-marker, edit-other, shift-basic, shift-free}
 use Rattle.simplex.specs.Suggest.{models-suggest, shape-basic, shape-free, moves-marker, moves-other}
-
-const≢external : const ≢ external
-const≢external e = let z : _≡_ {A = ℕ} 0 1 = cc in omega arith
+use Rattle.simplex.specs.Gone.{const≢external}
 
 const≢slack : const ≢ slack
 const≢slack e = let z : _≡_ {A = ℕ} 0 1 = cc in omega arith
-
-slack≢dummy : slack ≢ dummy
-slack≢dummy e = let z : _≡_ {A = ℕ} 0 1 = cc in omega arith
 
 -- what a shift by d leaves: every row j has d j more, no dummy's row has; the tableau models the edit's new aim
 pub record Aimed (n : ℕ) (kind : ℕ → KindZ) (S : State) (d : ℕ → ℤ) (cs : List Con) : Type 0 where

@@ -26,6 +26,7 @@ use Rattle.steps.specs.Work.{Work, Outcome, refused, going, _>>=_, refuse, with
 use Rattle.steps.specs.Substitute.{rowsOf, marksOf, notedOf, pushBelow, pivot}
 use Rattle.steps.specs.Optimise.{DualChoice, feasible, noEntering, dualPivotOn, chooseDualPivot, countedDualPivot, dualOptimise}
 use Rattle.steps.specs.Edit.{shiftOf, shiftRow, shiftRows, shiftConstants}
+use Rattle.keeps.specs.Frame.{clear-all}
 use Rattle.bridge.specs.Quot.{yes}
 use Rattle.bridge.specs.Nums.{belowZero-z, worse-l, worse-r}
 use Rattle.bridge.specs.Rows.{reads-to, ReadsRow}
@@ -33,7 +34,7 @@ use Rattle.bridge.specs.Table.{RowAt, Live, ReadsTable, ReadsWork, in-nonzero}
 use Rattle.bridge.specs.Infeasible.{pushed-all, pushed-found}
 use Rattle.bridge.specs.Drags.{Drag as Dragging, turned}
 use Rattle.run.specs.Shift.{these, Found, no-row, a-row, find-shift, these-all, Amount, shift-table}
-use Rattle.run.specs.Steady.{all-noted-variables, restricted-kind, Kept, kept-trans, pivot-kept, IfGoing}
+use Rattle.run.specs.Steady.{restricted-kind, Kept, kept-trans, pivot-kept, IfGoing}
 use Rattle.run.specs.Aims.{aimed-good, aimed-no-var, unshifted}
 use Rattle.run.specs.Drawn.{Drawn, drawn}
 
@@ -73,7 +74,7 @@ dual-kept (suc left) w = go (chooseDualPivot w) (dual-kept left)
 
 pub shift-kept : (tag : Tag) (d : Float) (w : Work) → Kept w (shiftConstants tag d w)
 unfolding shiftConstants marking withChanges withInfeasible withRows withTableau
-shift-kept tag d w = record { symbols = refl; nextId = refl; variables = all-noted-variables (notedOf (shiftRows (shiftOf tag d w) (w .tableau .rows))) (w .changes); artificial = λ e. e }
+shift-kept tag d w = record { symbols = refl; nextId = refl; variables = clear-all (notedOf (shiftRows (shiftOf tag d w) (w .tableau .rows))) (w .changes); artificial = λ e. e }
 
 pub shift-marks : (tag : Tag) (d : Float) (w : Work) → shiftConstants tag d w .mark ≡ allWhole → (w .mark ≡ allWhole) × (marksOf (shiftRows (shiftOf tag d w) (w .tableau .rows)) ≡ allWhole)
 unfolding shiftConstants marking withChanges withInfeasible withRows withTableau

@@ -10,7 +10,7 @@ use lib.Dec.{T, eqb, ltb, eqb→eq, eqb-refl}
 use Rattle.keeps.specs.Lists.{Up, none≢some}
 use Rattle.keeps.specs.Keys.{keepBy, dropBy, findBy, find-times, drop-gone}
 
-eq-no : (m n : ℕ) → m ≢ n → eqb m n ≡ false
+pub eq-no : (m n : ℕ) → m ≢ n → eqb m n ≡ false
 eq-no m n h = go (eqb m n) refl
   where
     go : (b : Bool) → eqb m n ≡ b → eqb m n ≡ false

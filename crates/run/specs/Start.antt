@@ -13,6 +13,7 @@ use Rattle.simplex.specs.Opt.{Kind as KindZ, const, external, dummy}
 use Rattle.simplex.specs.Pass.{State as StateZ, Good}
 use Rattle.simplex.specs.Steps.{dot-nil}
 use Rattle.simplex.specs.Problem.{Models}
+use Rattle.simplex.specs.Gone.{dummy≢external, const≢external}
 use Rattle.steps.specs.State.{Term, State}
 use Rattle.steps.specs.Changes.{findVariable, clearChanged, fetchChanges}
 use Rattle.steps.specs.Tests.{findConstraint, findEdit, keptTerms}
@@ -41,14 +42,8 @@ kind-apart j h = go (at? 0 const (λ _. external) j)
 not-external : (j : ℕ) (t : KindZ) → t ≢ external → bare j ≡ t → j ≡ 0
 not-external j t n e = kind-apart j (λ q. n (sym e ∙ q))
 
-const≢external : const ≢ external
-const≢external p = let z : _≡_ {A = ℕ} 0 1 = cc in omega arith
-
 dummy≢const : dummy ≢ const
 dummy≢const p = let z : _≡_ {A = ℕ} 0 1 = cc in omega arith
-
-dummy≢external : dummy ≢ external
-dummy≢external p = let z : _≡_ {A = ℕ} 0 1 = cc in omega arith
 
 no-dummy : (j : ℕ) → bare j ≡ dummy → ⊥
 unfolding bare

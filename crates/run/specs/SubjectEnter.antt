@@ -27,6 +27,7 @@ use Rattle.steps.specs.Substitute.{substitute, enterBasis}
 use Rattle.steps.specs.CreateRow.{Created}
 use Rattle.steps.specs.Add.{addWithSubject}
 use lib.Dec.{T}
+use Rattle.simplex.specs.Gone.{dummy≢external}
 use Rattle.bridge.specs.Nums.{finite≢, nearZero-yes, nearZero-z}
 use Rattle.bridge.specs.Table.{kindOf, Live, in-nonzero}
 use Rattle.bridge.specs.Looks.{minus-one}
@@ -38,7 +39,7 @@ use Rattle.run.specs.Steady.{Calm, Kept, enter-kept, enter-calm}
 use Rattle.run.specs.Passes.{other-artificial}
 use Rattle.run.specs.Build.{NewTag, Built, newHeld}
 use Rattle.bridge.specs.Finds.{none≢some, some-injective}
-use Rattle.run.specs.Subject.{NoExternal, dummy≢external, external≢0, slack≢0, Subjected, variable, marker, other, nothing, Dummies, all-dummies, one-not}
+use Rattle.run.specs.Subject.{NoExternal, external≢0, slack≢0, Subjected, variable, marker, other, nothing, Dummies, all-dummies, one-not}
 use Rattle.run.specs.AddEnds.{Placed, Unmet, Ends}
 
 const≢dummy : const ≢ dummy

@@ -28,7 +28,7 @@ use Rattle.steps.specs.Add.{wholeWithin}
 use Rattle.steps.specs.Edit.{shiftOf, shiftRows, shiftConstants, suggestSteps}
 use Rattle.steps.specs.Tests.{keptTerms}
 use Rattle.steps.specs.Calls.{Result, begin, refusedBy, acceptedAs}
-use Rattle.bridge.specs.Nums.{finite≢, worse-r, constantBound-z}
+use Rattle.bridge.specs.Nums.{finite≢, worse-r, constantBound-z, whole-if}
 use Rattle.bridge.specs.Rows.{In}
 use Rattle.bridge.specs.Table.{ReadsWork}
 use Rattle.bridge.specs.Runs.{markOf}
@@ -37,7 +37,7 @@ use Rattle.run.specs.Demand.{ofEdit, Call, make, accepted, liveAfter, Mo
 use Rattle.run.specs.Inv.{columns, Held, exprOf, formOf, otherId, conOf, findHeld, Shaped, EditedAs, WholeDemand, Inv}
 use Rattle.run.specs.AtRest.{one, best-columns}
 use Rattle.run.specs.Perm.{withoutHeld, all-found, all-first, models-first}
-use Rattle.run.specs.Inputs.{whole-if, whole-within, inputs-z}
+use Rattle.run.specs.Inputs.{whole-within, inputs-z}
 use Rattle.run.specs.Steady.{Kept, kept-trans, IfGoing}
 use Rattle.run.specs.Drag.{dual-kept, shift-kept, shift-marks, starts, table}
 

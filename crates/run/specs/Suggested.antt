@@ -19,6 +19,7 @@ use Rattle.simplex.specs.Choose.{All, all-map}
 use Rattle.simplex.specs.Form.{Form}
 use Rattle.simplex.specs.Problem.{Con, Models}
 use Rattle.simplex.specs.Drag.{edit}
+use Rattle.simplex.specs.Look.{both}
 use Rattle.steps.specs.Number.{constantBound, isFinite, isWhole, within, magnitude, allWhole, saysWhole}
 use Rattle.steps.specs.State.{Term, Relation, strengthOf, Constraint, Edit, State}
 use Rattle.steps.specs.Symbol.{Symbol}
@@ -29,6 +30,7 @@ use Rattle.steps.specs.Edit.{suggestSteps}
 use Rattle.steps.specs.Tests.{findConstraint, findEdit, keepEdit, dropEdit, keptTerms}
 use Rattle.steps.specs.Calls.{Result, begin, finish, stillBelow, refusedBy, acceptedAs, conclude, suggest}
 use Rattle.steps.specs.Readable.{readable}
+use Rattle.steps.proofs.After.{says-whole}
 use Rattle.keeps.specs.Keys.{findEdit-is, keepEdit-is, dropEdit-is}
 use Rattle.keeps.specs.Tested.{reads-in}
 use Rattle.bridge.specs.Nums.{magnitude-z, constantBound-z}
@@ -41,7 +43,7 @@ use Rattle.run.specs.Lookup.{find-keep-same, find-keep-other, find-drop-
 use Rattle.run.specs.Vars.{Same, same-kept, at-same, known-same, known-back}
 use Rattle.run.specs.Perm.{withoutHeld, found-key, own-key}
 use Rattle.run.specs.Refit.{withExpr, models-expr, expr-less, movedHeld, moved-own, moved-other, live-moved, MovedAt, find-moved, out-moved, once-moved, models-back}
-use Rattle.run.specs.Inputs.{both, says-whole, whole-within, z-whole}
+use Rattle.run.specs.Inputs.{whole-within, z-whole}
 use Rattle.run.specs.Passes.{other-artificial}
 use Rattle.run.specs.Suggest.{unchanged, changed, soft, shape, o, expr, weight, others, grown, new-constant, Reached, Comes, steps-come}
 

@@ -39,7 +39,7 @@ use Rattle.run.specs.Steady.{Kept, kept-trans, pivot-kept}
 use Rattle.run.specs.Subject.{Holding, nobody, somebody, holding, pivotable-kind}
 use Rattle.run.specs.AddEnds.{Placed}
 use Rattle.run.specs.TempStart.{tid≢0, dead, no-t, good₁}
-use Rattle.run.specs.TempPass.{Passed}
+use Rattle.run.specs.TempPass.{Passed, append-below}
 use Rattle.run.specs.TempEnd.{worth-0}
 use Rattle.run.specs.TempGone.{last-good, last-models, last-reads}
 
@@ -60,13 +60,6 @@ deleted-last (x ∷ xs) s f = go (sym? (s .id) x) (deleted-last xs s (λ j m. f 
 purged-mark : (t : ℕ) (w : Work) → purge t w .mark ≡ w .mark
 unfolding purge withTableau
 purged-mark t w = refl
-
--- ids are below the last one, or its own
-last-below : (xs : List Symbol) (s : Symbol) (j : ℕ) → ((i : ℕ) → In i xs → i < s .id) → In j (xs ++ (s ∷ [])) → j ≤ s .id
-last-below [] s j f (inl e) = omega arith
-last-below [] s j f (inr m) = absurd m
-last-below (x ∷ xs) s j f (inl e) = omega (arith, f (x .id) (inl refl))
-last-below (x ∷ xs) s j f (inr m) = last-below xs s j (λ i q. f i (inr q)) m
 
 module _ (n : ℕ) (old : ℕ → KindZ) (S : StateZ) (held : List Held) (d : Demand) (w : Work) (c : Created) (Q : Built n old S held d w c) (in-n : 0 < n) (room : c .work .tableau .nextId < n)
     (plain : (i : ℕ) → Q .kind i ≡ external → Q .r i ≡ 0ℤ) (L : c .work .tableau .infeasible ≡ []) (j₀ : ℕ) (s₀ : Q .kind j₀ ≡ slack) (in₀ : j₀ < c .work .tableau .nextId) (r₀ : Q .r j₀ ≢ 0ℤ)
@@ -280,7 +273,7 @@ module _ (n : ℕ) (old : ℕ → KindZ) (S : StateZ) (held : List Held) (d : De
     inside-e = omega (arith, in-below (e .id) (live .0), room)
       where
         in-below : (j : ℕ) → In j (y .tableau .symbols) → j ≤ t
-        in-below j i = last-below (c .work .tableau .symbols) (newSymbol Slack (c .work)) j (Q .ids) (subst (In j) (kept-y .symbols ∙ wide) i)
+        in-below j i = append-below (c .work .tableau .symbols) (newSymbol Slack (c .work)) j (Q .ids) (subst (In j) (kept-y .symbols ∙ wide) i)
 
     after-good : Good n kind (step t (e .id) T)
     after-good = flat-good n kind T good t (e .id) basic free-e inside-e slack-t se (turn .1) flat

@@ -41,6 +41,13 @@ use Rattle.run.specs.Steady.{Calm, Steady, IfGoing, optimise-steady}
 use Rattle.run.specs.Passes.{idsOf, restrictedIds, waysOf, live-asc, live-cover, live-inside, live-once, live-basics, live-slacks, resting}
 use Rattle.run.specs.TempStart.{standing, S₁, kind₁, tid≢0, fresh, dead, no-t, good₀, good₁, reads₁}
 
+-- ids are below the last one, or its own
+pub append-below : (xs : List Symbol) (s : Symbol) (j : ℕ) → ((i : ℕ) → In i xs → i < s .id) → In j (xs ++ (s ∷ [])) → j ≤ s .id
+append-below [] s j f (inl e) = omega arith
+append-below [] s j f (inr m) = absurd m
+append-below (x ∷ xs) s j f (inl e) = omega (arith, f (x .id) (inl refl))
+append-below (x ∷ xs) s j f (inr m) = append-below xs s j (λ i q. f i (inr q)) m
+
 module _ (n : ℕ) (old : ℕ → KindZ) (S : StateZ) (held : List Held) (d : Demand) (w : Work) (c : Created) (Q : Built n old S held d w c) (in-n : 0 < n) (room : c .work .tableau .nextId < n)
     (plain : (i : ℕ) → Q .kind i ≡ external → Q .r i ≡ 0ℤ) (L : c .work .tableau .infeasible ≡ []) where
   abbrev kind : ℕ → KindZ
@@ -57,13 +64,6 @@ module _ (n : ℕ) (old : ℕ → KindZ) (S : StateZ) (held : List Held) (d : De
 
   H₀ : ReadsWork kind begun (T₀ .B) (T₀ .R) (Q .o) (Q .r)
   H₀ = reads₁ n old S held d w c Q room plain
-
-  -- ids are below the temporary's, or its own
-  append-below : (xs : List Symbol) (s : Symbol) (j : ℕ) → ((i : ℕ) → In i xs → i < s .id) → In j (xs ++ (s ∷ [])) → j ≤ s .id
-  append-below [] s j f (inl e) = omega arith
-  append-below [] s j f (inr m) = absurd m
-  append-below (x ∷ xs) s j f (inl e) = omega (arith, f (x .id) (inl refl))
-  append-below (x ∷ xs) s j f (inr m) = append-below xs s j (λ i q. f i (inr q)) m
 
   pub inside₁ : (j : ℕ) → In j (begun .tableau .symbols) → j < n
   unfolding standTemporary appendTo withArtificial withRows withTableau appendSymbol newSymbol

@@ -100,12 +100,12 @@ external-plain : (kind : ℕ → Kind) (j : ℕ) → kind j ≡ external → Pla
 external-plain kind j e (inl p) = let z : _≡_ {A = ℕ} 0 1 = cc in omega arith
 external-plain kind j e (inr p) = let z : _≡_ {A = ℕ} 0 1 = cc in omega arith
 
-sounds-all : (n : ℕ) (kind : ℕ → Kind) (cs : List Con) → Sounds n kind cs → All (Sound n kind) cs
+pub sounds-all : (n : ℕ) (kind : ℕ → Kind) (cs : List Con) → Sounds n kind cs → All (Sound n kind) cs
 sounds-all n kind [] h = tt
 sounds-all n kind (c ∷ cs) h = (h .0, sounds-all n kind cs (h .2))
 
 -- a form's marker is restricted; a dummy's fit is 0
-marker-restricted : (f : Form) → (markerKind f ≡ slack) ⊎ (markerKind f ≡ dummy)
+pub marker-restricted : (f : Form) → (markerKind f ≡ slack) ⊎ (markerKind f ≡ dummy)
 marker-restricted le! = inl refl
 marker-restricted eq! = inr refl
 marker-restricted ge! = inl refl
