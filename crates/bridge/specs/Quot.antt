@@ -16,7 +16,7 @@ use lib.Ieee.Scale.{round-same, grid, overflow, finite}
 use lib.Ieee.Order.{round-mono, transfer, kept, drop}
 use lib.Ieee.Fits.{down-pos, round-is}
 use lib.Ieee.Bits.{is-true}
-use Rattle.laws.specs.Z.{P, N, at, _⊗_, ⊖_, p, n, _≼_, _≺_, eqZ, ltZ↑, ltN, lt→N, N→lt, N→le}
+use Rattle.laws.specs.Z.{P, N, at, _⊗_, ⊖_, p, _≼_, _≺_, eqZ, ltZ↑, ltN, lt→N, N→lt, N→le}
 use Rattle.exact.specs.Whole.{IsZ, sgn, abs-sgn}
 use Rattle.exact.specs.Compare.{below-z}
 

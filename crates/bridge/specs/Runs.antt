@@ -5,7 +5,6 @@ use mathlib.Core.Option.{Option, none, some}
 use Prim.Native.Nat.{ℕ, zero, suc, _+_, _^_, _≤_, _<_}
 use native.Mathlib.Omega.{arith}
 use mathlib.Core.Bool.{Bool, true, false, _&&_, cond}
-use lib.Dec.{T}
 use lib.IntN.{negsuc, _*ℤ_}
 use lib.Ieee.{ne}
 use Rattle.laws.specs.Z.{_≼_, _≺_}
@@ -90,7 +89,7 @@ pub counted-mark : (w : Work) → countPivot w .mark ≡ allWhole → w .mark �
 unfolding countPivot
 counted-mark w m = m
 
-counted-one : (l : ℕ) (e : Symbol) (w : Work) → countPivot (pivot l e w) .pivots ≡ suc (w .pivots)
+pub counted-one : (l : ℕ) (e : Symbol) (w : Work) → countPivot (pivot l e w) .pivots ≡ suc (w .pivots)
 unfolding countPivot
 counted-one l e w = ap suc (pivot-pivots l e w)
 
@@ -128,7 +127,7 @@ abbrev pub ReadsGoal : Goal → (ℕ → KindZ) → Work → State → Vec → T
 ReadsGoal theObjective kind w S z = ReadsWork kind w (S .B) (S .R) (S .o) z
 ReadsGoal theArtificial kind w S z = ReadsWork kind w (S .B) (S .R) z (S .o) × Standing (w .artificial)
 
-goal-cells : (g : Goal) (kind : ℕ → KindZ) (w : Work) (S : State) (z : Vec) → ReadsGoal g kind w S z → (b : ℕ) × Reads b (w .tableau .symbols) (goalCells g w) (S .o)
+pub goal-cells : (g : Goal) (kind : ℕ → KindZ) (w : Work) (S : State) (z : Vec) → ReadsGoal g kind w S z → (b : ℕ) × Reads b (w .tableau .symbols) (goalCells g w) (S .o)
 unfolding goalCells
 goal-cells theObjective kind w S z h = (2 ^ 40, h .objective)
 goal-cells theArtificial kind w S z h = (1024, go (w .artificial) (h .0 .artificial) (h .1))

@@ -11,7 +11,7 @@ use lib.ListN.{length}
 use lib.Signed.{ltZ, ltZ-yes}
 use lib.Ieee.{Float, neg, lt, le, eq}
 use Rattle.exact.specs.Whole.{IsZ, val, isz-val, neg-z}
-use Rattle.exact.specs.Compare.{le-z, lt-z, eq-z}
+use Rattle.exact.specs.Compare.{le-z}
 use Rattle.simplex.specs.Ord.{0ℤ, ≺→≼}
 use Rattle.simplex.specs.Choose.{All}
 use Rattle.simplex.specs.Look.{both}
@@ -23,6 +23,7 @@ use Rattle.steps.specs.Edit.{editTerms, addEditSteps}
 use Rattle.steps.specs.Tests.{findConstraint, findEdit, keepEdit, hasEdit, Test, firstRefusal, addEditTests}
 use Rattle.steps.specs.Calls.{Result, begin, finish, refusedBy, concludeAdd, addEdit}
 use Rattle.keeps.specs.Keys.{findBy, keepBy, findEdit-is, keepEdit-is}
+use Rattle.keeps.specs.Addition.{clip-below}
 use Rattle.bridge.specs.Nums.{zero64-z, constantBound-z, belowZero-z, magnitude-z}
 use Rattle.run.specs.Demand.{ofConstraint, ofEdit, sameKey, Demand, aim, addsEdit, make, accepted, Moment, next, None}
 use Rattle.run.specs.Inv.{Held, findHeld, ConstraintAt, EditAt, Inv}
@@ -58,15 +59,6 @@ clip-up s = go (le s zero64) refl (lt s required)
     go true e b w = zero-up
     go false e true w = kept-up s (whole-z s w) e
     go false e false w = required-up
-
-clip-soft : (s : Float) → eq (clip s) required ≡ false → lt (clip s) required ≡ true
-unfolding clip
-clip-soft s = go (le s zero64) (lt s required) refl
-  where
-    go : (a b : Bool) → lt s required ≡ b → eq (cond a zero64 (cond b s required)) required ≡ false → lt (cond a zero64 (cond b s required)) required ≡ true
-    go true b e q = lt-z zero64-z required-z
-    go false true e q = e
-    go false false e q = absurd (true≢false (sym (eq-z required-z required-z) ∙ q))
 
 -- ---- the constant of a new edit: -0.0 is as good as 0.0
 pub same-zero : val (neg zero64) ≡ val zero64
@@ -196,7 +188,7 @@ module _ (art : ArtificialEnds) (m : Moment) (u : ℕ) (k : Float) (b : ℕ) (I 
           (λ x F mark. after-add art m I d b (strong e) (one-term u) (P .low) S (neg zero64) same-zero (edit-inputs (editTerms u) (equal s) (W art m I d b (strong e) (one-term u) (P .low) S .inputs)) x F mark (not-held (P .new))
           (m .state .constraints) (keepEdit (stored (record { work = x; tag = createdOf (editTerms u) zero64 (equal s) (begin (m .state)) .tag })) (m .state .edits))
           (constraints-after (record { work = x; tag = createdOf (editTerms u) zero64 (equal s) (begin (m .state)) .tag }))
-          (edits-after (P .new) (clip-soft k (P .soft)) (record { work = x; tag = createdOf (editTerms u) zero64 (equal s) (begin (m .state)) .tag })))
+          (edits-after (P .new) (clip-below k (P .soft)) (record { work = x; tag = createdOf (editTerms u) zero64 (equal s) (begin (m .state)) .tag })))
 
   -- A REFUSAL 12 IS RIGHT
   pub addEdit-12 : make (addsEdit u k b) (m .state) .answer .number ≡ 12 → None (aim u s zero64 ∷ m .live)

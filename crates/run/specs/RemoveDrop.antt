@@ -8,7 +8,7 @@ use mathlib.Core.Bool.{Bool, true, false, _&&_, cond, true≢false}
 use lib.Dec.{T, ltb}
 use lib.IntN.{ℤ}
 use lib.Signed.{ltZ, ltZ-yes}
-use lib.Ieee.{Float, ne}
+use lib.Ieee.{Float}
 use Rattle.laws.specs.Z.{_≼_}
 use Rattle.simplex.specs.Ord.{0ℤ, ≼-of-eq, clash}
 use Rattle.simplex.specs.Lin.{Vec}

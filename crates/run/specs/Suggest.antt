@@ -4,11 +4,11 @@ use mathlib.Core.Logic.{_⊎_, inl, inr}
 use mathlib.Core.Bool.{Bool, true, false, not, cond}
 use mathlib.Core.List.{List, [], _∷_, map}
 use mathlib.Core.Option.{none, some}
-use Prim.Native.Nat.{ℕ, zero, _^_, _<_}
+use Prim.Native.Nat.{ℕ, _^_, _<_}
 use native.Mathlib.Omega.{arith}
 use lib.Dec.{eqb}
 use lib.IntN.{ℤ, negℤ, _-ℤ_}
-use lib.Ieee.{Float, nan, inf, fin, neg, lt}
+use lib.Ieee.{Float, nan, inf, fin, neg}
 use Rattle.laws.specs.Z.{_≺_}
 use Rattle.laws.specs.Ring.{ring, v, ⊟_, _⊟⊟_}
 use Rattle.exact.specs.Whole.{Zb, val, isz-val, neg-z, neg-b, sub-b}
@@ -19,7 +19,7 @@ use Rattle.simplex.specs.Opt.{slack}
 use Rattle.simplex.specs.Form.{Form, eq, eq! }
 use Rattle.simplex.specs.Problem.{Con, Meets, Models}
 use Rattle.simplex.specs.Drag.{edit}
-use Rattle.steps.specs.Number.{_-₆₄_, constantBound, within, Mark, allWhole, notWhole, notFinite, wholeIf}
+use Rattle.steps.specs.Number.{_-₆₄_, constantBound, Mark, allWhole, notWhole, notFinite, wholeIf}
 use Rattle.steps.specs.Symbol.{Symbol}
 use Rattle.steps.specs.State.{strengthOf, Tag, Edit, State}
 use Rattle.steps.specs.Work.{Work, Outcome, refused, going, _>>=_, refuse, checkFinite, marking}
@@ -39,7 +39,7 @@ use Rattle.run.specs.AtRest.{one, best-columns}
 use Rattle.run.specs.Perm.{withoutHeld, all-found, all-first, models-first}
 use Rattle.run.specs.Inputs.{whole-within, inputs-z}
 use Rattle.run.specs.Steady.{Kept, kept-trans, IfGoing}
-use Rattle.run.specs.Drag.{dual-kept, shift-kept, shift-marks, starts, table}
+use Rattle.run.specs.Drag.{dual-kept, shift-kept, shift-marks, starts}
 
 -- ---- a refused call, and an accepted one
 

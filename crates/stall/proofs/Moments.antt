@@ -1,5 +1,5 @@
 -- The moments of a pass whose mark stays whole are the theory's states, one by one. Assumes nothing.
-use Prim.Native.Nat.{ℕ, zero, suc, _^_, _≤_, _<_}
+use Prim.Native.Nat.{ℕ, zero, suc, _≤_, _<_}
 use native.Mathlib.Nat.{le-of-lt}
 use native.Mathlib.Omega.{arith}
 use mathlib.Core.Path.{_≡_, refl, sym, ap, _∙_, subst}
@@ -15,18 +15,17 @@ use Rattle.simplex.specs.Pass.{State, step, Good, Choice, step-good}
 use Rattle.simplex.specs.Bland.{Pass}
 use Rattle.simplex.specs.Bound.{Mem, swap-trues}
 use Rattle.simplex.specs.Search.{Asc}
-use Rattle.simplex.specs.Look.{go-on, look, next, after, Pivots}
+use Rattle.simplex.specs.Look.{go-on, look, after, Pivots}
 use Rattle.steps.specs.Number.{allWhole}
 use Rattle.steps.specs.Symbol.{Symbol}
-use Rattle.steps.specs.Row.{Row}
 use Rattle.steps.specs.Work.{Work, Outcome, countPivot}
 use Rattle.steps.specs.Substitute.{pivot}
 use Rattle.steps.specs.Optimise.{Goal, theObjective, theArtificial, goalCells, choosePivot, pivotOn, optimise}
 use Rattle.bridge.specs.Rows.{Reads}
 use Rattle.bridge.specs.Finds.{none≢some, some-injective}
-use Rattle.bridge.specs.Table.{ReadsWork, ArtAt, pivot-z}
+use Rattle.bridge.specs.Table.{ReadsWork, pivot-z}
 use Rattle.bridge.specs.Looks.{Choose, pivots, choose-is, choice-is, minus-one, look-pivot}
-use Rattle.bridge.specs.Runs.{markOf, Standing, pivot-standing, optimise-mark, ReadsGoal, counted-mark, shift, at-first, objOf, artOf}
+use Rattle.bridge.specs.Runs.{markOf, pivot-standing, optimise-mark, ReadsGoal, counted-mark, shift, at-first, objOf, artOf, goal-cells}
 use Rattle.run.specs.Steady.{pivot-kept}
 use Rattle.run.specs.Passes.{restrictedIds}
 use Rattle.stall.specs.Stall.{turn, later, isBasic, restrictedRows}
@@ -40,13 +39,8 @@ pub record Reading (g : Goal) (kind : ℕ → KindZ) (w : Work) (S : State) (o a
   pub cells : Reads bound (w .tableau .symbols) (goalCells g w) (S .o)
 
 pub reading : (g : Goal) (kind : ℕ → KindZ) (w : Work) (S : State) (z : Vec) → ReadsGoal g kind w S z → Reading g kind w S (objOf g (S .o) z) (artOf g (S .o) z)
-unfolding goalCells
-reading theObjective kind w S z h = record { reads = h; bound = 2 ^ 40; cells = h .objective }
-reading theArtificial kind w S z h = record { reads = h .0; bound = 1024; cells = go (w .artificial) (h .0 .artificial) (h .1) }
-  where
-    go : (t : Option Row) → ArtAt (w .tableau .symbols) t (S .o) → Standing t → Reads 1024 (w .tableau .symbols) (elim t [ none ↦ [] | some r ↦ r .cells ]) (S .o)
-    go none a s = absurd s
-    go (some r) a s = a .cells
+reading theObjective kind w S z h = let c = goal-cells theObjective kind w S z h in record { reads = h; bound = c .0; cells = c .1 }
+reading theArtificial kind w S z h = let c = goal-cells theArtificial kind w S z h in record { reads = h .0; bound = c .0; cells = c .1 }
 
 module _ (n : ℕ) (kind : ℕ → KindZ) (ids : List ℕ) (asc : Asc ids) (cover : (j : ℕ) → kind j ≡ slack → Mem j ids) (inside : (j : ℕ) → Mem j ids → j < n) where
   -- ---- one pivot
