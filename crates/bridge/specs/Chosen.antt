@@ -3,7 +3,7 @@ use mathlib.Core.Path.{_≡_, refl, sym, ap, ap₂, _∙_, subst}
 use mathlib.Core.Logic.{_⊎_, inl, inr, _≢_}
 use mathlib.Core.List.{List, [], _∷_}
 use mathlib.Core.Option.{Option, none, some}
-use Prim.Native.Nat.{ℕ, _*_, _^_, _≤_, _<_}
+use Prim.Native.Nat.{ℕ, _^_, _≤_, _<_}
 use native.Mathlib.Omega.{arith}
 use mathlib.Core.Bool.{Bool, true, false, not, _&&_, true≢false}
 use lib.Dec.{T}
@@ -12,13 +12,14 @@ use lib.Signed.{ltZ, ltZ-yes, ltZ-no}
 use lib.Ieee.{Float, neg, lt}
 use Rattle.laws.specs.Z.{abs-neg}
 use Rattle.exact.specs.Whole.{neg-z}
-use Rattle.laws.specs.Z.{_≼_, _≺_, P}
+use Rattle.laws.specs.Z.{_≼_, _≺_}
 use Rattle.laws.specs.Ring.{ring, v, k as κ, _⊠_, ⊟_}
 use Rattle.simplex.specs.Ord.{0ℤ, 1ℤ, ≼-of-eq, ≼-trans, ≺→≼, ≺-irrefl}
 use Rattle.simplex.specs.Lin.{Vec}
 use Rattle.simplex.specs.Choose.{All, all-map-of as all-map, all-zip-of as all-zip}
 use Rattle.simplex.specs.Basis.{Mask}
 use Rattle.simplex.specs.Opt.{Kind as KindZ, external, slack, dummy, slack≢external, dummy≢slack}
+use Rattle.simplex.specs.Look.{both}
 use Rattle.steps.specs.Number.{belowZero, _/₆₄_}
 use Rattle.steps.specs.Symbol.{Kind, External, Slack, Error, Dummy, Symbol, isDummy, isExternal, isRestricted, coefficientFor, firstSymbol}
 use Rattle.steps.specs.Row.{Row}
@@ -33,10 +34,6 @@ use Rattle.bridge.specs.Finds.{UpRows, find-hit, find-miss}
 use Rattle.bridge.specs.Table.{kindOf, RowAt, Live, ReadsTable, found-in}
 
 -- ---- kinds
-both : (a b : Bool) → a && b ≡ true → (a ≡ true) × (b ≡ true)
-both true b e = (refl, e)
-both false b e = absurd (true≢false (sym e))
-
 pub not-dummy : (x : Symbol) → not (isDummy x) ≡ true → (kindOf (x .kind) ≡ slack) ⊎ (kindOf (x .kind) ≡ external)
 unfolding isDummy
 not-dummy x e = go (x .kind) e
@@ -230,7 +227,7 @@ cross {p} {q} {x} {y} {k} A l J = (least, ties)
         go (equal u t) = lt-over (A .over) (J .over) ∙ ap (λ (z : ℤ). ltZ z (J .rank)) own ∙ ≡-no (sym t)
         go (higher u t) = absurd (≺-irrefl (subst (λ (z : ℤ). z ≺ y) e u))
 
-all-mem : (Q : Candidate → Type 0) (cs : List Candidate) (w : Candidate) → All Q cs → MemC w cs → Q w
+pub all-mem : (Q : Candidate → Type 0) (cs : List Candidate) (w : Candidate) → All Q cs → MemC w cs → Q w
 all-mem Q [] w a m = absurd m
 all-mem Q (c ∷ cs) w a (inl e) = subst Q (sym e) (a .0)
 all-mem Q (c ∷ cs) w a (inr m) = all-mem Q cs w (a .1) m

@@ -1,11 +1,11 @@
 -- The dual pass of a suggestion: with its mark whole it ends in a good state of the theory with no slack's row below 0, and the values are the best. Assumes nothing.
 use mathlib.Core.Path.{_≡_, refl, sym, ap, ap₂, _∙_, subst}
 use mathlib.Core.Logic.{_⊎_, inl, inr, _≢_}
-use mathlib.Core.List.{List, [], _∷_, _++_, reverse, reverseAux}
+use mathlib.Core.List.{List, [], _∷_, reverse}
 use mathlib.Core.Option.{Option, none, some}
-use Prim.Native.Nat.{ℕ, zero, suc, _+_, _<_}
+use Prim.Native.Nat.{ℕ, zero, suc, _<_}
 use mathlib.Core.Bool.{Bool, true, false, not, _&&_, cond, true≢false}
-use lib.Dec.{T, eqb, eqb→eq, eqb-refl}
+use lib.Dec.{T}
 use lib.IntN.{ℤ, negsuc, negℤ, _+ℤ_, _*ℤ_}
 use lib.Signed.{ltZ-yes}
 use lib.Ieee.{ne}
@@ -23,23 +23,24 @@ use Rattle.simplex.specs.Dual.{Good}
 use Rattle.simplex.specs.Problem.{Con, Meets, Models}
 use Rattle.simplex.specs.Never.{never-16}
 use Rattle.simplex.specs.Final.{Best, dual-models, dragged}
-use Rattle.steps.specs.Number.{zero64, belowZero, Mark, allWhole, notWhole, notFinite}
+use Rattle.simplex.specs.Gone.{dummy≢external}
+use Rattle.steps.specs.Number.{zero64, Mark, allWhole, notWhole, notFinite}
 use Rattle.steps.specs.Symbol.{Symbol, isExternal, isRestricted, isDummy}
 use Rattle.steps.specs.Row.{Row, Written, solveForSymbols}
 use Rattle.steps.specs.State.{Basic}
 use Rattle.steps.specs.Work.{Work, Outcome, refused, going, _>>=_, refuse, checkFinite, countPivot, marking, withRows, withTableau, withChanges, withArtificial, withObjective, withInfeasible, findRow, dropRow, keepRow}
 use Rattle.steps.specs.Changes.{note}
-use Rattle.steps.specs.Substitute.{substituteInRows, rowsOf, without, push, pushBelow, substitute, enterBasis, pivot}
+use Rattle.steps.specs.Substitute.{substituteInRows, rowsOf, pushBelow, substitute, enterBasis, pivot}
 use Rattle.steps.specs.Optimise.{isBelow, Popped, allPopped, popped, popBelow, getDualEnteringSymbol, DualChoice, feasible, noEntering, dualPivotOn, chooseDualPivot, countedDualPivot, dualOptimise}
 use Rattle.bridge.specs.Quot.{yes}
 use Rattle.bridge.specs.Nums.{belowZero-z, finite≢}
-use Rattle.bridge.specs.Rows.{In, NotIn, Sym?, is, isnt, sym?, ReadsRow}
-use Rattle.bridge.specs.Finds.{none≢some, some-injective, find-hit, find-miss, find-none, find-keep-other, sub-all, drop-all}
+use Rattle.bridge.specs.Rows.{In, NotIn, ReadsRow}
+use Rattle.bridge.specs.Finds.{find-keep-other, sub-all, drop-all}
 use Rattle.bridge.specs.Table.{kindOf, RowAt, Live, ReadsWork, in-nonzero, found-in, enter-parts}
 use Rattle.bridge.specs.Chosen.{restricted-is, slack-not-dummy}
 use Rattle.bridge.specs.Looks.{in-or-not}
-use Rattle.bridge.specs.Runs.{markOf, pivot-mark}
-use Rattle.bridge.specs.Infeasible.{mem-rev, all-rev, at-mem, pushed-keep, pushed-all, pushed-found, Pops, through, stops, pops, below-row, is-below}
+use Rattle.bridge.specs.Runs.{markOf, pivot-mark, counted-mark}
+use Rattle.bridge.specs.Infeasible.{mem-rev, all-rev, at-mem, pushed-all, pushed-found, Pops, through, stops, pops, below-row, is-below}
 use Rattle.bridge.specs.Duals.{Enters, Entering, dual-entering, dual-pivot, Moved}
 
 -- ---- a pivot's list and rows
@@ -68,15 +69,6 @@ pivot-lists l e w row q =
     let s : Written = solveForSymbols l (e .id) (w .tableau .symbols) row in
     let v : Work = marking (s .mark) (withRows (dropRow l (w .tableau .rows)) w) in
     record { list = ap (λ (x : Work). x .tableau .infeasible) (pivot-is l e w row q) ∙ enter-list e (s .row) v; rows = ap (λ (x : Work). x .tableau .rows) (pivot-is l e w row q) ∙ enter-parts e (s .row) v .rows }
-
-dummy≢external : dummy ≢ external
-dummy≢external e = slack≢external (ap turn e)
-  where
-    turn : KindZ → KindZ
-    turn const = const
-    turn external = external
-    turn slack = slack
-    turn dummy = slack
 
 module _ (n : ℕ) (kind : ℕ → KindZ) (inside : (j : ℕ) → kind j ≡ slack → j < n) (cs : List Con) where
   -- ---- what holds before and after every pivot of the dual pass
@@ -244,10 +236,6 @@ turned left s l e w Q f h = go (pivot s e (withInfeasible l w) .mark) refl
 same-mark : (l : List ℕ) (w : Work) → withInfeasible l w .mark ≡ w .mark
 unfolding withInfeasible withTableau
 same-mark l w = refl
-
-counted-mark : (w : Work) → countPivot w .mark ≡ allWhole → w .mark ≡ allWhole
-unfolding countPivot
-counted-mark w m = m
 
 pub dual-mark : (left : ℕ) (w : Work) → markOf (dualOptimise left w) ≡ allWhole → w .mark ≡ allWhole
 unfolding dualOptimise markOf refuse

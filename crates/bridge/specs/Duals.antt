@@ -1,6 +1,6 @@
 -- The dual pass: the steps' entering symbol has the least ratio of objective cell to cell, by cross multiplication, the lowest id on a tie; a pivot that keeps the mark is the theory's dual move. Assumes nothing.
 use mathlib.Core.Path.{_≡_, refl, sym, ap, ap₂, _∙_, subst}
-use mathlib.Core.Logic.{_⊎_, inl, inr, _≢_}
+use mathlib.Core.Logic.{_⊎_, inl, inr}
 use mathlib.Core.List.{List, [], _∷_}
 use mathlib.Core.Option.{Option, none, some}
 use Prim.Native.Nat.{ℕ, zero, suc, _*_, _^_, _≤_, _<_}
@@ -22,6 +22,7 @@ use Rattle.simplex.specs.Tab.{pivoted}
 use Rattle.simplex.specs.Opt.{Kind as KindZ, external, slack, slack≢external, slack≢const}
 use Rattle.simplex.specs.Pass.{State, step}
 use Rattle.simplex.specs.Dual.{Good, Move, step-good}
+use Rattle.simplex.specs.Look.{both}
 use Rattle.steps.specs.Number.{zero64, _/₆₄_, allWhole}
 use Rattle.steps.specs.Symbol.{Symbol, isDummy}
 use Rattle.steps.specs.Row.{Row}
@@ -29,21 +30,12 @@ use Rattle.steps.specs.Work.{Work, findRow}
 use Rattle.steps.specs.Substitute.{pivot}
 use Rattle.steps.specs.Optimise.{Candidate, smallestRatio, dualRatios, getDualEnteringSymbol}
 use Rattle.bridge.specs.Quot.{Quotient, div-above, yes}
-use Rattle.bridge.specs.Walk.{Ranked, Beats, Rising, MemC, Smallest, smallest-is}
+use Rattle.bridge.specs.Walk.{Ranked, Beats, Rising, Smallest, smallest-is}
 use Rattle.bridge.specs.Nums.{zero64-z}
 use Rattle.bridge.specs.Rows.{Reads, NotIn, In, Up, ReadsRow}
 use Rattle.bridge.specs.Table.{kindOf, RowAt, Live, ReadsWork, pivot-z}
-use Rattle.bridge.specs.Chosen.{not-dummy, slack-not-dummy, MemS, cross}
+use Rattle.bridge.specs.Chosen.{not-dummy, slack-not-dummy, MemS, cross, all-mem}
 use Rattle.bridge.specs.Looks.{is-live, in-or-not, all-in}
-
-both : (a b : Bool) → a && b ≡ true → (a ≡ true) × (b ≡ true)
-both true b e = (refl, e)
-both false b e = absurd (true≢false (sym e))
-
-all-mem : (Q : Candidate → Type 0) (cs : List Candidate) (w : Candidate) → All Q cs → MemC w cs → Q w
-all-mem Q [] w a m = absurd m
-all-mem Q (c ∷ cs) w a (inl e) = subst Q (sym e) (a .0)
-all-mem Q (c ∷ cs) w a (inr m) = all-mem Q cs w (a .1) m
 
 -- ---- the walk: f is the leaving row, o the objective
 module _ (f o : Vec) where
@@ -160,7 +152,7 @@ module _ (f o : Vec) where
       go t (Smallest.winner w m r A) = won w (all-mem From (dualRatios xs cs os) w froms m) (all-mem (λ (c : Candidate). MemS (c .symbol) xs) (dualRatios xs cs os) w (from-mem xs cs os) m) A
 
 -- ---- one pivot of the dual pass
-one-of : (z : ℤ) → z *ℤ z ≡ 1ℤ → 0ℤ ≺ z → z ≡ 1ℤ
+pub one-of : (z : ℤ) → z *ℤ z ≡ 1ℤ → 0ℤ ≺ z → z ≡ 1ℤ
 one-of (pos zero) e l = absurd (≺-irrefl l)
 one-of (pos (suc zero)) e l = refl
 one-of (pos (suc (suc m))) e l = absurd (big m (ap natAbs e))

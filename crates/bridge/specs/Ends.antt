@@ -9,7 +9,7 @@ use mathlib.Core.Bool.{Bool, true, false}
 use lib.ListN.{length}
 use lib.Ieee.{Float}
 use Rattle.exact.specs.Whole.{IsZ, isz-to}
-use Rattle.laws.specs.Z.{_≼_, _≺_}
+use Rattle.laws.specs.Z.{_≺_}
 use Rattle.simplex.specs.Ord.{0ℤ, clash, ≼-of-eq}
 use Rattle.simplex.specs.Lin.{Vec, δ, δ-other}
 use Rattle.simplex.specs.Choose.{Distinct, choose, trues}

@@ -5,7 +5,7 @@ use mathlib.Core.List.{List, [], _∷_, _++_, map}
 use mathlib.Core.Option.{Option, none, some}
 use Prim.Native.Nat.{ℕ, zero, suc, _^_, _<_}
 use native.Mathlib.Omega.{arith}
-use mathlib.Core.Bool.{Bool, true, false, true≢false}
+use mathlib.Core.Bool.{Bool, true, false}
 use lib.IntN.{ℤ, negℤ, _+ℤ_, _*ℤ_}
 use lib.Ieee.{Float, neg}
 use Rattle.exact.specs.Whole.{Zb, neg-b}
@@ -27,10 +27,7 @@ use Rattle.steps.specs.Substitute.{substituteInRow, substituteInCells, substitu
 use Rattle.bridge.specs.Nums.{worse-l, worse-r, zero64-z, stored-z}
 use Rattle.bridge.specs.Rows.{Reads, NotIn, In, Up, Outside, Sym?, is, isnt, sym?, zb-to, ReadsRow, row-to, reads-to, cleared, Whole, solveForSymbol-z, substituteInRow-z, substituteInCells-z, insertRow-z, insertSymbolInRow-z}
 use Rattle.bridge.specs.Finds.{UpRows, find-hit, find-miss, find-none, find-keep-same, find-keep-other, after-sub, find-sub, find-mark, sub-up, sub-all, keep-up, keep-all}
-use Rattle.bridge.specs.Table.{kindOf, RowAt, ArtAt, Live, ReadsTable, ReadsWork, in-above, in-nonzero, art-mark, Parts, enter-parts}
-
-clash-bool : {X : Type 0} {a : Bool} → a ≡ true → a ≡ false → X
-clash-bool p q = absurd (true≢false (sym p ∙ q))
+use Rattle.bridge.specs.Table.{kindOf, RowAt, ArtAt, Live, ReadsTable, ReadsWork, in-above, in-nonzero, art-mark, Parts, enter-parts, clash-bool, moved}
 
 -- ---- a row enters: s reads as "the equation r, solved for e"
 module _ (kind : ℕ → KindZ) (xs : List Symbol) (bs : List Basic) (cs : List Float) (art : Option Row) (B : Mask) (R : ℕ → Vec) (o a : Vec) (H : ReadsTable kind xs bs cs art B R o a)
@@ -124,13 +121,6 @@ module _ (kind : ℕ → KindZ) (w : Work) (B : Mask) (R : ℕ → Vec) (o a : V
       let solved-z = row-to xs (solved .row) (λ j. negℤ (r (e .id)) *ℤ cleared (e .id) r j) (out (e .id) (r (e .id)) r (δ (e .id))) (λ j. solved-row (e .id) (r (e .id)) r j refl (S .unit)) (S .row) in
       let table = enter-table kind xs bs cs (w .artificial) B R o a H e he live unit (solved .row) r (r (e .id)) (reads .outside) solved-z (worse-l m2 (worse m3 m4) late) (worse-l m3 m4 last) (worse-r m3 m4 last) in
       (S .unit, moved (p .symbols) (p .rows) (p .objective) (p .artificial) table)
-    where
-      moved : {xs xs′ : List Symbol} {bs bs′ : List Basic} {cs cs′ : List Float} {t t′ : Option Row} {B′ : Mask} {R′ : ℕ → Vec} {o′ a′ : Vec}
-          → xs′ ≡ xs → bs′ ≡ bs → cs′ ≡ cs → t′ ≡ t → ReadsTable kind xs bs cs t B′ R′ o′ a′ → ReadsTable kind xs′ bs′ cs′ t′ B′ R′ o′ a′
-      moved {xs} {xs′} {bs} {bs′} {cs} {cs′} {t} {t′} {B′} {R′} {o′} {a′} p q r u h =
-          subst (λ (y : List Symbol). ReadsTable kind y bs′ cs′ t′ B′ R′ o′ a′) (sym p)
-          (subst (λ (y : List Basic). ReadsTable kind xs y cs′ t′ B′ R′ o′ a′) (sym q)
-          (subst (λ (y : List Float). ReadsTable kind xs bs y t′ B′ R′ o′ a′) (sym r) (subst (λ (y : Option Row). ReadsTable kind xs bs cs y B′ R′ o′ a′) (sym u) h)))
 
   pub enter-z : (enterBasis e (solveForSymbol (e .id) xs row .row) (marking (solveForSymbol (e .id) xs row .mark) w)) .mark ≡ allWhole
       → (r (e .id) *ℤ r (e .id) ≡ 1ℤ)

@@ -1,7 +1,7 @@
 -- The infeasible list: what is on it after pushes, what is popped. Assumes nothing.
 use mathlib.Core.Path.{_≡_, refl, sym, ap, ap₂, _∙_, subst}
 use mathlib.Core.Logic.{_⊎_, inl, inr, _≢_}
-use mathlib.Core.List.{List, [], _∷_, _++_, reverse, reverseAux}
+use mathlib.Core.List.{List, [], _∷_, _++_, reverseAux}
 use mathlib.Core.Option.{Option, none, some}
 use Prim.Native.Nat.{ℕ}
 use mathlib.Core.Bool.{Bool, true, false, _&&_, cond, true≢false}
@@ -10,7 +10,7 @@ use Rattle.simplex.specs.Choose.{All}
 use Rattle.simplex.specs.Opt.{Kind as KindZ, slack}
 use Rattle.simplex.specs.Bound.{Mem}
 use Rattle.steps.specs.Number.{belowZero}
-use Rattle.steps.specs.Symbol.{Symbol, isRestricted}
+use Rattle.steps.specs.Symbol.{isRestricted}
 use Rattle.steps.specs.Row.{Row}
 use Rattle.steps.specs.State.{Basic}
 use Rattle.steps.specs.Work.{findRow}

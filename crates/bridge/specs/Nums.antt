@@ -106,7 +106,7 @@ worse-r m k e = go m (worse-l m k e) e
     go : (m : Mark) → m ≡ allWhole → worse m k ≡ allWhole → k ≡ allWhole
     go m p e = ap (λ (x : Mark). worse x k) (sym p) ∙ e
 
-whole-if : (b : Bool) → wholeIf b ≡ allWhole → b ≡ true
+pub whole-if : (b : Bool) → wholeIf b ≡ allWhole → b ≡ true
 unfolding wholeIf
 whole-if true e = refl
 whole-if false e = absurd (whole≢ e)

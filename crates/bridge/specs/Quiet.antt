@@ -1,5 +1,5 @@
 -- In a whole run an optimise pass pushes nothing: where every restricted row's constant is not below 0, the infeasible list stays. Assumes nothing.
-use mathlib.Core.Path.{_≡_, refl, sym, ap, ap₂, _∙_, subst}
+use mathlib.Core.Path.{_≡_, refl, sym, ap, _∙_, subst}
 use mathlib.Core.Logic.{_⊎_, inl, inr, _≢_}
 use mathlib.Core.List.{List, [], _∷_}
 use mathlib.Core.Option.{Option, none, some}
@@ -9,7 +9,7 @@ use mathlib.Core.Bool.{Bool, true, false, _&&_, cond, true≢false}
 use lib.Dec.{T, ltb}
 use lib.IntN.{ℤ}
 use lib.Signed.{ltZ, ltZ-yes}
-use Rattle.laws.specs.Z.{_≼_, _≺_}
+use Rattle.laws.specs.Z.{_≼_}
 use Rattle.simplex.specs.Ord.{0ℤ, clash, ≼-of-eq}
 use Rattle.simplex.specs.Lin.{Vec}
 use Rattle.simplex.specs.Choose.{All}
@@ -18,21 +18,21 @@ use Rattle.simplex.specs.Opt.{Kind as KindZ, const, external, slack, dummy}
 use Rattle.simplex.specs.Pass.{State, Good, step}
 use Rattle.simplex.specs.Bound.{Mem}
 use Rattle.simplex.specs.Search.{Asc}
-use Rattle.steps.specs.Number.{belowZero, Mark, allWhole}
+use Rattle.steps.specs.Number.{belowZero, allWhole}
 use Rattle.steps.specs.Symbol.{Symbol, isSymbol, isRestricted}
 use Rattle.steps.specs.Row.{Row, solveForSymbols}
 use Rattle.steps.specs.State.{Basic}
 use Rattle.steps.specs.Work.{Work, Outcome, refused, going, _>>=_, refuse, countPivot, findRow, dropRow, keepRow}
-use Rattle.steps.specs.Substitute.{substituteInRows, rowsOf, push, pushBelow, enterBasis, pivot}
+use Rattle.steps.specs.Substitute.{substituteInRows, rowsOf, push, pushBelow, pivot}
 use Rattle.steps.specs.Optimise.{Goal, Choice as Chosen, ended, stuck, pivotOn, choosePivot, countedPivot, optimise}
 use Rattle.bridge.specs.Nums.{belowZero-z, finite≢}
-use Rattle.bridge.specs.Rows.{In, Sym?, is, isnt, sym?, ReadsRow}
+use Rattle.bridge.specs.Rows.{Sym?, is, isnt, sym?, ReadsRow}
 use Rattle.bridge.specs.Finds.{UpRows, up-from, find-hit, find-miss}
-use Rattle.bridge.specs.Table.{kindOf, RowAt, Live, ReadsWork, enter-parts}
+use Rattle.bridge.specs.Table.{kindOf, RowAt, Live, ReadsWork}
 use Rattle.bridge.specs.Chosen.{restricted-is}
 use Rattle.bridge.specs.Looks.{Choose, at-end, row-less, pivots}
 use Rattle.bridge.specs.Runs.{markOf, optimise-mark, ReadsGoal, view, turned, counted-mark, turn-is, is-good, reads-on, count-reads, reads-of, objOf, artOf}
-use Rattle.bridge.specs.Drags.{Lists, pivot-lists, enter-list}
+use Rattle.bridge.specs.Drags.{pivot-lists}
 
 -- ---- rows of which none is restricted and below 0
 
@@ -110,13 +110,7 @@ module _ (n : ℕ) (kind : ℕ → KindZ) (x : Work) (S : State) (o a : Vec) (G 
       both [] l f = tt
       both (b ∷ bs) l f = (above b (l .0) (f .0), both bs (l .1) (f .1))
 
--- ---- what enters pushes nothing
-pub enter-quiet : (n : ℕ) (kind : ℕ → KindZ) (e : Symbol) (r : Row) (w : Work) (S : State) (o a : Vec) → Good n kind S → ReadsWork kind (enterBasis e r w) (S .B) (S .R) o a
-    → enterBasis e r w .tableau .infeasible ≡ w .tableau .infeasible
-enter-quiet n kind e r w S o a G H =
-    enter-list e r w ∙ push-none (rowsOf (substituteInRows (e .id) (w .tableau .symbols) r (w .tableau .rows))) (w .tableau .infeasible)
-    (all-kept Above (record { symbol = e; row = r }) (rowsOf (substituteInRows (e .id) (w .tableau .symbols) r (w .tableau .rows))) (subst (All Above) (enter-parts e r w .rows) (all-above n kind (enterBasis e r w) S o a G H)))
-
+-- ---- a pivot pushes nothing
 pivot-none : (l : ℕ) (e : Symbol) (w : Work) → findRow l (w .tableau .rows) ≡ none → pivot l e w ≡ w
 unfolding pivot
 pivot-none l e w q = rw (q, pivot) refl
@@ -160,7 +154,7 @@ module _ (n : ℕ) (kind : ℕ → KindZ) (ids : List ℕ) (asc : Asc ids) (cove
       later l k e (refused n p m) q = tt
       later l k e (going x) q = q ∙ e
 
-      go : (c : Chosen) → Choose n kind w (S .B) (S .R) (objOf n kind ids asc cover inside g (S .o) z) (artOf n kind ids asc cover inside g (S .o) z) (reads-of n kind ids asc cover inside g w S z H) (S .o) G c
+      go : (c : Chosen) → Choose n kind w (S .B) (S .R) (objOf g (S .o) z) (artOf g (S .o) z) (reads-of n kind ids asc cover inside g w S z H) (S .o) G c
           → ((w : Work) (S : State) (z : Vec) → Good n kind S → ReadsGoal g kind w S z → markOf (optimise left g w) ≡ allWhole → Quiet (w .tableau .infeasible) (optimise left g w))
           → WholeQuiet (w .tableau .infeasible) (elim c [ ended ↦ going w | stuck ↦ refused 15 (w .pivots) (w .mark) | pivotOn l e ↦ countedPivot l e w >>= λ v. optimise left g v ])
       go c (at-end h) ih = λ m. refl
@@ -169,8 +163,8 @@ module _ (n : ℕ) (kind : ℕ → KindZ) (ids : List ℕ) (asc : Asc ids) (cove
         where
           on : markOf (optimise left g (countPivot (pivot (l .id) e w))) ≡ allWhole → Quiet (w .tableau .infeasible) (optimise left g (countPivot (pivot (l .id) e w)))
           on m =
-              let o = objOf n kind ids asc cover inside g (S .o) z in
-              let a = artOf n kind ids asc cover inside g (S .o) z in
+              let o = objOf g (S .o) z in
+              let a = artOf g (S .o) z in
               let H′ = reads-of n kind ids asc cover inside g w S z H in
               let pm : pivot (l .id) e w .mark ≡ allWhole = counted-mark (pivot (l .id) e w) (optimise-mark left g (countPivot (pivot (l .id) e w)) m) in
               let t = turn-is n kind ids asc cover inside w S G o a H′ l e E L pm in

@@ -2,10 +2,10 @@
 -- Ranks order the floats as ℤ orders the ranks, and a rank stands to c * D, for every whole c of magnitude at most 2 ^ 40, as i stands to c * k: below, level or above. Assumes nothing.
 use mathlib.Core.Path.{_≡_, refl, sym, ap, _∙_, subst}
 use Prim.Native.Nat.{ℕ, zero, suc, _+_, _*_, _-_, _^_, _≤_, _<_}
-use native.Mathlib.Nat.{mul-one, mul-assoc, mul-comm, mul-left-comm, mul-right-comm, mul-pos, mul-lt-mul-of-pos-right, lt-of-mul-lt-mul-right, zero-mul, lt-of-lt-of-le}
+use native.Mathlib.Nat.{mul-one, mul-assoc, mul-comm, mul-left-comm, mul-right-comm, mul-pos, mul-lt-mul-of-pos-right, zero-mul, lt-of-lt-of-le}
 use native.Mathlib.Omega.{arith}
 use mathlib.Core.Bool.{Bool, true, false, not, _&&_, _||_, cond, true≢false}
-use lib.Dec.{T, ltb, eqb, ltb→lt, nltb→le, lt→ltb, eqb→eq, lit<, lit≤, leb·suc-zero, leb·suc-suc, leb·zero}
+use lib.Dec.{T, ltb, eqb, ltb→lt, nltb→le, eqb→eq, lit<, lit≤}
 use lib.Pow.{pow-pos}
 use lib.Signed.{ltZ, ltZ-yes}
 use lib.IntN.{ℤ, pos, negsuc, negℤ, natAbs, _*ℤ_}
@@ -16,9 +16,9 @@ use lib.Ieee.Scale.{round-same, grid, overflow, finite}
 use lib.Ieee.Order.{round-mono, transfer, kept, drop}
 use lib.Ieee.Fits.{down-pos, round-is}
 use lib.Ieee.Bits.{is-true}
-use Rattle.laws.specs.Z.{P, N, at, _⊗_, ⊖_, p, n, _≼_, _≺_, eqZ, ltZ↑, ltN, lt→N, N→lt, N→le}
-use Rattle.exact.specs.Whole.{IsZ, sgn}
-use Rattle.exact.specs.Compare.{bool-ext, below-z}
+use Rattle.laws.specs.Z.{P, N, at, _⊗_, ⊖_, p, _≼_, _≺_, eqZ, ltZ↑, ltN, lt→N, N→lt, N→le}
+use Rattle.exact.specs.Whole.{IsZ, sgn, abs-sgn}
+use Rattle.exact.specs.Compare.{below-z}
 
 -- ---- the unit: 2 ^ 1074 of the format's smallest values are 1
 unfoldable pub D : ℕ
@@ -54,26 +54,6 @@ lt-over {x = fin s m e} {y = fin t k d} {a} {b} h g =
     (mul-right-comm (k * up d) (down e) D ∙ ap (λ (x : ℕ). x * down e) (g .has .1) ∙ mul-assoc (g .size) (down d) (down e) ∙ ap (λ (x : ℕ). g .size * x) (mul-comm (down d) (down e)))
     ∙ ap (λ (z : ℤ). ltZ z (sgn t (g .size))) (ap (λ (o : Bool). sgn o (h .size)) (h .has .0) ∙ h .is)
     ∙ ap (ltZ a) (ap (λ (o : Bool). sgn o (g .size)) (g .has .0) ∙ g .is)
-
-pub over-finite : {x : Float} {z : ℤ} → Over x z → T (finite x)
-over-finite {x = nan} h = absurd (h .has)
-over-finite {x = inf s} h = absurd (h .has)
-over-finite {x = fin s m e} h = tt
-
--- a whole float is c * D
-pub over-z : {x : Float} {c : ℤ} → IsZ x c → Over x (c *ℤ pos D)
-over-z {x = nan} h = absurd (h .has)
-over-z {x = inf s} h = absurd (h .has)
-over-z {x = fin s m e} {c} h = record {
-  sign = s;
-  size = h .size * D;
-  has = (refl, ap (λ (x : ℕ). x * D) (sym (mul-one (m * up e)) ∙ h .has .1) ∙ mul-right-comm (h .size) (down e) D);
-  is = times s (h .size) ∙ ap (λ (z : ℤ). z *ℤ pos D) (ap (λ (o : Bool). sgn o (h .size)) (h .has .0) ∙ h .is);
-}
-  where
-    times : (s : Bool) (k : ℕ) → sgn s (k * D) ≡ sgn s k *ℤ pos D
-    times false k = refl
-    times true k = eqZ (⊖ at (pos (k * D))) ((⊖ at (pos k)) ⊗ at (pos D)) (omega arith)
 
 -- ---- rounding a / b, not negative
 under-of-le : (q k : ℕ) (y : Float) → T (finite y) → T (le (units binary64 false q k) y) → q * 2 ^ k < overflow binary64
@@ -247,11 +227,6 @@ rounded s a b bp bs sm = record {
   stands = λ c l. stands-of s a b (grid binary64 a b) bp c (tri a b bp bs sm) l;
 }
 
-abs-sgn : (s : Bool) (k : ℕ) → natAbs (sgn s k) ≡ k
-abs-sgn false k = refl
-abs-sgn true zero = refl
-abs-sgn true (suc k) = refl
-
 unlike-false : (s : Bool) → unlike s false ≡ s
 unlike-false false = refl
 unlike-false true = refl
@@ -347,33 +322,5 @@ no {a} {b} h = go (ltZ a b) refl
     go false e = e
     go true e = absurd (lib.Signed.clashℤ {X = ⊥} (ltZ-yes (subst T (sym e) tt)) h)
 
-pub ≺-no : {a b : ℤ} → a ≺ b → ltZ b a ≡ false
-≺-no {a} {b} h = no (N→le a b (omega (arith, lt→N a b h)))
-
 pub ≡-no : {a b : ℤ} → a ≡ b → ltZ a b ≡ false
 ≡-no {a} {b} h = no (N→le b a (omega (arith, ap P h, ap N h)))
-
-pub quotient-lt : {q z : Float} {i k c : ℤ} → Quotient q i k → IsZ z c → natAbs c ≤ 2 ^ 40 → lt q z ≡ ltZ i (c *ℤ k)
-quotient-lt {q} {z} {i} {k} {c} h w l = lt-over (h .over) (over-z w) ∙ go (h .stands c l)
-  where
-    go : Stands i k (h .rank) c → ltZ (h .rank) (c *ℤ pos D) ≡ ltZ i (c *ℤ k)
-    go (lower u t) = yes t ∙ sym (yes u)
-    go (equal u t) = ≡-no t ∙ sym (≡-no u)
-    go (higher u t) = ≺-no t ∙ sym (≺-no u)
-
-pub lt-quotient : {q z : Float} {i k c : ℤ} → Quotient q i k → IsZ z c → natAbs c ≤ 2 ^ 40 → lt z q ≡ ltZ (c *ℤ k) i
-lt-quotient {q} {z} {i} {k} {c} h w l = lt-over (over-z w) (h .over) ∙ go (h .stands c l)
-  where
-    go : Stands i k (h .rank) c → ltZ (c *ℤ pos D) (h .rank) ≡ ltZ (c *ℤ k) i
-    go (lower u t) = ≺-no t ∙ sym (≺-no u)
-    go (equal u t) = ≡-no (sym t) ∙ sym (≡-no (sym u))
-    go (higher u t) = yes t ∙ sym (yes u)
-
--- blueprint's form of it
-pub div-lt : {x y z : Float} {i k c : ℤ} → IsZ x i → IsZ y k → IsZ z c → pos 0 ≺ k → natAbs k ≤ 1024 → natAbs i ≤ 2 ^ 40 → natAbs c ≤ 2 ^ 40
-    → (lt (div binary64 x y) z ≡ ltZ i (c *ℤ k)) × (lt z (div binary64 x y) ≡ ltZ (c *ℤ k) i) × T (finite (div binary64 x y))
-div-lt h g w kp ks is cs = let d = div-above h g kp ks is in (quotient-lt d w cs, lt-quotient d w cs, over-finite (d .over))
-
-pub div-lt-neg : {x y z : Float} {i k c : ℤ} → IsZ x i → IsZ y k → IsZ z c → k ≺ pos 0 → natAbs k ≤ 1024 → natAbs i ≤ 2 ^ 40 → natAbs c ≤ 2 ^ 40
-    → (lt (div binary64 x y) z ≡ ltZ (negℤ i) (c *ℤ negℤ k)) × (lt z (div binary64 x y) ≡ ltZ (c *ℤ negℤ k) (negℤ i)) × T (finite (div binary64 x y))
-div-lt-neg h g w kp ks is cs = let d = div-below h g kp ks is in (quotient-lt d w cs, lt-quotient d w cs, over-finite (d .over))

@@ -1,6 +1,6 @@
 -- For removal and add: the ratio test over the restricted rows with a positive cell; a row that is dropped; an add with a subject. Assumes nothing.
 use mathlib.Core.Path.{_≡_, refl, sym, ap, ap₂, _∙_, subst}
-use mathlib.Core.Logic.{inl, inr, _≢_}
+use mathlib.Core.Logic.{_≢_}
 use mathlib.Core.List.{List, [], _∷_}
 use mathlib.Core.Option.{Option, none, some}
 use Prim.Native.Nat.{ℕ, _^_, _≤_, _<_}
@@ -21,6 +21,7 @@ use Rattle.simplex.specs.Change.{dropped}
 use Rattle.simplex.specs.Tab.{out}
 use Rattle.simplex.specs.Basis.{Mask}
 use Rattle.simplex.specs.Opt.{Kind as KindZ, slack}
+use Rattle.simplex.specs.Look.{both}
 use Rattle.steps.specs.Number.{zero64, _/₆₄_, Mark, allWhole, notWhole, notFinite}
 use Rattle.steps.specs.Symbol.{Symbol, isRestricted}
 use Rattle.steps.specs.Row.{Row, solveForSymbol}
@@ -32,12 +33,12 @@ use Rattle.steps.specs.CreateRow.{Created}
 use Rattle.steps.specs.Add.{addWithSubject}
 use Rattle.steps.specs.Remove.{cellIn, positiveRatios}
 use Rattle.bridge.specs.Quot.{Quotient, div-above, yes}
-use Rattle.bridge.specs.Walk.{Ranked, Beats, Rising, MemC, Smallest, smallest-is}
+use Rattle.bridge.specs.Walk.{Ranked, Beats, Rising, Smallest, smallest-is}
 use Rattle.bridge.specs.Nums.{zero64-z, finite≢}
 use Rattle.bridge.specs.Rows.{ReadsRow, row-cell}
 use Rattle.bridge.specs.Finds.{UpRows, find-drop-same, find-drop-other, drop-up, drop-all}
 use Rattle.bridge.specs.Table.{RowAt, Live, ReadsTable, ReadsWork, found-in}
-use Rattle.bridge.specs.Chosen.{slack-restricted, listed, cross}
+use Rattle.bridge.specs.Chosen.{slack-restricted, listed, cross, all-mem}
 use Rattle.bridge.specs.Runs.{markOf}
 use Rattle.bridge.specs.Enter.{enter-z}
 
@@ -92,15 +93,6 @@ subject-z kind c B R o a H s free live unit r reads = go (x .mark) refl
     go notFinite e = λ m. absurd (finite≢ (sym e ∙ m))
 
 -- ---- "restricted with positive cell, smallest constant/cell"
-both : (a b : Bool) → a && b ≡ true → (a ≡ true) × (b ≡ true)
-both true b e = (refl, e)
-both false b e = absurd (true≢false (sym e))
-
-all-mem : (Q : Candidate → Type 0) (cs : List Candidate) (w : Candidate) → All Q cs → MemC w cs → Q w
-all-mem Q [] w a m = absurd m
-all-mem Q (c ∷ cs) w a (inl e) = subst Q (sym e) (a .0)
-all-mem Q (c ∷ cs) w a (inr m) = all-mem Q cs w (a .1) m
-
 module _ (kind : ℕ → KindZ) (xs : List Symbol) (bs : List Basic) (cs : List Float) (art : Option Row) (B : Mask) (R : ℕ → Vec) (o a : Vec) (H : ReadsTable kind xs bs cs art B R o a) (e : ℕ) (e≢0 : e ≢ 0) where
   record From (c : Candidate) : Type 0 where
     live : Live kind xs (c .symbol)

@@ -1,12 +1,10 @@
 -- An optimise pass of the steps whose mark stays is a pass of the theory: state by state, pivot by pivot. Assumes nothing.
 use mathlib.Core.Path.{_≡_, refl, sym, ap, ap₂, _∙_, subst}
-use mathlib.Core.Logic.{_≢_}
 use mathlib.Core.List.{List, []}
 use mathlib.Core.Option.{Option, none, some}
-use Prim.Native.Nat.{ℕ, zero, suc, _+_, _*_, _^_, _≤_, _<_}
+use Prim.Native.Nat.{ℕ, zero, suc, _+_, _^_, _≤_, _<_}
 use native.Mathlib.Omega.{arith}
 use mathlib.Core.Bool.{Bool, true, false, _&&_, cond}
-use lib.Dec.{T}
 use lib.IntN.{negsuc, _*ℤ_}
 use lib.Ieee.{ne}
 use Rattle.laws.specs.Z.{_≼_, _≺_}
@@ -39,7 +37,7 @@ markOf (refused n p m) = m
 markOf (going w) = w .mark
 
 -- a pivot: nothing where the row is missing, else the row is solved and enters
-pivot-cases : (l : ℕ) (e : Symbol) (w : Work) (Q : Work → Type 0) → Q w
+pub pivot-cases : (l : ℕ) (e : Symbol) (w : Work) (Q : Work → Type 0) → Q w
     → ((row : Row) → Q (enterBasis e (solveForSymbols l (e .id) (w .tableau .symbols) row .row) (marking (solveForSymbols l (e .id) (w .tableau .symbols) row .mark) (withRows (dropRow l (w .tableau .rows)) w))))
     → Q (pivot l e w)
 unfolding pivot
@@ -91,7 +89,7 @@ pub counted-mark : (w : Work) → countPivot w .mark ≡ allWhole → w .mark �
 unfolding countPivot
 counted-mark w m = m
 
-counted-one : (l : ℕ) (e : Symbol) (w : Work) → countPivot (pivot l e w) .pivots ≡ suc (w .pivots)
+pub counted-one : (l : ℕ) (e : Symbol) (w : Work) → countPivot (pivot l e w) .pivots ≡ suc (w .pivots)
 unfolding countPivot
 counted-one l e w = ap suc (pivot-pivots l e w)
 
@@ -129,7 +127,7 @@ abbrev pub ReadsGoal : Goal → (ℕ → KindZ) → Work → State → Vec → T
 ReadsGoal theObjective kind w S z = ReadsWork kind w (S .B) (S .R) (S .o) z
 ReadsGoal theArtificial kind w S z = ReadsWork kind w (S .B) (S .R) z (S .o) × Standing (w .artificial)
 
-goal-cells : (g : Goal) (kind : ℕ → KindZ) (w : Work) (S : State) (z : Vec) → ReadsGoal g kind w S z → (b : ℕ) × Reads b (w .tableau .symbols) (goalCells g w) (S .o)
+pub goal-cells : (g : Goal) (kind : ℕ → KindZ) (w : Work) (S : State) (z : Vec) → ReadsGoal g kind w S z → (b : ℕ) × Reads b (w .tableau .symbols) (goalCells g w) (S .o)
 unfolding goalCells
 goal-cells theObjective kind w S z h = (2 ^ 40, h .objective)
 goal-cells theArtificial kind w S z h = (1024, go (w .artificial) (h .0 .artificial) (h .1))
@@ -142,18 +140,31 @@ unfoldable pub carried : (ℕ → KindZ) → List ℕ → State → Vec → ℕ 
 carried kind ids S z zero = z
 carried kind ids S z (suc i) = let T = after kind ids S i in pivoted (lv (look kind ids T)) (ev (look kind ids T)) (T .R) (carried kind ids S z i)
 
-module _ (n : ℕ) (kind : ℕ → KindZ) (ids : List ℕ) (asc : Asc ids) (cover : (j : ℕ) → kind j ≡ slack → Mem j ids) (inside : (j : ℕ) → Mem j ids → j < n) where
-  -- ---- a pass from the second state on
-  shift : (S : State) (l e : ℕ) → look kind ids S ≡ go-on l e → (i : ℕ) → after kind ids S (suc i) ≡ after kind ids (step l e S) i
-  unfolding after next
-  shift S l e k zero = ap (next kind ids S) k
-  shift S l e k (suc i) = ap (λ (t : State). next kind ids t (look kind ids t)) (shift S l e k i)
+-- ---- the two objectives that a work reads as, the goal's row the theory's
+abbrev pub objOf : Goal → Vec → Vec → Vec
+objOf theObjective q z = q
+objOf theArtificial q z = z
 
+abbrev pub artOf : Goal → Vec → Vec → Vec
+artOf theObjective q z = z
+artOf theArtificial q z = q
+
+-- ---- a pass from the second state on
+pub shift : (kind : ℕ → KindZ) (ids : List ℕ) (S : State) (l e : ℕ) → look kind ids S ≡ go-on l e → (i : ℕ) → after kind ids S (suc i) ≡ after kind ids (step l e S) i
+unfolding after next
+shift kind ids S l e k zero = ap (next kind ids S) k
+shift kind ids S l e k (suc i) = ap (λ (t : State). next kind ids t (look kind ids t)) (shift kind ids S l e k i)
+
+pub at-first : (kind : ℕ → KindZ) (ids : List ℕ) (S : State) (l e : ℕ) → look kind ids S ≡ go-on l e → S .R l e ≡ negsuc 0 → Pivots (after kind ids S zero) (look kind ids (after kind ids S zero))
+unfolding after
+at-first kind ids S l e k u = subst (Pivots S) (sym k) u
+
+module _ (n : ℕ) (kind : ℕ → KindZ) (ids : List ℕ) (asc : Asc ids) (cover : (j : ℕ) → kind j ≡ slack → Mem j ids) (inside : (j : ℕ) → Mem j ids → j < n) where
   shift-carried : (S : State) (z : Vec) (l e : ℕ) → look kind ids S ≡ go-on l e → (i : ℕ) → carried kind ids S z (suc i) ≡ carried kind ids (step l e S) (pivoted l e (S .R) z) i
   unfolding carried after lv ev
   shift-carried S z l e k zero = ap (λ (t : Look). pivoted (lv t) (ev t) (S .R) z) k
   shift-carried S z l e k (suc i) =
-      ap₂ (λ (t : State) (y : Vec). pivoted (lv (look kind ids t)) (ev (look kind ids t)) (t .R) y) (shift S l e k i) (shift-carried S z l e k i)
+      ap₂ (λ (t : State) (y : Vec). pivoted (lv (look kind ids t)) (ev (look kind ids t)) (t .R) y) (shift kind ids S l e k i) (shift-carried S z l e k i)
 
   -- ---- one pivot
   pub record Moves (g : Goal) (w : Work) (S : State) (z : Vec) (l e : Symbol) : Type 0 where
@@ -190,15 +201,6 @@ module _ (n : ℕ) (kind : ℕ → KindZ) (ids : List ℕ) (asc : Asc ids) (cove
     no-leaving : (m : ℕ) → m ≤ left → ((i : ℕ) → i < m → Pivots (after kind ids S i) (look kind ids (after kind ids S i))) → (e : ℕ) → look kind ids (after kind ids S m) ≡ no-row e
         → (p : ℕ) → p ≡ w .pivots + m → (t : Mark) → Ran g left w S z (refused 15 p t)
 
-  -- ---- both goals at once
-  abbrev pub objOf : Goal → Vec → Vec → Vec
-  objOf theObjective q z = q
-  objOf theArtificial q z = z
-
-  abbrev pub artOf : Goal → Vec → Vec → Vec
-  artOf theObjective q z = z
-  artOf theArtificial q z = q
-
   pub reads-of : (g : Goal) (w : Work) (S : State) (z : Vec) → ReadsGoal g kind w S z → ReadsWork kind w (S .B) (S .R) (objOf g (S .o) z) (artOf g (S .o) z)
   reads-of theObjective w S z h = h
   reads-of theArtificial w S z h = h .0
@@ -214,10 +216,6 @@ module _ (n : ℕ) (kind : ℕ → KindZ) (ids : List ℕ) (asc : Asc ids) (cove
   count-reads theObjective x S z h = h
   count-reads theArtificial x S z h = h
 
-  at-first : (S : State) (l e : ℕ) → look kind ids S ≡ go-on l e → S .R l e ≡ negsuc 0 → Pivots (after kind ids S zero) (look kind ids (after kind ids S zero))
-  unfolding after
-  at-first S l e k u = subst (Pivots S) (sym k) u
-
   -- the pass from the second state on, and the first pivot before it
   extend : (g : Goal) (left : ℕ) (w v : Work) (S : State) (z : Vec) (l e : ℕ) → look kind ids S ≡ go-on l e → S .R l e ≡ negsuc 0 → v .pivots ≡ suc (w .pivots)
       → (x : Outcome Work) → Ran g left v (step l e S) (pivoted l e (S .R) z) x → Ran g (suc left) w S z x
@@ -225,19 +223,19 @@ module _ (n : ℕ) (kind : ℕ → KindZ) (ids : List ℕ) (asc : Asc ids) (cove
     where
       first : (m : ℕ) → ((i : ℕ) → i < m → Pivots (after kind ids (step l e S) i) (look kind ids (after kind ids (step l e S) i)))
           → (i : ℕ) → i < suc m → Pivots (after kind ids S i) (look kind ids (after kind ids S i))
-      first m f zero h = at-first S l e k u
-      first m f (suc i) h = subst (λ (t : State). Pivots t (look kind ids t)) (sym (shift S l e k i)) (f i (omega arith))
+      first m f zero h = at-first kind ids S l e k u
+      first m f (suc i) h = subst (λ (t : State). Pivots t (look kind ids t)) (sym (shift kind ids S l e k i)) (f i (omega arith))
 
       count : (p m : ℕ) → p ≡ v .pivots + m → p ≡ w .pivots + suc m
       count p m q = omega (arith, c)
 
       go : (x : Outcome Work) → Ran g left v (step l e S) (pivoted l e (S .R) z) x → Ran g (suc left) w S z x
       go x (rests m b f d y r q) =
-          rests (suc m) (omega arith) (first m f) (ap (look kind ids) (shift S l e k m) ∙ d) y
-          (subst (λ (t : State). ReadsGoal g kind y t (carried kind ids S z (suc m))) (sym (shift S l e k m)) (subst (λ (t : Vec). ReadsGoal g kind y (after kind ids (step l e S) m) t) (sym (shift-carried S z l e k m)) r))
+          rests (suc m) (omega arith) (first m f) (ap (look kind ids) (shift kind ids S l e k m) ∙ d) y
+          (subst (λ (t : State). ReadsGoal g kind y t (carried kind ids S z (suc m))) (sym (shift kind ids S l e k m)) (subst (λ (t : Vec). ReadsGoal g kind y (after kind ids (step l e S) m) t) (sym (shift-carried S z l e k m)) r))
           (count (y .pivots) m q)
       go x (used-up f p q t) = used-up (first left f) p (count p left q) t
-      go x (no-leaving m b f e′ d p q t) = no-leaving (suc m) (omega arith) (first m f) e′ (ap (look kind ids) (shift S l e k m) ∙ d) p (count p m q) t
+      go x (no-leaving m b f e′ d p q t) = no-leaving (suc m) (omega arith) (first m f) e′ (ap (look kind ids) (shift kind ids S l e k m) ∙ d) p (count p m q) t
 
   -- ---- THE PASS: what optimise answers with its mark whole is a pass of the theory
   Whole-run : (g : Goal) (left : ℕ) (w : Work) (S : State) (z : Vec) → Outcome Work → Type 0

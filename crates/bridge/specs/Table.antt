@@ -85,7 +85,7 @@ found-in Q j (b ∷ bs) r a f = go (sym? j (b .symbol)) (found-in Q j bs r (a .1
     go (is e p d) ih = subst Q (sym p) (a .0)
     go (isnt e p d) ih = ih (sym (find-miss j b bs e) ∙ f)
 
-clash-bool : {X : Type 0} {a : Bool} → a ≡ true → a ≡ false → X
+pub clash-bool : {X : Type 0} {a : Bool} → a ≡ true → a ≡ false → X
 clash-bool p q = absurd (true≢false (sym p ∙ q))
 
 -- ---- a pivot's parts
@@ -176,9 +176,6 @@ module _ (kind : ℕ → KindZ) (xs : List Symbol) (bs : List Basic) (cs : List 
         row-to xs (substituteInRow (e .id) xs solved mine .row) (plus (cleared (e .id) f) (f (e .id)) (pivoted l (e .id) R (δ (e .id)))) (pivoted l (e .id) R f)
         (substituted-row (e .id) (R l (e .id)) (eqn R l) f) (substituteInRow-z (e .id) xs solved mine (pivoted l (e .id) R (δ (e .id))) f e≢0 (H .up) (solves .1) h m)
 
-    new-rows : List Basic
-    new-rows = rowsOf (substituteInRows (e .id) xs solved (dropRow l bs))
-
     module _ (m-rows : marksOf (substituteInRows (e .id) xs solved (dropRow l bs)) ≡ allWhole) where
       other-rows : (j : ℕ) → j ≢ e .id → j ≢ l
           → RowAt xs (after-sub (e .id) xs solved (findRow j bs)) (B j) (pivotZ l (e .id) R j)
@@ -245,6 +242,14 @@ module _ (kind : ℕ → KindZ) (xs : List Symbol) (bs : List Basic) (cs : List 
         artificial = art-sub art (H .artificial) m-art;
       }
 
+-- ---- a table over other words for the same lists
+pub moved : {kind : ℕ → KindZ} {xs xs′ : List Symbol} {bs bs′ : List Basic} {cs cs′ : List Float} {t t′ : Option Row} {B′ : Mask} {R′ : ℕ → Vec} {o′ a′ : Vec}
+    → xs′ ≡ xs → bs′ ≡ bs → cs′ ≡ cs → t′ ≡ t → ReadsTable kind xs bs cs t B′ R′ o′ a′ → ReadsTable kind xs′ bs′ cs′ t′ B′ R′ o′ a′
+moved {kind} {xs} {xs′} {bs} {bs′} {cs} {cs′} {t} {t′} {B′} {R′} {o′} {a′} p q r u h =
+    subst (λ (y : List Symbol). ReadsTable kind y bs′ cs′ t′ B′ R′ o′ a′) (sym p)
+    (subst (λ (y : List Basic). ReadsTable kind xs y cs′ t′ B′ R′ o′ a′) (sym q)
+    (subst (λ (y : List Float). ReadsTable kind xs bs y t′ B′ R′ o′ a′) (sym r) (subst (λ (y : Option Row). ReadsTable kind xs bs cs y B′ R′ o′ a′) (sym u) h)))
+
 -- ---- THE PIVOT LEMMA: a pivot of the steps that keeps the mark is on 1 or -1 and is the theory's
 module _ (kind : ℕ → KindZ) (w : Work) (B : Mask) (R : ℕ → Vec) (o a : Vec) (H : ReadsWork kind w B R o a)
     (l : ℕ) (e : Symbol) (hl : B l ≡ true) (he : B (e .id) ≡ false) (live : Live kind (w .tableau .symbols) e) (unit : (i : ℕ) → R (e .id) i ≡ δ (e .id) i) where
@@ -283,13 +288,6 @@ module _ (kind : ℕ → KindZ) (w : Work) (B : Mask) (R : ℕ → Vec) (o a : V
         pivot-unit kind xs bs cs (w .artificial) B R o a H l e hl he live unit row hit ms,
         moved (p .symbols) (p .rows) (p .objective) (p .artificial) table,
       )
-    where
-      moved : {xs xs′ : List Symbol} {bs bs′ : List Basic} {cs cs′ : List Float} {t t′ : Option Row} {B′ : Mask} {R′ : ℕ → Vec} {o′ a′ : Vec}
-          → xs′ ≡ xs → bs′ ≡ bs → cs′ ≡ cs → t′ ≡ t → ReadsTable kind xs bs cs t B′ R′ o′ a′ → ReadsTable kind xs′ bs′ cs′ t′ B′ R′ o′ a′
-      moved {xs} {xs′} {bs} {bs′} {cs} {cs′} {t} {t′} {B′} {R′} {o′} {a′} p q r u h =
-          subst (λ (y : List Symbol). ReadsTable kind y bs′ cs′ t′ B′ R′ o′ a′) (sym p)
-          (subst (λ (y : List Basic). ReadsTable kind xs y cs′ t′ B′ R′ o′ a′) (sym q)
-          (subst (λ (y : List Float). ReadsTable kind xs bs y t′ B′ R′ o′ a′) (sym r) (subst (λ (y : Option Row). ReadsTable kind xs bs cs y B′ R′ o′ a′) (sym u) h)))
 
   pub pivot-z : pivot l e w .mark ≡ allWhole
       → (w .mark ≡ allWhole) × (R l (e .id) *ℤ R l (e .id) ≡ 1ℤ) × ReadsWork kind (pivot l e w) (swap l (e .id) B) (pivotZ l (e .id) R) (pivoted l (e .id) R o) (pivoted l (e .id) R a)

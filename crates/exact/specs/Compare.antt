@@ -1,6 +1,6 @@
 -- Comparisons of floats that are whole numbers: the test on floats is the test on integers. Assumes nothing.
 use mathlib.Core.Path.{_≡_, refl, sym, ap, _∙_, subst}
-use Prim.Native.Nat.{ℕ, zero, suc, _+_, _*_, _-_, _<_}
+use Prim.Native.Nat.{ℕ, zero, suc, _+_, _*_, _<_}
 use native.Mathlib.Nat.{mul-pos, lt-of-mul-lt-mul-right, mul-lt-mul-of-pos-right, eq-of-mul-eq-mul-right, zero-mul}
 use native.Mathlib.Omega.{arith}
 use mathlib.Core.Bool.{Bool, true, false, not, _&&_, _||_, Bool·beq}
@@ -9,7 +9,7 @@ use lib.Signed.{ltZ, leZ, ltZ-yes, ltZ-no}
 use lib.IntN.{ℤ, pos, negℤ, natAbs}
 use lib.Ieee.{Float, nan, inf, fin, up, down, lt, le, eq, below, level}
 use lib.Ieee.Fits.{down-pos, and-i, and-l, and-r, eq→eqb}
-use Rattle.laws.specs.Z.{eqZb, eqZb→, ≡→eqZb, _≼_, _≺_, ≺→≼, ≼-refl, ≼-antisym}
+use Rattle.laws.specs.Z.{eqZb, eqZb→, ≡→eqZb, _≼_, ≺→≼, ≼-refl, ≼-antisym}
 use Rattle.exact.specs.Whole.{sgn, IsZ, abs-sgn, first-is, second-is, left-is, right-is}
 
 -- ---- comparisons: the test on floats is the test on integers
@@ -68,10 +68,6 @@ level-sgn s t i j = bool-ext (level s i t j) (eqZb (sgn s i) (sgn t j))
 
     size-is : (s t : Bool) (i j : ℕ) → sgn s i ≡ sgn t j → i ≡ j
     size-is s t i j h = sym (abs-sgn s i) ∙ ap natAbs h ∙ abs-sgn t j
-
-    or-r : (a b : Bool) → T b → T (a || b)
-    or-r true b u = tt
-    or-r false b u = u
 
     zero-of : (i j : ℕ) → pos i ≡ negℤ (pos j) → i ≡ 0
     zero-of i zero h = ap natAbs h

@@ -1,13 +1,13 @@
 -- A whole float against a small constant, as 1E-8: it is below the constant exactly when the integer is below 1. Assumes nothing.
 use mathlib.Core.Path.{_≡_, refl, sym, ap, _∙_}
-use Prim.Native.Nat.{ℕ, zero, suc, _+_, _*_, _^_, _≤_, _<_}
-use native.Mathlib.Nat.{mul-one, mul-assoc, mul-comm, mul-pos, mul-le-mul, mul-lt-mul-of-pos-right, zero-mul}
+use Prim.Native.Nat.{ℕ, zero, suc, _+_, _*_, _<_}
+use native.Mathlib.Nat.{mul-one, mul-assoc, mul-comm, mul-pos, mul-lt-mul-of-pos-right}
 use native.Mathlib.Omega.{arith}
 use mathlib.Core.Bool.{Bool, true, false}
-use lib.Dec.{T, ltb, ltb→lt, lt→ltb}
-use lib.IntN.{ℤ, pos, negsuc, negℤ}
+use lib.Dec.{ltb, ltb→lt, lt→ltb}
+use lib.IntN.{ℤ, pos, negℤ}
 use lib.Signed.{ltZ}
-use lib.Ieee.{Float, nan, inf, fin, up, down, lt, below}
+use lib.Ieee.{Float, nan, inf, fin, up, down, lt}
 use lib.Ieee.Bits.{is-true}
 use lib.Ieee.Fits.{down-pos}
 use Rattle.exact.specs.Whole.{IsZ, sgn}

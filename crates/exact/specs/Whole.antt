@@ -7,12 +7,12 @@ use native.Mathlib.Omega.{arith}
 use mathlib.Core.Bool.{Bool, true, false, not, cond}
 use lib.Dec.{T, ltb, eqb, ltb→lt, nltb→le, eqb→eq, lit<}
 use lib.IntN.{ℤ, pos, negsuc, negℤ, natAbs, _+ℤ_, _-ℤ_, _*ℤ_}
-use lib.Ieee.{Float, nan, inf, fin, binary64, up, down, round, neg, sum, add, sub, mul, div, eq, ofInt, unlike}
+use lib.Ieee.{Float, nan, inf, fin, binary64, up, down, round, neg, sum, add, sub, mul, div, ofInt, unlike}
 use lib.Ieee.Exact.{HasValue}
 use lib.Ieee.Back.{round-whole}
 use lib.Ieee.Scale.{round-same}
 use lib.Ieee.Fits.{down-pos, eq→eqb}
-use Rattle.laws.specs.Z.{at, _⊕_, _⊗_, ⊖_, _⊝_, eqZ, eqZb, eqZb→, mul-cancel, abs-mul, abs-add, abs-sub, abs-neg}
+use Rattle.laws.specs.Z.{at, _⊕_, _⊗_, ⊖_, _⊝_, eqZ, eqZb, eqZb→, mul-cancel, abs-mul, abs-sub, abs-neg}
 
 abbrev pub sgn : Bool → ℕ → ℤ
 sgn false k = pos k
@@ -38,9 +38,6 @@ isz-val {x = fin s m e} h =
     ap (λ (b : Bool). sgn b (m * up e / down e)) (h .has .0)
     ∙ ap (λ (k : ℕ). sgn (h .sign) (k / down e)) (sym (mul-one (m * up e)) ∙ h .has .1)
     ∙ ap (sgn (h .sign)) (mul-div-cancel (h .size) (down-pos e)) ∙ h .is
-
-pub isz-unique : {x : Float} {a b : ℤ} → IsZ x a → IsZ x b → a ≡ b
-isz-unique h g = sym (isz-val h) ∙ isz-val g
 
 pub isz-to : {x : Float} {a b : ℤ} → IsZ x a → a ≡ b → IsZ x b
 isz-to h e = record { sign = h .sign; size = h .size; has = h .has; is = h .is ∙ e }
@@ -93,10 +90,6 @@ sum-z false true i j c a b cp ea eb l = go (ltb a b) (ltb→lt a b) (nltb→le a
         mk false (a - b) c (i - j) (pos i +ℤ negℤ (pos j)) cp (less c b a j i cp eb ea) (eqZ (at (pos (i - j))) (at (pos i) ⊝ at (pos j)) (omega arith)) l
 sum-z true false i j c a b cp ea eb l = go (ltb a b) (ltb→lt a b) (nltb→le a b) (ltb b a) (nltb→le b a)
   where
-    zero-sgn : (o : Bool) → sgn o 0 ≡ pos 0
-    zero-sgn true = refl
-    zero-sgn false = refl
-
     go : (o : Bool) → (T o → a < b) → (T (not o) → b ≤ a) → (r : Bool) → (T (not r) → a ≤ b)
         → IsZ (cond o (round binary64 false (b - a) c) (round binary64 r (a - b) c)) (negℤ (pos i) +ℤ pos j)
     go true f g r k =
@@ -294,9 +287,6 @@ pub record Zb (b : ℕ) (x : Float) (z : ℤ) : Type 0 where
 
 pub within : {b c : ℕ} {x : Float} {z : ℤ} → Zb b x z → b ≤ c → Zb c x z
 within h l = record { isz = h .isz; small = omega arith }
-
-pub add-b : {b c : ℕ} {x y : Float} {a d : ℤ} → Zb b x a → Zb c y d → b + c ≤ 2 ^ 53 → Zb (b + c) (add binary64 x y) (a +ℤ d)
-add-b {a} {d} h g l = record { isz = add-z (h .isz) (g .isz) (omega (arith, abs-add a d)); small = omega (arith, abs-add a d) }
 
 pub sub-b : {b c : ℕ} {x y : Float} {a d : ℤ} → Zb b x a → Zb c y d → b + c ≤ 2 ^ 53 → Zb (b + c) (sub binary64 x y) (a -ℤ d)
 sub-b {a} {d} h g l = record { isz = sub-z (h .isz) (g .isz) (omega (arith, abs-sub a d)); small = omega (arith, abs-sub a d) }

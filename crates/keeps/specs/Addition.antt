@@ -100,7 +100,7 @@ clip-finite s = go (le s zero64) refl (lt s required) refl
     go false l true r = held s l r
     go false l false r = unfold isFinite required ofBits in refl
 
-clip-below : (s : Float) → eq (clip s) required ≡ false → lt (clip s) required ≡ true
+pub clip-below : (s : Float) → eq (clip s) required ≡ false → lt (clip s) required ≡ true
 unfolding clip
 clip-below s e = go (le s zero64) (lt s required) refl e
   where

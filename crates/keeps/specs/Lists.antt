@@ -1,5 +1,5 @@
 -- The reading test's Booleans as facts, lists as counts of their members, and lists kept by ascending number. Assumes nothing.
-use mathlib.Core.Path.{_≡_, refl, sym, ap, ap₂, _∙_, subst}
+use mathlib.Core.Path.{_≡_, refl, sym, ap, _∙_, subst}
 use mathlib.Core.Logic.{_≢_}
 use mathlib.Core.List.{List, [], _∷_, _++_, map, reverse, reverseAux}
 use mathlib.Core.Option.{none, some, Option·none-ne-some, Option·some-injective}
@@ -96,11 +96,6 @@ module _ {A : Type 0} where
   unfoldable pub total : (A → ℕ) → List A → ℕ
   total f [] = 0
   total f (x ∷ xs) = f x + total f xs
-
-  pub total-same : (f g : A → ℕ) → ((x : A) → f x ≡ g x) → (xs : List A) → total f xs ≡ total g xs
-  unfolding total
-  total-same f g h [] = refl
-  total-same f g h (x ∷ xs) = ap₂ (λ (a b : ℕ). a + b) (h x) (total-same f g h xs)
 
 -- ---- how often n is in a list
 

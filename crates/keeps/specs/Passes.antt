@@ -15,7 +15,7 @@ use Rattle.steps.specs.State.{Basic}
 use Rattle.steps.specs.Work.{Work, Outcome, refused, going, _>>=_, refuse, checkFinite, withTableau, withInfeasible, countPivot, findRow}
 use Rattle.steps.specs.Substitute.{pivot}
 use Rattle.steps.specs.Optimise.{Candidate, better, smallestFrom, smallestRatio, Goal, theObjective, theArtificial, goalCells, getEnteringSymbol, getLeavingRow, Choice, ended, stuck, pivotOn, choosePivot, countedPivot, optimise, isBelow, Popped, allPopped, popped, popBelow, dualRatios, getDualEnteringSymbol, DualChoice, feasible, noEntering, dualPivotOn, chooseDualPivot, countedDualPivot, dualOptimise}
-use Rattle.keeps.specs.Lists.{All, same, times, none-of, left, right, none≢some, some-injective, reverse-times}
+use Rattle.keeps.specs.Lists.{All, same, times, none-of, right, none≢some, some-injective, reverse-times}
 use Rattle.keeps.specs.Keys.{rowId, find-all, Row?, no-row, a-row, row?}
 use Rattle.keeps.specs.Along.{Along, Mem, Chosen, first-chosen}
 use Rattle.keeps.specs.Cells.{Ok, Fine, below-held, above-held}

@@ -3,14 +3,14 @@
 use Prim.Native.Nat.{ℕ, zero, suc, _+_, _≤_, _<_}
 use mathlib.Core.Path.{_≡_, refl, sym, ap, subst}
 use mathlib.Core.Bool.{Bool, true, false, not}
-use mathlib.Core.List.{List, [], _∷_, map}
+use mathlib.Core.List.{List, [], _∷_}
 use native.Mathlib.Nat.{not-suc-le-zero, le-of-suc-le-suc, zero-add, add-zero}
 use native.Mathlib.Numerals.{add-one}
 use native.Mathlib.Omega.{arith}
 use lib.Dec.{T, ltb, ltb→lt, nltb→le}
 use lib.ListN.{length, getD, set}
 use lib.Seq.{getD-set-same, getD-set-other}
-use Rattle.laws.specs.Loops.{mapIn, zipIn, foldIn, fold-next, delete, insertAt}
+use Rattle.laws.specs.Loops.{mapIn, zipIn, delete, insertAt}
 use Rattle.laws.specs.Lists.{tab, tab-ext}
 
 -- a fact of each place below i, and of place i
@@ -60,12 +60,6 @@ module _ {A : Type 0} where
   mapIn-after f (suc i) (suc e) (x ∷ l) zero d a = absurd (not-suc-le-zero a)
   mapIn-after f (suc i) (suc e) (x ∷ l) (suc j) d a = mapIn-after f i e l j d (le-of-suc-le-suc a)
 
-  -- over the whole list it is `map`
-  pub mapIn-all : (f : A → A) (l : List A) → mapIn f 0 (length l) l ≡ map f l
-  unfolding mapIn
-  mapIn-all f [] = refl
-  mapIn-all f (x ∷ l) = ap (λ (r : List A). f x ∷ r) (mapIn-all f l)
-
   pub length-delete : (i : ℕ) (l : List A) → i < length l → length (delete i l) + 1 ≡ length l
   unfolding delete
   length-delete i [] h = absurd (not-suc-le-zero h)
@@ -109,16 +103,6 @@ module _ {A B : Type 0} where
   zipIn-before f zero (suc e) (x ∷ l) (y ∷ m) j d p = absurd (not-suc-le-zero p)
   zipIn-before f (suc i) (suc e) (x ∷ l) (y ∷ m) zero d p = refl
   zipIn-before f (suc i) (suc e) (x ∷ l) (y ∷ m) (suc j) d p = zipIn-before f i e l m j d (le-of-suc-le-suc p)
-
--- ---- a fold over what a zip in place writes, in the same loop: z is the list that the loop leaves
-
-module _ {A B S : Type 0} where
-  pub zip-fold-next : (g : S → A → S) (f : A → B → A) (i e : ℕ) (l : List A) (m : List B) (s : S) (d : A) (b : B) {v : A} {t : S} {z : List A} {w : S}
-      → i < e → i < length l → i < length m → v ≡ f (getD l i d) (getD m i b) → t ≡ g s v → zipIn f i e l m ≡ z → foldIn g i e z s ≡ w → foldIn g (i + 1) e z t ≡ w
-  zip-fold-next g f i e l m s d b {v} {t} {z} {w} h k n q r u o =
-      let at : getD z i d ≡ v = rw (← u, q) (zipIn-at f i e l m i d b (omega arith) h k n) in
-      let len : i < length z = rw (← u, length-zipIn f i e l m) k in
-      fold-next g i e z s d h len (rw at r) o
 
 -- ---- the n elements from place a on, read after a map, a zip or a store in place
 

@@ -1,13 +1,13 @@
 -- An identity of commutative rings in ℤ, by computation: `ring ρ e f refl` proves `ev ρ e ≡ ev ρ f` where the two expressions have one normal form, a sorted list of monomials. Assumes nothing.
-use mathlib.Core.Path.{_≡_, refl, sym, ap, _∙_, subst}
+use mathlib.Core.Path.{_≡_, refl, sym, ap, _∙_}
 use mathlib.Core.List.{List, [], _∷_}
-use Prim.Native.Nat.{ℕ, zero, suc, _+_, _*_, _≤_}
+use Prim.Native.Nat.{ℕ, zero, suc}
 use native.Mathlib.Omega.{arith}
-use mathlib.Core.Bool.{Bool, true, false, not, _&&_, cond}
+use mathlib.Core.Bool.{Bool, true, false, _&&_, cond}
 use lib.Dec.{T, ltb, leb, eqb, eqb→eq}
 use lib.IntN.{ℤ, pos, negsuc, negℤ, _+ℤ_, _*ℤ_}
 use lib.Ieee.Fits.{and-l, and-r}
-use Rattle.laws.specs.Z.{P, N, p, n, at, _⊕_, _⊗_, ⊖_, eqZ, eqZb, eqZb→, _≼_, leZ↑, leN, eqN, ≼-add, ≼-refl, mul-nonneg}
+use Rattle.laws.specs.Z.{at, _⊕_, _⊗_, ⊖_, eqZ, eqZb, eqZb→}
 
 -- ---- expressions over variables, which are places in a list of integers
 pub data Ring : Type 0 where
@@ -223,48 +223,3 @@ same→ (mon c m ∷ r) (mon d l ∷ q) t =
 
 pub ring : (ρ : List ℤ) (e f : Ring) → T (same (norm e) (norm f)) → ev ρ e ≡ ev ρ f
 ring ρ e f t = sym (norm-is ρ e) ∙ ap (evP ρ) (same→ (norm e) (norm f) t) ∙ norm-is ρ f
-
--- ---- from equations: `lin ρ ss e f (h₁, (h₂, tt)) tt` proves `ev ρ e ≡ ev ρ f` where e - f is the sum of c * (l - r) over the steps `by c l r` of ss, and h is `ev ρ l ≡ ev ρ r`
-pub data Step : Type 0 where
-  by : Ring → Ring → Ring → Step
-
-abbrev pub Equal : List ℤ → List Step → Type 0
-Equal ρ [] = Unit {0}
-Equal ρ (by c l r ∷ ss) = (ev ρ l ≡ ev ρ r) × Equal ρ ss
-
-abbrev pub comb : List Step → Ring
-comb [] = k (pos 0)
-comb (by c l r ∷ ss) = c ⊠ (l ⊟⊟ r) ⊞ comb ss
-
-comb-zero : (ρ : List ℤ) (ss : List Step) → Equal ρ ss → ev ρ (comb ss) ≡ pos 0
-comb-zero ρ [] h = refl
-comb-zero ρ (by c l r ∷ ss) h =
-    ap (λ (z : ℤ). ev ρ c *ℤ (z +ℤ negℤ (ev ρ r)) +ℤ ev ρ (comb ss)) (h .0)
-    ∙ ap (λ (z : ℤ). ev ρ c *ℤ (ev ρ r +ℤ negℤ (ev ρ r)) +ℤ z) (comb-zero ρ ss (h .1))
-    ∙ eqZ (at (ev ρ c) ⊗ (at (ev ρ r) ⊕ (⊖ at (ev ρ r))) ⊕ at (pos 0)) (at (pos 0)) (omega arith)
-
-equal-of-zero : (a b : ℤ) → a +ℤ negℤ b ≡ pos 0 → a ≡ b
-equal-of-zero a b h = eqZ (at a) (at b) (omega (arith, eqN (at a ⊕ (⊖ at b)) (at (pos 0)) h))
-
-pub lin : (ρ : List ℤ) (ss : List Step) (e f : Ring) → Equal ρ ss → T (same (norm (e ⊟⊟ f)) (norm (comb ss))) → ev ρ e ≡ ev ρ f
-lin ρ ss e f h t = equal-of-zero (ev ρ e) (ev ρ f) (ring ρ (e ⊟⊟ f) (comb ss) t ∙ comb-zero ρ ss h)
-
--- ---- from orders: `linle ρ ss e f ((p₁, h₁), ((p₂, h₂), tt)) d g tt` proves `ev ρ e ≼ ev ρ f` where f - e is the sum of c * (r - l) over the steps and a number d that is not negative
-abbrev pub Less : List ℤ → List Step → Type 0
-Less ρ [] = Unit {0}
-Less ρ (by c l r ∷ ss) = ((pos 0 ≼ ev ρ c) × (ev ρ l ≼ ev ρ r)) × Less ρ ss
-
-abbrev pub gap : List Step → Ring
-gap [] = k (pos 0)
-gap (by c l r ∷ ss) = c ⊠ (r ⊟⊟ l) ⊞ gap ss
-
-gap-nonneg : (ρ : List ℤ) (ss : List Step) → Less ρ ss → pos 0 ≼ ev ρ (gap ss)
-gap-nonneg ρ [] h = ≼-refl (pos 0)
-gap-nonneg ρ (by c l r ∷ ss) h = ≼-add (mul-nonneg (h .0 .0) (leZ↑ (at (pos 0)) (at (ev ρ r) ⊕ (⊖ at (ev ρ l))) (omega (arith, leN (at (ev ρ l)) (at (ev ρ r)) (h .0 .1))))) (gap-nonneg ρ ss (h .1))
-
-pub linle : (ρ : List ℤ) (ss : List Step) (d : ℕ) (e f : Ring) → Less ρ ss → T (same (norm (f ⊟⊟ e)) (norm (gap ss ⊞ k (pos d)))) → ev ρ e ≼ ev ρ f
-linle ρ ss d e f h t =
-    let g = gap-nonneg ρ ss h in
-    let q = ring ρ (f ⊟⊟ e) (gap ss ⊞ k (pos d)) t in
-    leZ↑ (at (ev ρ e)) (at (ev ρ f))
-    (omega (arith, leN (at (pos 0)) (at (ev ρ (gap ss))) g, eqN (at (ev ρ f) ⊕ (⊖ at (ev ρ e))) (at (ev ρ (gap ss)) ⊕ at (pos d)) q))

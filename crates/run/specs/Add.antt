@@ -19,13 +19,13 @@ use Rattle.run.specs.Build.{newHeld}
 use Rattle.steps.specs.Add.{wholeInputs, Added, addSteps}
 use Rattle.steps.specs.Tests.{findConstraint, keepConstraint, findEdit, hasConstraint, Test, firstRefusal, idsUsed, addTests, keptTerms}
 use Rattle.steps.specs.Calls.{Result, begin, finish, refusedBy, acceptedAs, concludeAdd, add}
+use Rattle.steps.proofs.After.{says-whole}
 use Rattle.keeps.specs.Keys.{findConstraint-is, keepConstraint-is}
 use Rattle.run.specs.Demand.{ofConstraint, ofEdit, sameKey, Demand, Call, adds, make, accepted, Moment, next, None}
 use Rattle.run.specs.Inv.{columns, conOf, Held, findHeld, ConstraintAt, EditAt, Inv}
 use Rattle.run.specs.Lookup.{find-keep-same, find-keep-other}
 use Rattle.run.specs.Perm.{found-hit, found-miss}
 use Rattle.run.specs.Suggest.{unchanged, changed}
-use Rattle.run.specs.Inputs.{says-whole}
 use Rattle.run.specs.AddEnds.{Unmet, ArtificialEnds}
 use Rattle.run.specs.AddMarks.{markAdded, createdOf, placedAndRested, addedBy}
 use Rattle.run.specs.AddSteps.{Finished, Final}

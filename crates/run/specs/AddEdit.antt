@@ -11,9 +11,10 @@ use lib.ListN.{length}
 use lib.Signed.{ltZ, ltZ-yes}
 use lib.Ieee.{Float, neg, lt, le, eq}
 use Rattle.exact.specs.Whole.{IsZ, val, isz-val, neg-z}
-use Rattle.exact.specs.Compare.{le-z, lt-z, eq-z}
+use Rattle.exact.specs.Compare.{le-z}
 use Rattle.simplex.specs.Ord.{0ℤ, ≺→≼}
 use Rattle.simplex.specs.Choose.{All}
+use Rattle.simplex.specs.Look.{both}
 use Rattle.steps.specs.Number.{zero64, constantBound, belowZero, isWhole, within}
 use Rattle.steps.specs.Strength.{required, clip}
 use Rattle.steps.specs.State.{Term, Relation, equal, strengthOf, Edit, State}
@@ -22,6 +23,7 @@ use Rattle.steps.specs.Edit.{editTerms, addEditSteps}
 use Rattle.steps.specs.Tests.{findConstraint, findEdit, keepEdit, hasEdit, Test, firstRefusal, addEditTests}
 use Rattle.steps.specs.Calls.{Result, begin, finish, refusedBy, concludeAdd, addEdit}
 use Rattle.keeps.specs.Keys.{findBy, keepBy, findEdit-is, keepEdit-is}
+use Rattle.keeps.specs.Addition.{clip-below}
 use Rattle.bridge.specs.Nums.{zero64-z, constantBound-z, belowZero-z, magnitude-z}
 use Rattle.run.specs.Demand.{ofConstraint, ofEdit, sameKey, Demand, aim, addsEdit, make, accepted, Moment, next, None}
 use Rattle.run.specs.Inv.{Held, findHeld, ConstraintAt, EditAt, Inv}
@@ -29,7 +31,7 @@ use Rattle.run.specs.Words.{whole-z}
 use Rattle.run.specs.Lookup.{find-keep-same, find-keep-other}
 use Rattle.run.specs.Perm.{found-hit, found-miss}
 use Rattle.run.specs.Suggest.{unchanged}
-use Rattle.run.specs.Inputs.{both, z-whole, required-z}
+use Rattle.run.specs.Inputs.{z-whole, required-z}
 use Rattle.run.specs.AddEnds.{ArtificialEnds}
 use Rattle.run.specs.AddMarks.{createdOf, whole-steps}
 use Rattle.run.specs.AddInv.{W, none-meet, after-add}
@@ -49,7 +51,7 @@ kept-up s h e = go (ltZ (val s) 0ℤ) refl
     go true q = absurd (subst T (sym (le-z h zero64-z) ∙ e) (≺→≼ {a = val s} {b = 0ℤ} (ltZ-yes (subst T (sym q) tt)) .le))
     go false q = belowZero-z h ∙ q
 
-clip-up : (s : Float) → isWhole (clip s) ≡ true → belowZero (clip s) ≡ false
+pub clip-up : (s : Float) → isWhole (clip s) ≡ true → belowZero (clip s) ≡ false
 unfolding clip
 clip-up s = go (le s zero64) refl (lt s required)
   where
@@ -57,15 +59,6 @@ clip-up s = go (le s zero64) refl (lt s required)
     go true e b w = zero-up
     go false e true w = kept-up s (whole-z s w) e
     go false e false w = required-up
-
-clip-soft : (s : Float) → eq (clip s) required ≡ false → lt (clip s) required ≡ true
-unfolding clip
-clip-soft s = go (le s zero64) (lt s required) refl
-  where
-    go : (a b : Bool) → lt s required ≡ b → eq (cond a zero64 (cond b s required)) required ≡ false → lt (cond a zero64 (cond b s required)) required ≡ true
-    go true b e q = lt-z zero64-z required-z
-    go false true e q = e
-    go false false e q = absurd (true≢false (sym (eq-z required-z required-z) ∙ q))
 
 -- ---- the constant of a new edit: -0.0 is as good as 0.0
 pub same-zero : val (neg zero64) ≡ val zero64
@@ -82,7 +75,7 @@ edit-inputs ts r e =
     let g = both (wholeTerms ts) (wholeWithin constantBound zero64) (h .0) in
     ap₂ (λ (a b : Bool). a && b) (ap₂ (λ (a b : Bool). a && b) (g .0) zero-within) (h .1)
 
-whole-strength : (ts : List Term) (k s : Float) → wholeInputs ts k (equal s) ≡ true → isWhole s ≡ true
+pub whole-strength : (ts : List Term) (k s : Float) → wholeInputs ts k (equal s) ≡ true → isWhole s ≡ true
 unfolding wholeInputs strengthOf
 whole-strength ts k s e = both (wholeTerms ts && wholeWithin constantBound k) (isWhole s) e .1
 
@@ -114,7 +107,7 @@ numbers : (Q : ℕ → Type 0) → Q 6 → Q 7 → Q 10 → Q 9 → Q 11 → (n 
 unfolding addEditTests
 numbers Q a b c d e n strength s = (a, (b, (c, (d, (e, tt)))))
 
-one-term : (n : ℕ) → length (editTerms n) ≤ 16
+pub one-term : (n : ℕ) → length (editTerms n) ≤ 16
 unfolding editTerms
 one-term n = omega arith
 
@@ -195,7 +188,7 @@ module _ (art : ArtificialEnds) (m : Moment) (u : ℕ) (k : Float) (b : ℕ) (I 
           (λ x F mark. after-add art m I d b (strong e) (one-term u) (P .low) S (neg zero64) same-zero (edit-inputs (editTerms u) (equal s) (W art m I d b (strong e) (one-term u) (P .low) S .inputs)) x F mark (not-held (P .new))
           (m .state .constraints) (keepEdit (stored (record { work = x; tag = createdOf (editTerms u) zero64 (equal s) (begin (m .state)) .tag })) (m .state .edits))
           (constraints-after (record { work = x; tag = createdOf (editTerms u) zero64 (equal s) (begin (m .state)) .tag }))
-          (edits-after (P .new) (clip-soft k (P .soft)) (record { work = x; tag = createdOf (editTerms u) zero64 (equal s) (begin (m .state)) .tag })))
+          (edits-after (P .new) (clip-below k (P .soft)) (record { work = x; tag = createdOf (editTerms u) zero64 (equal s) (begin (m .state)) .tag })))
 
   -- A REFUSAL 12 IS RIGHT
   pub addEdit-12 : make (addsEdit u k b) (m .state) .answer .number ≡ 12 → None (aim u s zero64 ∷ m .live)

@@ -1,5 +1,5 @@
 -- An accepted add's state meets the invariant of a whole run; a refusal 12 means that nothing meets the demands. For an add and an add edit alike. Assumes nothing.
-use Prim.Native.Nat.{ℕ, _-_, _≤_, _<_}
+use Prim.Native.Nat.{ℕ, _≤_, _<_}
 use native.Mathlib.Omega.{arith}
 use mathlib.Core.Path.{_≡_, refl, sym, ap, _∙_, subst}
 use mathlib.Core.Logic.{_≢_}
@@ -24,22 +24,23 @@ use Rattle.steps.specs.State.{Term, strengthOf, Constraint, Edit, Variable}
 use Rattle.steps.specs.Work.{Work, marking}
 use Rattle.steps.specs.Changes.{findVariable}
 use Rattle.steps.specs.CreateRow.{Created}
-use Rattle.steps.specs.Add.{wholeTerms, wholeInputs, addSteps}
+use Rattle.steps.specs.Add.{wholeInputs, addSteps}
 use Rattle.steps.specs.Tests.{findConstraint, findEdit, keptTerms}
 use Rattle.steps.specs.Calls.{begin, finish}
 use Rattle.bridge.specs.Rows.{In}
 use Rattle.run.specs.Demand.{Key, ofConstraint, ofEdit, sameKey, Demand, Moment, Meets, None}
-use Rattle.run.specs.Inv.{columns, Held, exprOf, otherId, conOf, formOf, findHeld, ConstraintAt, EditAt, VarAt, WholeDemand, Inv}
+use Rattle.run.specs.Inv.{columns, Held, exprOf, otherId, conOf, formOf, findHeld, ConstraintAt, EditAt, VarAt, Inv}
 use Rattle.run.specs.Words.{Agrees, meets-from}
 use Rattle.run.specs.Vars.{Same, same-kept, at-same, known-same, known-back}
 use Rattle.run.specs.Perm.{found-hit, found-miss}
 use Rattle.run.specs.Passes.{none-below}
-use Rattle.run.specs.Inputs.{both, inputs-z}
+use Rattle.run.specs.Inputs.{inputs-z}
 use Rattle.run.specs.Build.{KnownIn, newHeld, Built}
 use Rattle.run.specs.BuildRow.{built}
 use Rattle.run.specs.AddEnds.{Unmet, ArtificialEnds}
 use Rattle.run.specs.AddMarks.{markAdded, createdOf, placedAndRested, WholeSteps, whole-steps}
 use Rattle.run.specs.AddSteps.{Finished, Final, final}
+use Rattle.run.specs.AtRest.{whole-terms}
 
 -- a key that is not found is no one's
 pub held-none : (k : Key) (hs : List Held) → findHeld k hs ≡ none → All (λ (g : Held). sameKey k (g .demand .key) ≡ false) hs
@@ -107,10 +108,6 @@ module _ (art : ArtificialEnds) (m : Moment) (I : Inv m) (d : Demand) (budget : 
     known = B .known
 
     -- ---- 12: nothing meets the demands
-    all-whole : (h : Held) → WholeDemand h → wholeTerms (h .demand .terms) ≡ true
-    unfolding wholeInputs
-    all-whole h w = both (wholeTerms (h .demand .terms)) _ (both _ _ (w .0) .0) .0
-
     column-in : (v : ℕ) → findVariable v (c .work .changes .variables) ≢ none → (B .column v < columns) × (B .column v ≢ 0)
     column-in v h = go (findVariable v (c .work .changes .variables)) refl (B .vars v)
       where
@@ -131,7 +128,7 @@ module _ (art : ArtificialEnds) (m : Moment) (I : Inv m) (d : Demand) (budget : 
         agree = all-map (λ (h : Held) q. all-map (λ (t : Term) z. let l = column-in (t .variable) z in (l .0, at-there 0 a (λ j. x (B .name j)) (B .column (t .variable)) (l .1) ∙ ap x (B .names (t .variable) z))) (keptTerms (h .demand .terms)) q) (new ∷ I .held) known
 
         met : All (Rattle.simplex.specs.Problem.Meets columns σ) (map (conOf (B .column)) (new ∷ I .held))
-        met = meets-from (B .column) σ x (new ∷ I .held) (all-map all-whole (new ∷ I .held) ((inputs, up), I .inputs)) agree
+        met = meets-from (B .column) σ x (new ∷ I .held) (all-map whole-terms (new ∷ I .held) ((inputs, up), I .inputs)) agree
             (subst (λ (z : ℤ). Meets (map (λ (h : Held). h .demand) (new ∷ I .held)) z x) (sym (at-here 0 a (λ j. x (B .name j)))) (subst (λ (l : List Demand). Meets (e ∷ l) a x) (I .live) M))
 
     -- ---- accepted

@@ -1,34 +1,27 @@
 -- A suggestion in the theory: the three ways to shift rows, each leaves a tableau that models the edit with its new aim. Assumes nothing.
-use mathlib.Core.Path.{_≡_, refl, sym, ap, ap₂, _∙_, subst}
-use mathlib.Core.Logic.{_⊎_, inl, inr, _≢_, _↔_}
-use mathlib.Core.Bool.{Bool, true, false, true≢false}
+use mathlib.Core.Path.{_≡_, refl, sym, ap, ap₂, _∙_}
+use mathlib.Core.Logic.{inl, _≢_}
+use mathlib.Core.Bool.{true, false}
 use mathlib.Core.List.{List, [], _∷_}
 use Prim.Native.Nat.{ℕ, _<_}
 use native.Mathlib.Omega.{arith}
-use lib.IntN.{ℤ, pos, negℤ, _+ℤ_, _-ℤ_, _*ℤ_}
-use Rattle.laws.specs.Z.{_≼_, _≺_}
-use Rattle.laws.specs.Ring.{ring, v, k as κ, _⊞_, _⊠_, ⊟_}
-use Rattle.simplex.specs.Ord.{0ℤ, 1ℤ, ≼-of-eq, ≼-trans}
-use Rattle.simplex.specs.Lin.{Vec, δ, δ-same, δ-other, plus}
-use Rattle.simplex.specs.At.{at, At, here, there, at?, at-here, at-there}
+use lib.IntN.{ℤ, negℤ, _+ℤ_, _-ℤ_, _*ℤ_}
+use Rattle.laws.specs.Z.{_≼_}
+use Rattle.laws.specs.Ring.{ring, v, k as κ, _⊞_, _⊠_}
+use Rattle.simplex.specs.Ord.{0ℤ, ≼-of-eq, ≼-trans}
+use Rattle.simplex.specs.Lin.{Vec, δ, δ-other, plus}
+use Rattle.simplex.specs.At.{at, At, here, there, at?, at-there}
 use Rattle.simplex.specs.Choose.{All}
-use Rattle.simplex.specs.Tab.{Solves}
-use Rattle.simplex.specs.Basis.{Mask, Shape}
-use Rattle.simplex.specs.Opt.{Kind as KindZ, const, external, slack, dummy}
+use Rattle.simplex.specs.Opt.{Kind as KindZ, const, external, slack, dummy, slack≢dummy}
 use Rattle.simplex.specs.Pass.{State, Good}
 use Rattle.simplex.specs.Problem.{Con, Sound, Models}
 use Rattle.simplex.specs.Run.{Foreign}
 use Rattle.simplex.specs.Drag.{edit, edit-marker, edit-other, shift-basic, shift-free}
 use Rattle.simplex.specs.Suggest.{models-suggest, shape-basic, shape-free, moves-marker, moves-other}
-
-const≢external : const ≢ external
-const≢external e = let z : _≡_ {A = ℕ} 0 1 = cc in omega arith
+use Rattle.simplex.specs.Gone.{const≢external}
 
 const≢slack : const ≢ slack
 const≢slack e = let z : _≡_ {A = ℕ} 0 1 = cc in omega arith
-
-slack≢dummy : slack ≢ dummy
-slack≢dummy e = let z : _≡_ {A = ℕ} 0 1 = cc in omega arith
 
 -- what a shift by d leaves: every row j has d j more, no dummy's row has; the tableau models the edit's new aim
 pub record Aimed (n : ℕ) (kind : ℕ → KindZ) (S : State) (d : ℕ → ℤ) (cs : List Con) : Type 0 where

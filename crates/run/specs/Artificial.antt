@@ -1,10 +1,10 @@
 -- Add's step 6 in a whole run: the new row is in the tableau; or 12, and nothing meets the demands; or 14. Assumes nothing.
-use mathlib.Core.Path.{_≡_, refl, sym, ap, _∙_, subst}
-use mathlib.Core.Logic.{_⊎_, inl, inr, _≢_}
+use mathlib.Core.Path.{_≡_, refl, sym, _∙_, subst}
+use mathlib.Core.Logic.{inl, inr, _≢_}
 use mathlib.Core.Bool.{Bool, true, false}
 use mathlib.Core.List.{List, [], _∷_, map}
 use mathlib.Core.Option.{Option, none, some}
-use Prim.Native.Nat.{ℕ, _+_, _-_, _<_}
+use Prim.Native.Nat.{ℕ, _-_, _<_}
 use native.Mathlib.Omega.{arith}
 use lib.Dec.{T}
 use lib.IntN.{pos}
@@ -29,7 +29,7 @@ use Rattle.run.specs.Inv.{Held, conOf}
 use Rattle.run.specs.Passes.{waysOf}
 use Rattle.run.specs.Build.{newHeld, Built}
 use Rattle.run.specs.Subject.{no-externals, some-slack}
-use Rattle.run.specs.AddEnds.{Placed, Unmet, Ends, artificialWays, ArtificialEnds}
+use Rattle.run.specs.AddEnds.{Placed, Ends, artificialWays, ArtificialEnds}
 use Rattle.run.specs.TempPass.{Passed, PassEnds, passes}
 use Rattle.run.specs.TempEnd.{unmet}
 use Rattle.run.specs.TempLeaves.{Ending, leaves-all}

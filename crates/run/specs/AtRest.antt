@@ -1,47 +1,35 @@
 -- Between two calls of a whole run the values are the best: from the invariant to the statement of demand 2. Assumes nothing.
-use mathlib.Core.Path.{_≡_, refl, sym, ap, ap₂, _∙_, subst}
+use mathlib.Core.Path.{_≡_, refl, sym, ap, _∙_, subst}
 use mathlib.Core.Logic.{_≢_}
 use mathlib.Core.Bool.{Bool, true, false, true≢false, _&&_}
-use mathlib.Core.List.{List, [], _∷_, map}
+use mathlib.Core.List.{List, [], map}
 use mathlib.Core.Option.{Option, none, some}
-use Prim.Native.Nat.{ℕ, _<_, _≤_}
+use Prim.Native.Nat.{ℕ, _<_}
 use native.Mathlib.Omega.{arith}
-use lib.Dec.{T}
 use lib.IntN.{ℤ, pos, _*ℤ_}
-use lib.Ieee.{Float}
 use Rattle.laws.specs.Z.{_≼_, _≺_}
-use Rattle.exact.specs.Whole.{IsZ, val, int, isz-val, z-int}
+use Rattle.exact.specs.Whole.{IsZ, isz-val}
 use Rattle.simplex.specs.Ord.{0ℤ, 1ℤ}
-use Rattle.simplex.specs.Lin.{Vec, δ, δ-same}
+use Rattle.simplex.specs.Lin.{Vec, δ-same}
 use Rattle.simplex.specs.At.{at, at-here, at-there}
 use Rattle.simplex.specs.Choose.{All, all-map}
-use Rattle.simplex.specs.Opt.{Kind as KindZ, const, external, slack}
-use Rattle.simplex.specs.Pass.{State as StateZ, Good}
-use Rattle.simplex.specs.Problem.{Con, error}
+use Rattle.simplex.specs.Opt.{const, external}
+use Rattle.simplex.specs.Problem.{error}
 use Rattle.simplex.specs.Final.{dragged}
-use Rattle.steps.specs.Number.{zero64, isWhole}
-use Rattle.steps.specs.State.{Term, Variable, Basic, State}
-use Rattle.steps.specs.Work.{findRow}
+use Rattle.steps.specs.Number.{zero64}
+use Rattle.steps.specs.State.{Term, Variable}
 use Rattle.steps.specs.Changes.{findVariable, valueOf, value}
 use Rattle.steps.specs.Add.{wholeTerms, wholeInputs}
 use Rattle.steps.specs.Tests.{keptTerms}
 use Rattle.steps.specs.Calls.{begin}
-use Rattle.bridge.specs.Rows.{In}
 use Rattle.bridge.specs.Nums.{zero64-z}
 use Rattle.bridge.specs.Ends.{valueAt, value-z}
 use Rattle.run.specs.Demand.{Demand, Moment, Meets, weighted, values, Best}
 use Rattle.run.specs.Inv.{columns, Held, conOf, VarAt, WholeDemand, Inv}
 use Rattle.run.specs.Words.{Agrees, WholeTerms, meets-to, meets-from, error-to}
+use Rattle.run.specs.Inputs.{z-whole}
 
-whole-of-z : {x : Float} {z : ℤ} → IsZ x z → isWhole x ≡ true
-unfolding int isWhole
-whole-of-z {x} h = go (int x) refl (z-int h)
-  where
-    go : (b : Bool) → int x ≡ b → T b → int x ≡ true
-    go true e t = e
-    go false e t = absurd t
-
-whole-terms : (h : Held) → WholeDemand h → wholeTerms (h .demand .terms) ≡ true
+pub whole-terms : (h : Held) → WholeDemand h → wholeTerms (h .demand .terms) ≡ true
 unfolding wholeInputs
 whole-terms h w = go (wholeTerms (h .demand .terms)) _ _ (w .0)
   where
@@ -50,15 +38,6 @@ whole-terms h w = go (wholeTerms (h .demand .terms)) _ _ (w .0)
     go false b c e = absurd (true≢false (sym e))
 
 module _ (m : Moment) (I : Inv m) where
-  s : State
-  s = m .state
-
-  S : StateZ
-  S = I .table
-
-  β : Vec
-  β = λ j. I .table .R j 0
-
   abbrev pub Known : ℕ → Type 0
   Known v = findVariable v (m .state .changes .variables) ≢ none
 
@@ -138,7 +117,7 @@ module _ (m : Moment) (I : Inv m) where
   pub at-rest : Best m
   unfolding spread
   at-rest = record {
-    whole = λ v. whole-of-z (value-is v .1);
+    whole = λ v. z-whole (value-is v .1);
     meets = subst (λ (l : List Demand). Meets l (pos 1) (values (m .state))) (sym (I .live)) (subst (λ (d : ℤ). Meets (map (λ (h : Held). h .demand) (I .held)) d (values (m .state))) one
         (meets-to (I .sym) (λ j. I .table .R j 0) (values (m .state)) (I .held) whole-demands (agree (λ j. I .table .R j 0) (values (m .state)) at-values) (best-columns .meets)));
     least = λ d x p h.

@@ -8,14 +8,14 @@ use mathlib.Core.Option.{Option, none, some}
 use mathlib.Core.Bool.{Bool, true, false, true≢false}
 use lib.ListN.{length}
 use lib.IntN.{ℤ, negsuc, negℤ, _+ℤ_, _*ℤ_}
-use Rattle.laws.specs.Z.{_≼_, _≺_}
+use Rattle.laws.specs.Z.{_≼_}
 use Rattle.laws.specs.Ring.{ring, v as ν, k as lit, _⊞_, _⊠_, ⊟_}
 use Rattle.exact.specs.Whole.{val}
 use Rattle.simplex.specs.Ord.{0ℤ, 1ℤ, ≺→≼, neg-nonneg}
 use Rattle.simplex.specs.Lin.{Vec, δ, δ-same, δ-other, dot, plus}
 use Rattle.simplex.specs.Tab.{Solves}
 use Rattle.simplex.specs.Choose.{All, all-map}
-use Rattle.simplex.specs.Opt.{Kind as KindZ, const, external, slack}
+use Rattle.simplex.specs.Opt.{Kind as KindZ, external, slack}
 use Rattle.simplex.specs.Pass.{State as StateZ, Good}
 use Rattle.simplex.specs.Form.{soft, resid, cost}
 use Rattle.simplex.specs.Problem.{Con, Models, Sound, Sounds, Tag as TagZ, total}

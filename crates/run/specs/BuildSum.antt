@@ -210,10 +210,6 @@ module _ (n : ℕ) (kind : ℕ → KindZ) (S : StateZ) where
   unfolding sumOf
   sum-cons t ts x = refl
 
-  no-sum : (x : ℕ → ℤ) → sumOf [] x ≡ 0ℤ
-  unfolding sumOf
-  no-sum x = refl
-
   abbrev Sums : List Term → Type 0
   Sums ts = (b : Building) (name : ℕ → ℕ) (r : Vec) → Stage n kind S name (b .work) (b .row) r → b .work .tableau .nextId + length ts ≤ n → insertTerms ts b .work .mark ≡ allWhole → Summed ts b (insertTerms ts b) r
 

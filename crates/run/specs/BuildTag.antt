@@ -1,5 +1,5 @@
 -- Add's step 2 in a whole run: the tag's symbols are new, stand in the row with 1 or -1, and the errors stand in the objective with the strength. Assumes nothing.
-use Prim.Native.Nat.{ℕ, suc, _+_, _^_, _≤_, _<_}
+use Prim.Native.Nat.{ℕ, _^_, _≤_, _<_}
 use native.Mathlib.Omega.{arith}
 use mathlib.Core.Path.{_≡_, refl, sym, ap, ap₂, _∙_}
 use mathlib.Core.Logic.{_≢_}
@@ -31,7 +31,6 @@ use Rattle.run.specs.Inv.{otherId, Shaped}
 use Rattle.run.specs.Build.{NewTag}
 use Rattle.run.specs.BuildVars.{stays-refl}
 use Rattle.run.specs.BuildTerms.{Stage, Grew, next≢0, next-new, next-dead, appended, written-stage, written-marks}
-use Rattle.run.specs.BuildSum.{written-mark}
 
 -- ---- one symbol more, in the row with q
 module _ (n : ℕ) (kind : ℕ → KindZ) (S : StateZ) (name : ℕ → ℕ) (b : Building) (r : Vec) (A : Stage n kind S name (b .work) (b .row) r) (κ : Kind) where
@@ -40,10 +39,6 @@ module _ (n : ℕ) (kind : ℕ → KindZ) (S : StateZ) (name : ℕ → ℕ) (b :
 
   abbrev s : Symbol
   s = record { id = b .work .tableau .nextId; kind = κ }
-
-  pub symbol-mark : (k : Float) → addSymbol (newSymbol κ (b .work)) k b .work .mark ≡ allWhole → b .work .mark ≡ allWhole
-  unfolding addSymbol insertInto newSymbol appendTo appendSymbol withTableau
-  symbol-mark k m = written-mark (insertSymbolInRow t k (appendTo s b .work .tableau .symbols) (appendTo s b .row)) (appendTo s b .work) m
 
   pub symbol-stage : {k : Float} {q : ℤ} → IsZ k q → natAbs q ≤ 1024 → addSymbol (newSymbol κ (b .work)) k b .work .mark ≡ allWhole
       → Stage n (at t (kindOf κ) kind) S (at t 0 name) (addSymbol (newSymbol κ (b .work)) k b .work) (addSymbol (newSymbol κ (b .work)) k b .row) (plus r q (δ t))
@@ -65,10 +60,6 @@ module _ (n : ℕ) (kind : ℕ → KindZ) (S : StateZ) (name : ℕ → ℕ) (b :
   pub symbol-grew : (k : Float) → Grew 1 (b .work) (addSymbol (newSymbol κ (b .work)) k b .work)
   unfolding addSymbol insertInto newSymbol appendTo appendSymbol withTableau written marking
   symbol-grew k = record { vars = stays-refl (b .work .changes .variables); next = omega arith; pivots = refl; list = refl }
-
-  pub symbol-next : (k : Float) → addSymbol (newSymbol κ (b .work)) k b .work .tableau .nextId ≡ suc t
-  unfolding addSymbol insertInto newSymbol appendTo appendSymbol withTableau written marking
-  symbol-next k = refl
 
   pub symbol-in : (k : Float) → In t (addSymbol (newSymbol κ (b .work)) k b .work .tableau .symbols)
   unfolding addSymbol insertInto newSymbol appendTo appendSymbol withTableau written marking

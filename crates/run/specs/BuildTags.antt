@@ -9,7 +9,7 @@ use mathlib.Core.Bool.{Bool, true, false, cond, true≢false}
 use lib.Dec.{lit≤}
 use lib.IntN.{ℤ, negsuc, natAbs, _+ℤ_, _*ℤ_}
 use lib.Ieee.{Float, neg, lt}
-use Rattle.laws.specs.Ring.{ring, v as ν, k as lit, _⊞_, _⊠_, ⊟_, _⊟⊟_}
+use Rattle.laws.specs.Ring.{ring, v as ν, k as lit, _⊞_, _⊠_, _⊟⊟_}
 use Rattle.exact.specs.Whole.{IsZ, neg-z}
 use Rattle.simplex.specs.Ord.{0ℤ, 1ℤ}
 use Rattle.simplex.specs.Lin.{Vec, δ, dot, plus, dot-plus, dot-δ}
@@ -98,10 +98,6 @@ module _ (n : ℕ) (kind : ℕ → KindZ) (S : StateZ) (w : Work) (r : Vec) wher
   }
 
   -- ---- the marker, an error itself, gets its price
-  error-is : (s : Symbol) (k strength : Float) (b : Building) → addError s k strength b ≡ record { work = insertInObjective (s .id) strength (addSymbol s k b .work); row = addSymbol s k b .row }
-  unfolding addError
-  error-is s k strength b = refl
-
   price : (weight q : ℤ) (m : Symbol) (b : Building) → First weight q 0ℤ m b → kindOf (m .kind) ≡ slack → {k : Float} → IsZ k weight → natAbs weight ≤ 2 ^ 40
       → insertInObjective (m .id) k (b .work) .mark ≡ allWhole → First weight q 1ℤ m (record { work = insertInObjective (m .id) k (b .work); row = b .row })
   price weight q m b F sl {k} K l mk = record {

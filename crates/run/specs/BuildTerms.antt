@@ -159,10 +159,6 @@ module _ (n : ℕ) (kind : ℕ → KindZ) (S : StateZ) (name : ℕ → ℕ) (w :
       ids j (y ∷ ys) f (inl e) = omega (arith, f j (inl e))
       ids j (y ∷ ys) f (inr h) = ids j ys (λ i p. f i (inr p)) h
 
-  pub grew-append : (κ : Kind) → Grew 1 w (appendSymbol (newSymbol κ w) w)
-  unfolding newSymbol appendSymbol withTableau
-  grew-append κ = record { vars = stays-refl (w .changes .variables); next = omega arith; pivots = refl; list = refl }
-
   -- ---- a new variable: its symbol's kind was external all along
   same-kind : (j : ℕ) → at t external kind j ≡ kind j
   same-kind j = go (at? t external kind j)

@@ -3,9 +3,9 @@
 -- accepted suggestion moves the aim of its edit. A number that a caller hands in is a whole number z when its f64 is worth z. An assignment by
 -- fractions gives each variable v the fraction x v / d with one whole denominator d above 0; sums, errors and tests below are taken times d, so
 -- that they are whole numbers and nothing is ever divided. Nothing here speaks of rows, symbols or pivots.
-use Prim.Native.Nat.{ℕ, suc}
+use Prim.Native.Nat.{ℕ}
 use mathlib.Core.Path.{_≡_}
-use mathlib.Core.Bool.{Bool, true, false, not, _&&_, cond}
+use mathlib.Core.Bool.{Bool, true, false, not, cond}
 use mathlib.Core.List.{List, [], _∷_, map}
 use lib.Dec.{eqb}
 use lib.IntN.{ℤ, pos, negsuc, negℤ, natAbs, _+ℤ_, _*ℤ_}

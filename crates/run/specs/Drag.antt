@@ -1,16 +1,14 @@
 -- A suggestion's steps from a state at rest: the shift starts the dual pass well, and what it and the pass do not touch. Assumes nothing.
-use mathlib.Core.Path.{_≡_, refl, sym, ap, ap₂, _∙_, subst}
-use mathlib.Core.Logic.{_⊎_, inl, inr, _≢_}
-use mathlib.Core.Bool.{Bool, true, false, true≢false}
+use mathlib.Core.Path.{_≡_, refl, sym, ap, _∙_, subst}
+use mathlib.Core.Logic.{_≢_}
+use mathlib.Core.Bool.{true, true≢false}
 use mathlib.Core.List.{List, [], _∷_}
 use mathlib.Core.Option.{Option, none, some}
-use Prim.Native.Nat.{ℕ, zero, suc, _^_, _<_, _≤_}
-use native.Mathlib.Omega.{arith}
-use lib.Dec.{T}
-use lib.IntN.{ℤ, pos, negℤ, _+ℤ_, _*ℤ_}
+use Prim.Native.Nat.{ℕ, zero, suc, _^_, _<_}
+use lib.IntN.{ℤ, negℤ}
 use lib.Ieee.{Float}
 use Rattle.laws.specs.Z.{_≼_, _≺_}
-use Rattle.exact.specs.Whole.{IsZ, Zb}
+use Rattle.exact.specs.Whole.{Zb}
 use Rattle.simplex.specs.Ord.{0ℤ, clash}
 use Rattle.simplex.specs.Lin.{Vec, δ, plus}
 use Rattle.simplex.specs.Choose.{All, all-map}
@@ -20,25 +18,24 @@ use Rattle.simplex.specs.Pass.{State, Good}
 use Rattle.simplex.specs.Bound.{Mem}
 use Rattle.simplex.specs.Problem.{Con, Models}
 use Rattle.simplex.specs.Drag.{edit}
-use Rattle.steps.specs.Number.{belowZero, Mark, allWhole, notWhole, notFinite, worse}
+use Rattle.steps.specs.Number.{allWhole}
 use Rattle.steps.specs.Symbol.{Symbol, isRestricted}
 use Rattle.steps.specs.Row.{Row}
 use Rattle.steps.specs.State.{Basic, Tag}
 use Rattle.steps.specs.Work.{Work, Outcome, refused, going, _>>=_, refuse, withTableau, withRows, withChanges, withInfeasible, marking, countPivot, findRow}
-use Rattle.steps.specs.Changes.{allChanged}
 use Rattle.steps.specs.Substitute.{rowsOf, marksOf, notedOf, pushBelow, pivot}
 use Rattle.steps.specs.Optimise.{DualChoice, feasible, noEntering, dualPivotOn, chooseDualPivot, countedDualPivot, dualOptimise}
-use Rattle.steps.specs.Edit.{shiftOf, shiftRow, shiftRows, shifted, shiftConstants}
+use Rattle.steps.specs.Edit.{shiftOf, shiftRow, shiftRows, shiftConstants}
+use Rattle.keeps.specs.Frame.{clear-all}
 use Rattle.bridge.specs.Quot.{yes}
 use Rattle.bridge.specs.Nums.{belowZero-z, worse-l, worse-r}
-use Rattle.bridge.specs.Rows.{Reads, In, reads-to, ReadsRow}
-use Rattle.bridge.specs.Finds.{none≢some}
+use Rattle.bridge.specs.Rows.{reads-to, ReadsRow}
 use Rattle.bridge.specs.Table.{RowAt, Live, ReadsTable, ReadsWork, in-nonzero}
 use Rattle.bridge.specs.Infeasible.{pushed-all, pushed-found}
 use Rattle.bridge.specs.Drags.{Drag as Dragging, turned}
 use Rattle.run.specs.Shift.{these, Found, no-row, a-row, find-shift, these-all, Amount, shift-table}
-use Rattle.run.specs.Steady.{all-noted-variables, Kinded, restricted-kind, Kept, kept-refl, kept-trans, pivot-kept, IfGoing}
-use Rattle.run.specs.Aims.{Aimed, aimed-good, aimed-no-var, unshifted}
+use Rattle.run.specs.Steady.{restricted-kind, Kept, kept-trans, pivot-kept, IfGoing}
+use Rattle.run.specs.Aims.{aimed-good, aimed-no-var, unshifted}
 use Rattle.run.specs.Drawn.{Drawn, drawn}
 
 -- ---- what is not touched
@@ -77,7 +74,7 @@ dual-kept (suc left) w = go (chooseDualPivot w) (dual-kept left)
 
 pub shift-kept : (tag : Tag) (d : Float) (w : Work) → Kept w (shiftConstants tag d w)
 unfolding shiftConstants marking withChanges withInfeasible withRows withTableau
-shift-kept tag d w = record { symbols = refl; nextId = refl; variables = all-noted-variables (notedOf (shiftRows (shiftOf tag d w) (w .tableau .rows))) (w .changes); artificial = λ e. e }
+shift-kept tag d w = record { symbols = refl; nextId = refl; variables = clear-all (notedOf (shiftRows (shiftOf tag d w) (w .tableau .rows))) (w .changes); artificial = λ e. e }
 
 pub shift-marks : (tag : Tag) (d : Float) (w : Work) → shiftConstants tag d w .mark ≡ allWhole → (w .mark ≡ allWhole) × (marksOf (shiftRows (shiftOf tag d w) (w .tableau .rows)) ≡ allWhole)
 unfolding shiftConstants marking withChanges withInfeasible withRows withTableau

@@ -1,18 +1,18 @@
 -- A suggestion's shift, steps and theory together: whichever of the three ways the steps take, the rows after it read as the theory's. Assumes nothing.
-use mathlib.Core.Path.{_≡_, refl, sym, ap, ap₂, _∙_, subst}
-use mathlib.Core.Logic.{_⊎_, inl, inr, _≢_}
+use mathlib.Core.Path.{_≡_, refl, sym, ap, _∙_, subst}
+use mathlib.Core.Logic.{inl, inr, _≢_}
 use mathlib.Core.Bool.{Bool, true, false, true≢false}
 use mathlib.Core.List.{List, [], _∷_}
 use mathlib.Core.Option.{Option, none, some}
-use Prim.Native.Nat.{ℕ, _^_, _<_, _≤_}
+use Prim.Native.Nat.{ℕ, _^_, _<_}
 use native.Mathlib.Omega.{arith}
 use lib.Dec.{T}
-use lib.IntN.{ℤ, pos, negℤ, natAbs, _+ℤ_, _*ℤ_}
+use lib.IntN.{ℤ, pos, negℤ, _*ℤ_}
 use lib.Ieee.{Float, neg}
-use Rattle.laws.specs.Z.{_≼_, _≺_, eqZb→}
-use Rattle.laws.specs.Ring.{ring, v, k as κ, _⊞_, _⊠_, ⊟_}
-use Rattle.exact.specs.Whole.{IsZ, Zb, neg-b, mul-b, within}
-use Rattle.simplex.specs.Ord.{0ℤ, 1ℤ}
+use Rattle.laws.specs.Z.{eqZb→}
+use Rattle.laws.specs.Ring.{ring, v, k as κ, _⊠_, ⊟_}
+use Rattle.exact.specs.Whole.{Zb, neg-b, mul-b, within}
+use Rattle.simplex.specs.Ord.{0ℤ}
 use Rattle.simplex.specs.Lin.{Vec, δ}
 use Rattle.simplex.specs.At.{at, at-here, at-there}
 use Rattle.simplex.specs.Choose.{All}

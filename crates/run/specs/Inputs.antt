@@ -1,9 +1,9 @@
 -- What "inputs are whole" gives: each coefficient, the constant and the strength is a whole number within its bound. Assumes nothing.
-use mathlib.Core.Path.{_≡_, refl, sym, ap, _∙_, subst}
+use mathlib.Core.Path.{_≡_, refl, sym, _∙_, subst}
 use mathlib.Core.List.{List, [], _∷_}
 use Prim.Native.Nat.{ℕ, _^_, _≤_}
 use native.Mathlib.Omega.{arith}
-use mathlib.Core.Bool.{Bool, true, false, not, _&&_, true≢false}
+use mathlib.Core.Bool.{Bool, true, false, not, _&&_}
 use lib.Dec.{T, leb→le}
 use lib.IntN.{ℤ, pos, negsuc, natAbs}
 use lib.Signed.{ltZ-yes, ltZ-no}
@@ -13,31 +13,13 @@ use Rattle.exact.specs.Whole.{IsZ, Zb, val, int, lit-z}
 use Rattle.exact.specs.Compare.{le-z, lt-z}
 use Rattle.simplex.specs.Ord.{0ℤ}
 use Rattle.simplex.specs.Choose.{All}
-use Rattle.steps.specs.Number.{cellBound, constantBound, isWhole, within, belowZero, Mark, allWhole, notWhole, wholeIf, saysWhole}
+use Rattle.simplex.specs.Look.{both}
+use Rattle.steps.specs.Number.{cellBound, constantBound, isWhole, within, belowZero}
 use Rattle.steps.specs.Strength.{required}
 use Rattle.steps.specs.State.{Term, Relation, strengthOf}
 use Rattle.steps.specs.Add.{wholeWithin, wholeTerms, wholeInputs}
 use Rattle.bridge.specs.Nums.{cellBound-z, constantBound-z, belowZero-z, magnitude-z}
 use Rattle.run.specs.Words.{whole-z}
-
-pub both : (a b : Bool) → a && b ≡ true → (a ≡ true) × (b ≡ true)
-both true b e = (refl, e)
-both false b e = absurd (true≢false (sym e))
-
-whole≢ : notWhole ≡ allWhole → ⊥
-unfolding saysWhole
-whole≢ e = true≢false (sym (ap saysWhole e))
-
-pub whole-if : (b : Bool) → wholeIf b ≡ allWhole → b ≡ true
-unfolding wholeIf
-whole-if true e = refl
-whole-if false e = absurd (whole≢ e)
-
-pub says-whole : (m : Mark) → saysWhole m ≡ true → m ≡ allWhole
-unfolding saysWhole
-says-whole allWhole e = refl
-says-whole notWhole e = absurd (true≢false (sym e))
-says-whole Rattle.steps.specs.Number.notFinite e = absurd (true≢false (sym e))
 
 -- ---- one input
 is-int : (x : Float) → isWhole x ≡ int x

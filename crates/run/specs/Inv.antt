@@ -3,11 +3,11 @@
 use Prim.Native.Nat.{ℕ, _<_, _≤_}
 use mathlib.Core.Path.{_≡_}
 use mathlib.Core.Logic.{_≢_}
-use mathlib.Core.Bool.{Bool, true, false, cond}
+use mathlib.Core.Bool.{true, false, cond}
 use mathlib.Core.List.{List, [], _∷_, map}
 use mathlib.Core.Option.{Option, none, some}
 use lib.IntN.{ℤ}
-use lib.Ieee.{Float, neg, lt}
+use lib.Ieee.{neg, lt}
 use Rattle.laws.specs.Z.{_≼_}
 use Rattle.exact.specs.Whole.{val}
 use Rattle.simplex.specs.Ord.{0ℤ}
@@ -19,8 +19,8 @@ use Rattle.simplex.specs.Form.{Form, le!, eq!, ge!, le, eq, ge}
 use Rattle.simplex.specs.Problem.{Con, Models}
 use Rattle.steps.specs.Number.{belowZero}
 use Rattle.steps.specs.Strength.{required}
-use Rattle.steps.specs.Symbol.{Kind, External, Slack, Error, Dummy, Symbol}
-use Rattle.steps.specs.State.{Term, Relation, atMost, equal, atLeast, strengthOf, Tag, Variable, Constraint, Edit, State}
+use Rattle.steps.specs.Symbol.{External, Slack, Error, Dummy, Symbol}
+use Rattle.steps.specs.State.{Term, Relation, atMost, equal, atLeast, strengthOf, Tag, Variable, Constraint, Edit}
 use Rattle.steps.specs.Changes.{findVariable}
 use Rattle.steps.specs.Add.{wholeInputs}
 use Rattle.steps.specs.Tests.{findConstraint, findEdit, keptTerms}

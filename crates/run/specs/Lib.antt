@@ -2,6 +2,7 @@
 pub mod Demand
 pub mod Inv
 pub mod Words
+pub mod Inputs
 pub mod AtRest
 pub mod Lookup
 pub mod Vars
@@ -14,7 +15,6 @@ pub mod Aims
 pub mod Refit
 pub mod Drawn
 pub mod Drag
-pub mod Inputs
 pub mod Suggest
 pub mod Suggested
 pub mod Build

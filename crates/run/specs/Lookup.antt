@@ -1,16 +1,16 @@
 -- What is found in a list by number after one is kept or dropped: one law for variables, constraints and edits. Assumes nothing.
-use mathlib.Core.Path.{_≡_, refl, sym, ap, _∙_, subst}
+use mathlib.Core.Path.{_≡_, refl, sym, _∙_, subst}
 use mathlib.Core.Logic.{_≢_}
-use mathlib.Core.Bool.{Bool, true, false, true≢false}
+use mathlib.Core.Bool.{Bool, true, false}
 use mathlib.Core.List.{List, [], _∷_, map}
 use mathlib.Core.Option.{Option, none, some}
-use Prim.Native.Nat.{ℕ, _≤_}
+use Prim.Native.Nat.{ℕ}
 use native.Mathlib.Omega.{arith}
 use lib.Dec.{T, eqb, ltb, eqb→eq, eqb-refl}
-use Rattle.keeps.specs.Lists.{Up, times, none≢some}
+use Rattle.keeps.specs.Lists.{Up, none≢some}
 use Rattle.keeps.specs.Keys.{keepBy, dropBy, findBy, find-times, drop-gone}
 
-eq-no : (m n : ℕ) → m ≢ n → eqb m n ≡ false
+pub eq-no : (m n : ℕ) → m ≢ n → eqb m n ≡ false
 eq-no m n h = go (eqb m n) refl
   where
     go : (b : Bool) → eqb m n ≡ b → eqb m n ≡ false

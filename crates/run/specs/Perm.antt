@@ -6,7 +6,7 @@ use Prim.Native.Nat.{ℕ}
 use mathlib.Core.Bool.{Bool, true, false, true≢false}
 use lib.Dec.{T, eqb, eqb→eq, eqb-refl}
 use lib.IntN.{ℤ, _+ℤ_, _*ℤ_}
-use Rattle.laws.specs.Ring.{ring, v, _⊞_, _⊠_}
+use Rattle.laws.specs.Ring.{ring, v, _⊞_}
 use Rattle.simplex.specs.Lin.{Vec}
 use Rattle.simplex.specs.Basis.{Mask}
 use Rattle.simplex.specs.Choose.{All}

@@ -3,11 +3,9 @@ use mathlib.Core.Path.{_≡_, refl, sym, ap, _∙_, subst}
 use mathlib.Core.Logic.{_⊎_, inl, inr, _≢_}
 use mathlib.Core.List.{List, [], _∷_}
 use mathlib.Core.Option.{Option, none, some}
-use Prim.Native.Nat.{ℕ, zero, suc, _*_, _<_}
-use native.Mathlib.Nat.{suc-mul}
-use native.Mathlib.Omega.{arith}
+use Prim.Native.Nat.{ℕ, _<_}
 use mathlib.Core.Bool.{Bool, true, false, not, _&&_, cond, true≢false}
-use lib.IntN.{ℤ, pos, negsuc, natAbs, _*ℤ_}
+use lib.IntN.{ℤ, _*ℤ_}
 use Rattle.laws.specs.Z.{_≼_, _≺_}
 use Rattle.simplex.specs.Ord.{0ℤ, 1ℤ, ≼-antisym, ≺-irrefl, ≺-or-≼}
 use Rattle.simplex.specs.Lin.{Vec, δ-other}
@@ -30,17 +28,9 @@ use Rattle.bridge.specs.Table.{kindOf, RowAt, Live, ReadsWork, found-in}
 use Rattle.bridge.specs.Chosen.{restricted-is, listed, Leaves, Leaving, leaving-is}
 use Rattle.bridge.specs.Looks.{minus-one}
 use Rattle.bridge.specs.Ranks.{Leaves as LeavesUp, Leaving as LeavingUp, positive-is}
+use Rattle.bridge.specs.Duals.{one-of}
 
 -- ---- numbers and kinds
-plus-one : (z : ℤ) → z *ℤ z ≡ 1ℤ → 0ℤ ≺ z → z ≡ 1ℤ
-plus-one (pos zero) e l = absurd (≺-irrefl l)
-plus-one (pos (suc zero)) e l = refl
-plus-one (pos (suc (suc m))) e l = absurd (big m (ap natAbs e))
-  where
-    big : (m : ℕ) → suc (suc m) * suc (suc m) ≡ 1 → ⊥
-    big m e = omega (arith, suc-mul (suc m) (suc (suc m)), suc-mul m (suc (suc m)))
-plus-one (negsuc m) e l = absurd (l .lt)
-
 is-dummy : (x : Symbol) → kindOf (x .kind) ≡ dummy → isDummy x ≡ true
 unfolding isDummy
 is-dummy x e = go (x .kind) e
@@ -61,7 +51,7 @@ dummy-is x e = go (x .kind) e
     go Error e = absurd (true≢false (sym e))
     go Dummy e = refl
 
-is-external : (x : Symbol) → kindOf (x .kind) ≡ external → isExternal x ≡ true
+pub is-external : (x : Symbol) → kindOf (x .kind) ≡ external → isExternal x ≡ true
 unfolding isExternal
 is-external x e = go (x .kind) e
   where
@@ -71,7 +61,7 @@ is-external x e = go (x .kind) e
     go Error e = absurd (slack≢external e)
     go Dummy e = absurd (dummy≢external e)
 
-external-is : (x : Symbol) → isExternal x ≡ true → kindOf (x .kind) ≡ external
+pub external-is : (x : Symbol) → isExternal x ≡ true → kindOf (x .kind) ≡ external
 unfolding isExternal
 external-is x e = go (x .kind) e
   where
@@ -244,7 +234,7 @@ module _ (n : ℕ) (kind : ℕ → KindZ) (w : Work) (S : StateZ) (a : Vec) (G :
           one = one;
           side = inl (λ x. slack≢external (sym own ∙ x));
           first = λ j d ne. inl (no-dummy j d ne);
-          keeps = λ j b s ne. let u = plus-one (S .R (l .id) e) one (L .cell) in
+          keeps = λ j b s ne. let u = one-of (S .R (l .id) e) one (L .cell) in
               keep-positive (S .R j 0) (S .R j e) (S .R (l .id) e) (S .R (l .id) 0) (G .feasible j b s) (G .feasible (l .id) (L .basic) own) u (no-negative j b s) (λ h. L .least u j b s h);
         };
       }

@@ -1,6 +1,5 @@
 -- A live edit with another aim: its place among the demands stays, and the constraints are put back in their order. Assumes nothing.
 use mathlib.Core.Path.{_≡_, refl, sym, ap, ap₂, _∙_, subst}
-use mathlib.Core.Logic.{_⊎_, inl, inr, _≢_}
 use mathlib.Core.Bool.{Bool, true, false, true≢false}
 use mathlib.Core.List.{List, [], _∷_, map}
 use mathlib.Core.Option.{Option, none, some}
@@ -15,12 +14,12 @@ use Rattle.simplex.specs.Choose.{All}
 use Rattle.simplex.specs.Basis.{Mask}
 use Rattle.simplex.specs.Opt.{Kind as KindZ}
 use Rattle.simplex.specs.Form.{resid}
-use Rattle.simplex.specs.Problem.{Con, Equation, total, Sound, Sounds, Apart, Models}
+use Rattle.simplex.specs.Problem.{Con, Equation, Sound, Sounds, Apart, Models}
 use Rattle.steps.specs.State.{Term}
-use Rattle.bridge.specs.Finds.{none≢some, some-injective}
+use Rattle.bridge.specs.Finds.{none≢some}
 use Rattle.run.specs.Demand.{Key, ofEdit, sameKey, Demand, moved}
 use Rattle.run.specs.Inv.{Held, exprOf, findHeld, Once}
-use Rattle.run.specs.Perm.{Key?, is, isnt, key?, withoutHeld, found-hit, found-miss, found-none, Step, hit, miss, step?, all-first, all-back, total-first, other-key}
+use Rattle.run.specs.Perm.{Key?, is, isnt, key?, withoutHeld, found-hit, found-miss, found-none, Step, hit, miss, step?, all-first, all-back, total-first}
 
 -- ---- back to its place
 

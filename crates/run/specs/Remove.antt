@@ -16,6 +16,7 @@ use Rattle.steps.specs.Tests.{findConstraint, dropConstraint, findEdit, dropEdi
 use Rattle.steps.specs.Remove.{removeSteps}
 use Rattle.steps.specs.Calls.{Result, begin, finish, refusedBy, acceptedAs, conclude, remove, removeEdit}
 use Rattle.steps.specs.Readable.{readable, usesIn}
+use Rattle.steps.proofs.After.{says-whole}
 use Rattle.keeps.specs.Lists.{Up}
 use Rattle.keeps.specs.Uses.{varNumber, usesOf}
 use Rattle.keeps.specs.Reads.{Reads, usedBy}
@@ -23,7 +24,6 @@ use Rattle.keeps.specs.Tested.{reads-in}
 use Rattle.bridge.specs.Runs.{markOf}
 use Rattle.run.specs.Demand.{Key, ofConstraint, ofEdit, Demand, Call, removes, removesEdit, make, accepted, without, Moment, next}
 use Rattle.run.specs.Inv.{columns, Held, formOf, Shaped, findHeld, ConstraintAt, EditAt, WholeDemand, Inv}
-use Rattle.run.specs.Inputs.{says-whole}
 use Rattle.run.specs.Passes.{none-below}
 use Rattle.run.specs.Suggest.{unchanged, changed}
 use Rattle.run.specs.Perm.{withoutHeld, without-is, all-out, once-out}

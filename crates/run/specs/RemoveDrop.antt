@@ -8,7 +8,7 @@ use mathlib.Core.Bool.{Bool, true, false, _&&_, cond, true≢false}
 use lib.Dec.{T, ltb}
 use lib.IntN.{ℤ}
 use lib.Signed.{ltZ, ltZ-yes}
-use lib.Ieee.{Float, ne}
+use lib.Ieee.{Float}
 use Rattle.laws.specs.Z.{_≼_}
 use Rattle.simplex.specs.Ord.{0ℤ, ≼-of-eq, clash}
 use Rattle.simplex.specs.Lin.{Vec}
@@ -17,19 +17,18 @@ use Rattle.simplex.specs.Choose.{All, all-zip}
 use Rattle.simplex.specs.Basis.{swap, Swapped, enters, leaves, stays, swapped}
 use Rattle.simplex.specs.Opt.{Kind as KindZ, const, external, slack, dummy}
 use Rattle.simplex.specs.Form.{soft}
-use Rattle.simplex.specs.Problem.{Con, Sound, Apart, Models}
+use Rattle.simplex.specs.Problem.{Con, Sound, Apart, Models, sounds-all}
 use Rattle.simplex.specs.Tab.{pivoted, pivot as pivotZ}
 use Rattle.simplex.specs.Change.{dropped}
 use Rattle.simplex.specs.Pass.{State as StateZ, Good}
 use Rattle.simplex.specs.Remove.{Rank, drop-good, remove-good, free-of-marker}
-use Rattle.simplex.specs.Gone.{Halfway, half-pivot, half-drop, marker-held, tag-kind, not-variable, sounds-each}
-use Rattle.steps.specs.Number.{zero64, belowZero, Mark, allWhole, notWhole, notFinite}
-use Rattle.steps.specs.Symbol.{Symbol, isSymbol, isExternal, isRestricted}
+use Rattle.simplex.specs.Gone.{Halfway, half-pivot, half-drop, marker-held, tag-kind, not-variable}
+use Rattle.steps.specs.Number.{belowZero, Mark, allWhole, notWhole, notFinite}
+use Rattle.steps.specs.Symbol.{Symbol, isSymbol, isRestricted}
 use Rattle.steps.specs.Row.{Row, solveForSymbols}
 use Rattle.steps.specs.State.{Basic, Tableau}
-use Rattle.steps.specs.Work.{Work, refused, going, _>>=_, refuse, checkFinite, marking, withRows, withTableau, withChanges, withArtificial, withObjective, withInfeasible, findRow, dropRow, keepRow}
-use Rattle.steps.specs.Changes.{note}
-use Rattle.steps.specs.Substitute.{substituteInRows, rowsOf, push, pushBelow, substitute, enterBasis, pivot}
+use Rattle.steps.specs.Work.{Work, refused, going, _>>=_, refuse, checkFinite, marking, withRows, withTableau, findRow, dropRow, keepRow}
+use Rattle.steps.specs.Substitute.{substituteInRows, rowsOf, push, pushBelow, pivot}
 use Rattle.steps.specs.Remove.{getMarkerLeavingRow, noteLeaving, dropMarker}
 use Rattle.bridge.specs.Nums.{belowZero-z, finite≢}
 use Rattle.bridge.specs.Rows.{Sym?, is, isnt, sym?, ReadsRow}
@@ -38,6 +37,7 @@ use Rattle.bridge.specs.Table.{RowAt, Live, ReadsTable, ReadsWork, in-nonzero, 
 use Rattle.bridge.specs.Chosen.{listed}
 use Rattle.bridge.specs.Runs.{markOf, pivot-pivots}
 use Rattle.bridge.specs.Ranks.{drop-z, Goes}
+use Rattle.bridge.specs.Drags.{enter-list, pivot-is}
 use Rattle.run.specs.Steady.{restricted-kind, Kept, kept-trans, pivot-kept}
 use Rattle.run.specs.Passes.{other-artificial}
 use Rattle.run.specs.RemoveFrame.{kept-rows, Noted, noted}
@@ -93,20 +93,6 @@ drop-keep r (b ∷ bs) f = go (ltb (r .symbol .id) (b .symbol .id)) (sym? (r .sy
         ap (λ (t : Bool). elim t as (λ x. List Basic) [ true ↦ keepRow r bs | false ↦ b ∷ dropRow (r .symbol .id) (keepRow r bs) ]) e ∙ ap (λ (l : List Basic). b ∷ l) (ih (sym (find-miss (r .symbol .id) b bs e) ∙ f))
 
 -- ---- the infeasible list after a pivot
-enter-list : (s : Symbol) (r : Row) (w : Work) → enterBasis s r w .tableau .infeasible ≡ pushBelow (rowsOf (substituteInRows (s .id) (w .tableau .symbols) r (w .tableau .rows))) (w .tableau .infeasible)
-unfolding enterBasis substitute note withTableau withChanges withArtificial marking withRows withObjective withInfeasible
-enter-list s r w = go (isExternal s && ne (r .constant) zero64)
-  where
-    go : (b : Bool) → (withRows (keepRow (record { symbol = s; row = r }) ((cond b (note (s .id) (substitute (s .id) r w)) (substitute (s .id) r w)) .tableau .rows)) (cond b (note (s .id) (substitute (s .id) r w)) (substitute (s .id) r w))) .tableau .infeasible
-        ≡ pushBelow (rowsOf (substituteInRows (s .id) (w .tableau .symbols) r (w .tableau .rows))) (w .tableau .infeasible)
-    go true = refl
-    go false = refl
-
-pivot-is : (l : ℕ) (e : Symbol) (w : Work) (row : Row) → findRow l (w .tableau .rows) ≡ some row
-    → pivot l e w ≡ enterBasis e (solveForSymbols l (e .id) (w .tableau .symbols) row .row) (marking (solveForSymbols l (e .id) (w .tableau .symbols) row .mark) (withRows (dropRow l (w .tableau .rows)) w))
-unfolding pivot
-pivot-is l e w row q = rw (q, pivot) refl
-
 -- what is pushed are rows that stay when the entering one is dropped
 pub pivot-list : (l : ℕ) (e : Symbol) (w : Work) (row : Row) → findRow l (w .tableau .rows) ≡ some row → findRow (e .id) (w .tableau .rows) ≡ none → l ≢ e .id
     → pivot l e w .tableau .infeasible ≡ pushBelow (dropRow (e .id) (pivot l e w .tableau .rows)) (w .tableau .infeasible)
@@ -155,7 +141,7 @@ module _ (n : ℕ) (kind : ℕ → KindZ) (w : Work) (S : StateZ) (c : Con) (cs 
   cost : ((j : ℕ) → kind j ≢ external → j ≢ m .id → S .R j (m .id) ≡ 0ℤ) → S .B (m .id) ≡ false → S .o (m .id) ≡ 0ℤ
   cost empty free =
       free-of-marker n (S .B) (S .R) (S .o) (m .id) cs (D .shape) (D .clear) free in-n (D .worth)
-      (all-zip {P = Apart c} {Q = Sound n kind} one cs (D .sounds .1) (sounds-each n kind cs (D .sounds .2)))
+      (all-zip {P = Apart c} {Q = Sound n kind} one cs (D .sounds .1) (sounds-all n kind cs (D .sounds .2)))
     where
       one : (d : Con) → Apart c d → Sound n kind d → (S .R (d .marker) (m .id) ≡ 0ℤ) × (soft (d .form) ≡ true → S .R (d .other) (m .id) ≡ 0ℤ)
       one d a s = (

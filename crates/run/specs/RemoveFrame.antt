@@ -2,7 +2,6 @@
 use mathlib.Core.Path.{_≡_, refl}
 use mathlib.Core.List.{List}
 use mathlib.Core.Option.{Option, none, some}
-use Prim.Native.Nat.{ℕ}
 use mathlib.Core.Bool.{Bool, true, false, _&&_, cond}
 use lib.Ieee.{Float, ne}
 use Rattle.steps.specs.Number.{zero64, Mark}
@@ -12,7 +11,8 @@ use Rattle.steps.specs.State.{Basic}
 use Rattle.steps.specs.Work.{Work, marking, withTableau, withChanges, withRows, withObjective, findRow}
 use Rattle.steps.specs.Changes.{note}
 use Rattle.steps.specs.Remove.{noteLeaving}
-use Rattle.run.specs.Steady.{noted-variables, Kept, kept-refl}
+use Rattle.keeps.specs.Frame.{clear-changed}
+use Rattle.run.specs.Steady.{Kept, kept-refl}
 
 pub kept-marking : (m : Mark) (w : Work) → Kept w (marking m w)
 unfolding marking
@@ -47,7 +47,7 @@ noted l w = go (findRow (l .id) (w .tableau .rows))
       artificial = refl;
       mark = refl;
       pivots = refl;
-      kept = record { symbols = refl; nextId = refl; variables = noted-variables (l .id) (w .changes); artificial = λ e. e };
+      kept = record { symbols = refl; nextId = refl; variables = clear-changed (l .id) (w .changes); artificial = λ e. e };
     }
     by false = still
 

@@ -23,22 +23,11 @@ use Rattle.steps.specs.Row.{Row}
 use Rattle.steps.specs.State.{Tag}
 use Rattle.steps.specs.Work.{Work, withTableau, findRow, purge}
 use Rattle.steps.specs.Remove.{purgeTag}
-use Rattle.bridge.specs.Rows.{In, Sym?, is, isnt, sym?, reads-to, row-to}
+use Rattle.bridge.specs.Rows.{In, reads-to, row-to}
 use Rattle.bridge.specs.Table.{RowAt, ReadsWork}
-use Rattle.bridge.specs.Columns.{purge-z}
+use Rattle.bridge.specs.Columns.{purge-z, delete-in}
 
 -- ---- the symbols that stay
-delete-in : (s j : ℕ) (xs : List Symbol) → j ≢ s → In j xs → In j (deleteSymbol s xs)
-unfolding deleteSymbol
-delete-in s j [] n m = absurd m
-delete-in s j (x ∷ xs) n m = go (sym? s x) m (delete-in s j xs n)
-  where
-    go : Sym? s x → (j ≡ x .id) ⊎ In j xs → (In j xs → In j (deleteSymbol s xs)) → In j (elim (isSymbol s x) [ true ↦ xs | false ↦ x ∷ deleteSymbol s xs ])
-    go (is e p d) (inl q) ih = absurd (n (q ∙ sym p))
-    go (is e p d) (inr m) ih = rw e m
-    go (isnt e p d) (inl q) ih = rw e (inl q)
-    go (isnt e p d) (inr m) ih = rw e (inr (ih m))
-
 delete-sub : (s j : ℕ) (xs : List Symbol) → In j (deleteSymbol s xs) → In j xs
 unfolding deleteSymbol
 delete-sub s j [] m = m

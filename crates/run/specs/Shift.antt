@@ -1,14 +1,14 @@
 -- A suggestion's shift of constants, read as the theory's rows: each row that gets something gets a whole number more. Assumes nothing.
-use mathlib.Core.Path.{_≡_, refl, sym, ap, ap₂, _∙_, subst}
-use mathlib.Core.Logic.{_⊎_, inl, inr, _≢_}
-use mathlib.Core.Bool.{Bool, true, false}
-use mathlib.Core.List.{List, [], _∷_, map}
+use mathlib.Core.Path.{_≡_, refl, sym, ap, _∙_, subst}
+use mathlib.Core.Logic.{_≢_}
+use mathlib.Core.Bool.{true, false}
+use mathlib.Core.List.{List, [], _∷_}
 use mathlib.Core.Option.{Option, none, some}
-use Prim.Native.Nat.{ℕ, zero, suc, _^_, _<_, _≤_}
+use Prim.Native.Nat.{ℕ, _^_}
 use native.Mathlib.Omega.{arith}
-use lib.IntN.{ℤ, pos, natAbs, _+ℤ_, _*ℤ_}
+use lib.IntN.{ℤ, _+ℤ_, _*ℤ_}
 use lib.Ieee.{Float}
-use Rattle.laws.specs.Z.{_≺_, abs-add}
+use Rattle.laws.specs.Z.{abs-add}
 use Rattle.laws.specs.Ring.{ring, v, k as κ, _⊞_, _⊠_}
 use Rattle.exact.specs.Whole.{IsZ, Zb, isz-to, add-z}
 use Rattle.simplex.specs.Ord.{0ℤ, 1ℤ}
@@ -16,16 +16,16 @@ use Rattle.simplex.specs.Lin.{Vec, δ, δ-same, δ-other, plus}
 use Rattle.simplex.specs.Choose.{All}
 use Rattle.simplex.specs.Basis.{Mask}
 use Rattle.simplex.specs.Opt.{Kind as KindZ}
-use Rattle.steps.specs.Number.{constantBound, allWhole, markWrite}
+use Rattle.steps.specs.Number.{allWhole}
 use Rattle.steps.specs.Symbol.{Symbol, isSymbol}
-use Rattle.steps.specs.Row.{Row, Written, untouched}
+use Rattle.steps.specs.Row.{Row, untouched}
 use Rattle.steps.specs.State.{Basic}
 use Rattle.steps.specs.Work.{findRow}
-use Rattle.steps.specs.Substitute.{Substituted, rowsOf, marksOf}
+use Rattle.steps.specs.Substitute.{rowsOf, marksOf}
 use Rattle.steps.specs.Edit.{shiftRow, shiftRows, shifted}
 use Rattle.bridge.specs.Nums.{constantBound-z, worse-l, worse-r, write-small}
-use Rattle.bridge.specs.Rows.{Reads, NotIn, In, Up, Sym?, is, isnt, sym?, ReadsRow, row-to, reads-to}
-use Rattle.bridge.specs.Finds.{UpRows, none≢some, some-injective, find-hit, find-miss, find-none}
+use Rattle.bridge.specs.Rows.{Up, Sym?, is, isnt, sym?, ReadsRow, row-to, reads-to}
+use Rattle.bridge.specs.Finds.{UpRows, find-hit, find-miss, find-none}
 use Rattle.bridge.specs.Table.{RowAt, Live, ReadsTable, in-nonzero}
 
 -- ---- along the rows

@@ -1,27 +1,23 @@
 -- A reset begins a whole run, and a fetch goes on with it. Assumes nothing.
-use mathlib.Core.Path.{_≡_, refl, sym, ap, _∙_, subst}
+use mathlib.Core.Path.{_≡_, refl, sym, ap, _∙_}
 use mathlib.Core.Logic.{_≢_}
-use mathlib.Core.Bool.{Bool, true, false, not, true≢false, cond}
-use mathlib.Core.List.{List, [], _∷_, map}
-use mathlib.Core.Option.{Option, none, some}
+use mathlib.Core.Bool.{false, true≢false, cond}
+use mathlib.Core.List.{[]}
 use Prim.Native.Nat.{ℕ}
 use native.Mathlib.Omega.{arith}
-use lib.Dec.{eqb}
-use lib.IntN.{ℤ}
 use Rattle.simplex.specs.Ord.{0ℤ, ≼-refl}
-use Rattle.simplex.specs.Lin.{Vec, δ, δ-other, dot, dot-δ}
+use Rattle.simplex.specs.Lin.{δ, δ-other, dot-δ}
 use Rattle.simplex.specs.At.{at, At, here, there, at?, at-here}
-use Rattle.simplex.specs.Choose.{All, all-map}
-use Rattle.simplex.specs.Opt.{Kind as KindZ, const, external, slack, dummy}
+use Rattle.simplex.specs.Choose.{all-map}
+use Rattle.simplex.specs.Opt.{Kind as KindZ, const, external, dummy}
 use Rattle.simplex.specs.Pass.{State as StateZ, Good}
 use Rattle.simplex.specs.Steps.{dot-nil}
 use Rattle.simplex.specs.Problem.{Models}
-use Rattle.steps.specs.Symbol.{Symbol}
-use Rattle.steps.specs.State.{Term, Variable, Basic, Changes, State}
+use Rattle.simplex.specs.Gone.{dummy≢external, const≢external}
+use Rattle.steps.specs.State.{Term, State}
 use Rattle.steps.specs.Changes.{findVariable, clearChanged, fetchChanges}
 use Rattle.steps.specs.Tests.{findConstraint, findEdit, keptTerms}
 use Rattle.steps.specs.Calls.{empty, begin}
-use Rattle.bridge.specs.Table.{ReadsWork}
 use Rattle.bridge.specs.Columns.{reset-z}
 use Rattle.run.specs.Demand.{Moment, start, next, make, liveAfter, accepted, resets, fetches}
 use Rattle.run.specs.Inv.{columns, Held, findHeld, Inv}
@@ -46,14 +42,8 @@ kind-apart j h = go (at? 0 const (λ _. external) j)
 not-external : (j : ℕ) (t : KindZ) → t ≢ external → bare j ≡ t → j ≡ 0
 not-external j t n e = kind-apart j (λ q. n (sym e ∙ q))
 
-const≢external : const ≢ external
-const≢external p = let z : _≡_ {A = ℕ} 0 1 = cc in omega arith
-
 dummy≢const : dummy ≢ const
 dummy≢const p = let z : _≡_ {A = ℕ} 0 1 = cc in omega arith
-
-dummy≢external : dummy ≢ external
-dummy≢external p = let z : _≡_ {A = ℕ} 0 1 = cc in omega arith
 
 no-dummy : (j : ℕ) → bare j ≡ dummy → ⊥
 unfolding bare

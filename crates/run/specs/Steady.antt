@@ -4,52 +4,28 @@ use mathlib.Core.Logic.{_⊎_, inl, inr, _≢_}
 use mathlib.Core.List.{List, [], _∷_}
 use mathlib.Core.Option.{Option, none, some}
 use Prim.Native.Nat.{ℕ, zero, suc}
-use native.Mathlib.Omega.{arith}
 use mathlib.Core.Bool.{Bool, true, false, _&&_, cond, not}
 use lib.Ieee.{Float, ne}
 use Rattle.simplex.specs.Choose.{All, all-map}
 use Rattle.simplex.specs.Opt.{Kind as KindZ, external, slack, dummy, slack≢external}
+use Rattle.simplex.specs.Gone.{dummy≢external}
 use Rattle.steps.specs.Number.{zero64, belowZero, Mark, allWhole, notWhole, notFinite}
 use Rattle.steps.specs.Symbol.{Symbol, isExternal, isRestricted, isDummy, firstSymbol}
 use Rattle.steps.specs.Row.{Row, Written, solveForSymbols}
-use Rattle.steps.specs.State.{Basic, Variable, Changes}
-use Rattle.steps.specs.Work.{Work, Outcome, refused, going, _>>=_, refuse, checkFinite, countPivot, marking, withRows, withTableau, withChanges, withArtificial, withObjective, withInfeasible, findRow, dropRow, keepRow}
-use Rattle.steps.specs.Changes.{withFlag, clearChanged, flagSymbol, varChanged, allChanged, note}
-use Rattle.steps.specs.Substitute.{substituteInRows, rowsOf, notedOf, pushBelow, substitute, enterBasis, pivot}
+use Rattle.steps.specs.State.{Basic}
+use Rattle.steps.specs.Work.{Work, Outcome, refused, going, _>>=_, refuse, checkFinite, countPivot, marking, withRows, withTableau, withChanges, withArtificial, withObjective, withInfeasible, dropRow, keepRow}
+use Rattle.steps.specs.Changes.{clearChanged, allChanged, note}
+use Rattle.steps.specs.Substitute.{substituteInRows, rowsOf, notedOf, substitute, enterBasis, pivot}
 use Rattle.steps.specs.Optimise.{Goal, goalCells, getEnteringSymbol, getLeavingRow, choosePivot, ended, stuck, pivotOn, Choice as Chosen, countedPivot, optimise}
+use Rattle.keeps.specs.Frame.{clear-changed, clear-all}
 use Rattle.bridge.specs.Infeasible.{pushed-all}
 use Rattle.bridge.specs.Finds.{none≢some, some-injective, after-sub, sub-all, drop-all, keep-all}
 use Rattle.bridge.specs.Table.{kindOf, enter-parts}
 use Rattle.bridge.specs.Chosen.{restricted-is}
-
--- ---- the variables but for their flags: number, symbol, old value and use count
-clear-clear : (vs : List Variable) → clearChanged (clearChanged vs) ≡ clearChanged vs
-unfolding clearChanged withFlag
-clear-clear [] = refl
-clear-clear (v ∷ vs) = ap (λ (l : List Variable). withFlag false v ∷ l) (clear-clear vs)
-
-clear-flag : (s : ℕ) (vs : List Variable) → clearChanged (flagSymbol s vs) ≡ clearChanged vs
-unfolding clearChanged flagSymbol withFlag
-clear-flag s [] = refl
-clear-flag s (v ∷ vs) = ap (λ (l : List Variable). withFlag false v ∷ l) (clear-flag s vs)
-
-pub noted-variables : (s : ℕ) (c : Changes) → clearChanged (varChanged s c .variables) ≡ clearChanged (c .variables)
-unfolding varChanged
-noted-variables s c = clear-flag s (cond (c .shouldClear) (clearChanged (c .variables)) (c .variables)) ∙ go (c .shouldClear)
-  where
-    go : (b : Bool) → clearChanged (cond b (clearChanged (c .variables)) (c .variables)) ≡ clearChanged (c .variables)
-    go true = clear-clear (c .variables)
-    go false = refl
-
-pub all-noted-variables : (ss : List ℕ) (c : Changes) → clearChanged (allChanged ss c .variables) ≡ clearChanged (c .variables)
-unfolding allChanged
-all-noted-variables [] c = refl
-all-noted-variables (s ∷ ss) c = all-noted-variables ss (varChanged s c) ∙ noted-variables s c
+use Rattle.bridge.specs.Drags.{enter-list}
+use Rattle.bridge.specs.Runs.{pivot-cases}
 
 -- ---- the infeasible list gets restricted symbols only
-dummy≢external : dummy ≢ external
-dummy≢external p = let z : _≡_ {A = ℕ} 0 1 = cc in omega arith
-
 -- each symbol is of the theory's kind
 abbrev pub Kinded : (ℕ → KindZ) → Symbol → Type 0
 Kinded kind x = kind (x .id) ≡ kindOf (x .kind)
@@ -105,20 +81,11 @@ enter-kept s r w = record {
     next false = refl
 
     all : clearChanged (allChanged (notedOf (substituteInRows (s .id) (w .tableau .symbols) r (w .tableau .rows))) (w .changes) .variables) ≡ clearChanged (w .changes .variables)
-    all = all-noted-variables (notedOf (substituteInRows (s .id) (w .tableau .symbols) r (w .tableau .rows))) (w .changes)
+    all = clear-all (notedOf (substituteInRows (s .id) (w .tableau .symbols) r (w .tableau .rows))) (w .changes)
 
     vars : (b : Bool) → clearChanged ((withRows (keepRow (record { symbol = s; row = r }) ((cond b (note (s .id) (substitute (s .id) r w)) (substitute (s .id) r w)) .tableau .rows)) (cond b (note (s .id) (substitute (s .id) r w)) (substitute (s .id) r w))) .changes .variables) ≡ clearChanged (w .changes .variables)
-    vars true = noted-variables (s .id) (allChanged (notedOf (substituteInRows (s .id) (w .tableau .symbols) r (w .tableau .rows))) (w .changes)) ∙ all
+    vars true = clear-changed (s .id) (allChanged (notedOf (substituteInRows (s .id) (w .tableau .symbols) r (w .tableau .rows))) (w .changes)) ∙ all
     vars false = all
-
-enter-list : (s : Symbol) (r : Row) (w : Work) → enterBasis s r w .tableau .infeasible ≡ pushBelow (rowsOf (substituteInRows (s .id) (w .tableau .symbols) r (w .tableau .rows))) (w .tableau .infeasible)
-unfolding enterBasis substitute note withTableau withChanges withArtificial marking withRows withObjective withInfeasible
-enter-list s r w = go (isExternal s && ne (r .constant) zero64)
-  where
-    go : (b : Bool) → (withRows (keepRow (record { symbol = s; row = r }) ((cond b (note (s .id) (substitute (s .id) r w)) (substitute (s .id) r w)) .tableau .rows)) (cond b (note (s .id) (substitute (s .id) r w)) (substitute (s .id) r w))) .tableau .infeasible
-        ≡ pushBelow (rowsOf (substituteInRows (s .id) (w .tableau .symbols) r (w .tableau .rows))) (w .tableau .infeasible)
-    go true = refl
-    go false = refl
 
 pub enter-calm : (kind : ℕ → KindZ) (s : Symbol) (r : Row) (w : Work) → Kinded kind s → Calm kind w → Calm kind (enterBasis s r w)
 enter-calm kind s r w k c = record {
@@ -131,16 +98,6 @@ enter-calm kind s r w k c = record {
     old = sub-all (s .id) (w .tableau .symbols) r (Kinded kind) (w .tableau .rows) (c .basics)
 
 -- ---- a pivot
-pivot-cases : (l : ℕ) (e : Symbol) (w : Work) (Q : Work → Type 0) → Q w
-    → ((row : Row) → Q (enterBasis e (solveForSymbols l (e .id) (w .tableau .symbols) row .row) (marking (solveForSymbols l (e .id) (w .tableau .symbols) row .mark) (withRows (dropRow l (w .tableau .rows)) w))))
-    → Q (pivot l e w)
-unfolding pivot
-pivot-cases l e w Q f g = go (findRow l (w .tableau .rows))
-  where
-    go : (t : Option Row) → Q (elim t [ none ↦ w | some row ↦ enterBasis e (solveForSymbols l (e .id) (w .tableau .symbols) row .row) (marking (solveForSymbols l (e .id) (w .tableau .symbols) row .mark) (withRows (dropRow l (w .tableau .rows)) w)) ])
-    go none = f
-    go (some row) = g row
-
 less-kept : (l : ℕ) (m : Mark) (w : Work) → Kept w (marking m (withRows (dropRow l (w .tableau .rows)) w))
 unfolding marking withRows withTableau
 less-kept l m w = record { symbols = refl; nextId = refl; variables = refl; artificial = λ e. e }

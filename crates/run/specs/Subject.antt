@@ -13,8 +13,9 @@ use Rattle.exact.specs.Whole.{IsZ}
 use Rattle.simplex.specs.Ord.{0ℤ}
 use Rattle.simplex.specs.Lin.{Vec}
 use Rattle.simplex.specs.Choose.{All}
-use Rattle.simplex.specs.Opt.{Kind as KindZ, const, external, slack, dummy, slack≢external, dummy≢slack}
+use Rattle.simplex.specs.Opt.{Kind as KindZ, const, external, slack, dummy, dummy≢slack}
 use Rattle.simplex.specs.Pass.{State as StateZ}
+use Rattle.simplex.specs.Look.{both}
 use Rattle.steps.specs.Number.{belowZero}
 use Rattle.steps.specs.Symbol.{Kind, External, Slack, Error, Dummy, Symbol, isExternal, isDummy, isPivotable, absent, holds, coefficientFor, firstSymbol}
 use Rattle.steps.specs.Work.{Work}
@@ -28,8 +29,9 @@ use Rattle.bridge.specs.Looks.{in-or-not, is-live}
 use Rattle.run.specs.Demand.{Demand}
 use Rattle.run.specs.Inv.{Held}
 use Rattle.run.specs.Steady.{Kinded}
-use Rattle.run.specs.Inputs.{both, below-z}
+use Rattle.run.specs.Inputs.{below-z}
 use Rattle.run.specs.Build.{Built}
+use Rattle.run.specs.RanksIs.{is-external, external-is}
 
 -- ---- the first symbol of a kind that the row holds
 pub data Holding (p : Symbol → Bool) (q : Vec) (xs : List Symbol) : Option Symbol → Type 0 where
@@ -69,29 +71,6 @@ holding p b q (x ∷ xs) (c ∷ cs) h = go (p x) refl (holds c) refl (firstSymbo
     go true e true f o ih = somebody x (inl refl) e (holds-yes (h .0 .isz) f)
 
 -- ---- kinds
-pub dummy≢external : dummy ≢ external
-dummy≢external p = let z : _≡_ {A = ℕ} 0 1 = cc in omega arith
-
-is-external : (x : Symbol) → kindOf (x .kind) ≡ external → isExternal x ≡ true
-unfolding isExternal
-is-external x e = go (x .kind) e
-  where
-    go : (t : Kind) → kindOf t ≡ external → elim t [ External ↦ true | Slack ↦ false | Error ↦ false | Dummy ↦ false ] ≡ true
-    go External e = refl
-    go Slack e = absurd (slack≢external e)
-    go Error e = absurd (slack≢external e)
-    go Dummy e = absurd (dummy≢external e)
-
-pub external-kind : (x : Symbol) → isExternal x ≡ true → kindOf (x .kind) ≡ external
-unfolding isExternal
-external-kind x e = go (x .kind) e
-  where
-    go : (t : Kind) → elim t [ External ↦ true | Slack ↦ false | Error ↦ false | Dummy ↦ false ] ≡ true → kindOf t ≡ external
-    go External e = refl
-    go Slack e = absurd (true≢false (sym e))
-    go Error e = absurd (true≢false (sym e))
-    go Dummy e = absurd (true≢false (sym e))
-
 no-dummy : (x : Symbol) → kindOf (x .kind) ≢ dummy → not (isDummy x) ≡ true
 unfolding isDummy
 no-dummy x n = go (x .kind) n
@@ -180,7 +159,7 @@ module _ (n : ℕ) (old : ℕ → KindZ) (S : StateZ) (held : List Held) (d : De
 
       go : (t : Option Symbol) → Holding isExternal (B .r) xs t
           → Subjected (elim t [ some s ↦ some s | none ↦ elim (negativeTag c (c .tag .marker)) [ true ↦ some (c .tag .marker) | false ↦ elim (c .tag .other) [ none ↦ none | some o ↦ elim (negativeTag c o) [ true ↦ some o | false ↦ none ] ] ] ])
-      go t (somebody s m k z) = let l = is-live (B .kind) s xs (B .reads .kinds) m in variable s l (l .1 ∙ external-kind s k) z
+      go t (somebody s m k z) = let l = is-live (B .kind) s xs (B .reads .kinds) m in variable s l (l .1 ∙ external-is s k) z
       go t (nobody A) = by-marker (λ i k. absent-kind isExternal A i (external≢0 i k) (λ x q e. is-external x (sym q ∙ ap (B .kind) e ∙ k))) (negativeTag c (c .tag .marker)) refl
 
   pub no-externals : chooseSubject c ≡ none → (i : ℕ) → B .kind i ≡ external → B .r i ≡ 0ℤ

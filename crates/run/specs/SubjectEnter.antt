@@ -1,5 +1,5 @@
 -- Add's step 5 in a whole run: with a subject the new row enters, and the tableau models one demand more; a row of dummies alone with a constant cannot be met. Assumes nothing.
-use Prim.Native.Nat.{ℕ, _-_, _≤_, _<_}
+use Prim.Native.Nat.{ℕ, _≤_, _<_}
 use native.Mathlib.Omega.{arith}
 use mathlib.Core.Path.{_≡_, refl, sym, ap, _∙_, subst}
 use mathlib.Core.Logic.{_⊎_, inl, inr, _≢_}
@@ -8,7 +8,7 @@ use mathlib.Core.List.{List, [], _∷_, map}
 use mathlib.Core.Option.{Option, some}
 use lib.IntN.{ℤ, negsuc, negℤ, _*ℤ_}
 use lib.Ieee.{ne}
-use Rattle.laws.specs.Z.{_≼_, _≺_, mul-cancel, ≡→eqZb}
+use Rattle.laws.specs.Z.{_≺_, mul-cancel, ≡→eqZb}
 use Rattle.laws.specs.Ring.{ring, v as ν, k as lit, _⊠_, ⊟_}
 use Rattle.simplex.specs.Ord.{0ℤ, 1ℤ, ≼-of-eq, ≼-trans, ≺-irrefl}
 use Rattle.simplex.specs.Lin.{dot}
@@ -27,6 +27,7 @@ use Rattle.steps.specs.Substitute.{substitute, enterBasis}
 use Rattle.steps.specs.CreateRow.{Created}
 use Rattle.steps.specs.Add.{addWithSubject}
 use lib.Dec.{T}
+use Rattle.simplex.specs.Gone.{dummy≢external}
 use Rattle.bridge.specs.Nums.{finite≢, nearZero-yes, nearZero-z}
 use Rattle.bridge.specs.Table.{kindOf, Live, in-nonzero}
 use Rattle.bridge.specs.Looks.{minus-one}
@@ -38,7 +39,7 @@ use Rattle.run.specs.Steady.{Calm, Kept, enter-kept, enter-calm}
 use Rattle.run.specs.Passes.{other-artificial}
 use Rattle.run.specs.Build.{NewTag, Built, newHeld}
 use Rattle.bridge.specs.Finds.{none≢some, some-injective}
-use Rattle.run.specs.Subject.{NoExternal, dummy≢external, external≢0, slack≢0, Subjected, variable, marker, other, nothing, Dummies, all-dummies, one-not}
+use Rattle.run.specs.Subject.{NoExternal, external≢0, slack≢0, Subjected, variable, marker, other, nothing, Dummies, all-dummies, one-not}
 use Rattle.run.specs.AddEnds.{Placed, Unmet, Ends}
 
 const≢dummy : const ≢ dummy

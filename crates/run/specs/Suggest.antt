@@ -1,52 +1,45 @@
 -- A suggestion keeps the invariant of a whole run, whatever it answers. Assumes nothing.
 use mathlib.Core.Path.{_≡_, refl, sym, ap, ap₂, _∙_, subst}
-use mathlib.Core.Logic.{_⊎_, inl, inr, _≢_}
-use mathlib.Core.Bool.{Bool, true, false, not, cond, _&&_, true≢false}
+use mathlib.Core.Logic.{_⊎_, inl, inr}
+use mathlib.Core.Bool.{Bool, true, false, not, cond}
 use mathlib.Core.List.{List, [], _∷_, map}
-use mathlib.Core.Option.{Option, none, some}
-use Prim.Native.Nat.{ℕ, zero, suc, _+_, _^_, _<_, _≤_}
+use mathlib.Core.Option.{none, some}
+use Prim.Native.Nat.{ℕ, _^_, _<_}
 use native.Mathlib.Omega.{arith}
-use lib.Dec.{T, eqb}
-use lib.IntN.{ℤ, pos, negℤ, natAbs, _+ℤ_, _-ℤ_, _*ℤ_}
-use lib.Ieee.{Float, nan, inf, fin, neg, lt}
-use Rattle.laws.specs.Z.{_≼_, _≺_, abs-neg}
-use Rattle.laws.specs.Ring.{ring, v, k as κ, _⊞_, _⊠_, ⊟_, _⊟⊟_}
-use Rattle.exact.specs.Whole.{IsZ, Zb, val, isz-val, isz-to, neg-z, neg-b, sub-b}
+use lib.Dec.{eqb}
+use lib.IntN.{ℤ, negℤ, _-ℤ_}
+use lib.Ieee.{Float, nan, inf, fin, neg}
+use Rattle.laws.specs.Z.{_≺_}
+use Rattle.laws.specs.Ring.{ring, v, ⊟_, _⊟⊟_}
+use Rattle.exact.specs.Whole.{Zb, val, isz-val, neg-z, neg-b, sub-b}
 use Rattle.simplex.specs.Ord.{0ℤ}
 use Rattle.simplex.specs.Lin.{Vec, δ, plus}
 use Rattle.simplex.specs.Choose.{All}
-use Rattle.simplex.specs.Opt.{Kind as KindZ, external, slack}
-use Rattle.simplex.specs.Pass.{State as StateZ, Good}
+use Rattle.simplex.specs.Opt.{slack}
 use Rattle.simplex.specs.Form.{Form, eq, eq! }
 use Rattle.simplex.specs.Problem.{Con, Meets, Models}
 use Rattle.simplex.specs.Drag.{edit}
-use Rattle.steps.specs.Number.{_-₆₄_, constantBound, isFinite, isWhole, within, Mark, allWhole, notWhole, notFinite, worse, wholeIf, saysWhole}
-use Rattle.steps.specs.Strength.{required}
-use Rattle.steps.specs.Symbol.{Symbol, Error}
-use Rattle.steps.specs.State.{Term, Relation, equal, strengthOf, Tag, Variable, Edit, State}
+use Rattle.steps.specs.Number.{_-₆₄_, constantBound, Mark, allWhole, notWhole, notFinite, wholeIf}
+use Rattle.steps.specs.Symbol.{Symbol}
+use Rattle.steps.specs.State.{strengthOf, Tag, Edit, State}
 use Rattle.steps.specs.Work.{Work, Outcome, refused, going, _>>=_, refuse, checkFinite, marking}
-use Rattle.steps.specs.Changes.{findVariable, clearChanged}
 use Rattle.steps.specs.Optimise.{dualOptimise}
-use Rattle.steps.specs.Add.{wholeWithin, wholeInputs}
-use Rattle.steps.specs.Edit.{editTerms, shiftOf, shiftRows, shiftConstants, suggestSteps}
-use Rattle.steps.specs.Tests.{findEdit, keepEdit, dropEdit, keptTerms}
-use Rattle.steps.specs.Calls.{Answer, Result, begin, finish, stillBelow, refusedBy, acceptedAs, conclude, suggest}
-use Rattle.steps.specs.Readable.{readable}
-use Rattle.keeps.specs.Keys.{findEdit-is, keepEdit-is, dropEdit-is}
-use Rattle.keeps.specs.Tested.{reads-in}
-use Rattle.bridge.specs.Nums.{finite≢, worse-l, worse-r, constantBound-z}
+use Rattle.steps.specs.Add.{wholeWithin}
+use Rattle.steps.specs.Edit.{shiftOf, shiftRows, shiftConstants, suggestSteps}
+use Rattle.steps.specs.Tests.{keptTerms}
+use Rattle.steps.specs.Calls.{Result, begin, refusedBy, acceptedAs}
+use Rattle.bridge.specs.Nums.{finite≢, worse-r, constantBound-z, whole-if}
 use Rattle.bridge.specs.Rows.{In}
 use Rattle.bridge.specs.Table.{ReadsWork}
 use Rattle.bridge.specs.Runs.{markOf}
 use Rattle.bridge.specs.Drags.{Dragged, Ends, drag, dual-mark}
-use Rattle.run.specs.Demand.{Key, ofConstraint, ofEdit, sameKey, Demand, Call, suggests, make, accepted, liveAfter, Moment, next}
-use Rattle.run.specs.Inv.{columns, Held, exprOf, formOf, otherId, conOf, findHeld, Shaped, EditedAs, EditAt, ConstraintAt, VarAt, WholeDemand, Once, Inv}
+use Rattle.run.specs.Demand.{ofEdit, Call, make, accepted, liveAfter, Moment, next}
+use Rattle.run.specs.Inv.{columns, Held, exprOf, formOf, otherId, conOf, findHeld, Shaped, EditedAs, WholeDemand, Inv}
 use Rattle.run.specs.AtRest.{one, best-columns}
 use Rattle.run.specs.Perm.{withoutHeld, all-found, all-first, models-first}
-use Rattle.run.specs.Refit.{withExpr, models-expr, expr-less, movedHeld, moved-own, moved-other, live-moved, MovedAt, find-moved, out-moved, once-moved, models-back}
-use Rattle.run.specs.Inputs.{both, whole-if, says-whole, whole-within, inputs-z}
+use Rattle.run.specs.Inputs.{whole-within, inputs-z}
 use Rattle.run.specs.Steady.{Kept, kept-trans, IfGoing}
-use Rattle.run.specs.Drag.{dual-kept, shift-kept, shift-marks, starts, table}
+use Rattle.run.specs.Drag.{dual-kept, shift-kept, shift-marks, starts}
 
 -- ---- a refused call, and an accepted one
 

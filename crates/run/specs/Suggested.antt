@@ -1,50 +1,51 @@
 -- A suggestion keeps the invariant of a whole run, whatever it answers. Assumes nothing.
 use mathlib.Core.Path.{_≡_, refl, sym, ap, ap₂, _∙_, subst}
-use mathlib.Core.Logic.{_⊎_, inl, inr, _≢_}
-use mathlib.Core.Bool.{Bool, true, false, not, cond, _&&_, true≢false}
+use mathlib.Core.Logic.{_≢_}
+use mathlib.Core.Bool.{Bool, true, false, _&&_}
 use mathlib.Core.List.{List, [], _∷_, map}
 use mathlib.Core.Option.{Option, none, some}
 use Prim.Native.Nat.{ℕ, _^_, _<_, _≤_}
 use native.Mathlib.Omega.{arith}
 use lib.Dec.{T, eqb, eqb→eq, eqb-refl}
-use lib.IntN.{ℤ, pos, negℤ, natAbs, _-ℤ_}
+use lib.IntN.{pos, negℤ}
 use lib.Signed.{leZ}
-use lib.Ieee.{Float, neg, lt, le}
+use lib.Ieee.{Float, neg, le}
 use Rattle.laws.specs.Z.{abs-neg}
-use Rattle.exact.specs.Whole.{IsZ, Zb, val, neg-z}
+use Rattle.exact.specs.Whole.{val, neg-z}
 use Rattle.exact.specs.Compare.{le-z}
 use Rattle.simplex.specs.Ord.{0ℤ}
-use Rattle.simplex.specs.Lin.{Vec, δ, plus}
+use Rattle.simplex.specs.Lin.{δ, plus}
 use Rattle.simplex.specs.Choose.{All, all-map}
-use Rattle.simplex.specs.Form.{Form, eq}
+use Rattle.simplex.specs.Form.{Form}
 use Rattle.simplex.specs.Problem.{Con, Models}
 use Rattle.simplex.specs.Drag.{edit}
-use Rattle.steps.specs.Number.{constantBound, isFinite, isWhole, within, magnitude, allWhole, Mark, saysWhole}
-use Rattle.steps.specs.State.{Term, Relation, strengthOf, Tag, Constraint, Edit, State}
+use Rattle.simplex.specs.Look.{both}
+use Rattle.steps.specs.Number.{constantBound, isFinite, isWhole, within, magnitude, allWhole, saysWhole}
+use Rattle.steps.specs.State.{Term, Relation, strengthOf, Constraint, Edit, State}
 use Rattle.steps.specs.Symbol.{Symbol}
 use Rattle.steps.specs.Work.{Work, Outcome, refused, going}
 use Rattle.steps.specs.Changes.{findVariable}
 use Rattle.steps.specs.Add.{wholeTerms, wholeWithin, wholeInputs}
 use Rattle.steps.specs.Edit.{suggestSteps}
 use Rattle.steps.specs.Tests.{findConstraint, findEdit, keepEdit, dropEdit, keptTerms}
-use Rattle.steps.specs.Calls.{Answer, Result, begin, finish, stillBelow, refusedBy, acceptedAs, conclude, suggest}
+use Rattle.steps.specs.Calls.{Result, begin, finish, stillBelow, refusedBy, acceptedAs, conclude, suggest}
 use Rattle.steps.specs.Readable.{readable}
+use Rattle.steps.proofs.After.{says-whole}
 use Rattle.keeps.specs.Keys.{findEdit-is, keepEdit-is, dropEdit-is}
 use Rattle.keeps.specs.Tested.{reads-in}
 use Rattle.bridge.specs.Nums.{magnitude-z, constantBound-z}
 use Rattle.bridge.specs.Rows.{In}
 use Rattle.bridge.specs.Table.{ReadsWork}
 use Rattle.bridge.specs.Runs.{markOf}
-use Rattle.bridge.specs.Finds.{none≢some, some-injective}
-use Rattle.run.specs.Demand.{Key, ofConstraint, ofEdit, sameKey, Demand, moved, Call, suggests, make, accepted, liveAfter, Moment, next}
-use Rattle.run.specs.Inv.{columns, Held, exprOf, formOf, otherId, conOf, findHeld, Shaped, StoredAs, ConstraintAt, EditedAs, EditAt, VarAt, WholeDemand, Once, Inv}
+use Rattle.run.specs.Demand.{Key, ofConstraint, ofEdit, sameKey, Demand, moved, Call, suggests, make, accepted, Moment, next}
+use Rattle.run.specs.Inv.{columns, Held, exprOf, formOf, otherId, conOf, findHeld, Shaped, StoredAs, ConstraintAt, EditedAs, EditAt, VarAt, WholeDemand, Inv}
 use Rattle.run.specs.Lookup.{find-keep-same, find-keep-other, find-drop-same, find-drop-other}
 use Rattle.run.specs.Vars.{Same, same-kept, at-same, known-same, known-back}
 use Rattle.run.specs.Perm.{withoutHeld, found-key, own-key}
 use Rattle.run.specs.Refit.{withExpr, models-expr, expr-less, movedHeld, moved-own, moved-other, live-moved, MovedAt, find-moved, out-moved, once-moved, models-back}
-use Rattle.run.specs.Inputs.{both, says-whole, whole-within, z-whole}
+use Rattle.run.specs.Inputs.{whole-within, z-whole}
 use Rattle.run.specs.Passes.{other-artificial}
-use Rattle.run.specs.Suggest.{unchanged, changed, soft, shape, o, expr, weight, others, inside, grown, new-constant, Reached, Comes, steps-come}
+use Rattle.run.specs.Suggest.{unchanged, changed, soft, shape, o, expr, weight, others, grown, new-constant, Reached, Comes, steps-come}
 
 -- ---- what a new aim leaves of a demand
 

@@ -1,47 +1,35 @@
 -- Add's step 6, its end: where the temporary can be 0 it leaves, and the tableau models one demand more; where it cannot, nothing meets the demands. Assumes nothing.
-use mathlib.Core.Path.{_≡_, refl, sym, ap, ap₂, _∙_, subst}
-use mathlib.Core.Logic.{_⊎_, inl, inr, _≢_, _↔_}
-use mathlib.Core.Bool.{Bool, true, false, true≢false}
-use mathlib.Core.List.{List, [], _∷_, _++_, map}
+use mathlib.Core.Path.{_≡_, refl, sym, ap, _∙_}
+use mathlib.Core.Logic.{_⊎_, inl, inr, _≢_}
+use mathlib.Core.Bool.{Bool, true, false}
+use mathlib.Core.List.{List, [], _∷_, map}
 use mathlib.Core.Option.{Option, none, some}
-use Prim.Native.Nat.{ℕ, suc, _+_, _-_, _<_, _≤_}
+use Prim.Native.Nat.{ℕ, _<_}
 use native.Mathlib.Omega.{arith}
-use lib.Dec.{T}
-use lib.IntN.{ℤ, pos, _*ℤ_}
-use lib.Signed.{ltZ}
-use lib.Ieee.{Float}
-use Rattle.laws.specs.Z.{_≼_, _≺_, eqZb, eqZb→, ≡→eqZb}
+use lib.IntN.{ℤ, _*ℤ_}
+use Rattle.laws.specs.Z.{_≼_, _≺_}
 use Rattle.laws.specs.Ring.{ring, v, k as κ, _⊠_}
-use Rattle.simplex.specs.Ord.{0ℤ, 1ℤ, ≼-of-eq, ≼-trans, ≺-or-≼}
-use Rattle.simplex.specs.Lin.{Vec, δ, δ-other, dot, dot-cong}
-use Rattle.simplex.specs.At.{at, At, here, there, at?, at-here, at-there}
+use Rattle.simplex.specs.Ord.{0ℤ, ≼-of-eq, ≼-trans, ≺-or-≼}
+use Rattle.simplex.specs.Lin.{Vec, δ-other}
+use Rattle.simplex.specs.At.{at, at-here, at-there}
 use Rattle.simplex.specs.Choose.{All}
-use Rattle.simplex.specs.Tab.{Solves, pivoted, pivot-solves, pivot-objective}
-use Rattle.simplex.specs.Basis.{Mask, Shape, Clear, swap, at-column, column-solves, basic-solves, pivot-clear}
-use Rattle.simplex.specs.Opt.{Kind as KindZ, const, external, slack, dummy, slack≢external, slack≢const, slack≢dummy}
-use Rattle.simplex.specs.Pass.{State as StateZ, Good, step}
-use Rattle.simplex.specs.Change.{killed, kill-solves}
-use Rattle.simplex.specs.Temp.{Dead, kill-good, rekind, flat-good}
-use Rattle.simplex.specs.Problem.{Con, Meets, Sounds, Equation, total, Tag, Models, cannot-be-met}
+use Rattle.simplex.specs.Tab.{Solves}
+use Rattle.simplex.specs.Basis.{at-column, basic-solves}
+use Rattle.simplex.specs.Opt.{Kind as KindZ, const, external, slack, dummy, slack≢external}
+use Rattle.simplex.specs.Pass.{State as StateZ}
+use Rattle.simplex.specs.Problem.{Con, Meets, Sounds, Equation, Tag, cannot-be-met}
 use Rattle.simplex.specs.Run.{Foreign}
-use Rattle.simplex.specs.Steps.{models-temp, temp-row}
-use Rattle.simplex.specs.Gone.{tag-kind, total-foreign}
-use Rattle.steps.specs.Number.{nearZero, Mark, allWhole, notWhole, notFinite}
-use Rattle.steps.specs.Symbol.{Symbol, Slack}
-use Rattle.steps.specs.Row.{Row}
-use Rattle.steps.specs.State.{Term, Basic, Variable}
-use Rattle.steps.specs.Work.{Work, Outcome, refused, going, newSymbol}
+use Rattle.simplex.specs.Gone.{tag-kind}
+use Rattle.steps.specs.State.{Term, Variable}
+use Rattle.steps.specs.Work.{Work}
 use Rattle.steps.specs.Changes.{findVariable}
 use Rattle.steps.specs.Tests.{keptTerms}
 use Rattle.steps.specs.CreateRow.{Created}
-use Rattle.bridge.specs.Rows.{In, NotIn, ReadsRow}
-use Rattle.bridge.specs.Nums.{nearZero-z}
-use Rattle.bridge.specs.Table.{RowAt, Live, ReadsTable, ReadsWork}
 use Rattle.run.specs.Demand.{Demand}
-use Rattle.run.specs.Inv.{Held, exprOf, conOf, VarAt}
+use Rattle.run.specs.Inv.{Held, conOf, VarAt}
 use Rattle.run.specs.Build.{KnownIn, newHeld, Built}
 use Rattle.run.specs.BuildCons.{expr-plain, PlainIn, sounds-on}
-use Rattle.run.specs.TempStart.{tid≢0, fresh, dead, no-t, good₀, good₁}
+use Rattle.run.specs.TempStart.{tid≢0, fresh, good₁}
 use Rattle.run.specs.TempPass.{Passed}
 
 module _ (n : ℕ) (old : ℕ → KindZ) (S : StateZ) (held : List Held) (d : Demand) (w : Work) (c : Created) (Q : Built n old S held d w c) (in-n : 0 < n) (room : c .work .tableau .nextId < n)
@@ -103,9 +91,6 @@ module _ (n : ℕ) (old : ℕ → KindZ) (S : StateZ) (held : List Held) (d : De
 
   -- ---- the temporary's value, at the end of the pass
   module _ (left : ℕ) (x : Work) (P : Passed n old S held d w c Q in-n room plain L left x) where
-    β : Vec
-    β = λ j. P .T .R j 0
-
     pub worth-0 : P .T .o 0 ≡ P .T .R t 0
     worth-0 = sym (at-column n (P .T .B) (P .T .R) (P .good .shape) 0 (P .good .shape .const) in-n (P .T .o) (P .good .clear)) ∙ P .art (λ j. P .T .R j 0) (basic-solves n (P .T .B) (P .T .R) (P .good .shape) in-n)
 

@@ -1,9 +1,9 @@
 -- Add's step 6, its last line: the temporary, not basic any more, goes, and the tableau without it models the new demand with the others. Assumes nothing.
 use mathlib.Core.Path.{_≡_, refl, sym, ap, ap₂, _∙_, subst}
-use mathlib.Core.Logic.{_⊎_, inl, inr, _≢_, _↔_}
-use mathlib.Core.Bool.{Bool, true, false, true≢false}
+use mathlib.Core.Logic.{_≢_, _↔_}
+use mathlib.Core.Bool.{Bool, false}
 use mathlib.Core.List.{List, [], _∷_, map}
-use mathlib.Core.Option.{Option, none, some}
+use mathlib.Core.Option.{Option, none}
 use Prim.Native.Nat.{ℕ, _<_}
 use native.Mathlib.Omega.{arith}
 use lib.IntN.{ℤ, _*ℤ_}
@@ -12,14 +12,14 @@ use Rattle.laws.specs.Ring.{ring, v, k as κ, _⊠_}
 use Rattle.simplex.specs.Ord.{0ℤ}
 use Rattle.simplex.specs.Lin.{Vec, δ, dot, dot-cong}
 use Rattle.simplex.specs.At.{at, At, here, there, at?, at-here, at-there}
-use Rattle.simplex.specs.Choose.{All, all-map}
+use Rattle.simplex.specs.Choose.{all-map}
 use Rattle.simplex.specs.Tab.{Solves}
 use Rattle.simplex.specs.Basis.{Mask}
-use Rattle.simplex.specs.Opt.{Kind as KindZ, const, external, slack, dummy, slack≢dummy}
+use Rattle.simplex.specs.Opt.{Kind as KindZ, const, external, slack, slack≢dummy}
 use Rattle.simplex.specs.Pass.{State as StateZ, Good}
 use Rattle.simplex.specs.Change.{killed, kill-solves}
 use Rattle.simplex.specs.Temp.{kill-good, rekind}
-use Rattle.simplex.specs.Problem.{Con, total, Models}
+use Rattle.simplex.specs.Problem.{Con, Models}
 use Rattle.simplex.specs.Steps.{models-temp}
 use Rattle.simplex.specs.Gone.{total-foreign}
 use Rattle.steps.specs.Symbol.{Symbol}
@@ -27,7 +27,7 @@ use Rattle.steps.specs.Row.{Row}
 use Rattle.steps.specs.State.{Basic}
 use Rattle.steps.specs.Work.{Work, purge}
 use Rattle.steps.specs.CreateRow.{Created}
-use Rattle.bridge.specs.Table.{kindOf, RowAt, ArtAt, Live, ReadsTable, ReadsWork}
+use Rattle.bridge.specs.Table.{RowAt, ReadsTable, ReadsWork}
 use Rattle.bridge.specs.Columns.{purge-z}
 use Rattle.run.specs.Demand.{Demand}
 use Rattle.run.specs.Inv.{Held, conOf}

@@ -1,28 +1,26 @@
 -- Add's step 6, the temporary leaves: not basic it goes; basic at 0 its row holds a slack or an error, a pivot on it moves no constant, and then it goes. Assumes nothing.
-use mathlib.Core.Path.{_≡_, refl, sym, ap, ap₂, _∙_, subst}
+use mathlib.Core.Path.{_≡_, refl, sym, ap, _∙_, subst}
 use mathlib.Core.Logic.{_⊎_, inl, inr, _≢_, _↔_}
-use mathlib.Core.Bool.{Bool, true, false, not, true≢false}
+use mathlib.Core.Bool.{Bool, true, false, true≢false}
 use mathlib.Core.List.{List, [], _∷_, _++_, map}
 use mathlib.Core.Option.{Option, none, some}
 use Prim.Native.Nat.{ℕ, suc, _+_, _<_, _≤_}
 use native.Mathlib.Omega.{arith}
-use lib.IntN.{ℤ, _*ℤ_}
+use lib.IntN.{_*ℤ_}
 use Rattle.simplex.specs.Ord.{0ℤ, 1ℤ}
-use Rattle.simplex.specs.Lin.{Vec, δ, dot}
-use Rattle.simplex.specs.At.{at, At, here, there, at?, at-here, at-there}
+use Rattle.simplex.specs.Lin.{Vec, dot}
+use Rattle.simplex.specs.At.{at, at-here, at-there}
 use Rattle.simplex.specs.Choose.{All}
 use Rattle.simplex.specs.Tab.{Solves, pivoted, pivot-solves, pivot-objective, pivot as pivotZ}
-use Rattle.simplex.specs.Basis.{Mask, swap, Swapped, enters, leaves, stays, swapped, column-solves}
+use Rattle.simplex.specs.Basis.{swap, Swapped, enters, leaves, stays, swapped, column-solves}
 use Rattle.simplex.specs.Opt.{Kind as KindZ, const, external, slack, dummy, slack≢external, slack≢const}
 use Rattle.simplex.specs.Pass.{State as StateZ, Good, step}
 use Rattle.simplex.specs.Temp.{flat-good}
 use Rattle.simplex.specs.Change.{killed}
-use Rattle.simplex.specs.Problem.{Models}
 use Rattle.simplex.specs.Steps.{temp-row, temp-solves}
 use Rattle.steps.specs.Number.{Mark, allWhole, notWhole, notFinite}
 use Rattle.steps.specs.Symbol.{Kind, External, Slack, Error, Dummy, Symbol, isPivotable, isSymbol, holds, firstSymbol, deleteSymbol}
 use Rattle.steps.specs.Row.{Row}
-use Rattle.steps.specs.State.{Basic}
 use Rattle.steps.specs.Work.{Work, Outcome, refused, going, _>>=_, refuse, checkFinite, withTableau, withRows, withArtificial, findRow, newSymbol, appendSymbol, purge}
 use Rattle.steps.specs.Changes.{clearChanged}
 use Rattle.steps.specs.CreateRow.{Created, appendTo}
@@ -30,7 +28,7 @@ use Rattle.steps.specs.Substitute.{pivot}
 use Rattle.steps.specs.Artificial.{anyPivotableSymbol, isEmptyRow, standTemporary, removeTemporary}
 use Rattle.bridge.specs.Nums.{finite≢}
 use Rattle.bridge.specs.Rows.{In, NotIn, Sym?, is, isnt, sym?, ReadsRow}
-use Rattle.bridge.specs.Table.{kindOf, RowAt, Live, ReadsTable, ReadsWork, pivot-z}
+use Rattle.bridge.specs.Table.{kindOf, RowAt, Live, ReadsWork, pivot-z}
 use Rattle.bridge.specs.Looks.{in-or-not, is-live}
 use Rattle.bridge.specs.Runs.{markOf, pivot-pivots}
 use Rattle.bridge.specs.Quiet.{pivot-quiet}
@@ -38,11 +36,10 @@ use Rattle.run.specs.Demand.{Demand}
 use Rattle.run.specs.Inv.{Held, conOf}
 use Rattle.run.specs.Build.{newHeld, Built}
 use Rattle.run.specs.Steady.{Kept, kept-trans, pivot-kept}
-use Rattle.run.specs.Passes.{other-artificial}
 use Rattle.run.specs.Subject.{Holding, nobody, somebody, holding, pivotable-kind}
 use Rattle.run.specs.AddEnds.{Placed}
 use Rattle.run.specs.TempStart.{tid≢0, dead, no-t, good₁}
-use Rattle.run.specs.TempPass.{Passed}
+use Rattle.run.specs.TempPass.{Passed, append-below}
 use Rattle.run.specs.TempEnd.{worth-0}
 use Rattle.run.specs.TempGone.{last-good, last-models, last-reads}
 
@@ -63,13 +60,6 @@ deleted-last (x ∷ xs) s f = go (sym? (s .id) x) (deleted-last xs s (λ j m. f 
 purged-mark : (t : ℕ) (w : Work) → purge t w .mark ≡ w .mark
 unfolding purge withTableau
 purged-mark t w = refl
-
--- ids are below the last one, or its own
-last-below : (xs : List Symbol) (s : Symbol) (j : ℕ) → ((i : ℕ) → In i xs → i < s .id) → In j (xs ++ (s ∷ [])) → j ≤ s .id
-last-below [] s j f (inl e) = omega arith
-last-below [] s j f (inr m) = absurd m
-last-below (x ∷ xs) s j f (inl e) = omega (arith, f (x .id) (inl refl))
-last-below (x ∷ xs) s j f (inr m) = last-below xs s j (λ i q. f i (inr q)) m
 
 module _ (n : ℕ) (old : ℕ → KindZ) (S : StateZ) (held : List Held) (d : Demand) (w : Work) (c : Created) (Q : Built n old S held d w c) (in-n : 0 < n) (room : c .work .tableau .nextId < n)
     (plain : (i : ℕ) → Q .kind i ≡ external → Q .r i ≡ 0ℤ) (L : c .work .tableau .infeasible ≡ []) (j₀ : ℕ) (s₀ : Q .kind j₀ ≡ slack) (in₀ : j₀ < c .work .tableau .nextId) (r₀ : Q .r j₀ ≢ 0ℤ)
@@ -283,7 +273,7 @@ module _ (n : ℕ) (old : ℕ → KindZ) (S : StateZ) (held : List Held) (d : De
     inside-e = omega (arith, in-below (e .id) (live .0), room)
       where
         in-below : (j : ℕ) → In j (y .tableau .symbols) → j ≤ t
-        in-below j i = last-below (c .work .tableau .symbols) (newSymbol Slack (c .work)) j (Q .ids) (subst (In j) (kept-y .symbols ∙ wide) i)
+        in-below j i = append-below (c .work .tableau .symbols) (newSymbol Slack (c .work)) j (Q .ids) (subst (In j) (kept-y .symbols ∙ wide) i)
 
     after-good : Good n kind (step t (e .id) T)
     after-good = flat-good n kind T good t (e .id) basic free-e inside-e slack-t se (turn .1) flat

@@ -1,19 +1,17 @@
 -- Add's step 6, its pass: on the artificial objective it ends at the temporary's lowest value, or uses its budget up; it always finds a leaving row. Assumes nothing.
 use mathlib.Core.Path.{_≡_, refl, sym, ap, _∙_, subst}
-use mathlib.Core.Logic.{_⊎_, inl, inr, _≢_, _↔_}
-use mathlib.Core.Bool.{Bool, true, false, true≢false}
+use mathlib.Core.Logic.{inl, inr, _≢_, _↔_}
+use mathlib.Core.Bool.{Bool, true, false}
 use mathlib.Core.List.{List, [], _∷_, _++_}
-use mathlib.Core.Option.{Option, none, some}
-use Prim.Native.Nat.{ℕ, suc, _+_, _<_, _≤_}
+use Prim.Native.Nat.{ℕ, _+_, _<_, _≤_}
 use native.Mathlib.Nat.{le-refl}
 use native.Mathlib.Omega.{arith}
-use lib.IntN.{ℤ}
 use Rattle.laws.specs.Z.{_≼_, _≺_}
 use Rattle.simplex.specs.Ord.{0ℤ, clash, ≼-of-eq, ≼-trans}
 use Rattle.simplex.specs.Lin.{Vec, dot}
 use Rattle.simplex.specs.At.{at, At, here, there, at?, at-here}
 use Rattle.simplex.specs.Choose.{All, all-map}
-use Rattle.simplex.specs.Basis.{Mask, Clear}
+use Rattle.simplex.specs.Basis.{Clear}
 use Rattle.simplex.specs.Tab.{Solves}
 use Rattle.simplex.specs.Opt.{Kind as KindZ, external, slack}
 use Rattle.simplex.specs.Pass.{State as StateZ, Good}
@@ -27,14 +25,13 @@ use Rattle.simplex.specs.Search.{Asc}
 use Rattle.simplex.specs.Temp.{Dead}
 use Rattle.steps.specs.Number.{allWhole}
 use Rattle.steps.specs.Symbol.{Symbol, Slack}
-use Rattle.steps.specs.Row.{Row}
 use Rattle.steps.specs.State.{Basic}
 use Rattle.steps.specs.Work.{Work, Outcome, refused, going, withTableau, withRows, withArtificial, newSymbol, appendSymbol}
 use Rattle.steps.specs.CreateRow.{Created, appendTo}
 use Rattle.steps.specs.Optimise.{optimise, theArtificial}
 use Rattle.steps.specs.Artificial.{standTemporary}
 use Rattle.bridge.specs.Rows.{In}
-use Rattle.bridge.specs.Table.{Live, ReadsWork}
+use Rattle.bridge.specs.Table.{ReadsWork}
 use Rattle.bridge.specs.Runs.{markOf, Standing, carried, Ran, rests, used-up, no-leaving, run}
 use Rattle.bridge.specs.Quiet.{Quiet, optimise-quiet}
 use Rattle.run.specs.Demand.{Demand}
@@ -43,6 +40,13 @@ use Rattle.run.specs.Build.{Built}
 use Rattle.run.specs.Steady.{Calm, Steady, IfGoing, optimise-steady}
 use Rattle.run.specs.Passes.{idsOf, restrictedIds, waysOf, live-asc, live-cover, live-inside, live-once, live-basics, live-slacks, resting}
 use Rattle.run.specs.TempStart.{standing, S₁, kind₁, tid≢0, fresh, dead, no-t, good₀, good₁, reads₁}
+
+-- ids are below the last one, or its own
+pub append-below : (xs : List Symbol) (s : Symbol) (j : ℕ) → ((i : ℕ) → In i xs → i < s .id) → In j (xs ++ (s ∷ [])) → j ≤ s .id
+append-below [] s j f (inl e) = omega arith
+append-below [] s j f (inr m) = absurd m
+append-below (x ∷ xs) s j f (inl e) = omega (arith, f (x .id) (inl refl))
+append-below (x ∷ xs) s j f (inr m) = append-below xs s j (λ i q. f i (inr q)) m
 
 module _ (n : ℕ) (old : ℕ → KindZ) (S : StateZ) (held : List Held) (d : Demand) (w : Work) (c : Created) (Q : Built n old S held d w c) (in-n : 0 < n) (room : c .work .tableau .nextId < n)
     (plain : (i : ℕ) → Q .kind i ≡ external → Q .r i ≡ 0ℤ) (L : c .work .tableau .infeasible ≡ []) where
@@ -60,13 +64,6 @@ module _ (n : ℕ) (old : ℕ → KindZ) (S : StateZ) (held : List Held) (d : De
 
   H₀ : ReadsWork kind begun (T₀ .B) (T₀ .R) (Q .o) (Q .r)
   H₀ = reads₁ n old S held d w c Q room plain
-
-  -- ids are below the temporary's, or its own
-  append-below : (xs : List Symbol) (s : Symbol) (j : ℕ) → ((i : ℕ) → In i xs → i < s .id) → In j (xs ++ (s ∷ [])) → j ≤ s .id
-  append-below [] s j f (inl e) = omega arith
-  append-below [] s j f (inr m) = absurd m
-  append-below (x ∷ xs) s j f (inl e) = omega (arith, f (x .id) (inl refl))
-  append-below (x ∷ xs) s j f (inr m) = append-below xs s j (λ i q. f i (inr q)) m
 
   pub inside₁ : (j : ℕ) → In j (begun .tableau .symbols) → j < n
   unfolding standTemporary appendTo withArtificial withRows withTableau appendSymbol newSymbol

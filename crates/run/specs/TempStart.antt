@@ -1,31 +1,28 @@
 -- Add's step 6 begins: with the temporary slack basic the work reads as a good tableau of the theory, its row the artificial objective. Assumes nothing.
-use mathlib.Core.Path.{_≡_, refl, sym, ap, ap₂, _∙_, subst}
+use mathlib.Core.Path.{_≡_, refl, sym, ap, _∙_, subst}
 use mathlib.Core.Logic.{_⊎_, inl, inr, _≢_}
 use mathlib.Core.Bool.{Bool, true, false, true≢false}
-use mathlib.Core.List.{List, [], _∷_, _++_}
+use mathlib.Core.List.{List}
 use mathlib.Core.Option.{Option, none, some}
-use Prim.Native.Nat.{ℕ, suc, _<_, _≤_}
+use Prim.Native.Nat.{ℕ, _<_}
 use native.Mathlib.Omega.{arith}
-use lib.IntN.{ℤ}
 use lib.Ieee.{Float}
-use Rattle.laws.specs.Z.{_≼_}
 use Rattle.simplex.specs.Ord.{0ℤ}
-use Rattle.simplex.specs.Lin.{Vec, δ, δ-other}
+use Rattle.simplex.specs.Lin.{Vec, δ-other}
 use Rattle.simplex.specs.At.{at, At, here, there, at?, at-here, at-there}
-use Rattle.simplex.specs.Choose.{All}
 use Rattle.simplex.specs.Basis.{Mask}
-use Rattle.simplex.specs.Opt.{Kind as KindZ, const, external, slack, slack≢external, slack≢const}
+use Rattle.simplex.specs.Opt.{Kind as KindZ, external, slack, slack≢external, slack≢const}
 use Rattle.simplex.specs.Pass.{State as StateZ, Good}
 use Rattle.simplex.specs.Temp.{Dead, temp-good, rekind}
 use Rattle.steps.specs.Symbol.{Symbol, Slack}
 use Rattle.steps.specs.Row.{Row, appendCell}
 use Rattle.steps.specs.State.{Basic}
 use Rattle.steps.specs.Work.{Work, withTableau, withRows, withArtificial, findRow, keepRow, newSymbol, appendSymbol}
-use Rattle.steps.specs.CreateRow.{Created, Building, appendTo}
+use Rattle.steps.specs.CreateRow.{Created, appendTo}
 use Rattle.steps.specs.Artificial.{standTemporary}
-use Rattle.bridge.specs.Rows.{In, NotIn, Up, ReadsRow}
-use Rattle.bridge.specs.Finds.{UpRows, none≢some, find-keep-same, find-keep-other, keep-up, keep-all}
-use Rattle.bridge.specs.Table.{kindOf, RowAt, Live, ReadsTable, ReadsWork, found-in}
+use Rattle.bridge.specs.Rows.{In, NotIn, ReadsRow}
+use Rattle.bridge.specs.Finds.{find-keep-same, find-keep-other, keep-up, keep-all}
+use Rattle.bridge.specs.Table.{RowAt, Live, ReadsTable, ReadsWork}
 use Rattle.bridge.specs.Looks.{in-or-not}
 use Rattle.bridge.specs.Enter.{append-z, append-row, append-new}
 use Rattle.run.specs.Demand.{Demand}
@@ -69,9 +66,6 @@ module _ (n : ℕ) (old : ℕ → KindZ) (S : StateZ) (held : List Held) (d : De
     (plain : (i : ℕ) → Q .kind i ≡ external → Q .r i ≡ 0ℤ) where
   abbrev pub t : Symbol
   t = newSymbol Slack (c .work)
-
-  abbrev pub tid : ℕ
-  tid = c .work .tableau .nextId
 
   abbrev pub kind₁ : ℕ → KindZ
   kind₁ = at (c .work .tableau .nextId) slack (Q .kind)

@@ -16,13 +16,6 @@ use Rattle.bridge.specs.Finds.{none≢some, some-injective}
 use Rattle.run.specs.Vars.{AlikeAt, same-clear}
 
 -- ---- numbers
-pub eq-no : (x n : ℕ) → x ≢ n → eqb x n ≡ false
-eq-no x n h = go (eqb x n) refl
-  where
-    go : (b : Bool) → eqb x n ≡ b → eqb x n ≡ false
-    go true e = absurd (h (eqb→eq x n (subst T (sym e) tt)))
-    go false e = e
-
 pub by-number : {X : Type 0} (x n : ℕ) → (x ≡ n → X) → (x ≢ n → X) → X
 by-number {X} x n f g = go (eqb x n) refl
   where

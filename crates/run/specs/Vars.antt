@@ -1,15 +1,15 @@
 -- Variables whose numbers, symbols and use counts are the same: what notes, passes and fetches leave of them. Assumes nothing.
 use mathlib.Core.Path.{_≡_, refl, sym, ap, _∙_, subst}
 use mathlib.Core.Logic.{_≢_}
-use mathlib.Core.Bool.{Bool, true, false, cond, _||_}
+use mathlib.Core.Bool.{Bool, true, false, cond}
 use mathlib.Core.List.{List, [], _∷_, map}
 use mathlib.Core.Option.{Option, none, some}
 use Prim.Native.Nat.{ℕ}
 use lib.Dec.{eqb}
 use Rattle.simplex.specs.Opt.{Kind as KindZ}
 use Rattle.steps.specs.Symbol.{Symbol}
-use Rattle.steps.specs.State.{Variable, Basic, Changes}
-use Rattle.steps.specs.Changes.{findVariable, withFlag, clearChanged, flagSymbol, varChanged, allChanged, reported}
+use Rattle.steps.specs.State.{Variable, Basic}
+use Rattle.steps.specs.Changes.{findVariable, withFlag, clearChanged, reported}
 use Rattle.bridge.specs.Finds.{none≢some}
 use Rattle.run.specs.Inv.{VarAt}
 
@@ -81,18 +81,6 @@ pub same-kept : (vs ws : List Variable) → clearChanged ws ≡ clearChanged vs 
 same-kept vs ws e v =
     alike-trans (findVariable v vs) (findVariable v (clearChanged vs)) (findVariable v ws) (same-clear vs v)
     (alike-sym (findVariable v ws) (findVariable v (clearChanged vs)) (subst (λ (l : List Variable). AlikeAt (findVariable v ws) (findVariable v l)) e (same-clear ws v)))
-
-pub same-changed : (s : ℕ) (c : Changes) → Same (c .variables) (varChanged s c .variables)
-unfolding varChanged flagSymbol
-same-changed s c =
-    same-trans (c .variables) (cond (c .shouldClear) (clearChanged (c .variables)) (c .variables)) _
-    (same-cond (c .shouldClear) (c .variables) (clearChanged (c .variables)) (c .variables) (same-clear (c .variables)) (same-refl (c .variables)))
-    (same-map (λ (a : Variable). withFlag (a .changed || eqb s (a .symbol .id)) a) (λ a. flagged (a .changed || eqb s (a .symbol .id)) a) (cond (c .shouldClear) (clearChanged (c .variables)) (c .variables)))
-
-pub same-all : (ss : List ℕ) (c : Changes) → Same (c .variables) (allChanged ss c .variables)
-unfolding allChanged
-same-all [] c = same-refl (c .variables)
-same-all (s ∷ ss) c = same-trans (c .variables) (varChanged s c .variables) (allChanged ss (varChanged s c) .variables) (same-changed s c) (same-all ss (varChanged s c))
 
 pub same-reported : (rows : List Basic) (vs : List Variable) → Same vs (map (reported rows) vs)
 unfolding reported

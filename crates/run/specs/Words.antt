@@ -8,14 +8,14 @@ use native.Mathlib.Omega.{arith}
 use lib.Dec.{T}
 use lib.IntN.{ℤ, pos, negsuc, negℤ, natAbs, _+ℤ_, _*ℤ_}
 use lib.Ieee.{Float, lt}
-use Rattle.laws.specs.Z.{_≼_, _≺_, at, _⊕_, eqZ, eqZb→}
+use Rattle.laws.specs.Z.{_≼_, at, _⊕_, eqZ, eqZb→}
 use Rattle.laws.specs.Ring.{ring, v, k, _⊞_, _⊠_}
 use Rattle.exact.specs.Whole.{IsZ, val, int, int-z}
 use Rattle.simplex.specs.Ord.{0ℤ}
-use Rattle.simplex.specs.Lin.{Vec, δ, dot, plus, dot-plus, dot-δ}
+use Rattle.simplex.specs.Lin.{Vec, δ, dot, dot-plus, dot-δ}
 use Rattle.simplex.specs.Choose.{All}
-use Rattle.simplex.specs.Form.{Form, le!, eq!, ge!, le, eq, ge, Holds, viol, relu}
-use Rattle.simplex.specs.Problem.{Con, error}
+use Rattle.simplex.specs.Form.{le!, eq!, ge!, le, eq, ge, Holds, viol, relu}
+use Rattle.simplex.specs.Problem.{error}
 use Rattle.simplex.specs.Steps.{dot-nil}
 use Rattle.steps.specs.Number.{isWhole, nearZero, cellBound, within}
 use Rattle.steps.specs.Strength.{required}
@@ -23,7 +23,7 @@ use Rattle.steps.specs.State.{Term, Relation, atMost, equal, atLeast, strengthO
 use Rattle.steps.specs.Add.{wholeWithin, wholeTerms}
 use Rattle.steps.specs.Tests.{keptTerms}
 use Rattle.bridge.specs.Nums.{nearZero-z}
-use Rattle.run.specs.Demand.{Demand, sumOf, excess, isRequired, Related, Meets, above, errorOf, weighted}
+use Rattle.run.specs.Demand.{sumOf, excess, isRequired, Related, Meets, above, errorOf, weighted}
 use Rattle.run.specs.Inv.{columns, Held, exprOf, formOf, conOf}
 
 -- ---- whole floats

@@ -11,7 +11,6 @@ use Rattle.simplex.specs.Lin.{Vec, δ, δ-other, dot, plus, dot-plus, do
 use Rattle.simplex.specs.At.{at, At, here, there, at?, at-here, at-there}
 use Rattle.simplex.specs.Tab.{Solves, out, out-solves}
 use Rattle.simplex.specs.Basis.{Mask, Shape, Clear}
-use Rattle.simplex.specs.Opt.{const}
 
 -- ---- building a row: a term's row, the unit row of a symbol that is not basic, is inserted with a factor. On every solution that is the term
 pub insert-term : (n : ℕ) (R : ℕ → Vec) (r : Vec) (c : ℤ) (x : ℕ) (σ : Vec) → x < n → Solves n R σ → dot n (plus r c (R x)) σ ≡ dot n r σ +ℤ c *ℤ σ x

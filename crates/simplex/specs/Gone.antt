@@ -15,7 +15,7 @@ use Rattle.simplex.specs.Basis.{Mask, Shape, Clear, swap, pivot-clear, p
 use Rattle.simplex.specs.Opt.{Kind, const, external, slack, dummy, slack≢external}
 use Rattle.simplex.specs.Choose.{All, all-zip}
 use Rattle.simplex.specs.Form.{Form, le!, eq!, ge!, le, eq, ge, resid, cost}
-use Rattle.simplex.specs.Problem.{Con, Equation, total, markerKind, Sound, Tag, Apart, Sounds, Models, cost-other, resid-other}
+use Rattle.simplex.specs.Problem.{Con, Equation, total, markerKind, Sound, Tag, Apart, Sounds, Models, cost-other, resid-other, sounds-all, marker-restricted}
 use Rattle.simplex.specs.Change.{dot-at, dropped, drop-shape, drop-solves}
 use Rattle.simplex.specs.Pass.{State, Good}
 use Rattle.simplex.specs.Temp.{rekind}
@@ -59,16 +59,8 @@ total-foreign u y σ (c ∷ cs) F =
     ∙ cost-other (c .form) (σ (c .marker)) (at u y σ (c .other)) (σ (c .other)) (λ b. at-there u y σ (c .other) (λ q. F .0 .0 (inr (b, sym q)))))
     (total-foreign u y σ cs (F .1))
 
-pub restricted-marker : (f : Form) → (markerKind f ≡ slack) ⊎ (markerKind f ≡ dummy)
-restricted-marker le! = inl refl
-restricted-marker eq! = inr refl
-restricted-marker ge! = inl refl
-restricted-marker le = inl refl
-restricted-marker eq = inl refl
-restricted-marker ge = inl refl
-
 pub tag-kind : (n : ℕ) (kind : ℕ → Kind) (c : Con) → Sound n kind c → (j : ℕ) → Tag j c → (kind j ≡ slack) ⊎ (kind j ≡ dummy)
-tag-kind n kind c S j (inl p) = go (restricted-marker (c .form))
+tag-kind n kind c S j (inl p) = go (marker-restricted (c .form))
   where
     go : (markerKind (c .form) ≡ slack) ⊎ (markerKind (c .form) ≡ dummy) → (kind j ≡ slack) ⊎ (kind j ≡ dummy)
     go (inl e) = inl (ap kind p ∙ S .marker-kind ∙ e)
@@ -80,13 +72,9 @@ pub not-variable : (kind : ℕ → Kind) (j : ℕ) → (kind j ≡ slack) ⊎ (k
 not-variable kind j (inl e) x = slack≢external (sym e ∙ x)
 not-variable kind j (inr e) x = dummy≢external (sym e ∙ x)
 
-pub sounds-each : (n : ℕ) (kind : ℕ → Kind) (cs : List Con) → Sounds n kind cs → All (Sound n kind) cs
-sounds-each n kind [] h = tt
-sounds-each n kind (c ∷ cs) h = (h .0, sounds-each n kind cs (h .2))
-
 pub tag-foreign : (n : ℕ) (kind : ℕ → Kind) (c : Con) (cs : List Con) → Sounds n kind (c ∷ cs) → (j : ℕ) → Tag j c → All (Foreign j) cs
 tag-foreign n kind c cs S j t =
-    all-zip {P = Apart c} {Q = Sound n kind} {C = Foreign j} (λ d a s. (a j t, s .plain j (tag-kind n kind c (S .0) j t))) cs (S .1) (sounds-each n kind cs (S .2))
+    all-zip {P = Apart c} {Q = Sound n kind} {C = Foreign j} (λ d a s. (a j t, s .plain j (tag-kind n kind c (S .0) j t))) cs (S .1) (sounds-all n kind cs (S .2))
 
 -- ---- a column that no constraint holds
 module _ (n : ℕ) (kind : ℕ → Kind) (B : Mask) (R : ℕ → Vec) (o : Vec) (cs : List Con) (D : Models n kind B R o cs) (s : ℕ) (in-n : s < n) (F : All (Foreign s) cs) where

@@ -26,7 +26,6 @@ pub mod Temp
 pub mod Remove
 pub mod Second
 pub mod Count
+pub mod Gone
 pub mod Suggest
 pub mod Cells
-pub mod Dense
-pub mod Gone

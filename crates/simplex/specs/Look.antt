@@ -45,7 +45,7 @@ is-restricted external e = absurd (true≢false (sym e))
 is-restricted slack e = inl refl
 is-restricted dummy e = inr refl
 
-both : (a b : Bool) → a && b ≡ true → (a ≡ true) × (b ≡ true)
+pub both : (a b : Bool) → a && b ≡ true → (a ≡ true) × (b ≡ true)
 both true b e = (refl, e)
 both false b e = absurd (true≢false (sym e))
 

@@ -10,7 +10,6 @@ use Rattle.laws.specs.Ring.{ring, v, k, _⊞_, _⊠_, ⊟_}
 use Rattle.simplex.specs.Ord.{0ℤ, 1ℤ, ≼-of-eq, ≼-trans, mul-nonneg, mul-pos, clash}
 use Rattle.simplex.specs.Lin.{Vec, δ, Same?, same, other, same?, dot, plus, dot-plus, dot-δ, dot-nonneg}
 use Rattle.simplex.specs.Tab.{Solves}
-use Rattle.simplex.specs.Basis.{Mask, Shape, Clear, at-column, basic-solves}
 
 -- column 0; a variable, of any sign; a slack or an error, never below 0; a dummy, always 0
 pub data Kind : Type 0 where
@@ -84,17 +83,6 @@ module _ (n : ℕ) (kind : ℕ → Kind) (o σ : Vec) (in-n : 0 < n) (L : Lowest
       let d : 0ℤ ≼ dot n o σ +ℤ negℤ (o 0) *ℤ σ 0 = ≼-trans (dot-nonneg n (plus o (negℤ (o 0)) (δ 0)) σ term)
       (≼-of-eq (dot-plus n o (negℤ (o 0)) (δ 0) σ ∙ ap (λ z. dot n o σ +ℤ negℤ (o 0) *ℤ z) (dot-δ n 0 σ in-n))) in
       leZ↑ (at (o 0) ⊗ at (σ 0)) (at (dot n o σ)) (omega (arith, leN (at 0ℤ) (at (dot n o σ) ⊕ (⊖ at (o 0)) ⊗ at (σ 0)) d))
-
--- THE BASIC SOLUTION IS BEST. o₀ is the objective as it was posed, o what the pivots have made of it: the two agree on every solution.
--- Then the basic solution's value, times the denominator, is at most the value of every feasible solution
-pub no-better : (n : ℕ) (kind : ℕ → Kind) (B : Mask) (R : ℕ → Vec) (o₀ o σ : Vec) → 0 < n
-    → Shape n B R → Clear B o → Lowest n kind o
-    → ((τ : Vec) → Solves n R τ → dot n o τ ≡ dot n o₀ τ)
-    → Solves n R σ → Feasible n kind σ
-    → dot n o₀ (λ j. R j 0) *ℤ σ 0 ≼ dot n o₀ σ
-no-better n kind B R o₀ o σ in-n S c L agree s F =
-    ≼-trans (≼-of-eq (ap (λ z. z *ℤ σ 0) (sym (agree (λ j. R j 0) (basic-solves n B R S in-n)) ∙ at-column n B R S 0 (S .const) in-n o c)))
-    (≼-trans (at-least n kind o σ in-n L F) (≼-of-eq (agree σ s)))
 
 -- NOTHING MEETS THE CONSTRAINT. a is the artificial objective, whose value on every solution is that of the temporary slack t: at its lowest and above 0, no feasible assignment has t at 0
 pub no-feasible : (n : ℕ) (kind : ℕ → Kind) (R : ℕ → Vec) (a : Vec) (t : ℕ) → 0 < n → Lowest n kind a → 0ℤ ≺ a 0

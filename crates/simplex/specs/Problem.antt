@@ -2,10 +2,9 @@
 use mathlib.Core.Path.{_≡_, refl, sym, ap, ap₂, _∙_, subst}
 use mathlib.Core.Logic.{_⊎_, inl, inr, _≢_, _↔_}
 use mathlib.Core.List.{List, [], _∷_}
-use Prim.Native.Nat.{ℕ, zero, _<_}
+use Prim.Native.Nat.{ℕ, _<_}
 use native.Mathlib.Omega.{arith}
-use mathlib.Core.Bool.{Bool, true, false, cond, true≢false}
-use lib.Dec.{T, eqb, eqb→eq, eqb-refl}
+use mathlib.Core.Bool.{Bool, true, false, true≢false}
 use lib.IntN.{ℤ, _+ℤ_, _-ℤ_, _*ℤ_, *ℤ-comm}
 use Rattle.laws.specs.Z.{_≼_, _≺_, at as num, _⊕_, ⊖_, leZ↑, leN}
 use Rattle.laws.specs.Ring.{ring, v, k, _⊞_, _⊠_, ⊟_, _⊟⊟_}
@@ -101,12 +100,12 @@ external-plain : (kind : ℕ → Kind) (j : ℕ) → kind j ≡ external → Pla
 external-plain kind j e (inl p) = let z : _≡_ {A = ℕ} 0 1 = cc in omega arith
 external-plain kind j e (inr p) = let z : _≡_ {A = ℕ} 0 1 = cc in omega arith
 
-sounds-all : (n : ℕ) (kind : ℕ → Kind) (cs : List Con) → Sounds n kind cs → All (Sound n kind) cs
+pub sounds-all : (n : ℕ) (kind : ℕ → Kind) (cs : List Con) → Sounds n kind cs → All (Sound n kind) cs
 sounds-all n kind [] h = tt
 sounds-all n kind (c ∷ cs) h = (h .0, sounds-all n kind cs (h .2))
 
 -- a form's marker is restricted; a dummy's fit is 0
-marker-restricted : (f : Form) → (markerKind f ≡ slack) ⊎ (markerKind f ≡ dummy)
+pub marker-restricted : (f : Form) → (markerKind f ≡ slack) ⊎ (markerKind f ≡ dummy)
 marker-restricted le! = inl refl
 marker-restricted eq! = inr refl
 marker-restricted ge! = inl refl

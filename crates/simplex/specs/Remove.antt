@@ -12,7 +12,7 @@ use Rattle.simplex.specs.Lin.{Vec, δ, δ-other, dot}
 use Rattle.simplex.specs.At.{at, At, here, there, at?}
 use Rattle.simplex.specs.Tab.{eqn, pivoted, pivot, Solves}
 use Rattle.simplex.specs.Basis.{Shape, Clear, swap, Swapped, enters, leaves, stays, swapped, apart, pivot-clear, pivot-shape, Mask, at-column, column-solves}
-use Rattle.simplex.specs.Opt.{Kind, const, external, slack, dummy, slack≢dummy}
+use Rattle.simplex.specs.Opt.{Kind, external, slack, dummy, slack≢dummy}
 use Rattle.simplex.specs.Choose.{All}
 use Rattle.simplex.specs.Form.{Form, le!, eq!, ge!, le, eq, ge, soft, cost}
 use Rattle.simplex.specs.Problem.{Con, total}

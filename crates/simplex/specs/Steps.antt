@@ -13,7 +13,7 @@ use Rattle.simplex.specs.At.{at, At, here, there, at?, at-here, at-there
 use Rattle.simplex.specs.Tab.{Solves, pivoted}
 use Rattle.simplex.specs.Basis.{Mask, Shape, Clear}
 use Rattle.simplex.specs.Choose.{All}
-use Rattle.simplex.specs.Opt.{Kind, const, dummy}
+use Rattle.simplex.specs.Opt.{Kind, dummy}
 use Rattle.simplex.specs.Problem.{Con, Equation, Models}
 use Rattle.simplex.specs.Run.{left, unsign, Foreign, models-kill}
 use Rattle.simplex.specs.Change.{killed}

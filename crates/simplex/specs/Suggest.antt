@@ -1,5 +1,5 @@
 -- A suggestion keeps what the tableau models, with the edit's new constant. Assumes nothing.
-use mathlib.Core.Path.{_≡_, refl, sym, ap, ap₂, _∙_}
+use mathlib.Core.Path.{_≡_, sym, ap, ap₂, _∙_}
 use mathlib.Core.Logic.{_⊎_, inl, inr, _≢_, _↔_}
 use mathlib.Core.List.{List, [], _∷_}
 use Prim.Native.Nat.{ℕ, _<_}
@@ -14,18 +14,10 @@ use Rattle.simplex.specs.Tab.{Solves}
 use Rattle.simplex.specs.Basis.{Mask, Shape}
 use Rattle.simplex.specs.Opt.{Kind, const, slack, dummy}
 use Rattle.simplex.specs.Choose.{All}
-use Rattle.simplex.specs.Form.{cost}
-use Rattle.simplex.specs.Problem.{Con, total, Sound, Models, cost-other}
+use Rattle.simplex.specs.Problem.{Con, total, Sound, Models}
 use Rattle.simplex.specs.Run.{left, Foreign, foreign}
 use Rattle.simplex.specs.Drag.{dot-grow, edit}
-
-total-foreign : (u : ℕ) (y : ℤ) (σ : Vec) (cs : List Con) → All (Foreign u) cs → total cs (at u y σ) ≡ total cs σ
-total-foreign u y σ [] F = refl
-total-foreign u y σ (c ∷ cs) F =
-    ap₂ (λ (a b : ℤ). c .weight *ℤ a +ℤ b)
-    (ap (λ s. cost (c .form) s (at u y σ (c .other))) (at-there u y σ (c .marker) (λ q. F .0 .0 (inl (sym q))))
-    ∙ cost-other (c .form) (σ (c .marker)) (at u y σ (c .other)) (σ (c .other)) (λ b. at-there u y σ (c .other) (λ q. F .0 .0 (inr (b, sym q)))))
-    (total-foreign u y σ cs (F .1))
+use Rattle.simplex.specs.Gone.{total-foreign}
 
 not-restricted-0 : (kind : ℕ → Kind) (j : ℕ) → kind 0 ≡ const → (kind j ≡ slack) ⊎ (kind j ≡ dummy) → 0 ≢ j
 not-restricted-0 kind j k0 (inl h) e = let a : kind 0 ≡ kind j = ap kind e in let z : _≡_ {A = ℕ} 0 1 = cc in omega arith

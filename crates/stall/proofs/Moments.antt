@@ -1,5 +1,5 @@
 -- The moments of a pass whose mark stays whole are the theory's states, one by one. Assumes nothing.
-use Prim.Native.Nat.{ℕ, zero, suc, _^_, _≤_, _<_}
+use Prim.Native.Nat.{ℕ, zero, suc, _≤_, _<_}
 use native.Mathlib.Nat.{le-of-lt}
 use native.Mathlib.Omega.{arith}
 use mathlib.Core.Path.{_≡_, refl, sym, ap, _∙_, subst}
@@ -15,18 +15,17 @@ use Rattle.simplex.specs.Pass.{State, step, Good, Choice, step-good}
 use Rattle.simplex.specs.Bland.{Pass}
 use Rattle.simplex.specs.Bound.{Mem, swap-trues}
 use Rattle.simplex.specs.Search.{Asc}
-use Rattle.simplex.specs.Look.{go-on, look, next, after, Pivots}
+use Rattle.simplex.specs.Look.{go-on, look, after, Pivots}
 use Rattle.steps.specs.Number.{allWhole}
 use Rattle.steps.specs.Symbol.{Symbol}
-use Rattle.steps.specs.Row.{Row}
 use Rattle.steps.specs.Work.{Work, Outcome, countPivot}
 use Rattle.steps.specs.Substitute.{pivot}
 use Rattle.steps.specs.Optimise.{Goal, theObjective, theArtificial, goalCells, choosePivot, pivotOn, optimise}
 use Rattle.bridge.specs.Rows.{Reads}
 use Rattle.bridge.specs.Finds.{none≢some, some-injective}
-use Rattle.bridge.specs.Table.{ReadsWork, ArtAt, pivot-z}
+use Rattle.bridge.specs.Table.{ReadsWork, pivot-z}
 use Rattle.bridge.specs.Looks.{Choose, pivots, choose-is, choice-is, minus-one, look-pivot}
-use Rattle.bridge.specs.Runs.{markOf, Standing, pivot-standing, optimise-mark, ReadsGoal}
+use Rattle.bridge.specs.Runs.{markOf, pivot-standing, optimise-mark, ReadsGoal, counted-mark, shift, at-first, objOf, artOf, goal-cells}
 use Rattle.run.specs.Steady.{pivot-kept}
 use Rattle.run.specs.Passes.{restrictedIds}
 use Rattle.stall.specs.Stall.{turn, later, isBasic, restrictedRows}
@@ -39,22 +38,9 @@ pub record Reading (g : Goal) (kind : ℕ → KindZ) (w : Work) (S : State) (o a
   pub bound : ℕ
   pub cells : Reads bound (w .tableau .symbols) (goalCells g w) (S .o)
 
-abbrev pub objOf : Goal → Vec → Vec → Vec
-objOf theObjective q z = q
-objOf theArtificial q z = z
-
-abbrev pub artOf : Goal → Vec → Vec → Vec
-artOf theObjective q z = z
-artOf theArtificial q z = q
-
 pub reading : (g : Goal) (kind : ℕ → KindZ) (w : Work) (S : State) (z : Vec) → ReadsGoal g kind w S z → Reading g kind w S (objOf g (S .o) z) (artOf g (S .o) z)
-unfolding goalCells
-reading theObjective kind w S z h = record { reads = h; bound = 2 ^ 40; cells = h .objective }
-reading theArtificial kind w S z h = record { reads = h .0; bound = 1024; cells = go (w .artificial) (h .0 .artificial) (h .1) }
-  where
-    go : (t : Option Row) → ArtAt (w .tableau .symbols) t (S .o) → Standing t → Reads 1024 (w .tableau .symbols) (elim t [ none ↦ [] | some r ↦ r .cells ]) (S .o)
-    go none a s = absurd s
-    go (some r) a s = a .cells
+reading theObjective kind w S z h = let c = goal-cells theObjective kind w S z h in record { reads = h; bound = c .0; cells = c .1 }
+reading theArtificial kind w S z h = let c = goal-cells theArtificial kind w S z h in record { reads = h .0; bound = c .0; cells = c .1 }
 
 module _ (n : ℕ) (kind : ℕ → KindZ) (ids : List ℕ) (asc : Asc ids) (cover : (j : ℕ) → kind j ≡ slack → Mem j ids) (inside : (j : ℕ) → Mem j ids → j < n) where
   -- ---- one pivot
@@ -97,25 +83,16 @@ module _ (n : ℕ) (kind : ℕ → KindZ) (ids : List ℕ) (asc : Asc ids) (cove
     pub basics : (j : ℕ) → isBasic j u ≡ after kind ids S i .B j
     pub rows : trues (map (after kind ids S i .B) (restrictedIds (u .tableau .symbols))) ≡ restrictedRows (u .tableau .rows)
 
-  shift : (S : State) (l e : ℕ) → look kind ids S ≡ go-on l e → (i : ℕ) → after kind ids S (suc i) ≡ after kind ids (step l e S) i
-  unfolding after next
-  shift S l e k zero = ap (next kind ids S) k
-  shift S l e k (suc i) = ap (λ (t : State). next kind ids t (look kind ids t)) (shift S l e k i)
-
-  at-first : (S : State) (l e : ℕ) → look kind ids S ≡ go-on l e → S .R l e ≡ negsuc 0 → Pivots (after kind ids S zero) (look kind ids (after kind ids S zero))
-  unfolding after
-  at-first S l e k u = subst (Pivots S) (sym k) u
-
   one-on : (i : ℕ) (S : State) (u : Work) (l e : ℕ) → look kind ids S ≡ go-on l e → S .R l e ≡ negsuc 0 → At i (step l e S) u → At (suc i) S u
   one-on i S u l e k m h = record {
     pivots = first;
-    basics = λ j. h .basics j ∙ ap (λ (t : State). t .B j) (sym (shift S l e k i));
-    rows = ap (λ (t : State). trues (map (t .B) (restrictedIds (u .tableau .symbols)))) (shift S l e k i) ∙ h .rows;
+    basics = λ j. h .basics j ∙ ap (λ (t : State). t .B j) (sym (shift kind ids S l e k i));
+    rows = ap (λ (t : State). trues (map (t .B) (restrictedIds (u .tableau .symbols)))) (shift kind ids S l e k i) ∙ h .rows;
   }
     where
       first : (x : ℕ) → x < suc i → Pivots (after kind ids S x) (look kind ids (after kind ids S x))
-      first zero b = at-first S l e k m
-      first (suc x) b = subst (λ (t : State). Pivots t (look kind ids t)) (sym (shift S l e k x)) (h .pivots x (omega arith))
+      first zero b = at-first kind ids S l e k m
+      first (suc x) b = subst (λ (t : State). Pivots t (look kind ids t)) (sym (shift kind ids S l e k x)) (h .pivots x (omega arith))
 
   begins : (g : Goal) (w : Work) (S : State) (z : Vec) → ReadsGoal g kind w S z → At zero S w
   unfolding after
@@ -126,10 +103,6 @@ module _ (n : ℕ) (kind : ℕ → KindZ) (ids : List ℕ) (asc : Asc ids) (cove
         basics = basic-is kind w (S .B) (S .R) (objOf g (S .o) z) (artOf g (S .o) z) (D .reads);
         rows = rows-are kind w (S .B) (S .R) (objOf g (S .o) z) (artOf g (S .o) z) (D .reads);
       }
-
-  counted-mark : (w : Work) → countPivot w .mark ≡ allWhole → w .mark ≡ allWhole
-  unfolding countPivot
-  counted-mark w m = m
 
   pub at : (i left : ℕ) (g : Goal) (w : Work) (S : State) (z : Vec) → Good n kind S → ReadsGoal g kind w S z → markOf (optimise left g w) ≡ allWhole → (u : Work) → later i left g w ≡ some u → At i S u
   unfolding later markOf

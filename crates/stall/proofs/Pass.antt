@@ -16,12 +16,12 @@ use Rattle.steps.specs.Number.{allWhole}
 use Rattle.steps.specs.Symbol.{Symbol}
 use Rattle.steps.specs.Work.{Work}
 use Rattle.bridge.specs.Rows.{In}
-use Rattle.bridge.specs.Runs.{markOf, ReadsGoal}
+use Rattle.bridge.specs.Runs.{markOf, ReadsGoal, objOf, artOf}
 use Rattle.run.specs.Passes.{idsOf, restrictedIds, waysOf, live-asc, live-cover, live-inside, live-once, live-basics, live-slacks}
 use Rattle.stall.specs.Stall.{PassStart, outcomeOf, moment, pivotsOf, restrictedRows, restrictedSymbols, ways, NoReturn, Level, Fewer}
 use Rattle.stall.proofs.Turns.{moments}
 use Rattle.stall.proofs.Rows.{rows-are, ways-are}
-use Rattle.stall.proofs.Moments.{Reading, reading, objOf, artOf, At, at, symbols-stay, basics-stay}
+use Rattle.stall.proofs.Moments.{Reading, reading, At, at, symbols-stay, basics-stay}
 
 -- the work that the pass starts with reads as a good tableau of the theory, the goal's row as its objective
 pub record Starts (p : PassStart) : Type 0 where

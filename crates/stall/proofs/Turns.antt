@@ -9,6 +9,7 @@ use Rattle.steps.specs.Work.{Work, Outcome, refused, going, _>>=_, refuse, chec
 use Rattle.steps.specs.Substitute.{pivot}
 use Rattle.steps.specs.Optimise.{Goal, Choice, ended, stuck, pivotOn, choosePivot, countedPivot, optimise}
 use Rattle.steps.proofs.After.{pivot-after}
+use Rattle.bridge.specs.Runs.{counted-one}
 use Rattle.stall.specs.Stall.{goesOn, turn, later, pivotsFrom, refusalOf}
 
 -- a pivot that is made, or is refused for a number that is not finite
@@ -67,10 +68,6 @@ last g w = go (choosePivot g w)
 unfoldable pub pivotsAt : Outcome Work → ℕ
 pivotsAt (refused n p m) = p
 pivotsAt (going w) = w .pivots
-
-counted-one : (l : ℕ) (e : Symbol) (w : Work) → countPivot (pivot l e w) .pivots ≡ suc (w .pivots)
-unfolding countPivot
-counted-one l e w = ap suc (pivot-after l e w .pivots)
 
 -- a pass counts the pivots that it makes
 pub counts : (left : ℕ) (g : Goal) (w : Work) → pivotsAt (optimise left g w) ≡ w .pivots + pivotsFrom left g w

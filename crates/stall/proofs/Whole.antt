@@ -1,35 +1,27 @@
 -- DEMAND 3. In a whole run no optimise pass of an add or a removal holds the same basic symbols twice, each makes fewer pivots than there are ways to choose r of n, and these ways are budget enough. Assumes nothing.
 use Prim.Native.Nat.{ℕ, _≤_}
-use native.Mathlib.Omega.{arith}
-use mathlib.Core.Path.{_≡_, refl, sym, _∙_, subst}
-use mathlib.Core.Bool.{Bool, true, false, _&&_, cond}
+use mathlib.Core.Path.{_≡_, refl}
+use mathlib.Core.Bool.{true, false}
 use mathlib.Core.List.{List, []}
 use mathlib.Core.Option.{Option, none, some}
-use lib.Dec.{T}
 use lib.ListN.{length}
-use lib.Signed.{ltZ, ltZ-yes}
-use lib.Ieee.{Float, lt, le}
-use Rattle.exact.specs.Whole.{IsZ, val}
-use Rattle.exact.specs.Compare.{le-z}
-use Rattle.simplex.specs.Ord.{0ℤ, ≺→≼}
+use lib.Ieee.{Float}
 use Rattle.simplex.specs.Choose.{All}
-use Rattle.steps.specs.Number.{zero64, constantBound, belowZero, isWhole, allWhole}
-use Rattle.steps.specs.Strength.{required, clip}
+use Rattle.steps.specs.Number.{zero64, belowZero, allWhole}
+use Rattle.steps.specs.Strength.{clip}
 use Rattle.steps.specs.State.{Term, Relation, equal, strengthOf, State}
-use Rattle.steps.specs.Add.{Added, wholeTerms, wholeInputs, wholeWithin, addSteps}
+use Rattle.steps.specs.Add.{Added, addSteps}
 use Rattle.steps.specs.Edit.{editTerms, addEditSteps}
 use Rattle.steps.specs.Tests.{firstRefusal, addTests, addEditTests, keepConstraint, keepEdit, keptTerms}
 use Rattle.steps.specs.Calls.{Result, begin, finish, refusedBy, concludeAdd, add, addEdit}
 use Rattle.steps.specs.Changing as changing
-use Rattle.bridge.specs.Nums.{zero64-z, belowZero-z}
 use Rattle.bridge.specs.Finds.{none≢some}
 use Rattle.run.specs.Demand.{ofConstraint, ofEdit, Call, resets, fetches, adds, removes, addsEdit, removesEdit, suggests, make, Moment, after}
 use Rattle.run.specs.Inv.{Inv}
-use Rattle.run.specs.Words.{whole-z}
-use Rattle.run.specs.Inputs.{both, required-z}
 use Rattle.run.specs.AddMarks.{markAdded, whole-steps}
 use Rattle.run.specs.Add.{passed, not-above, ids-left, added-whole}
 use Rattle.run.specs.Run.{inv-before}
+use Rattle.run.specs.AddEdit.{clip-up, whole-strength, one-term}
 use Rattle.stall.specs.Stall.{PassStart, addPasses, passesOf, budgetOf, Demand3, NeverStalls}
 use Rattle.stall.proofs.Pass.{Starts}
 use Rattle.stall.proofs.Calls.{unmarred, demand-3}
@@ -71,24 +63,6 @@ adds-start m I n ts k r b = go (firstRefusal (addTests n ts k r (m .state))) ref
 
 -- ---- an add edit
 
--- a clipped strength that is whole is not below 0
-clip-up : (s : Float) → isWhole (clip s) ≡ true → belowZero (clip s) ≡ false
-unfolding clip
-clip-up s = go (le s zero64) refl (lt s required)
-  where
-    kept : IsZ s (val s) → le s zero64 ≡ false → (b : Bool) → ltZ (val s) 0ℤ ≡ b → belowZero s ≡ false
-    kept h e true q = absurd (subst T (sym (le-z h zero64-z) ∙ e) (≺→≼ {a = val s} {b = 0ℤ} (ltZ-yes (subst T (sym q) tt)) .le))
-    kept h e false q = belowZero-z h ∙ q
-
-    go : (a : Bool) → le s zero64 ≡ a → (b : Bool) → isWhole (cond a zero64 (cond b s required)) ≡ true → belowZero (cond a zero64 (cond b s required)) ≡ false
-    go true e b w = belowZero-z zero64-z
-    go false e true w = kept (whole-z s w) e (ltZ (val s) 0ℤ) refl
-    go false e false w = belowZero-z required-z
-
-whole-strength : (ts : List Term) (k s : Float) → wholeInputs ts k (equal s) ≡ true → isWhole s ≡ true
-unfolding wholeInputs strengthOf
-whole-strength ts k s e = both (wholeTerms ts && wholeWithin constantBound k) (isWhole s) e .1
-
 edit-low : (v : ℕ) (k : Float) (s : State) → firstRefusal (addEditTests v k s) ≡ none → s .tableau .nextId ≤ 4_294_900_000
 unfolding addEditTests
 edit-low v k s e =
@@ -98,10 +72,6 @@ edit-low v k s e =
     let t₄ = passed _ _ (t₃ .1) in
     let t₅ = passed _ _ (t₄ .1) in
     ids-left s (t₅ .0)
-
-one-term : (v : ℕ) → length (editTerms v) ≤ 16
-unfolding editTerms
-one-term v = omega arith
 
 edit-start : (m : Moment) → Inv m → (v : ℕ) (k : Float) (b : ℕ) → make (addsEdit v k b) (m .state) .answer .whole ≡ true → All Starts (passesOf (addsEdit v k b) (m .state))
 unfolding passesOf make addEdit addEditSteps strengthOf

@@ -1,5 +1,5 @@
 -- Two adds and a removal, computed pass by pass: what n and r are, the ways to choose r of n, and the pivots made.
-use Prim.Native.Nat.{ℕ, _-_}
+use Prim.Native.Nat.{ℕ}
 use mathlib.Core.List.{List, [], _∷_, map}
 use lib.Dec.{T}
 use lib.Ieee.{Float}

@@ -145,13 +145,3 @@ number-listed c s = go (answered c s)
     go (byTest n e) = or-either n (0 ∷ []) (testNumbers c ++ stepNumbers c) (either n (testNumbers c) (stepNumbers c) (test-listed c s n e))
     go (bySteps n p m e x) = or-either n (0 ∷ []) (testNumbers c ++ stepNumbers c) (or-either n (testNumbers c) (stepNumbers c) (x .listed))
     go (accepts v cs es e w k) = tt
-
--- so it is at most 17
-pub number-at-most-17 : (c : Changing) (s : State) → made c s .answer .number ≤ 17
-unfolding refusedBy acceptedAs
-number-at-most-17 c s = go (answered c s)
-  where
-    go : {r : Result} → Answered c s r → r .answer .number ≤ 17
-    go (byTest n e) = omega (arith, test-number c s n e .1)
-    go (bySteps n p m e x) = step-number c n (x .listed) .1
-    go (accepts v cs es e w k) = omega arith

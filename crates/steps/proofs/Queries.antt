@@ -1,4 +1,4 @@
--- What queries, fetch and reset leave as it was. Assumes nothing.
+-- What queries and fetch leave as it was. Assumes nothing.
 use Prim.Native.Nat.{ℕ}
 use mathlib.Core.Path.{_≡_, refl, sym, ap, _∙_, subst}
 use mathlib.Core.Bool.{Bool, true, false, not, cond}
@@ -10,8 +10,6 @@ use Rattle.steps.specs.Number.{zero64}
 use Rattle.steps.specs.Symbol.{Symbol}
 use Rattle.steps.specs.State.{Basic, Variable, State}
 use Rattle.steps.specs.Changes.{withFlag, clearChanged, findVariable, valueOf, value, isNews, newsOf, reported, fetchChanges}
-use Rattle.steps.specs.Tests.{findConstraint, findEdit, hasConstraint, hasEdit}
-use Rattle.steps.specs.Calls.{empty, reset}
 use Rattle.steps.specs.Session.{valueOf as asks, hasConstraints, hasEdits, turn}
 
 -- ---- queries
@@ -20,26 +18,6 @@ use Rattle.steps.specs.Session.{valueOf as asks, hasConstraints, hasEdit
 pub queries-keep : (s : State) (n : ℕ) → (turn (asks n) s .state ≡ s) × (turn (hasConstraints n) s .state ≡ s) × (turn (hasEdits n) s .state ≡ s)
 unfolding turn
 queries-keep s n = (refl, refl, refl)
-
--- "Queries give false or 0.0 for an unknown number, and beside 18."
-pub unknown-value : (s : State) (n : ℕ) → findVariable n (s .changes .variables) ≡ none → value n s ≡ zero64
-unfolding value
-unknown-value s n e = rw (e, value)
-
-pub unknown-constraint : (s : State) (n : ℕ) → findConstraint n (s .constraints) ≡ none → hasConstraint n s ≡ false
-unfolding hasConstraint
-unknown-constraint s n e = rw (e, hasConstraint)
-
-pub unknown-edit : (s : State) (n : ℕ) → findEdit n (s .edits) ≡ none → hasEdit n s ≡ false
-unfolding hasEdit
-unknown-edit s n e = rw (e, hasEdit)
-
--- ---- reset
-
--- "Reset refuses only wrong lengths.": it answers accepted, no pivot, yes, and leaves the empty state, whose mark is yes.
-pub reset-accepts : (s : State) → (reset s .answer ≡ record { number = 0; pivots = 0; whole = true }) × (reset s .state ≡ empty) × (empty .whole ≡ true)
-unfolding reset empty
-reset-accepts s = (refl, refl, refl)
 
 -- ---- fetch
 
