@@ -36,7 +36,6 @@ use Rattle.standing.specs.Bound.{is-refused, refused-then, going-then, none-the
 use Rattle.standing.specs.Kept.{standing-worse}
 use Rattle.tags.specs.declared.Tagged.{Tagged as Tags}
 use Rattle.creating.specs.Created.{tagBy, createdOf}
-use Rattle.adding.specs.declared.add.Added.{Added}
 use Rattle.temporary.specs.Temporary.{createdBy}
 use Rattle.adding.specs.Adding.{Made, addedOf}
 

@@ -1,9 +1,9 @@
 -- What is chosen over the places is what the steps choose on what the tables read as.
 -- Assumes nothing.
-use Prim.Native.Nat.{ℕ, zero, suc, _+_, _-_, _/_}
-use mathlib.Core.Path.{_≡_, refl, sym, ap, _∙_}
+use Prim.Native.Nat.{ℕ, suc, _+_, _/_}
+use mathlib.Core.Path.{_≡_, refl, ap, _∙_}
 use mathlib.Core.Bool.{Bool, true, false, not, _&&_, cond}
-use mathlib.Core.List.{List, [], _∷_, _++_, reverse}
+use mathlib.Core.List.{List, [], _∷_, _++_}
 use mathlib.Core.Option.{Option, none, some}
 use native.Mathlib.Omega.{arith}
 use lib.Dec.{eqb}
@@ -14,13 +14,13 @@ use Rattle.steps.specs.Symbol.{Symbol, isSymbol, isExternal, isRestricted, isDu
 use Rattle.steps.specs.Row.{Row}
 use Rattle.steps.specs.State.{Basic}
 use Rattle.steps.specs.Work.{findRow}
-use Rattle.steps.specs.Optimise.{Candidate, smallestRatio, negativeRatios, dualRatios, isBelow}
+use Rattle.steps.specs.Optimise.{Candidate, smallestRatio, negativeRatios, dualRatios}
 use Rattle.steps.specs.Remove.{cellIn, firstDummyRow, positiveRatios, lastExternalRow}
 use Rattle.laws.specs.Loops.{first}
 use Rattle.laws.specs.Lists.{tab, listOf}
 use Rattle.layout.specs.Layout.{symbolOf, cellsOf, basicOf}
 use Rattle.choose.specs.Reading.{symbolsIn, basicsIn, rowIn}
-use Rattle.choose.specs.Choose.{onFound, symbolAt, basicAt, cellAt, idAt, placeOf, rowOf, enteringOf, wants, heldOf, leavingOf, positiveOf, dualEnteringOf, dummyRowOf, externalRowOf, isBelowOf}
+use Rattle.choose.specs.Choose.{onFound, symbolAt, basicAt, cellAt, idAt, placeOf, rowOf, enteringOf, wants, heldOf, leavingOf, positiveOf, dualEnteringOf, dummyRowOf, externalRowOf}
 use Rattle.choose.specs.Walk.{first-walk, last-walk, tab-snoc, smallest-walk}
 use Rattle.choose.specs.declared.Found.{Found}
 use Rattle.choose.specs.declared.Found.the-variants.{At, Nothing}

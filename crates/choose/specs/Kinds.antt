@@ -2,11 +2,11 @@
 -- Assumes nothing.
 use Prim.Native.Nat.{ℕ, zero, suc, _%_, _<_}
 use mathlib.Core.Path.{_≡_, refl}
-use mathlib.Core.Bool.{Bool, true, false, not, _||_}
+use mathlib.Core.Bool.{Bool, not, _||_}
 use native.Mathlib.Nat.{not-suc-le-zero, le-of-suc-le-suc}
 use native.Mathlib.Omega.{arith}
 use lib.Dec.{eqb}
-use Rattle.steps.specs.Symbol.{Kind, Symbol, isExternal, isRestricted, isDummy, isPivotable}
+use Rattle.steps.specs.Symbol.{Symbol, isExternal, isRestricted, isDummy, isPivotable}
 use Rattle.layout.specs.Layout.{kindOf, symbolOf}
 
 by-four : (P : ℕ → Type 0) → P 0 → P 1 → P 2 → P 3 → (k : ℕ) → k < 4 → P k

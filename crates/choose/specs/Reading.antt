@@ -7,7 +7,7 @@ use lib.ListN.{getD}
 use lib.Ieee.{Float, nan}
 use Rattle.steps.specs.Symbol.{Symbol}
 use Rattle.steps.specs.Row.{Row}
-use Rattle.steps.specs.State.{Basic, Tableau, State}
+use Rattle.steps.specs.State.{Basic, Tableau}
 use Rattle.laws.specs.Lists.{listOf}
 use Rattle.layout.specs.Layout.{Tables, symbolOf, cellsOf, basicOf, symbolsOf, basicsOf, entriesOf, read}
 

@@ -1,32 +1,30 @@
 -- The steps' own choices, on a tableau that the tables read as, are the code's.
 -- Assumes nothing.
-use Prim.Native.Nat.{ℕ, zero, suc, _+_, _-_, _/_, _≤_, _<_}
-use mathlib.Core.Path.{_≡_, refl, sym, ap, _∙_}
-use mathlib.Core.Bool.{Bool, true, false, not, _&&_, cond}
-use mathlib.Core.List.{List, [], _∷_, _++_, reverse, reverse-append, reverse-reverse}
+use Prim.Native.Nat.{ℕ, suc, _+_, _-_}
+use mathlib.Core.Path.{_≡_, refl, ap, _∙_}
+use mathlib.Core.Bool.{true, false}
+use mathlib.Core.List.{List, [], _∷_, reverse, reverse-append}
 use mathlib.Core.Option.{Option, none, some}
 use native.Mathlib.Omega.{arith}
-use lib.Dec.{eqb}
 use lib.ListN.{getD}
-use lib.Ieee.{Float, nan, ofBits, lt}
-use Rattle.steps.specs.Number.{zero64, belowZero}
-use Rattle.steps.specs.Symbol.{Symbol, isExternal, isPivotable, isDummy, holds, coefficientFor, firstSymbol}
+use lib.Ieee.{Float}
+use Rattle.steps.specs.Number.{belowZero}
+use Rattle.steps.specs.Symbol.{Symbol}
 use Rattle.steps.specs.Row.{Row}
-use Rattle.steps.specs.State.{Tag, Basic, Tableau}
-use Rattle.steps.specs.Work.{Work, findRow}
-use Rattle.steps.specs.CreateRow.{Created, negativeTag, chooseSubject, allDummies}
-use Rattle.steps.specs.Optimise.{Popped, allPopped, popped, isBelow, popBelow, getDualEnteringSymbol, smallestRatio, dualRatios, DualChoice, feasible, noEntering, dualPivotOn, chooseDualPivot, theObjective, theArtificial, goalCells, getEnteringSymbol, getLeavingRow, negativeRatios}
+use Rattle.steps.specs.State.{Basic, Tableau}
+use Rattle.steps.specs.Work.{Work}
+use Rattle.steps.specs.Optimise.{Popped, allPopped, popped, isBelow, popBelow, getDualEnteringSymbol, smallestRatio, dualRatios, theObjective, theArtificial, goalCells, getEnteringSymbol, getLeavingRow, negativeRatios}
 use Rattle.steps.specs.Artificial.{anyPivotableSymbol, isEmptyRow}
-use Rattle.steps.specs.Remove.{firstDummyRow, positiveRatios, lastExternalRow, getMarkerLeavingRow}
+use Rattle.steps.specs.Remove.{positiveRatios, lastExternalRow, getMarkerLeavingRow}
 use Rattle.laws.specs.Lists.{tab, listOf}
-use Rattle.layout.specs.Layout.{symbolOf, otherOf, cellsOf}
+use Rattle.layout.specs.Layout.{cellsOf}
 use Rattle.choose.specs.Reading.{symbolsIn, basicsIn, entriesIn, rowIn, tableauIn}
-use Rattle.choose.specs.Choose.{onFound, symbolAt, basicAt, cellAt, placeOf, rowOf, enteringOf, wants, heldOf, isNothing, leavingOf, positiveOf, dualEnteringOf, dummyRowOf, externalRowOf, markerLeavingOf, negativeOf, subjectOf, isBelowOf, popBelowOf}
+use Rattle.choose.specs.Choose.{onFound, symbolAt, basicAt, placeOf, rowOf, enteringOf, wants, heldOf, isNothing, leavingOf, positiveOf, dualEnteringOf, dummyRowOf, externalRowOf, markerLeavingOf, isBelowOf, popBelowOf}
 use Rattle.choose.specs.Walk.{last-walk, tab-snoc}
-use Rattle.choose.specs.Chosen.{as-cond, cell-of, row-found, entering-chosen, held-chosen, dual-chosen, leaving-chosen, positive-chosen, dummy-chosen, external-chosen}
+use Rattle.choose.specs.Chosen.{as-cond, row-found, entering-chosen, held-chosen, dual-chosen, leaving-chosen, positive-chosen, dummy-chosen, external-chosen}
 use Rattle.choose.specs.declared.Found.{Found}
 use Rattle.choose.specs.declared.Found.the-variants.{At, Nothing}
-use Rattle.choose.specs.declared.Want.the-variants.{External, Pivotable, NonDummy, Any}
+use Rattle.choose.specs.declared.Want.the-variants.{Pivotable, Any}
 
 module _ {A B : Type 0} where
   abbrev pub picked : (A → B) → B → Option A → B

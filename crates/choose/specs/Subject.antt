@@ -1,6 +1,6 @@
 -- Add's subject, the two passes' choices and the whole of a dual choice, on what the tables read as.
 -- Assumes nothing.
-use Prim.Native.Nat.{ℕ, _+_, _-_, _/_, _≤_}
+use Prim.Native.Nat.{ℕ, _+_, _-_, _/_}
 use mathlib.Core.Path.{_≡_, refl, sym, ap, _∙_}
 use mathlib.Core.Bool.{Bool, true, false, _&&_, cond}
 use mathlib.Core.List.{List, [], reverse, reverse-reverse}
@@ -10,16 +10,14 @@ use lib.ListN.{getD}
 use lib.Ieee.{Float, nan, ofBits, lt}
 use Rattle.steps.specs.Number.{zero64, belowZero}
 use Rattle.steps.specs.Symbol.{Symbol, isPivotable, coefficientFor}
-use Rattle.steps.specs.State.{Tag}
 use Rattle.steps.specs.Work.{Work}
 use Rattle.steps.specs.CreateRow.{Created, negativeTag, chooseSubject, allDummies}
-use Rattle.steps.specs.Optimise.{Popped, allPopped, popped, Choice, ended, stuck, pivotOn, choosePivot, Goal, theObjective, getEnteringSymbol, getLeavingRow, DualChoice, feasible, noEntering, dualPivotOn, chooseDualPivot, getDualEnteringSymbol, popBelow}
-use Rattle.laws.specs.Lists.{tab}
+use Rattle.steps.specs.Optimise.{Popped, allPopped, popped, Choice, ended, stuck, pivotOn, choosePivot, Goal, getEnteringSymbol, getLeavingRow, DualChoice, feasible, noEntering, dualPivotOn, chooseDualPivot, getDualEnteringSymbol}
 use Rattle.layout.specs.Layout.{symbolOf, otherOf, cellsOf}
-use Rattle.choose.specs.Reading.{symbolsIn, basicsIn, rowIn, tableauIn}
+use Rattle.choose.specs.Reading.{symbolsIn, rowIn, tableauIn}
 use Rattle.choose.specs.Choose.{Within, onFound, symbolAt, basicAt, placeOf, rowOf, enteringOf, wants, heldOf, isNothing, leavingOf, dualEnteringOf, negativeOf, subjectOf, popBelowOf}
 use Rattle.choose.specs.Chosen.{cell-of, held-chosen}
-use Rattle.choose.specs.Steps.{picked, on-some, entries, poppedAt, entering-is, leaving-is, dual-entering-is, dual-pop-is}
+use Rattle.choose.specs.Steps.{picked, on-some, entries, poppedAt, leaving-is, dual-entering-is, dual-pop-is}
 use Rattle.choose.specs.Own.{first-within, Ascends, own-place}
 use Rattle.choose.specs.declared.Found.{Found}
 use Rattle.choose.specs.declared.Found.the-variants.{At, Nothing}

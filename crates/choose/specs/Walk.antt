@@ -1,7 +1,7 @@
 -- A walk along a list that is read out of a table is the look along the table's places: for the first element that passes a test, for the last,
 -- and for the smallest ratio. Place i + 1 of the table has element i of the list.
 -- Assumes nothing.
-use Prim.Native.Nat.{ℕ, zero, suc, _+_, _-_, _≤_, _<_}
+use Prim.Native.Nat.{ℕ, zero, suc, _+_, _-_, _≤_}
 use mathlib.Core.Path.{_≡_, refl, sym, ap, _∙_}
 use mathlib.Core.Bool.{Bool, true, false, _&&_, cond}
 use mathlib.Core.List.{List, [], _∷_, _++_}

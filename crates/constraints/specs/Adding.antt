@@ -15,7 +15,7 @@ use Rattle.steps.specs.State.{Tag, Constraint, State, strengthOf}
 use Rattle.steps.specs.Work.{refused, going}
 use Rattle.steps.specs.Add.{addSteps}
 use Rattle.steps.specs.Tests.{firstRefusal, addTests, keptTerms, keepConstraint}
-use Rattle.steps.specs.Calls.{Answer, begin, finish, refusedBy, concludeAdd, add}
+use Rattle.steps.specs.Calls.{begin, finish, refusedBy, concludeAdd, add}
 use Rattle.steps.specs.Readable.{readable}
 use Rattle.keeps.specs.Keeps.{add-reads}
 use Rattle.layout.specs.Layout.{Tables, constraintCount, termCount, termOf, constraintOf, constraintsOf, editsOf, read}

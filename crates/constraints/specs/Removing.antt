@@ -1,6 +1,6 @@
 -- Remove: the calls put together, over variables.
 -- Assumes nothing.
-use Prim.Native.Nat.{ℕ, _+_, _≤_, _<_}
+use Prim.Native.Nat.{ℕ, _+_}
 use mathlib.Core.Path.{_≡_, refl, ap, _∙_}
 use mathlib.Core.Bool.{true, false}
 use mathlib.Core.List.{List, []}
@@ -11,7 +11,7 @@ use Rattle.laws.specs.Lists.{listOf}
 use Rattle.steps.specs.State.{Constraint, State}
 use Rattle.steps.specs.Remove.{removeSteps}
 use Rattle.steps.specs.Tests.{findConstraint, dropConstraint}
-use Rattle.steps.specs.Calls.{Answer, begin, finish, conclude, remove}
+use Rattle.steps.specs.Calls.{begin, finish, conclude, remove}
 use Rattle.keeps.specs.Along.{Mem}
 use Rattle.keeps.specs.Keeps.{remove-reads}
 use Rattle.layout.specs.Layout.{Tables, symbolCode, otherSymbol, termCount, strengthIn, symbolOf, termOf, tagOf, constraintsAt, constraintCount, constraintOf, symbolsOf, constraintsOf, editsOf, read}
@@ -29,7 +29,7 @@ use Rattle.shell.specs.declared.Answer as code
 use Rattle.shell.specs.Shell.{answerOf, Ready}
 use Rattle.finishing.specs.Begin.{storedMark, begun-is, reads-at-start, constraint-live}
 use Rattle.finishing.specs.Concluding.{Done, went, byTest, done-by-test, answered, done-refused, done-accepted}
-use Rattle.finishing.specs.Placed.{constraintPlace, constraint-placed, live-constraint-found}
+use Rattle.finishing.specs.Placed.{constraintPlace, live-constraint-found}
 
 -- ---- refused by a test
 
@@ -51,9 +51,6 @@ module _ (x budget : ℕ) (t : Tables) (ready : Ready t) (k : ℕ) (before : Wro
     abbrev real : List Float
     real = getD (t .reals) (constraintsAt + k) []
 
-    in-range : k < constraintCount (t .head)
-    in-range = rw placed (constraint-placed t x live)
-
     found : findConstraint x (constraintsOf t) ≡ some (constraintOf item real)
     found = rw placed (live-constraint-found t x live)
 
@@ -64,10 +61,6 @@ module _ (x budget : ℕ) (t : Tables) (ready : Ready t) (k : ℕ) (before : Wro
     pub removal-live : Mem (symbolOf (symbolCode item)) (symbolsIn (t .head))
     unfolding read symbolsOf symbolsIn constraintOf tagOf
     removal-live = constraint-live x (read t) (constraintOf item real) (reads-at-start t ready) found
-
-    -- a stored constraint has at most 16 terms
-    pub removal-terms : termCount item ≤ 16
-    removal-terms = ready .2 .3 k in-range
 
     module _ (e : Ended) (u : Tables)
         (ends : outcomeOf false e u ≡ removeSteps budget (tagFrom (symbolCode item) (otherSymbol item)) (strengthIn real) (listOf (termCount item) (termOf item real)) (workOf false (markOf before) 0 t))

@@ -1,30 +1,26 @@
 -- A use counted, the row's start and its end read as the steps say.
 -- Assumes nothing.
-use Prim.Native.Nat.{ℕ, _+_, _≤_, _<_}
-use mathlib.Core.Path.{_≡_, refl, sym, ap, _∙_}
+use Prim.Native.Nat.{ℕ, _≤_, _<_}
+use mathlib.Core.Path.{_≡_, refl, ap}
 use mathlib.Core.Bool.{Bool, true, false, cond}
-use mathlib.Core.List.{List, [], map}
+use mathlib.Core.List.{List}
 use mathlib.Core.Option.{none}
-use native.Mathlib.Omega.{arith}
-use lib.ListN.{length, getD, set, length-set}
-use lib.Seq.{getD-set-same, getD-set-other}
+use lib.ListN.{length, getD}
 use lib.Ieee.{Float, nan}
-use Rattle.steps.specs.Number.{zero64, belowZero, Mark}
-use Rattle.steps.specs.Row.{Row, reverseSign}
-use Rattle.steps.specs.State.{State, Variable}
-use Rattle.steps.specs.Work.{Work, withChanges}
-use Rattle.steps.specs.CreateRow.{Building, withVariables, useOnce, countUse}
-use Rattle.layout.specs.Layout.{tables, cellsOf, read}
+use Rattle.steps.specs.Number.{belowZero, Mark}
+use Rattle.steps.specs.Row.{reverseSign}
+use Rattle.steps.specs.State.{State}
+use Rattle.steps.specs.Work.{withChanges}
+use Rattle.steps.specs.CreateRow.{withVariables, countUse}
 use Rattle.rows.specs.Table.{reverseSignIn}
 use Rattle.rows.specs.Reading.{rowOf, reverse-read}
 use Rattle.choose.specs.Reading.{rowIn}
 use Rattle.records.specs.Records.{countedUse}
 use Rattle.records.specs.Uses.{Counted, counted-use}
-use Rattle.tags.specs.Tags.{Frame, frame}
 use Rattle.creating.specs.Terms.{Desk, desk}
 use Rattle.creating.specs.Create.{reversedIf}
 use Rattle.tags.specs.Read.{workIn, readFrame}
-use Rattle.creating.specs.NewRead.{frameOf, readDesk}
+use Rattle.creating.specs.NewRead.{readDesk}
 
 -- "its use count grows by one"
 pub count-use-read : (v number b : ℕ) (d : Desk) (a : Mark) → Counted (getD (d .head) 4 0) b (d .names) → b < 4294967295 → getD (d .head) 4 0 ≤ 32

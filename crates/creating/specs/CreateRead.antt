@@ -21,7 +21,7 @@ use Rattle.keeps.specs.Fits.{IsBasic, FitsW}
 use Rattle.keeps.specs.Building.{Built}
 use Rattle.keeps.specs.Terms.{insertTerms-length}
 use Rattle.keeps.specs.Creating.{createRow-tagged}
-use Rattle.layout.specs.Layout.{Tables, tables, termCount, symbolsOf, variablesOf, read}
+use Rattle.layout.specs.Layout.{Tables, termCount, symbolsOf, variablesOf, read}
 use Rattle.choose.specs.Reading.{symbolsIn, entriesIn, rowIn}
 use Rattle.moves.specs.Room.{Held}
 use Rattle.tableau.specs.Working.{workOf}

@@ -13,7 +13,7 @@ use lib.Ieee.{Float}
 use Rattle.steps.specs.Number.{zero64}
 use Rattle.laws.specs.Loops.{delete}
 use Rattle.laws.specs.Places.{length-mapIn, lengths-mapIn, lengths-set, mapIn-at, mapIn-after, every-at, at-every, every-delete, every-insertAt}
-use Rattle.layout.specs.Layout.{Tables, tables, numberOf, usesOf, changedFlag}
+use Rattle.layout.specs.Layout.{Tables, numberOf, usesOf, changedFlag}
 use Rattle.layout.specs.Rooms.{Widths}
 use Rattle.moves.specs.Moves.{Board, board, appendedHead, clearedColumn}
 use Rattle.moves.specs.Counts.{appended-length, appended-same, appended-symbols}

@@ -22,7 +22,7 @@ use Rattle.moves.specs.Moves.{Board, board, appendedHead}
 use Rattle.moves.specs.Counts.{appended-length, appended-same, appended-id, appended-symbols}
 use Rattle.records.specs.Records.{numberAt, numberPlace, variableItem, keptItem, keptVariable, countedUse}
 use Rattle.records.specs.Region.{place-between}
-use Rattle.tags.specs.Tags.{Frame, frame, newPlace, appendIn, insertAtPlace, addSymbolIn, insertInObjectiveAt, addErrorIn, Tags, tags, nextCode, secondCode, inequalityIn, softEqualityIn, requiredEqualityIn, equalityIn, addTagIn}
+use Rattle.tags.specs.Tags.{Frame, newPlace, appendIn, insertAtPlace, addSymbolIn, insertInObjectiveAt, addErrorIn, Tags, tags, nextCode, secondCode, inequalityIn, softEqualityIn, requiredEqualityIn, equalityIn, addTagIn}
 use Rattle.creating.specs.Terms.{Desk, desk, newVariableIn, Marked, insertPlaceIn, insertVariableIn, insertKnownIn}
 use Rattle.creating.specs.Create.{reversedIf, closedRow}
 use Rattle.creating.specs.Leaves.{HeadLeft, ItemsLeft, RowsLeft, symbol-head-left, symbol-rows-left, objective-left, variable-head-left, variable-items-left, count-items-left}

@@ -2,13 +2,12 @@
 -- Assumes nothing.
 use Prim.Native.Nat.{ℕ, zero, suc, _+_, _≤_, _<_}
 use mathlib.Core.Path.{_≡_, refl, ap}
-use mathlib.Core.Bool.{Bool, false, cond}
+use mathlib.Core.Bool.{Bool, cond}
 use mathlib.Core.List.{List, [], _∷_}
 use native.Mathlib.Omega.{arith}
 use borrow.Author.Tests.{eq-eqb, eqb-false}
 use lib.Dec.{eqb}
 use lib.ListN.{getD}
-use Rattle.steps.specs.Number.{Mark}
 use Rattle.steps.specs.State.{Variable}
 use Rattle.steps.specs.Readable.{code}
 use Rattle.steps.specs.Work.{Work}
@@ -19,9 +18,8 @@ use Rattle.keeps.specs.Codes.{codes-mem}
 use Rattle.keeps.specs.Uses.{usesOf}
 use Rattle.keeps.specs.Reads.{varCode}
 use Rattle.keeps.specs.Good.{Good}
-use Rattle.layout.specs.Layout.{Tables, variableOf, variablesOf, usesOf as usesAt, read}
+use Rattle.layout.specs.Layout.{Tables, variableOf, variablesOf, usesOf as usesAt}
 use Rattle.moves.specs.Room.{by-eqb}
-use Rattle.tableau.specs.Working.{workOf}
 use Rattle.creating.specs.Created.{Spare}
 
 -- a part is at most the whole
@@ -60,8 +58,3 @@ uses-spare t s j high =
     let part = total-at (λ (v : Variable). cond (eqb n (v .number)) (v .uses) 0) g (getD (t .head) 4 0) 0 j (omega arith) (omega (arith, high)) in
     let here : cond (eqb n n) (g j .uses) 0 ≡ g j .uses = ap (λ (b : Bool). cond b (g j .uses) 0) (eq-eqb n n refl) in
     omega (arith, part, here, uses-total n (tab g 0 (getD (t .head) 4 0)), s n)
-
--- where use counts are those that U counts, as in the work of a call on a stored state
-pub spare-of : (K U : ℕ → ℕ) (a : Mark) (t : Tables) → Good K U (workOf false a 0 t) → ((n : ℕ) → U n ≤ 4294900000) → Spare t
-unfolding workOf read
-spare-of K U a t good few n = omega (arith, good .vars .uses n, few n)

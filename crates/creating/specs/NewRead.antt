@@ -1,27 +1,27 @@
 -- A new variable with its symbol read as the steps' `addVariable`.
 -- Assumes nothing.
-use Prim.Native.Nat.{ℕ, _+_, _*_, _≤_, _<_}
-use mathlib.Core.Path.{_≡_, refl, sym, ap, _∙_}
-use mathlib.Core.List.{List, []}
+use Prim.Native.Nat.{ℕ, _+_, _*_, _<_}
+use mathlib.Core.Path.{_≡_, refl, ap}
+use mathlib.Core.List.{List}
 use mathlib.Core.Option.{none}
 use native.Mathlib.Omega.{arith}
 use lib.ListN.{length, getD, set}
 use lib.Seq.{getD-set-other}
 use lib.Ieee.{Float}
 use Rattle.steps.specs.Number.{zero64, Mark}
-use Rattle.steps.specs.Symbol.{External, Symbol}
+use Rattle.steps.specs.Symbol.{External}
 use Rattle.steps.specs.Readable.{kindCode}
-use Rattle.steps.specs.State.{State, Variable}
-use Rattle.steps.specs.Work.{Work, withChanges, newSymbol}
-use Rattle.steps.specs.CreateRow.{Building, appendTo, keepVariable, withVariables, addVariable}
-use Rattle.layout.specs.Layout.{tables, symbolOf, variableOf}
+use Rattle.steps.specs.State.{State}
+use Rattle.steps.specs.Work.{withChanges}
+use Rattle.steps.specs.CreateRow.{Building, keepVariable, withVariables, addVariable}
+use Rattle.layout.specs.Layout.{tables, variableOf}
 use Rattle.choose.specs.Reading.{rowIn}
 use Rattle.moves.specs.Moves.{Board, board, appendedHead, clearedColumn}
 use Rattle.moves.specs.Counts.{appended-length, appended-same}
-use Rattle.records.specs.Records.{Items, items, keptItem, variableItem, variableReal, keptVariable}
+use Rattle.records.specs.Records.{items, keptItem, variableItem, variableReal, keptVariable}
 use Rattle.records.specs.Kept.{kept-variable, new-variable}
-use Rattle.tags.specs.Tags.{Frame, frame, newPlace, appendIn}
-use Rattle.creating.specs.Terms.{Desk, desk, newVariableIn}
+use Rattle.tags.specs.Tags.{Frame, frame, appendIn}
+use Rattle.creating.specs.Terms.{Desk, newVariableIn}
 use Rattle.tags.specs.Read.{workIn, readFrame, Open, append-read}
 use Rattle.tags.specs.TagsRead.{next-is}
 

@@ -1,9 +1,9 @@
 -- The row's start and, after the tag, its end read as the steps' `createRow` says.
 -- Assumes nothing.
-use Prim.Native.Nat.{ℕ, _+_, _≤_, _<_}
-use mathlib.Core.Path.{_≡_, refl, sym, ap, _∙_}
+use Prim.Native.Nat.{ℕ, _+_, _<_}
+use mathlib.Core.Path.{_≡_, refl, ap, _∙_}
 use mathlib.Core.Bool.{Bool, true, false, cond}
-use mathlib.Core.List.{List, [], map}
+use mathlib.Core.List.{List, map}
 use native.Mathlib.Omega.{arith}
 use lib.ListN.{length, getD, set, length-set}
 use lib.Seq.{getD-set-same}
@@ -11,18 +11,18 @@ use lib.Ieee.{Float, nan, lt, neg}
 use Rattle.steps.specs.Number.{zero64, one64, minusOne64, belowZero}
 use Rattle.steps.specs.Strength.{required}
 use Rattle.steps.specs.Symbol.{Symbol}
-use Rattle.steps.specs.Row.{Row, reverseSign}
+use Rattle.steps.specs.Row.{reverseSign}
 use Rattle.steps.specs.State.{Relation, atMost, equal, atLeast}
-use Rattle.steps.specs.CreateRow.{Building, Created, addTag}
+use Rattle.steps.specs.CreateRow.{Created, addTag}
 use Rattle.laws.specs.Loops.{mapIn}
-use Rattle.laws.specs.Lists.{tab, listOf, map-tab}
+use Rattle.laws.specs.Lists.{listOf, map-tab}
 use Rattle.laws.specs.Places.{length-mapIn, tab-mapIn}
 use Rattle.layout.specs.Layout.{symbolOf, cellsOf}
 use Rattle.rows.specs.Cells.{cells-constant}
 use Rattle.rows.specs.Stays.{length-insertSymbolAt}
 use Rattle.choose.specs.Reading.{symbolsIn, rowIn}
-use Rattle.tags.specs.Tags.{Frame, frame, newPlace, appendIn, insertAtPlace, addSymbolIn, insertInObjectiveAt, addErrorIn, Tags, tags, nextCode, secondCode, inequalityIn, softEqualityIn, requiredEqualityIn, equalityIn, addTagIn}
-use Rattle.creating.specs.Create.{startedRow, reversedIf, closedRow, tag-few}
+use Rattle.tags.specs.Tags.{Frame, newPlace, appendIn, insertAtPlace, addSymbolIn, insertInObjectiveAt, addErrorIn, Tags, tags, nextCode, secondCode, inequalityIn, softEqualityIn, requiredEqualityIn, equalityIn, addTagIn}
+use Rattle.creating.specs.Create.{startedRow, closedRow, tag-few}
 use Rattle.tags.specs.Read.{readFrame, Open}
 use Rattle.tags.specs.TagsRead.{readTags, add-tag-read}
 use Rattle.creating.specs.CloseRead.{reversed-read}

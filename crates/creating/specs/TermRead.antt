@@ -24,7 +24,7 @@ use Rattle.keeps.specs.Along.{ids}
 use Rattle.keeps.specs.Fits.{FitsW}
 use Rattle.keeps.specs.Building.{Built, addVariable-built}
 use Rattle.keeps.specs.Terms.{live-none, insertTerm-built}
-use Rattle.layout.specs.Layout.{Tables, tables, numberOf, usesOf, symbolCode, symbolOf, symbolsOf, variableOf, variablesOf, read}
+use Rattle.layout.specs.Layout.{Tables, numberOf, usesOf, symbolCode, symbolOf, symbolsOf, variableOf, variablesOf, read}
 use Rattle.choose.specs.declared.Found.{Found}
 use Rattle.choose.specs.declared.Found.the-variants.{At, Nothing}
 use Rattle.choose.specs.Choose.{onFound, placeOf}

@@ -6,7 +6,7 @@ use lib.Dec.{ltb}
 use lib.ListN.{getD, set}
 use lib.Ieee.{Float, nan}
 use Rattle.steps.specs.Number.{zero64, cellBound, nearZero, Mark, worse}
-use Rattle.laws.specs.Loops.{run, mapIn}
+use Rattle.laws.specs.Loops.{run}
 use Rattle.layout.specs.Layout.{symbolCode, termCount}
 use Rattle.rows.specs.Table.{insertSymbolAt, insertSymbolMark, insertRowIn, insertRowMark}
 use Rattle.choose.specs.Choose.{onFound, placeOf, rowOf}

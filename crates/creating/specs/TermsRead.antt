@@ -2,18 +2,15 @@
 -- Assumes nothing.
 use Prim.Native.Nat.{ℕ, _+_, _/_, _≤_, _<_}
 use mathlib.Core.Path.{_≡_, refl, sym, ap, _∙_}
-use mathlib.Core.Bool.{false}
 use mathlib.Core.List.{List, []}
 use mathlib.Core.Option.{Option, none, some}
-use native.Mathlib.Omega.{arith}
 use lib.ListN.{length, getD}
 use lib.Ieee.{Float}
-use Rattle.steps.specs.Number.{Mark, worse}
-use Rattle.steps.specs.Row.{Row, Written, insertRow}
-use Rattle.steps.specs.State.{Basic}
+use Rattle.steps.specs.Number.{worse}
+use Rattle.steps.specs.Row.{Row, insertRow}
 use Rattle.steps.specs.Work.{Work, marking, findRow}
 use Rattle.steps.specs.CreateRow.{Building, written, insertInto, insertVariable}
-use Rattle.layout.specs.Layout.{tables, symbolOf}
+use Rattle.layout.specs.Layout.{symbolOf}
 use Rattle.rows.specs.Table.{insertRowIn, insertRowMark, insertRowChanged}
 use Rattle.rows.specs.Place.{PlaceOf}
 use Rattle.rows.specs.Reading.{rowOf, writtenOf, insert-row-read}

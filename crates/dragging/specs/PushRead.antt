@@ -2,7 +2,7 @@
 -- Assumes nothing.
 use Prim.Native.Nat.{ℕ, zero, suc, _+_, _/_, _≤_, _<_}
 use mathlib.Core.Path.{_≡_, refl, sym, ap, _∙_}
-use mathlib.Core.Bool.{Bool, true, false, cond}
+use mathlib.Core.Bool.{Bool, true, cond}
 use mathlib.Core.List.{List, [], _∷_}
 use mathlib.Core.Option.{Option, none, some}
 use native.Mathlib.Omega.{arith}
@@ -21,7 +21,7 @@ use Rattle.layout.specs.Layout.{symbolOf, basicOf}
 use Rattle.choose.specs.Reading.{entriesIn}
 use Rattle.moves.specs.Moves.{pushIf}
 use Rattle.moves.specs.Counts.{push-if-same, push-if-length}
-use Rattle.moves.specs.Entries.{pushed-entries}
+use Rattle.moves.specs.Entries.{if-pushed}
 use Rattle.moves.specs.Room.{Held}
 use Rattle.moves.specs.Held.{room, cond-held}
 use Rattle.rows.specs.Table.{shiftConstantIn}
@@ -37,13 +37,6 @@ pub record Roomy (h : List ℕ) : Type 0 where
   pub few : length seen ≤ 129
   pub held : Held (entriesIn h) seen
   pub basic : (i : ℕ) → i < getD h 2 0 → member (getD h (146 + i) 0 / 4) seen ≡ true
-
--- ---- one push
-
-pub if-pushed : (h : List ℕ) → length h ≡ 326 → getD h 3 0 < 130 → (id : ℕ) (on : Bool) → entriesIn (pushIf on id h) ≡ cond on (push (entriesIn h) id) (entriesIn h)
-unfolding pushIf
-if-pushed h len room id true = pushed-entries h len (omega arith) id room
-if-pushed h len room id false = refl
 
 -- ---- a shift leaves a row's cells, and so what it gets
 

@@ -2,8 +2,8 @@
 -- Assumes nothing.
 use Prim.Native.Nat.{ℕ, zero, suc, _+_, _/_, _≤_, _<_}
 use mathlib.Core.Path.{_≡_, refl, sym, ap, _∙_}
-use mathlib.Core.Bool.{Bool, true, false, _&&_, cond}
-use mathlib.Core.List.{List, [], _∷_}
+use mathlib.Core.Bool.{Bool, _&&_}
+use mathlib.Core.List.{List, []}
 use mathlib.Core.Option.{Option, none, some}
 use native.Mathlib.Nat.{not-suc-le-zero, add-zero}
 use native.Mathlib.Omega.{arith}
@@ -16,8 +16,8 @@ use Rattle.laws.specs.Places.{lengths-set}
 use Rattle.steps.specs.Number.{worse}
 use Rattle.steps.specs.Symbol.{isExternal}
 use Rattle.steps.specs.Row.{Written, untouched}
-use Rattle.steps.specs.State.{Basic, Changes}
-use Rattle.steps.specs.Changes.{varChanged, allChanged}
+use Rattle.steps.specs.State.{Basic}
+use Rattle.steps.specs.Changes.{allChanged}
 use Rattle.steps.specs.Substitute.{Substituted, marksOf, notedOf}
 use Rattle.steps.specs.Edit.{shiftRow, shiftRows}
 use Rattle.layout.specs.Layout.{symbolOf, basicOf}
@@ -26,6 +26,7 @@ use Rattle.rows.specs.Stays.{length-shiftConstantIn}
 use Rattle.rows.specs.Reading.{rowOf, writtenOf, shift-read}
 use Rattle.tableau.specs.Notes.{Noted, varChangedIf, changed-if-head}
 use Rattle.tableau.specs.NotesRead.{changesIn, Flags, changed-if-read, changed-if-flags, changed-if-length}
+use Rattle.tableau.specs.SubstituteRead.{noted-cons}
 use Rattle.drags.specs.declared.drag.Drag.{Drag}
 use Rattle.drags.specs.Drag.{shiftBy}
 use Rattle.dragging.specs.Shifting.{changesBy, shiftRowIn, shiftRowMark, noteShift, Shifting, shifting, shiftTurn}
@@ -40,15 +41,6 @@ pub length-shiftRowIn : (o : Option Float) (row : List Float) → length (shiftR
 unfolding shiftRowIn
 length-shiftRowIn none row = refl
 length-shiftRowIn (some x) row = length-shiftConstantIn x row
-
-noted-cons : (r : Substituted) (rs : List Substituted) (c : Changes)
-    → allChanged (notedOf (r ∷ rs)) c ≡ allChanged (notedOf rs) (cond (isExternal (r .symbol) && r .written .constantChanged) (varChanged (r .symbol .id) c) c)
-unfolding notedOf allChanged
-noted-cons r rs c = go (isExternal (r .symbol) && r .written .constantChanged)
-  where
-    go : (b : Bool) → allChanged (elim b [ true ↦ r .symbol .id ∷ notedOf rs | false ↦ notedOf rs ]) c ≡ allChanged (notedOf rs) (cond b (varChanged (r .symbol .id) c) c)
-    go true = refl
-    go false = refl
 
 -- row 1 + i of the table is the row of the symbol of code i, and n of its cells are live
 module _ (n count : ℕ) (code : ℕ → ℕ) (d : Drag) (rows : List (List Float)) where

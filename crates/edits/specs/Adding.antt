@@ -17,7 +17,7 @@ use Rattle.steps.specs.Work.{refused, going}
 use Rattle.steps.specs.Add.{addSteps}
 use Rattle.steps.specs.Edit.{editTerms, addEditSteps}
 use Rattle.steps.specs.Tests.{firstRefusal, addEditTests, keepEdit}
-use Rattle.steps.specs.Calls.{Answer, begin, finish, refusedBy, concludeAdd, addEdit}
+use Rattle.steps.specs.Calls.{begin, finish, refusedBy, concludeAdd, addEdit}
 use Rattle.keeps.specs.Cells.{zero-finite}
 use Rattle.keeps.specs.Keeps.{addEdit-reads}
 use Rattle.layout.specs.Layout.{Tables, editCount, termCount, termOf, editOf, tagOf, constraintsOf, editsOf, read}

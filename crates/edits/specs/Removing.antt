@@ -12,7 +12,7 @@ use Rattle.steps.specs.State.{Edit, State}
 use Rattle.steps.specs.Remove.{removeSteps}
 use Rattle.steps.specs.Edit.{editTerms}
 use Rattle.steps.specs.Tests.{findEdit, dropEdit}
-use Rattle.steps.specs.Calls.{Answer, begin, finish, conclude, removeEdit}
+use Rattle.steps.specs.Calls.{begin, finish, conclude, removeEdit}
 use Rattle.keeps.specs.Along.{Mem}
 use Rattle.keeps.specs.Keeps.{removeEdit-reads}
 use Rattle.layout.specs.Layout.{Tables, symbolCode, otherSymbol, termCount, strengthIn, symbolOf, termOf, tagOf, editsAt, editCount, editOf, symbolsOf, constraintsOf, editsOf, read}

@@ -14,7 +14,7 @@ use Rattle.steps.specs.Number.{isFinite}
 use Rattle.steps.specs.State.{Edit, State}
 use Rattle.steps.specs.Edit.{suggestSteps}
 use Rattle.steps.specs.Tests.{findEdit, keepEdit, dropEdit}
-use Rattle.steps.specs.Calls.{Answer, begin, finish, conclude, suggest}
+use Rattle.steps.specs.Calls.{begin, finish, conclude, suggest}
 use Rattle.steps.specs.Readable.{readable}
 use Rattle.keeps.specs.Keeps.{suggest-reads}
 use Rattle.layout.specs.Layout.{Tables, editsAt, editCount, editOf, constraintsOf, editsOf, read}

@@ -13,6 +13,8 @@ use Rattle.steps.specs.Number.{allWhole, notWhole, notFinite, wholeIf, saysWhol
 use Rattle.steps.specs.State.{State}
 use Rattle.steps.specs.Calls.{stillBelow, finish}
 use Rattle.layout.specs.Layout.{Tables, tables, clearFlag, wholeFlag, changedFlag, variableCount, symbolsOf, basicsOf, entriesOf, constraintsOf, editsOf, variableOf, constraintOf, editOf, bitOf, read}
+use Rattle.layout.specs.Back.{bit-back}
+use Rattle.layout.specs.Copied.{bit-small}
 use Rattle.layout.specs.Rooms.{Lengths}
 use Rattle.rows.specs.declared.number.Wrote.{Wrote}
 use Rattle.rows.specs.Marks.{markOf}
@@ -53,16 +55,6 @@ pub record Flagged (t : Tables) : Type 0 where
   pub clear : clearFlag (t .head) ≤ 1
   pub whole : wholeFlag (t .head) ≤ 1
   pub changed : (j : ℕ) → j < variableCount (t .head) → changedFlag (getD (t .names) j []) ≤ 1
-
-bit-is : (b : Bool) → eqb (bitOf b) 1 ≡ b
-unfolding bitOf
-bit-is true = refl
-bit-is false = refl
-
-bit-low : (b : Bool) → bitOf b ≤ 1
-unfolding bitOf
-bit-low true = omega arith
-bit-low false = omega arith
 
 kept-length : (on : Bool) (x k : ℕ) (s : Pruned) → length (s .head) ≡ k → length (keepIf on x s .head) ≡ k
 unfolding keepIf
@@ -110,7 +102,7 @@ module _ (wrote : Wrote) (h : List ℕ) (n : List (List ℕ)) (r w : List (List 
         closed-tableau,
         closed-same 7 (omega arith) (omega arith) (omega arith),
         closed-mark,
-        bit-is (saysYes wrote),
+        bit-back (saysYes wrote),
         says-yes wrote,
         closed-same 4 (omega arith) (omega arith) (omega arith),
         closed-same 5 (omega arith) (omega arith) (omega arith),
@@ -123,6 +115,6 @@ module _ (wrote : Wrote) (h : List ℕ) (n : List (List ℕ)) (r w : List (List 
       record {
         lengths = (closed-length, st .lengths .1, st .lengths .2, st .lengths .3);
         clear = rw (closed-same 7 (omega arith) (omega arith) (omega arith)) (st .coded .0);
-        whole = rw closed-mark (bit-low (saysYes wrote));
+        whole = rw closed-mark (bit-small (saysYes wrote));
         changed = rw (closed-same 4 (omega arith) (omega arith) (omega arith)) (st .coded .2);
       }

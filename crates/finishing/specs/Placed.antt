@@ -10,7 +10,7 @@ use native.Mathlib.Omega.{arith}
 use lib.ListN.{length, getD}
 use borrow.Author.Tests.{ltb-true}
 use Rattle.laws.specs.Lists.{listOf, getD-tab}
-use Rattle.steps.specs.State.{Constraint, Edit}
+use Rattle.steps.specs.State.{Edit}
 use Rattle.steps.specs.Tests.{findConstraint, findEdit}
 use Rattle.keeps.specs.Lists.{Up}
 use Rattle.keeps.specs.Reads.{editNumber}
@@ -37,10 +37,6 @@ up-ascending d i (x ∷ l) u zero (suc b) h k = up-least d (suc (x .variable)) l
 up-ascending d i (x ∷ l) u (suc a) (suc b) h k = up-ascending d (suc (x .variable)) l (u .1) a b (le-of-suc-le-suc h) (le-of-suc-le-suc k)
 
 -- ---- by place
-
-pub constraint-at : (t : Tables) (j : ℕ) (d : Constraint) → j < constraintCount (t .head) → getD (constraintsOf t) j d ≡ constraintOf (getD (t .names) (constraintsAt + j) []) (getD (t .reals) (constraintsAt + j) [])
-unfolding constraintsOf listOf
-constraint-at t j d h = getD-tab _ 0 (constraintCount (t .head)) j d h ∙ rw (zero-add j) refl
 
 pub edit-at : (t : Tables) (j : ℕ) (d : Edit) → j < editCount (t .head) → getD (editsOf t) j d ≡ editOf (getD (t .names) (editsAt + j) []) (getD (t .reals) (editsAt + j) [])
 unfolding editsOf listOf

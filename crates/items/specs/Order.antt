@@ -1,13 +1,13 @@
 -- Numbers in order: no two are the same, so that a variable has one place.
 -- Assumes nothing.
-use Prim.Native.Nat.{ℕ, _+_, _-_, _≤_, _<_}
-use mathlib.Core.Path.{_≡_, refl, sym, ap, _∙_}
-use mathlib.Core.Bool.{Bool, true}
+use Prim.Native.Nat.{ℕ, _+_, _<_}
+use mathlib.Core.Path.{_≡_, sym}
+use mathlib.Core.Bool.{true}
 use mathlib.Core.List.{List, []}
 use native.Mathlib.Nat.{zero-add}
 use lib.ListN.{getD}
 use Rattle.layout.specs.Layout.{numberOf}
-use Rattle.places.specs.Finding.{placeIn, Apart, Rising, place-at, rising-apart, tested-rising}
+use Rattle.places.specs.Finding.{Apart, Rising, place-at, rising-apart, tested-rising}
 use Rattle.items.specs.Items.{numbersAscend, nameAt}
 
 pub numbers-rise : (n : List (List ℕ)) (a c : ℕ) → numbersAscend n a c ≡ true → Rising (λ j. numberOf (getD n (a + j) [])) c

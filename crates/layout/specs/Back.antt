@@ -1,8 +1,8 @@
 -- A thing that was written is read back: symbols, rows, variables, constraints and edits, one by one.
 -- Assumes nothing.
-use Prim.Native.Nat.{ℕ, zero, suc, _+_, _-_, _*_, _/_, _%_, _≤_, _<_}
-use mathlib.Core.Path.{_≡_, refl, sym, ap, _∙_}
-use mathlib.Core.Bool.{Bool, true, false, cond}
+use Prim.Native.Nat.{ℕ, suc, _+_, _*_, _/_, _%_, _≤_, _<_}
+use mathlib.Core.Path.{_≡_, refl, ap, _∙_}
+use mathlib.Core.Bool.{Bool, true, false}
 use mathlib.Core.List.{List, [], _∷_, map}
 use mathlib.Core.Option.{Option, none, some}
 use native.Mathlib.Nat.{zero-add}
@@ -12,10 +12,9 @@ use lib.ListN.{length, getD, length-map}
 use lib.Ieee.{Float, nan}
 use borrow.Author.Tests.{ne-eqb}
 use Rattle.steps.specs.Symbol.{Kind, External, Slack, Error, Dummy, Symbol}
-use Rattle.steps.specs.Row.{Row}
 use Rattle.steps.specs.State.{Term, Basic, Tag, Variable, Constraint, Edit}
 use Rattle.steps.specs.Readable.{kindCode, code}
-use Rattle.laws.specs.Lists.{listOf, listOf-is, laid, laid-in}
+use Rattle.laws.specs.Lists.{listOf, listOf-is, laid-in}
 use Rattle.layout.specs.Laying.{getD-map}
 use Rattle.layout.specs.Layout.{kindOf, symbolOf, otherOf, otherCode, bitOf, variableOf, tagOf, termOf, constraintOf, editOf, cellsOf, basicOf, over, variableNames, variableReals, constraintNames, constraintReals, editNames, editReals, basicRow}
 use Rattle.layout.specs.Rooms.{Named}

@@ -1,21 +1,16 @@
 -- The live part of tables copied over others: the copy reads as the same state, and fits as well.
 -- Assumes nothing.
 use Prim.Native.Nat.{ℕ, zero, suc, _+_, _≤_, _<_}
-use mathlib.Core.Path.{_≡_, refl, sym, ap, _∙_}
+use mathlib.Core.Path.{_≡_, sym, ap, _∙_}
 use mathlib.Core.Bool.{Bool, true, false}
-use mathlib.Core.List.{List, [], _∷_, map}
-use mathlib.Core.Option.{Option, none, some}
+use mathlib.Core.List.{[]}
 use native.Mathlib.Nat.{zero-add, suc-ne-zero}
 use native.Mathlib.Omega.{arith}
-use lib.Dec.{eqb}
 use lib.ListN.{length, getD, length-map}
-use lib.Ieee.{Float, nan}
 use borrow.Author.Tests.{ne-eqb}
-use Rattle.steps.specs.Symbol.{Symbol}
-use Rattle.steps.specs.State.{Basic, Variable, Constraint, Edit, Term, State}
-use Rattle.steps.specs.Readable.{code}
-use Rattle.laws.specs.Lists.{tab, listOf, length-tab, getD-tab, laid, length-laid}
-use Rattle.layout.specs.Layout.{Tables, tables, symbolsAt, rowsAt, listAt, basicsAt, constraintsAt, editsAt, changedFlag, termCount, symbolCount, rowCount, entryCount, variableCount, constraintCount, editCount, symbolOf, otherOf, bitOf, tagOf, termOf, variableOf, constraintOf, editOf, cellsOf, basicOf, symbolsOf, entriesOf, basicsOf, variablesOf, constraintsOf, editsOf, read, over, variableNames, constraintNames, editNames, basicCode, heading, writeHead, writeNames, writeReals, writeRows, write}
+use Rattle.steps.specs.State.{Variable, Constraint, Term, State}
+use Rattle.laws.specs.Lists.{listOf, length-tab, getD-tab, length-laid}
+use Rattle.layout.specs.Layout.{Tables, symbolsAt, rowsAt, listAt, basicsAt, constraintsAt, editsAt, changedFlag, termCount, symbolCount, constraintCount, otherOf, bitOf, tagOf, constraintOf, editOf, cellsOf, basicOf, symbolsOf, entriesOf, basicsOf, variablesOf, constraintsOf, editsOf, read, over, variableNames, constraintNames, editNames, heading, writeHead, writeNames, writeReals, writeRows, write}
 use Rattle.layout.specs.Rooms.{Lengths, Wide, Named, Counts, Coded, Fits}
 use Rattle.layout.specs.Copy.{putOver}
 use Rattle.layout.specs.Written.{written-is, code-read}
@@ -74,7 +69,7 @@ module _ (t : Tables) (q : Coded t) where
 
 -- ---- what was written is within the room, and coded
 
-bit-small : (b : Bool) → bitOf b ≤ 1
+pub bit-small : (b : Bool) → bitOf b ≤ 1
 unfolding bitOf
 bit-small true = omega arith
 bit-small false = omega arith

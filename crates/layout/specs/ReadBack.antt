@@ -1,7 +1,7 @@
 -- Reading what was written gives the state back, of a state that fits.
 -- Assumes nothing.
-use Prim.Native.Nat.{ℕ, zero, suc, _+_, _≤_, _<_}
-use mathlib.Core.Path.{_≡_, refl, sym, ap, _∙_}
+use Prim.Native.Nat.{ℕ, _+_, _≤_, _<_}
+use mathlib.Core.Path.{_≡_, refl, ap, _∙_}
 use mathlib.Core.List.{List, [], _∷_, map}
 use mathlib.Core.Option.{none}
 use native.Mathlib.Nat.{zero-add}
@@ -12,10 +12,10 @@ use lib.Ieee.{Float, nan}
 use Rattle.steps.specs.Symbol.{External, Symbol}
 use Rattle.steps.specs.State.{Basic, Tag, Variable, Constraint, Edit, State}
 use Rattle.steps.specs.Readable.{code}
-use Rattle.laws.specs.Lists.{listOf, listOf-is, laid, laid-in, laid-before, laid-after, length-laid}
+use Rattle.laws.specs.Lists.{listOf-is, laid, laid-in, laid-before, laid-after, length-laid}
 use Rattle.layout.specs.Laying.{getD-map}
-use Rattle.layout.specs.Layout.{Tables, tables, headSize, itemsSize, rowsSize, symbolsAt, rowsAt, listAt, constraintsAt, editsAt, symbolOf, bitOf, variableOf, constraintOf, editOf, cellsOf, basicOf, symbolsOf, entriesOf, basicsOf, variablesOf, constraintsOf, editsOf, read, over, variableNames, variableReals, constraintNames, constraintReals, editNames, editReals, basicRow, basicCode, heading, writeHead, writeNames, writeReals, writeRows, write}
-use Rattle.layout.specs.Rooms.{Lengths, Wide, Widths, Fits}
+use Rattle.layout.specs.Layout.{Tables, headSize, itemsSize, rowsSize, symbolsAt, rowsAt, listAt, constraintsAt, editsAt, symbolOf, cellsOf, symbolsOf, entriesOf, basicsOf, variablesOf, constraintsOf, editsOf, read, over, variableNames, variableReals, constraintNames, constraintReals, editNames, editReals, basicRow, basicCode, heading, writeHead, writeNames, writeReals, writeRows, write}
+use Rattle.layout.specs.Rooms.{Lengths, Wide, Fits}
 use Rattle.layout.specs.Back.{symbol-back, bit-back, basic-back, objective-back, variable-back, constraint-back, edit-back}
 
 -- the elements that lie past a list are nobody's: any symbol, row, tag stands for them

@@ -6,7 +6,6 @@ use mathlib.Core.Bool.{Bool, true, false, _&&_}
 use mathlib.Core.List.{List, []}
 use lib.Dec.{eqb}
 use lib.ListN.{length, getD}
-use lib.Ieee.{Float}
 use borrow.Author.Tests.{eqb-true, eq-eqb}
 use mathlib.Core.Option.{Option, none, some}
 use Rattle.steps.specs.Symbol.{Symbol}

@@ -1,23 +1,20 @@
 -- The live part of tables put over other tables, as the code does it, is the state that they read as, written. So what was read, written once more, changes nothing.
 -- Assumes nothing.
-use Prim.Native.Nat.{ℕ, zero, suc, _+_, _-_, _*_, _/_, _%_, _≤_, _<_}
-use mathlib.Core.Path.{_≡_, refl, sym, ap, _∙_}
-use mathlib.Core.Bool.{Bool, true, false, cond}
+use Prim.Native.Nat.{ℕ, zero, suc, _+_, _*_, _/_, _%_, _≤_, _<_}
+use mathlib.Core.Path.{_≡_, refl, sym, _∙_}
+use mathlib.Core.Bool.{Bool, true, false}
 use mathlib.Core.List.{List, [], _∷_, map}
-use mathlib.Core.Option.{Option, none, some}
 use native.Mathlib.Nat.{not-suc-le-zero, le-of-suc-le-suc, suc-ne-zero, zero-add}
 use native.Mathlib.Omega.{arith}
-use lib.Dec.{eqb, leb}
+use lib.Dec.{eqb}
 use borrow.Author.Tests.{le-leb, ne-eqb}
 use lib.ListN.{length, getD, set}
 use lib.Ieee.{Float, nan}
-use Rattle.steps.specs.Symbol.{Kind, External, Slack, Error, Dummy, Symbol}
-use Rattle.steps.specs.State.{Term, Basic, Tag, Variable, Constraint, Edit, State}
+use Rattle.steps.specs.State.{Term}
 use Rattle.steps.specs.Readable.{kindCode, code}
-use Rattle.laws.specs.Loops.{run}
-use Rattle.laws.specs.Lists.{tab, listOf, tab-ext, length-tab, getD-tab, map-tab, laid}
-use Rattle.layout.specs.Laying.{remade, laid-nil, laid-cons, tab-from, stretch, run-list, set-same, run-same}
-use Rattle.layout.specs.Layout.{Tables, tables, symbolsAt, rowsAt, listAt, constraintsAt, editsAt, symbolCount, rowCount, entryCount, variableCount, constraintCount, editCount, clearFlag, wholeFlag, changedFlag, termCount, kindOf, symbolOf, otherOf, otherCode, bitOf, variableOf, tagOf, termOf, constraintOf, editOf, cellsOf, basicOf, symbolsOf, entriesOf, variablesOf, constraintsOf, editsOf, basicsOf, read, over, variableNames, variableReals, constraintNames, constraintReals, editNames, editReals, basicRow, basicCode, heading, writeHead, writeNames, writeReals, writeRows, write}
+use Rattle.laws.specs.Lists.{tab, listOf, tab-ext, length-tab, map-tab, laid}
+use Rattle.layout.specs.Laying.{laid-nil, laid-cons, tab-from, stretch, run-list, set-same, run-same}
+use Rattle.layout.specs.Layout.{Tables, symbolsAt, rowsAt, listAt, constraintsAt, editsAt, symbolCount, rowCount, entryCount, variableCount, constraintCount, editCount, clearFlag, wholeFlag, changedFlag, termCount, kindOf, symbolOf, otherOf, otherCode, bitOf, variableOf, tagOf, termOf, constraintOf, editOf, cellsOf, basicOf, symbolsOf, entriesOf, variablesOf, constraintsOf, editsOf, basicsOf, read, over, variableNames, variableReals, constraintNames, constraintReals, editNames, editReals, basicRow, basicCode, heading, writeHead, writeNames, writeReals, writeRows, write}
 use Rattle.layout.specs.Rooms.{Coded}
 use Rattle.layout.specs.Copy.{most16, headOver, namesOver, realsOver, rowsOver, putOver, putSpan, putPart, putRows, putNames, putReals, putCount, putCounted}
 

@@ -1,23 +1,22 @@
 -- Reading the tables after a symbol came or went gives the steps' `appendSymbol` and `purge` of what was read before.
 -- Assumes nothing.
-use Prim.Native.Nat.{ℕ, zero, suc, _+_, _-_, _*_, _/_, _%_, _≤_, _<_}
+use Prim.Native.Nat.{ℕ, suc, _+_, _-_, _*_, _/_, _%_, _≤_, _<_}
 use mathlib.Core.Path.{_≡_, refl, sym, ap, _∙_}
-use mathlib.Core.Bool.{Bool, true, false, cond}
+use mathlib.Core.Bool.{Bool, cond}
 use mathlib.Core.List.{List, [], _∷_, _++_, map}
 use native.Mathlib.Nat.{zero-add}
 use native.Mathlib.Omega.{arith}
-use lib.Dec.{eqb, ltb}
-use lib.ListN.{length, getD, set, length-set}
+use lib.Dec.{eqb}
+use lib.ListN.{length, getD, set}
 use lib.Seq.{getD-set-same, getD-set-other}
 use lib.Ieee.{Float, nan}
 use Rattle.steps.specs.Number.{zero64}
 use Rattle.steps.specs.Symbol.{Kind, External, Slack, Error, Dummy, Symbol, isSymbol, deleteCell, deleteSymbol}
 use Rattle.steps.specs.Readable.{kindCode}
-use Rattle.steps.specs.Row.{Row, appendCell}
+use Rattle.steps.specs.Row.{appendCell}
 use Rattle.steps.specs.State.{Basic, Tableau}
 use Rattle.steps.specs.Work.{Work, withTableau, appendSymbol}
-use Rattle.laws.specs.Loops.{first, mapIn}
-use Rattle.laws.specs.Places.{mapIn-at, length-mapIn}
+use Rattle.laws.specs.Places.{mapIn-at}
 use Rattle.laws.specs.Lists.{tab, listOf, tab-ext, map-tab}
 use Rattle.layout.specs.Layout.{symbolOf, kindOf, cellsOf, basicOf}
 use Rattle.choose.specs.declared.Found.{Found}
@@ -26,12 +25,12 @@ use Rattle.choose.specs.Choose.{Within, onFound, idAt, placeOf}
 use Rattle.choose.specs.Own.{first-within}
 use Rattle.choose.specs.Walk.{tab-snoc}
 use Rattle.choose.specs.Chosen.{as-cond}
-use Rattle.choose.specs.Reading.{symbolsIn, basicsIn, entriesIn, rowIn, tableauIn}
+use Rattle.choose.specs.Reading.{symbolsIn, basicsIn, rowIn, tableauIn}
 use Rattle.moves.specs.Close.{closed}
-use Rattle.moves.specs.Moved.{closed-before, closed-inside, closed-after, length-closed}
-use Rattle.moves.specs.Moves.{Board, board, clearedColumn, appendedHead, appendedSymbol, closedColumns, closedColumn, closeColumnOf}
+use Rattle.moves.specs.Moved.{closed-before, closed-inside}
+use Rattle.moves.specs.Moves.{Board, clearedColumn, appendedHead, closedColumns, closedColumn, closeColumnOf}
 use Rattle.moves.specs.Counts.{less, appended-same, appended-id, appended-symbols, appended-code, column-same, column-past, column-symbols}
-use Rattle.moves.specs.Rows.{symbols-same, entries-same, basicIn}
+use Rattle.moves.specs.Rows.{entries-same}
 use Rattle.moves.specs.Walk.{drop-walk, absent-walk}
 
 -- the first n rows are as wide as arrays of their type are

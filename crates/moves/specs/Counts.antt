@@ -1,11 +1,11 @@
 -- What the moves leave of the head as it was, and the counts after them.
 -- Assumes nothing.
 use Prim.Native.Nat.{ℕ, zero, suc, _+_, _-_, _*_, _/_, _≤_, _<_}
-use mathlib.Core.Path.{_≡_, refl, sym, ap, _∙_}
+use mathlib.Core.Path.{_≡_, refl, _∙_}
 use mathlib.Core.Bool.{Bool, true, false, cond}
-use mathlib.Core.List.{List, []}
+use mathlib.Core.List.{List}
 use native.Mathlib.Omega.{arith}
-use lib.Dec.{eqb, ltb}
+use lib.Dec.{ltb}
 use lib.ListN.{length, getD, set, length-set}
 use lib.Seq.{getD-set-same, getD-set-other}
 use lib.Ieee.{Float}
@@ -13,11 +13,11 @@ use borrow.Author.Tests.{ltb-true, ltb-false}
 use Rattle.laws.specs.Loops.{seek, first}
 use Rattle.choose.specs.declared.Found.{Found}
 use Rattle.choose.specs.declared.Found.the-variants.{At, Nothing}
-use Rattle.choose.specs.Choose.{Within, onFound, idAt, rowOf, placeOf}
+use Rattle.choose.specs.Choose.{Within, onFound, idAt, rowOf}
 use Rattle.choose.specs.Own.{first-within}
 use Rattle.moves.specs.Close.{closed, opened}
 use Rattle.moves.specs.Moved.{closed-before, closed-after, length-closed, opened-before, opened-after, length-opened}
-use Rattle.moves.specs.Moves.{Board, board, droppedRow, dropRowOf, rowPlace, keptRow, appendedHead, closedColumn, closeColumnOf, purgeOf, entryAt, pushOf, pushIf, Pruned, pruned, keepIf}
+use Rattle.moves.specs.Moves.{Board, droppedRow, dropRowOf, rowPlace, keptRow, appendedHead, closedColumn, entryAt, pushOf, pushIf, Pruned, keepIf}
 
 -- the counts of symbols, rows and list entries are at most these
 abbrev pub Fits : List ℕ → ℕ → ℕ → ℕ → Type 0

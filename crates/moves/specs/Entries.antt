@@ -13,7 +13,6 @@ use lib.Ieee.{Float}
 use borrow.Author.Tests.{lt-ltb, le-ltb}
 use Rattle.steps.specs.Number.{belowZero}
 use Rattle.steps.specs.Symbol.{isRestricted}
-use Rattle.steps.specs.State.{Basic}
 use Rattle.steps.specs.Substitute.{without, push, pushBelow}
 use Rattle.laws.specs.Loops.{turns, run, seek, first}
 use Rattle.laws.specs.Lists.{tab, listOf, tab-ext}
@@ -114,17 +113,17 @@ module _ (h : List ℕ) (len : length h ≡ 326) (fit : getD h 3 0 ≤ 130) (id 
       not-lt : n < 130 → 130 ≤ n → ⊥
       not-lt a c = omega arith
 
+pub if-pushed : (h : List ℕ) → length h ≡ 326 → getD h 3 0 < 130 → (id : ℕ) (on : Bool) → entriesIn (pushIf on id h) ≡ cond on (push (entriesIn h) id) (entriesIn h)
+unfolding pushIf
+if-pushed h len room id true = pushed-entries h len (omega arith) id room
+if-pushed h len room id false = refl
+
 -- ---- all pushes of a substitution
 
 module _ (h₀ : List ℕ) (w : List (List Float)) where
   -- the head is as it was but for the list
   abbrev pub Agrees : List ℕ → Type 0
   Agrees h = (m : ℕ) → (m ≡ 3 → ⊥) → m < 196 → getD h m 0 ≡ getD h₀ m 0
-
-  if-pushed : (h : List ℕ) → length h ≡ 326 → getD h 3 0 < 130 → (id : ℕ) (on : Bool) → entriesIn (pushIf on id h) ≡ cond on (push (entriesIn h) id) (entriesIn h)
-  unfolding pushIf
-  if-pushed h len room id true = pushed-entries h len (omega arith) id room
-  if-pushed h len room id false = refl
 
   -- row i + 1, as it was read at first
   pub turn-pushed : (h : List ℕ) → length h ≡ 326 → getD h 3 0 < 130 → Agrees h → (i : ℕ) → i < 49

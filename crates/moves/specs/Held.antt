@@ -1,24 +1,23 @@
 -- The pushes of a substitution, with the room that distinct entries among at most 129 symbols have.
 -- Assumes nothing.
-use Prim.Native.Nat.{ℕ, zero, suc, _+_, _-_, _/_, _≤_, _<_}
-use mathlib.Core.Path.{_≡_, refl, sym, ap, _∙_}
-use mathlib.Core.Bool.{Bool, true, false, _&&_, _||_, cond}
-use mathlib.Core.List.{List, [], _∷_}
+use Prim.Native.Nat.{ℕ, zero, suc, _+_, _≤_, _<_}
+use mathlib.Core.Path.{_≡_}
+use mathlib.Core.Bool.{Bool, true, false, _&&_, cond}
+use mathlib.Core.List.{List}
 use native.Mathlib.Omega.{arith}
 use lib.ListN.{length, getD}
 use lib.Ieee.{Float}
 use Rattle.steps.specs.Number.{belowZero}
 use Rattle.steps.specs.Symbol.{isRestricted}
-use Rattle.steps.specs.State.{Basic}
-use Rattle.steps.specs.Substitute.{push, pushBelow}
+use Rattle.steps.specs.Substitute.{push}
 use Rattle.steps.specs.Tests.{member}
 use Rattle.laws.specs.Loops.{turns}
-use Rattle.laws.specs.Lists.{tab, listOf, length-tab}
-use Rattle.choose.specs.Reading.{basicsIn, entriesIn}
-use Rattle.moves.specs.Moves.{pushRow, pushBelowOf}
+use Rattle.laws.specs.Lists.{listOf, length-tab}
+use Rattle.choose.specs.Reading.{entriesIn}
+use Rattle.moves.specs.Moves.{pushRow}
 use Rattle.moves.specs.Room.{Held, no-more, push-held}
 use Rattle.moves.specs.Rows.{basicIn}
-use Rattle.moves.specs.Entries.{Agrees, turn-pushed, row-length, row-count, row-agrees, pushed-below}
+use Rattle.moves.specs.Entries.{Agrees, turn-pushed, row-length, row-count, row-agrees}
 
 pub entries-length : (h : List ℕ) → length (entriesIn h) ≡ getD h 3 0
 unfolding entriesIn listOf
@@ -53,8 +52,3 @@ module _ (h₀ : List ℕ) (w : List (List Float)) (m : List ℕ) (few : length 
       turns-held n (suc i) (pushRow w (suc i) h) (row-length h₀ w h len fit (suc i)) (row-count h₀ w h len fit (suc i)) (row-agrees h₀ w h len fit agrees (suc i)) (omega arith)
       (λ j a b. rows j (omega arith) (omega arith))
       (turn-held h len agrees i (omega arith) held (rows i (omega arith) (omega arith)))
-
-  -- "a restricted row below 0 is pushed": entries distinct and among m, and the rows' symbols among m too
-  pub pushes-held : length h₀ ≡ 326 → getD h₀ 2 0 ≤ 49 → getD h₀ 3 0 ≤ 130 → Rows 0 (getD h₀ 2 0) → Held (entriesIn h₀) m → entriesIn (pushBelowOf w h₀) ≡ pushBelow (basicsIn h₀ w) (entriesIn h₀)
-  pushes-held len rows-fit fit rows held =
-      pushed-below h₀ w len rows-fit fit (λ j a. room (turns (pushRow w) j 1 h₀) m (turns-held j 0 h₀ len fit (λ k ne low. refl) (omega arith) (λ k c d. rows k c (omega arith)) held) few)

@@ -13,4 +13,3 @@ pub mod Prune
 pub mod Room
 pub mod Held
 pub mod Listed
-pub mod Ascent

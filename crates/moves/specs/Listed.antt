@@ -2,7 +2,7 @@
 -- Assumes nothing.
 use Prim.Native.Nat.{ℕ, zero, suc, _+_, _-_, _≤_, _<_}
 use mathlib.Core.Path.{_≡_, refl, sym, ap, _∙_}
-use mathlib.Core.Bool.{true, not, _&&_, _||_, false≢true}
+use mathlib.Core.Bool.{true, not, _||_, false≢true}
 use mathlib.Core.List.{List, [], _∷_, _++_}
 use native.Mathlib.Omega.{arith}
 use lib.Dec.{eqb}
@@ -12,18 +12,15 @@ use lib.Seq.{getD-set-same, getD-set-other}
 use lib.Ieee.{Float}
 use Rattle.steps.specs.State.{Tableau}
 use Rattle.steps.specs.Calls.{stillBelow}
-use Rattle.steps.specs.Substitute.{pushBelow}
 use Rattle.steps.specs.Tests.{member}
 use Rattle.steps.specs.Readable.{distinct}
 use Rattle.laws.specs.Lists.{tab, listOf, tab-ext}
 use Rattle.layout.specs.Layout.{basicOf}
-use Rattle.choose.specs.Reading.{symbolsIn, basicsIn, entriesIn, tableauIn}
-use Rattle.moves.specs.Moves.{pushBelowOf, pruneOf}
+use Rattle.choose.specs.Reading.{basicsIn, entriesIn, tableauIn}
+use Rattle.moves.specs.Moves.{pruneOf}
 use Rattle.moves.specs.Rows.{symbols-same}
-use Rattle.moves.specs.Entries.{pushed-below-same}
 use Rattle.moves.specs.Prune.{pruned-entries, pruned-same}
 use Rattle.moves.specs.Room.{Among, Held, or-left, or-right, or-other, by-eqb, and-left, and-right, not-is, is-not, both, contra}
-use Rattle.moves.specs.Held.{Rows, pushes-held}
 
 -- a tableau with another list
 abbrev pub withListIn : List ℕ → Tableau → Tableau
@@ -57,12 +54,6 @@ module _ (h : List ℕ) (w : List (List Float)) (len : length h ≡ 326) (symbol
     pruned-tableau =
         list-tableau h (pruneOf w h) w symbols-fit rows-fit (pruned-same h w len rows-fit fit)
         ∙ ap (λ (l : List ℕ). withListIn l (tableauIn h w)) (pruned-entries h w len rows-fit fit)
-
-    pub pushed-tableau : (m : List ℕ) (few : length m ≤ 129) → Rows h w m few 0 (getD h 2 0) → Held (entriesIn h) m
-        → tableauIn (pushBelowOf w h) w ≡ withListIn (pushBelow (basicsIn h w) (entriesIn h)) (tableauIn h w)
-    pushed-tableau m few rows held =
-        list-tableau h (pushBelowOf w h) w symbols-fit rows-fit (pushed-below-same h w len fit)
-        ∙ ap (λ (l : List ℕ). withListIn l (tableauIn h w)) (pushes-held h w m few len rows-fit fit rows held)
 
 -- ---- popped entries
 

@@ -11,7 +11,6 @@ use lib.ListN.{length, getD, set, length-set}
 use lib.Seq.{getD-set-same, getD-set-other}
 use lib.Ieee.{Float}
 use Rattle.steps.specs.Number.{belowZero}
-use Rattle.steps.specs.State.{Basic}
 use Rattle.steps.specs.Optimise.{isBelow}
 use Rattle.steps.specs.Calls.{stillBelow}
 use Rattle.laws.specs.Loops.{turns, run, seek, first}
@@ -23,7 +22,6 @@ use Rattle.choose.specs.Walk.{tab-snoc}
 use Rattle.choose.specs.Reading.{basicsIn, entriesIn}
 use Rattle.choose.specs.Steps.{below-is}
 use Rattle.moves.specs.Moves.{Pruned, pruned, keepIf, pruneTurn, countKept, pruneOf}
-use Rattle.moves.specs.Counts.{keep-if-same}
 
 -- ---- a look reads only the places that it passes
 

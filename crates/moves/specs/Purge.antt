@@ -3,7 +3,7 @@
 use Prim.Native.Nat.{ℕ, suc, _+_, _-_, _≤_, _<_}
 use mathlib.Core.Path.{_≡_, refl, ap, _∙_}
 use mathlib.Core.Bool.{Bool, true, false}
-use mathlib.Core.List.{List, []}
+use mathlib.Core.List.{[]}
 use borrow.Author.Tests.{ltb-true, ltb-false}
 use native.Mathlib.Omega.{arith}
 use lib.Dec.{ltb}
@@ -11,7 +11,7 @@ use lib.ListN.{length, getD}
 use Rattle.steps.specs.Work.{Work, dropRow, withTableau, purge}
 use Rattle.choose.specs.Reading.{basicsIn, tableauIn}
 use Rattle.moves.specs.Moved.{closed-before, closed-inside, length-closed}
-use Rattle.moves.specs.Moves.{Board, droppedRow, dropRowOf, closeColumnOf, purgeOf}
+use Rattle.moves.specs.Moves.{Board, droppedRow, dropRowOf, purgeOf}
 use Rattle.moves.specs.Counts.{row-by, dropped-rows, drop-of-fits, drop-of-length}
 use Rattle.moves.specs.Rows.{withRowsIn, drop-of-tableau}
 use Rattle.moves.specs.Columns.{Wide, cutTableau, column-of-tableau}

@@ -1,29 +1,26 @@
 -- Reading the tables after a row came or went gives the steps' `keepRow` and `dropRow` of what was read before.
 -- Assumes nothing.
-use Prim.Native.Nat.{ℕ, zero, suc, _+_, _-_, _/_, _≤_, _<_}
+use Prim.Native.Nat.{ℕ, suc, _+_, _-_, _/_, _≤_, _<_}
 use mathlib.Core.Path.{_≡_, refl, sym, ap, _∙_}
-use mathlib.Core.Bool.{Bool, true, false, cond}
 use mathlib.Core.List.{List, [], _∷_}
 use native.Mathlib.Omega.{arith}
 use lib.Dec.{eqb, ltb}
-use lib.ListN.{length, getD, set}
+use lib.ListN.{length, getD}
 use lib.Seq.{getD-set-other}
 use lib.Ieee.{Float}
-use Rattle.steps.specs.Symbol.{Symbol, isSymbol}
+use Rattle.steps.specs.Symbol.{isSymbol}
 use Rattle.steps.specs.State.{Basic, Tableau}
 use Rattle.steps.specs.Work.{keepRow, dropRow}
-use Rattle.laws.specs.Loops.{first}
 use Rattle.laws.specs.Lists.{tab, listOf, tab-ext}
-use Rattle.layout.specs.Layout.{symbolOf, cellsOf, basicOf}
+use Rattle.layout.specs.Layout.{symbolOf, basicOf}
 use Rattle.choose.specs.declared.Found.{Found}
 use Rattle.choose.specs.declared.Found.the-variants.{At, Nothing}
 use Rattle.choose.specs.Choose.{Within, onFound, idAt, rowOf}
 use Rattle.choose.specs.Own.{first-within}
 use Rattle.choose.specs.Chosen.{as-cond}
 use Rattle.choose.specs.Reading.{symbolsIn, basicsIn, entriesIn, tableauIn}
-use Rattle.moves.specs.Close.{closed, opened}
-use Rattle.moves.specs.Moved.{closed-before, closed-inside, closed-after, opened-before, opened-at, opened-inside, opened-after}
-use Rattle.moves.specs.Moves.{Board, board, droppedRow, dropRowOf, rowPlace, keptRow}
+use Rattle.moves.specs.Moved.{closed-before, closed-inside, opened-before, opened-at, opened-inside}
+use Rattle.moves.specs.Moves.{Board, droppedRow, dropRowOf, rowPlace, keptRow}
 use Rattle.moves.specs.Counts.{shut, dropped-same, dropped-past, dropped-rows, wide, row-place-between, kept-same, kept-past, kept-rows}
 use Rattle.moves.specs.Walk.{keep-walk, drop-walk, absent-walk}
 

@@ -8,10 +8,8 @@ use mathlib.Core.List.{List, [], _∷_}
 use native.Mathlib.Nat.{add-zero}
 use native.Mathlib.Omega.{arith}
 use Rattle.laws.specs.Loops.{seek, first}
-use Rattle.laws.specs.Lists.{tab, tab-ext}
-use Rattle.choose.specs.declared.Found.{Found}
+use Rattle.laws.specs.Lists.{tab}
 use Rattle.choose.specs.declared.Found.the-variants.{At, Nothing}
-use Rattle.choose.specs.Choose.{Within}
 use Rattle.moves.specs.Counts.{seek-between}
 
 module _ {A : Type 0} where

@@ -1,12 +1,12 @@
 -- What a test over places says of each place; and which of n numbers, read one by one, is x.
 -- Assumes nothing.
 use Prim.Native.Nat.{ℕ, zero, suc, _+_, _-_, _≤_, _<_}
-use mathlib.Core.Path.{_≡_, refl, sym, ap, _∙_}
-use mathlib.Core.Bool.{Bool, true, false, _&&_, cond}
-use native.Mathlib.Nat.{not-suc-le-zero, sub-zero}
+use mathlib.Core.Path.{_≡_, refl, sym}
+use mathlib.Core.Bool.{Bool, true, false, cond}
+use native.Mathlib.Nat.{sub-zero}
 use native.Mathlib.Omega.{arith}
 use lib.Dec.{eqb, ltb}
-use borrow.Author.Tests.{eqb-true, eqb-false, eq-eqb, ltb-true, ltb-false, lt-ltb}
+use borrow.Author.Tests.{eqb-true, eqb-false, ltb-true, ltb-false}
 use Rattle.laws.specs.Loops.{seek, first}
 use Rattle.laws.specs.Lists.{allFrom, allIn}
 use Rattle.layout.specs.Rooms.{and-left, and-right}
@@ -134,8 +134,3 @@ pub tested-rising : (g : ℕ → ℕ) (n : ℕ) → allIn (λ i. ltb (g (i - 1))
 tested-rising g n h i k =
     let e : suc i - 1 ≡ i = omega arith in
     ltb-true (g i) (g (suc i)) (rw e at (all-at (λ i. ltb (g (i - 1)) (g i)) 1 n h (suc i) (omega arith) k))
-
-pub rising-tested : (g : ℕ → ℕ) (n : ℕ) → Rising g n → allIn (λ i. ltb (g (i - 1)) (g i)) 1 n ≡ true
-rising-tested g n r = at-all _ 1 n λ j a b.
-    let e : suc (j - 1) ≡ j = omega arith in
-    lt-ltb _ _ (rw e at (r (j - 1) (omega arith)))

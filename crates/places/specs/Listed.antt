@@ -1,20 +1,19 @@
 -- Tests on a list that is read place by place, as tests on the places.
 -- Assumes nothing.
-use Prim.Native.Nat.{ℕ, zero, suc, _+_, _-_, _≤_, _<_}
+use Prim.Native.Nat.{ℕ, zero, suc, _+_, _-_, _<_}
 use mathlib.Core.Path.{_≡_, refl, sym, ap, _∙_}
 use mathlib.Core.Bool.{Bool, true, false, not, _&&_, _||_, cond}
-use mathlib.Core.List.{List, [], _∷_, _++_, map}
-use native.Mathlib.Nat.{sub-zero, not-suc-le-zero}
+use mathlib.Core.List.{map}
+use native.Mathlib.Nat.{sub-zero}
 use native.Mathlib.Omega.{arith}
 use lib.Dec.{eqb, ltb}
-use lib.ListN.{length}
-use borrow.Author.Tests.{eqb-true, eqb-false, eq-eqb, ne-eqb, ltb-true, ltb-false, lt-ltb, le-ltb, not-true}
+use borrow.Author.Tests.{ltb-true, lt-ltb, le-ltb}
 use Rattle.steps.specs.Tests.{member}
 use Rattle.steps.specs.Readable as steps
 use Rattle.laws.specs.Loops.{seek, first}
 use Rattle.laws.specs.Lists.{tab, listOf, map-tab, allFrom, allIn}
 use Rattle.layout.specs.Rooms.{and-left, and-right}
-use Rattle.places.specs.Finding.{placeIn, Apart, all-at, at-all, place-live, place-is, never}
+use Rattle.places.specs.Finding.{placeIn, all-at, at-all, never}
 
 pub join : {a b : Bool} → a ≡ true → b ≡ true → a && b ≡ true
 join e f = rw (e, f) refl

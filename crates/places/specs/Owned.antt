@@ -1,26 +1,25 @@
 -- One share for each of n different numbers: none is left exactly if a list has each of them once, and nothing else.
 -- As many shares as asked for: none is left exactly if each number has as many as it stands in the list, and nothing else does.
 -- Assumes nothing.
-use Prim.Native.Nat.{ℕ, zero, suc, _+_, _-_, _≤_, _<_}
+use Prim.Native.Nat.{ℕ, _+_, _≤_, _<_}
 use mathlib.Core.Path.{_≡_, refl, sym, ap, _∙_, subst}
 use mathlib.Core.Bool.{Bool, true, false, not, _&&_, _||_, cond}
-use mathlib.Core.List.{List, [], _∷_, _++_}
+use mathlib.Core.List.{List, [], _∷_}
 use native.Mathlib.Nat.{zero-add}
 use native.Mathlib.Omega.{arith}
 use lib.Dec.{T, eqb, ltb}
-use lib.ListN.{length, getD, set}
-use borrow.Author.Tests.{eqb-true, eqb-false, eq-eqb, ne-eqb, ltb-true, ltb-false, lt-ltb, not-true}
+use lib.ListN.{length, getD}
+use borrow.Author.Tests.{eqb-true, eq-eqb, ltb-true, ltb-false, not-true}
 use Rattle.steps.specs.Tests.{member}
 use Rattle.steps.specs.Readable as steps
-use Rattle.laws.specs.Loops.{run}
 use Rattle.laws.specs.Lists.{listOf, laid, laid-in, laid-after, length-laid}
 use Rattle.layout.specs.Rooms.{and-left, and-right}
 use Rattle.layout.specs.Laying.{remade, run-list}
 use Rattle.layout.specs.Copied.{length-listOf, getD-listOf}
-use Rattle.places.specs.Finding.{placeIn, Apart, all-at, at-all, place-is, place-live, never}
+use Rattle.places.specs.Finding.{placeIn, Apart, all-at, at-all, place-is, never}
 use Rattle.places.specs.Listed.{join, member-list, at-listed, listed-at}
 use Rattle.places.specs.Shares.{Shares, shares, noneLeft, stock}
-use Rattle.places.specs.Spent.{countOf, takeEach, Done, Enough, spent-enough, enough-spent}
+use Rattle.places.specs.Spent.{countOf, takeEach, spent-enough, enough-spent}
 
 -- ---- the stock
 

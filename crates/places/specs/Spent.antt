@@ -2,7 +2,7 @@
 -- Assumes nothing.
 use Prim.Native.Nat.{ℕ, zero, suc, _+_, _-_, _≤_, _<_}
 use mathlib.Core.Path.{_≡_, refl, sym, ap, _∙_, subst}
-use mathlib.Core.Bool.{Bool, true, false, _&&_, cond}
+use mathlib.Core.Bool.{Bool, true, false, cond}
 use mathlib.Core.List.{List, [], _∷_, _++_}
 use native.Mathlib.Nat.{sub-zero, zero-add}
 use native.Mathlib.Omega.{arith}
@@ -12,13 +12,11 @@ use lib.Seq.{getD-set-same, getD-set-other}
 use borrow.Author.Tests.{eqb-true, eqb-false, eq-eqb, ne-eqb, ltb-true, ltb-false, lt-ltb}
 use Rattle.steps.specs.Readable as steps
 use Rattle.laws.specs.Loops.{run, turns}
-use Rattle.laws.specs.Lists.{tab, listOf, allIn, length-tab, laid, laid-in, laid-after}
+use Rattle.laws.specs.Lists.{tab, listOf}
 use Rattle.layout.specs.Rooms.{and-left, and-right}
-use Rattle.layout.specs.Laying.{remade, run-list}
-use Rattle.layout.specs.Copied.{length-listOf, getD-listOf}
-use Rattle.places.specs.Finding.{placeIn, Apart, all-at, at-all, place-le, place-is, place-live, place-at, never}
+use Rattle.places.specs.Finding.{placeIn, Apart, place-le, place-is, place-at, never}
 use Rattle.places.specs.Listed.{join}
-use Rattle.places.specs.Shares.{Shares, shares, take, noneLeft, stock}
+use Rattle.places.specs.Shares.{Shares, shares, take}
 
 -- how often x stands in a list
 unfoldable pub countOf : ℕ → List ℕ → ℕ

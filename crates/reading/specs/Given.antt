@@ -1,20 +1,19 @@
 -- What tables that read as a state give to a call: their lengths, counts within the room, codes that can be written back.
 -- Assumes nothing.
-use Prim.Native.Nat.{ℕ, _+_, _≤_, _<_}
-use mathlib.Core.Path.{_≡_, refl, sym, _∙_}
-use mathlib.Core.Bool.{Bool, true, false, _&&_}
-use mathlib.Core.List.{List, []}
+use mathlib.Core.Path.{_≡_, _∙_}
+use mathlib.Core.Bool.{true, _&&_}
+use mathlib.Core.List.{[]}
 use native.Mathlib.Omega.{arith}
 use lib.Dec.{leb}
 use lib.ListN.{getD}
 use borrow.Author.Tests.{leb-true}
 use Rattle.steps.specs.Readable.{readable}
-use Rattle.layout.specs.Layout.{Tables, read, constraintsAt, variableCount, constraintCount, numberOf, changedFlag, termCount}
+use Rattle.layout.specs.Layout.{Tables, read, variableCount, numberOf, changedFlag}
 use Rattle.layout.specs.Rooms.{lengthsRight, Lengths, lengths, Counts, Coded, both}
 use Rattle.places.specs.Finding.{all-at}
 use Rattle.items.specs.Items.{isU32}
 use Rattle.reading.specs.Reads.{codesFit, reads}
-use Rattle.reading.specs.Tested.{tested, Counted, counted, few-rows}
+use Rattle.reading.specs.Tested.{Counted, counted, few-rows}
 use Rattle.reading.specs.Kinds.{variables-mean, constraints-mean, terms-few}
 use Rattle.reading.specs.Meaning.{Parts, parts, tested-is}
 

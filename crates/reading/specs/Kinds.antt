@@ -2,20 +2,20 @@
 -- Assumes nothing.
 use Prim.Native.Nat.{ℕ, zero, suc, _+_, _%_, _≤_, _<_}
 use mathlib.Core.Path.{_≡_, refl, sym, ap, _∙_}
-use mathlib.Core.Bool.{Bool, true, false, _&&_, _||_, cond}
+use mathlib.Core.Bool.{Bool, true, _&&_, _||_}
 use mathlib.Core.List.{List, []}
 use native.Mathlib.Nat.{not-suc-le-zero, le-of-suc-le-suc}
 use native.Mathlib.Omega.{arith}
 use lib.Dec.{eqb, leb}
 use lib.ListN.{length, getD}
-use lib.Ieee.{Float, nan, isNan}
-use borrow.Author.Tests.{leb-true, le-leb}
+use lib.Ieee.{Float, isNan}
+use borrow.Author.Tests.{leb-true}
 use Rattle.steps.specs.Number.{isFinite}
-use Rattle.steps.specs.Symbol.{External, Slack, Error, Dummy, Symbol, isExternal, isError}
-use Rattle.steps.specs.State.{Term, Tag, Variable, Constraint, Edit, State}
+use Rattle.steps.specs.Symbol.{isExternal, isError}
+use Rattle.steps.specs.State.{Term, Variable, Constraint, Edit}
 use Rattle.steps.specs.Readable as steps
-use Rattle.laws.specs.Lists.{listOf, allIn}
-use Rattle.layout.specs.Layout.{Tables, constraintsAt, editsAt, coefficientsAt, variableCount, constraintCount, editCount, numberOf, symbolCode, otherSymbol, changedFlag, termCount, oldValue, strengthIn, suggestionIn, kindOf, symbolOf, otherOf, tagOf, termOf, variableOf, constraintOf, editOf, variablesOf, constraintsOf, editsOf, read}
+use Rattle.laws.specs.Lists.{allIn}
+use Rattle.layout.specs.Layout.{Tables, constraintsAt, editsAt, coefficientsAt, variableCount, constraintCount, editCount, numberOf, symbolCode, otherSymbol, changedFlag, termCount, oldValue, strengthIn, suggestionIn, kindOf, symbolOf, tagOf, termOf, variableOf, constraintOf, editOf, variablesOf, constraintsOf, editsOf}
 use Rattle.layout.specs.Copy.{most16}
 use Rattle.layout.specs.Written.{most-is}
 use Rattle.layout.specs.Rooms.{both}

@@ -1,29 +1,28 @@
 -- The test that the code runs is the meaning of 18: `tested t ≡ reads t`.
 -- Assumes nothing.
-use Prim.Native.Nat.{ℕ, zero, suc, _+_, _-_, _≤_, _<_}
+use Prim.Native.Nat.{ℕ, _+_, _≤_}
 use mathlib.Core.Path.{_≡_, refl, sym, ap, _∙_}
-use mathlib.Core.Bool.{Bool, true, false, _&&_, _||_}
-use mathlib.Core.List.{List, [], _∷_, _++_, map}
+use mathlib.Core.Bool.{true, _&&_, _||_}
+use mathlib.Core.List.{List, [], _++_, map}
 use native.Mathlib.Nat.{zero-add}
 use native.Mathlib.Omega.{arith}
-use lib.Dec.{eqb, leb, ltb}
+use lib.Dec.{leb, ltb}
 use lib.ListN.{length, getD, length-append}
 use borrow.Author.Tests.{leb-true, le-leb}
 use lib.Ieee.{isNan}
 use Rattle.steps.specs.Number.{isFinite}
 use Rattle.steps.specs.Symbol.{isExternal}
-use Rattle.steps.specs.State.{Tag, Variable, Constraint, Edit, State}
+use Rattle.steps.specs.State.{Tag, Variable, Constraint, Edit}
 use Rattle.steps.specs.Readable as steps
 use Rattle.laws.specs.Lists.{listOf, allIn}
-use Rattle.layout.specs.Layout.{Tables, symbolsAt, rowsAt, constraintsAt, editsAt, cellsAt, nextIdOf, symbolCount, rowCount, entryCount, variableCount, constraintCount, editCount, clearFlag, wholeFlag, numberOf, changedFlag, termCount, tagOf, variableOf, constraintOf, editOf, symbolsOf, basicsOf, variablesOf, constraintsOf, editsOf, read}
+use Rattle.layout.specs.Layout.{Tables, symbolsAt, rowsAt, constraintsAt, editsAt, cellsAt, nextIdOf, symbolCount, rowCount, entryCount, variableCount, constraintCount, editCount, clearFlag, wholeFlag, numberOf, changedFlag, tagOf, variableOf, constraintOf, editOf, basicsOf, variablesOf, constraintsOf, editsOf, read}
 use Rattle.layout.specs.Rooms.{lengthsRight, both}
 use Rattle.layout.specs.Laying.{list-ext}
 use Rattle.layout.specs.Copied.{length-listOf}
-use Rattle.places.specs.Finding.{all-at}
 use Rattle.places.specs.Listed.{join, same, map-list, ascend-list}
 use Rattle.places.specs.Shares.{finiteIn}
 use Rattle.symbols.specs.Symbols.{idsAscend, idsBounded, ownedFit, basicsFit, rowsFinite, entriesFit, tableauFits}
-use Rattle.items.specs.Items.{isU32, numbersAscend, variablesFit, constraintFits, constraintsFit, editsFit, usesFit, itemsFit}
+use Rattle.items.specs.Items.{isU32, numbersAscend, variablesFit, constraintsFit, editsFit, usesFit, itemsFit}
 use Rattle.reading.specs.Reads.{codesFit, reads}
 use Rattle.reading.specs.Tested.{roomFor, countsFit, Counted, counted, inOrder, contentFits, tested}
 use Rattle.reading.specs.Owners.{tags-are, fit-owns, owns-fit, uses-counted, counted-uses}

@@ -2,30 +2,26 @@
 -- The uses' test is the state's too: "use counts are those of the stored terms".
 -- Assumes nothing.
 use Prim.Native.Nat.{ℕ, zero, suc, _+_, _≤_, _<_}
-use mathlib.Core.Path.{_≡_, refl, sym, ap, _∙_, subst}
-use mathlib.Core.Bool.{Bool, true, false, _&&_, cond}
+use mathlib.Core.Path.{_≡_, refl, sym, ap, _∙_}
+use mathlib.Core.Bool.{Bool, true, false, cond}
 use mathlib.Core.List.{List, [], _∷_, _++_, map}
-use mathlib.Core.Option.{Option, none, some}
+use mathlib.Core.Option.{none, some}
 use native.Mathlib.Nat.{zero-add}
 use native.Mathlib.Omega.{arith}
 use lib.Dec.{eqb}
 use lib.ListN.{length, getD, replicate}
-use lib.Ieee.{Float}
-use borrow.Author.Tests.{le-leb, eqb-true, eq-eqb}
-use Rattle.steps.specs.Symbol.{Symbol}
-use Rattle.steps.specs.State.{Term, Tag, Variable, Constraint, Edit, State}
+use borrow.Author.Tests.{eqb-true, eq-eqb}
+use Rattle.steps.specs.State.{Term, Tag, Variable, Constraint, Edit}
 use Rattle.steps.specs.Edit.{editTerms}
 use Rattle.steps.specs.Readable as steps
-use Rattle.laws.specs.Loops.{run}
 use Rattle.laws.specs.Lists.{tab, listOf}
 use Rattle.layout.specs.Layout.{Tables, symbolsAt, constraintsAt, editsAt, termsAt, symbolCount, variableCount, constraintCount, editCount, numberOf, symbolCode, otherSymbol, usesOf, termCount, symbolOf, otherOf, tagOf, termOf, variableOf, constraintOf, editOf, symbolsOf, variablesOf, constraintsOf, editsOf, read}
-use Rattle.layout.specs.Copy.{most16}
 use Rattle.layout.specs.Written.{code-read, most-is}
 use Rattle.layout.specs.Laying.{list-ext}
 use Rattle.layout.specs.Rooms.{both}
-use Rattle.places.specs.Finding.{placeIn, Apart}
-use Rattle.places.specs.Listed.{join, map-list, all-list, at-listed, listed-at}
-use Rattle.places.specs.Shares.{Shares, shares, take, noneLeft, stock}
+use Rattle.places.specs.Finding.{placeIn}
+use Rattle.places.specs.Listed.{join, map-list, at-listed, listed-at}
+use Rattle.places.specs.Shares.{Shares, shares, take, stock}
 use Rattle.places.specs.Spent.{countOf, takeEach, each-append, run-each, run-lists}
 use Rattle.places.specs.Owned.{shared-once, once-shared, shared-counts, counts-shared, placed-members}
 use Rattle.symbols.specs.Symbols.{idsAscend, placeOf, takeSymbol, takeOther, takeTag, takeVariables, takeTags, noShares, takeAll, ownedFit}

@@ -1,9 +1,9 @@
 -- The tableau's test over places is the state's: order, ids below the next, no basic cell, finite numbers, the list.
 -- Assumes nothing.
 use Prim.Native.Nat.{ℕ, zero, suc, _+_, _-_, _/_, _≤_, _<_}
-use mathlib.Core.Path.{_≡_, refl, sym, ap, _∙_, subst}
-use mathlib.Core.Bool.{Bool, true, false, not, _&&_, cond}
-use mathlib.Core.List.{List, [], _∷_, map}
+use mathlib.Core.Path.{_≡_, refl, sym, ap, _∙_}
+use mathlib.Core.Bool.{Bool, true, false, not, _&&_}
+use mathlib.Core.List.{List, []}
 use native.Mathlib.Nat.{zero-add}
 use native.Mathlib.Omega.{arith}
 use lib.Dec.{eqb, ltb}
@@ -12,16 +12,16 @@ use lib.Ieee.{Float, nan}
 use borrow.Author.Tests.{eqb-true, eqb-false, eq-eqb, ne-eqb, ltb-true, lt-ltb}
 use Rattle.steps.specs.Number.{isFinite}
 use Rattle.steps.specs.Symbol.{Symbol, isSymbol, absent, coefficientFor}
-use Rattle.steps.specs.State.{Basic, State}
+use Rattle.steps.specs.State.{Basic}
 use Rattle.steps.specs.Tests.{member}
 use Rattle.steps.specs.Readable as steps
 use Rattle.laws.specs.Lists.{tab, listOf, allIn}
 use Rattle.layout.specs.Layout.{Tables, symbolsAt, rowsAt, listAt, cellsAt, basicsAt, nextIdOf, symbolCount, rowCount, entryCount, symbolOf, cellsOf, basicOf, symbolsOf, basicsOf, entriesOf, read}
-use Rattle.layout.specs.Rooms.{both, and-left, and-right}
+use Rattle.layout.specs.Rooms.{both}
 use Rattle.layout.specs.Laying.{list-ext}
 use Rattle.layout.specs.Written.{code-read}
 use Rattle.layout.specs.Copied.{length-listOf}
-use Rattle.places.specs.Finding.{placeIn, Apart, Rising, all-at, at-all, place-is, rising-lt, rising-apart, never}
+use Rattle.places.specs.Finding.{placeIn, Apart, all-at, at-all, place-is, rising-lt, rising-apart, never}
 use Rattle.places.specs.Listed.{join, map-list, all-list, listed-at, at-listed, member-list, member-differs, ascend-list, from-list, list-from, distinct-list}
 use Rattle.places.specs.Shares.{finiteIn}
 use Rattle.symbols.specs.Symbols.{idsAscend, idsBounded, placeOf, columnClear, basicFits, basicsFit, rowFinite, rowsFinite, entriesDiffer, idsDiffer, entriesFit}

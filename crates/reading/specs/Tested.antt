@@ -1,12 +1,12 @@
 -- The reading test as the code runs it, and what its parts give: lengths, counts within the room, symbols and variables in order.
 -- Assumes nothing.
 use Prim.Native.Nat.{ℕ, _+_, _≤_}
-use mathlib.Core.Path.{_≡_, refl}
-use mathlib.Core.Bool.{Bool, true, false, _&&_}
+use mathlib.Core.Path.{_≡_}
+use mathlib.Core.Bool.{Bool, true, _&&_}
 use mathlib.Core.List.{List}
 use native.Mathlib.Omega.{arith}
 use lib.Dec.{leb, ltb}
-use borrow.Author.Tests.{leb-true, ltb-true}
+use borrow.Author.Tests.{leb-true}
 use Rattle.layout.specs.Layout.{Tables, nextIdOf, symbolCount, rowCount, entryCount, variableCount, constraintCount, editCount, clearFlag, wholeFlag, symbolsAt}
 use Rattle.layout.specs.Rooms.{lengthsRight, both}
 use Rattle.symbols.specs.Symbols.{idsAscend, idsBounded, ownedFit, tableauFits}

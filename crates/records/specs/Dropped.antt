@@ -3,14 +3,13 @@
 use Prim.Native.Nat.{ℕ, zero, suc, _+_, _-_, _≤_, _<_}
 use mathlib.Core.Path.{_≡_, refl, sym, ap, _∙_}
 use mathlib.Core.Bool.{Bool, true, false, cond}
-use mathlib.Core.List.{List, [], _∷_}
-use native.Mathlib.Nat.{zero-add, add-zero}
+use mathlib.Core.List.{List, []}
 use native.Mathlib.Omega.{arith}
 use lib.Dec.{eqb}
 use lib.ListN.{length, getD, set}
 use lib.Seq.{getD-set-same, getD-set-other}
 use lib.Ieee.{Float}
-use Rattle.steps.specs.State.{Variable, Constraint, Edit, State}
+use Rattle.steps.specs.State.{Constraint, Edit, State}
 use Rattle.steps.specs.Tests.{dropConstraint, dropEdit}
 use Rattle.laws.specs.Loops.{seek, first}
 use Rattle.layout.specs.Layout.{tables, numberOf, variableOf, constraintOf, editOf, read}
@@ -19,7 +18,7 @@ use Rattle.choose.specs.declared.Found.the-variants.{At, Nothing}
 use Rattle.choose.specs.Choose.{onFound}
 use Rattle.choose.specs.Chosen.{as-cond}
 use Rattle.moves.specs.Close.{closed}
-use Rattle.records.specs.Records.{Between, Items, items, numberAt, droppedItem, dropItemOf}
+use Rattle.records.specs.Records.{Between, items, numberAt, droppedItem, dropItemOf}
 use Rattle.records.specs.Region.{regionOf, absent-region, dropped-region}
 use Rattle.records.specs.Read.{read-regions, tableau-same, region-same, went-before, went-after}
 use Rattle.records.specs.Kept.{withConstraintsIn, withEditsIn, readItems}

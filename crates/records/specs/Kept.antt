@@ -1,27 +1,25 @@
 -- The state that is read after a variable, a constraint or an edit came: the steps' `keepVariable`, `keepConstraint` and `keepEdit` of the state before.
 -- Assumes nothing.
-use Prim.Native.Nat.{ℕ, zero, suc, _+_, _-_, _≤_, _<_}
+use Prim.Native.Nat.{ℕ, suc, _+_, _≤_, _<_}
 use mathlib.Core.Path.{_≡_, refl, sym, ap, _∙_}
-use mathlib.Core.Bool.{Bool, true, false, cond}
-use mathlib.Core.List.{List, [], _∷_}
+use mathlib.Core.Bool.{false}
+use mathlib.Core.List.{List}
 use native.Mathlib.Nat.{zero-add}
 use native.Mathlib.Numerals.{add-one}
 use native.Mathlib.Omega.{arith}
-use lib.Dec.{eqb, ltb}
-use lib.ListN.{length, getD, set, length-set}
+use lib.Dec.{ltb}
+use lib.ListN.{length, getD, set}
 use lib.Seq.{getD-set-same, getD-set-other}
 use lib.Ieee.{Float, nan}
 use Rattle.steps.specs.State.{Variable, Constraint, Edit, State}
 use Rattle.steps.specs.CreateRow.{keepVariable}
 use Rattle.steps.specs.Tests.{keepConstraint, keepEdit}
-use Rattle.layout.specs.Layout.{Tables, tables, numberOf, symbolOf, variableOf, constraintOf, editOf, read}
+use Rattle.layout.specs.Layout.{tables, numberOf, symbolOf, variableOf, constraintOf, editOf, read}
 use Rattle.choose.specs.Chosen.{as-cond}
-use Rattle.choose.specs.Reading.{tableauIn}
 use Rattle.moves.specs.Close.{opened}
-use Rattle.moves.specs.Moved.{length-opened}
-use Rattle.records.specs.Records.{Items, items, numberPlace, keptItem, variableItem, variableReal, keptVariable}
-use Rattle.records.specs.Region.{place-between, regionOf, kept-region}
-use Rattle.records.specs.Read.{stateOf, read-regions, tableau-same, region-same, came-before, came-after}
+use Rattle.records.specs.Records.{Items, items, numberPlace, keptItem, variableItem, variableReal}
+use Rattle.records.specs.Region.{place-between, kept-region}
+use Rattle.records.specs.Read.{read-regions, tableau-same, region-same, came-before, came-after}
 
 -- a state with other variables, constraints or edits
 abbrev pub withVariablesIn : List Variable → State → State

@@ -23,7 +23,7 @@ use Rattle.choose.specs.declared.Found.the-variants.{At, Nothing}
 use Rattle.choose.specs.Choose.{onFound}
 use Rattle.choose.specs.Chosen.{as-cond}
 use Rattle.moves.specs.Close.{closed}
-use Rattle.records.specs.Records.{Between, Items, items, numberAt, droppedItem, lessUse, Lost, lost, lostUse, useLessOf}
+use Rattle.records.specs.Records.{Between, items, numberAt, droppedItem, lessUse, Lost, lost, lostUse, useLessOf}
 use Rattle.records.specs.declared.Gone.{Gone}
 use Rattle.records.specs.declared.Gone.the-variants.{Symbol as goes, Stays}
 use Rattle.records.specs.Turns.{between}
@@ -31,7 +31,7 @@ use Rattle.records.specs.Region.{regionOf, dropped-region}
 use Rattle.records.specs.Read.{read-regions, tableau-same, region-same, went-after}
 use Rattle.records.specs.Kept.{withVariablesIn, readItems}
 use Rattle.records.specs.Dropped.{seek-found, at-between}
-use Rattle.records.specs.Uses.{Counted, variable-found}
+use Rattle.records.specs.Uses.{variable-found}
 
 -- ---- the steps' list by the variable that is found
 

@@ -1,24 +1,23 @@
 -- Reading the tables after a record came or went gives the steps' lists of what was read before; all else reads as it did.
 -- Assumes nothing.
-use Prim.Native.Nat.{ℕ, zero, suc, _+_, _-_, _≤_, _<_}
-use mathlib.Core.Path.{_≡_, refl, sym, ap, _∙_}
-use mathlib.Core.Bool.{Bool, true, false, cond}
-use mathlib.Core.List.{List, [], _∷_}
+use Prim.Native.Nat.{ℕ, _+_, _≤_, _<_}
+use mathlib.Core.Path.{_≡_, refl, ap}
+use mathlib.Core.Bool.{Bool}
+use mathlib.Core.List.{List, []}
 use native.Mathlib.Nat.{zero-add}
 use native.Mathlib.Omega.{arith}
-use lib.Dec.{eqb, ltb}
+use lib.Dec.{eqb}
 use lib.ListN.{length, getD, set}
-use lib.Seq.{getD-set-same, getD-set-other}
+use lib.Seq.{getD-set-other}
 use lib.Ieee.{Float}
-use Rattle.steps.specs.State.{Basic, Tableau, Variable, Constraint, Edit, State}
-use Rattle.laws.specs.Lists.{tab, listOf, tab-ext}
-use Rattle.layout.specs.Layout.{Tables, tables, basicOf, variableOf, constraintOf, editOf, symbolsOf, basicsOf, entriesOf, variablesOf, constraintsOf, editsOf, read}
+use Rattle.steps.specs.State.{Tableau, Variable, Constraint, Edit, State}
+use Rattle.laws.specs.Lists.{listOf, tab-ext}
+use Rattle.layout.specs.Layout.{tables, basicOf, variableOf, constraintOf, editOf, symbolsOf, basicsOf, entriesOf, variablesOf, constraintsOf, editsOf, read}
 use Rattle.choose.specs.Reading.{symbolsIn, basicsIn, entriesIn, tableauIn}
 use Rattle.moves.specs.Close.{closed, opened}
 use Rattle.moves.specs.Moved.{closed-before, closed-after, opened-before, opened-after}
 use Rattle.moves.specs.Rows.{symbols-same, entries-same}
-use Rattle.records.specs.Records.{Items, items, numberPlace}
-use Rattle.records.specs.Region.{place-between, regionOf}
+use Rattle.records.specs.Region.{regionOf}
 
 -- ---- the lists as regions
 

@@ -1,23 +1,21 @@
 -- A region of the item tables read place by place, after a record came to its place or went from it: what the steps make of the list that was read before.
 -- Assumes nothing.
-use Prim.Native.Nat.{ℕ, zero, suc, _+_, _-_, _≤_, _<_}
+use Prim.Native.Nat.{ℕ, suc, _+_, _-_, _≤_, _<_}
 use mathlib.Core.Path.{_≡_, refl, sym, ap, _∙_}
-use mathlib.Core.Bool.{Bool, true, false, cond}
+use mathlib.Core.Bool.{cond}
 use mathlib.Core.List.{List, [], _∷_}
 use native.Mathlib.Omega.{arith}
 use lib.Dec.{eqb, ltb}
 use lib.ListN.{length, getD}
 use lib.Ieee.{Float}
-use Rattle.laws.specs.Loops.{first}
-use Rattle.laws.specs.Lists.{tab, tab-ext}
+use Rattle.laws.specs.Lists.{tab}
 use Rattle.layout.specs.Layout.{numberOf}
-use Rattle.choose.specs.declared.Found.{Found}
 use Rattle.choose.specs.declared.Found.the-variants.{At, Nothing}
 use Rattle.moves.specs.Close.{closed, opened}
-use Rattle.moves.specs.Moved.{closed-before, closed-inside, closed-after, opened-before, opened-at, opened-inside, opened-after}
+use Rattle.moves.specs.Moved.{closed-before, closed-inside, opened-before, opened-at, opened-inside}
 use Rattle.moves.specs.Counts.{first-between}
 use Rattle.moves.specs.Walk.{keep-walk, drop-walk, absent-walk}
-use Rattle.records.specs.Records.{Between, numberAt, numberPlace}
+use Rattle.records.specs.Records.{numberAt, numberPlace}
 
 pub place-between : (a e n : ℕ) (names : List (List ℕ)) → a ≤ e → (a ≤ numberPlace a e n names) × (numberPlace a e n names ≤ e)
 unfolding numberPlace

@@ -1,8 +1,8 @@
 -- What the code's calls and branches come to: each move put together from what its parts ensure.
 -- Assumes nothing.
 use Prim.Native.Nat.{ℕ, _+_, _-_, _<_}
-use mathlib.Core.Path.{_≡_, refl, sym}
-use mathlib.Core.Bool.{Bool, true, false, _&&_, cond, true≢false}
+use mathlib.Core.Path.{_≡_, sym}
+use mathlib.Core.Bool.{Bool, true, false, _&&_, true≢false}
 use mathlib.Core.List.{List, []}
 use lib.Dec.{eqb, ltb}
 use borrow.Author.Tests.{ltb-true}
@@ -13,7 +13,6 @@ use Rattle.choose.specs.declared.Found.{Found}
 use Rattle.choose.specs.declared.Found.the-variants.{At, Nothing}
 use Rattle.moves.specs.Close.{closed, opened}
 use Rattle.records.specs.Records.{Between, Items, items, numberAt, numberPlace, keptItem, droppedItem, dropItemOf, lessUse, Lost, lost, lostUse, useLessOf}
-use Rattle.records.specs.declared.Gone.{Gone}
 use Rattle.records.specs.declared.Gone.the-variants.{Symbol, Stays}
 
 -- the place found is in range

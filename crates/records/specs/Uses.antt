@@ -2,25 +2,24 @@
 -- Assumes nothing.
 use Prim.Native.Nat.{ℕ, zero, suc, _+_, _-_, _≤_, _<_}
 use mathlib.Core.Path.{_≡_, refl, sym, ap, _∙_}
-use mathlib.Core.Bool.{Bool, true, false, _&&_, cond}
+use mathlib.Core.Bool.{Bool, true, false, cond}
 use mathlib.Core.List.{List, [], _∷_, map}
 use mathlib.Core.Option.{Option, none, some}
 use native.Mathlib.Nat.{zero-add, add-zero}
 use native.Mathlib.Numerals.{add-one}
 use native.Mathlib.Omega.{arith}
 use borrow.Author.Tests.{lt-ltb}
-use lib.Dec.{eqb, ltb}
-use lib.ListN.{length, getD, set, length-set}
+use lib.Dec.{eqb}
+use lib.ListN.{length, getD}
 use lib.Seq.{getD-set-same, getD-set-other}
-use lib.Ieee.{Float, nan}
-use Rattle.steps.specs.State.{Variable, Constraint, Edit, State}
+use lib.Ieee.{Float}
+use Rattle.steps.specs.State.{State}
 use Rattle.steps.specs.Changes.{findVariable}
-use Rattle.steps.specs.Tests.{findConstraint, findEdit}
 use Rattle.steps.specs.CreateRow.{useOnce}
-use Rattle.laws.specs.Loops.{seek, first, mapIn}
-use Rattle.laws.specs.Places.{mapIn-at, mapIn-after, length-mapIn}
+use Rattle.laws.specs.Loops.{seek, first}
+use Rattle.laws.specs.Places.{mapIn-at, mapIn-after}
 use Rattle.laws.specs.Lists.{tab, tab-ext, map-tab}
-use Rattle.layout.specs.Layout.{tables, numberOf, usesOf, symbolOf, variableOf, constraintOf, editOf, read}
+use Rattle.layout.specs.Layout.{tables, numberOf, usesOf, variableOf, constraintOf, editOf, read}
 use Rattle.choose.specs.declared.Found.{Found}
 use Rattle.choose.specs.declared.Found.the-variants.{At, Nothing}
 use Rattle.choose.specs.Choose.{onFound}
@@ -66,18 +65,6 @@ module _ (h : List ℕ) (n : List (List ℕ)) (r w : List (List Float)) (number 
       ap (λ (s : State). findVariable number (s .changes .variables)) (read-regions h n r w)
       ∙ found-region variableOf 0 (getD h 4 0) n r number (findVariable number) refl (λ m s xs. as-cond (eqb number (numberOf m)) _ _)
       ∙ rw (zero-add (getD h 4 0)) refl
-
-  pub constraint-found : findConstraint number (read (tables h n r w) .constraints) ≡ onFound (λ i. some (constraintOf (getD n i []) (getD r i []))) none (numberAt 32 (32 + getD h 5 0) number n)
-  unfolding findConstraint constraintOf
-  constraint-found =
-      ap (λ (s : State). findConstraint number (s .constraints)) (read-regions h n r w)
-      ∙ found-region constraintOf 32 (getD h 5 0) n r number (findConstraint number) refl (λ m s xs. as-cond (eqb number (numberOf m)) _ _)
-
-  pub edit-found : findEdit number (read (tables h n r w) .edits) ≡ onFound (λ i. some (editOf (getD n i []) (getD r i []))) none (numberAt 80 (80 + getD h 6 0) number n)
-  unfolding findEdit editOf
-  edit-found =
-      ap (λ (s : State). findEdit number (s .edits)) (read-regions h n r w)
-      ∙ found-region editOf 80 (getD h 6 0) n r number (findEdit number) refl (λ m s xs. as-cond (eqb number (numberOf m)) _ _)
 
 -- ---- one use more
 

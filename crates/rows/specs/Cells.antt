@@ -1,8 +1,8 @@
 -- A row's live cells as a list: the steps' lists of cells read place by place, and the loops' marks as the steps' mark of a list of cells.
 use Prim.Native.Nat.{ℕ, zero, suc, _+_, _≤_, _<_}
 use mathlib.Core.Path.{_≡_, refl, sym, ap, _∙_}
-use mathlib.Core.List.{List, [], _∷_, _++_}
-use native.Mathlib.Nat.{zero-add, add-zero}
+use mathlib.Core.List.{List, _∷_}
+use native.Mathlib.Nat.{zero-add}
 use native.Mathlib.Omega.{arith}
 use lib.ListN.{length, getD, set}
 use lib.Ieee.{Float, nan}
@@ -51,13 +51,6 @@ pub scale-tab : (factor : Float) (c : ℕ → Float) (i n : ℕ) → scaleCells 
 unfolding tab scaleCells
 scale-tab factor c i zero = refl
 scale-tab factor c i (suc n) = ap (λ (r : List Cell). scaleCell factor (c i) ∷ r) (scale-tab factor c (suc i) n)
-
-pub tab-snoc : (g : ℕ → Float) (i n : ℕ) → tab g i (suc n) ≡ tab g i n ++ (g (i + n) ∷ [])
-unfolding tab
-tab-snoc g i zero = rw (add-zero i) refl
-tab-snoc g i (suc n) =
-    let e : suc i + n ≡ i + suc n = omega arith in
-    ap (λ (r : List Float). g i ∷ r) (tab-snoc g (suc i) n ∙ ap (λ (j : ℕ). tab g (suc i) n ++ (g j ∷ [])) e)
 
 -- ---- the marks of a loop over the places from 1 + i on
 

@@ -2,27 +2,26 @@
 use Prim.Native.Nat.{ℕ, _+_, _≤_, _<_}
 use mathlib.Core.Path.{_≡_, refl, sym, ap, _∙_}
 use mathlib.Core.Bool.{Bool, true, false, cond}
-use mathlib.Core.List.{List, [], _∷_, _++_, map}
+use mathlib.Core.List.{List, map}
 use mathlib.Core.Option.{some}
 use native.Mathlib.Nat.{add-zero}
-use native.Mathlib.Numerals.{add-one}
 use native.Mathlib.Omega.{arith}
 use lib.ListN.{length, getD, set, length-set}
 use lib.Seq.{getD-set-same, getD-set-other}
 use lib.Ieee.{Float, nan, ne, neg}
 use Rattle.laws.specs.Loops.{mapIn}
 use Rattle.laws.specs.Lists.{tab, listOf, map-tab}
-use Rattle.laws.specs.Places.{mapIn-before, zipIn-before, tab-mapIn, tab-zipIn, tab-set-out}
+use Rattle.laws.specs.Places.{mapIn-before, zipIn-before, tab-mapIn, tab-zipIn}
 use Rattle.steps.specs.Number.{zero64, minusOne64, cellBound, _+₆₄_, _*₆₄_, _/₆₄_, Mark, allWhole, worse}
 use Rattle.steps.specs.Symbol.{Symbol, absent, coefficientFor, clearCell}
-use Rattle.steps.specs.Row.{Row, Cell, kept, stored, cellValue, cellValues, cellMark, cellMarks, insertCell, insertSymbol, insertTimes, insertCells, Written, untouched, insertSymbolInRow, insertRow, scaleCell, scaleCells, solveForSymbol, solveForSymbols, reverseSign, appendCell}
+use Rattle.steps.specs.Row.{Row, Cell, kept, stored, cellValue, cellValues, cellMark, cellMarks, insertCell, insertSymbol, insertTimes, insertCells, Written, untouched, insertSymbolInRow, insertRow, scaleCell, scaleCells, solveForSymbol, solveForSymbols, reverseSign}
 use Rattle.steps.specs.Substitute.{substituteInRow, substituteInCells}
 use Rattle.steps.specs.Edit.{shiftRow}
 use Rattle.layout.specs.Layout.{cellsOf}
 use Rattle.rows.specs.Table.{insertedValue, insertedMark, scaledValue, scaledMark, reversedValue, insertSymbolAt, insertSymbolMark, insertCellsIn, insertCellsMark, addedConstant, insertRowIn, insertRowMark, insertRowChanged, scaleCellsIn, scaleCellsMark, solveFactor, solveStart, solveRowIn, solveRowMark, solveForSymbolsIn, solveForSymbolsMark, reverseSignIn, substituteRowIn, substituteRowMark, substituteRowChanged, substituteCellsIn, substituteCellsMark, shiftConstantIn, shiftConstantMark}
 use Rattle.rows.specs.Stays.{length-insertSymbolAt}
 use Rattle.rows.specs.Place.{PlaceOf, place-below, coefficient-at, clear-at, kept-values, kept-marks, insert-values, insert-marks}
-use Rattle.rows.specs.Cells.{length-cells, cell-at, cells-set, cells-constant, values-tab, insert-tab, scale-tab, tab-snoc, fold-cells, fold2-cells}
+use Rattle.rows.specs.Cells.{length-cells, cell-at, cells-set, cells-constant, values-tab, insert-tab, scale-tab, fold-cells, fold2-cells}
 
 unfoldable pub rowOf : ℕ → List Float → Row
 rowOf n row = record { constant = getD row 0 nan; cells = cellsOf n row }
@@ -215,18 +214,6 @@ reverse-read n row h =
     tab-mapIn reversedValue 1 n (set row 0 v) nan l
     ∙ sym (map-tab reversedValue (λ j. getD (set row 0 v) (1 + j) nan) 0 n)
     ∙ ap (map reversedValue) (cells-constant n row v) in
-    rw (c, d) refl
-
--- the place of a new symbol
-pub append-read : (n : ℕ) (row : List Float) → n + 1 < length row → rowOf (n + 1) (set row (n + 1) zero64) ≡ appendCell (rowOf n row)
-unfolding rowOf appendCell cellsOf listOf
-append-read n row h =
-    let e : 1 + (0 + n) ≡ n + 1 = omega arith in
-    let g : ℕ → Float = λ j. getD (set row (n + 1) zero64) (1 + j) nan in
-    let last : g (0 + n) ≡ zero64 = rw e (getD-set-same row (n + 1) zero64 nan h) in
-    let rest : tab g 0 n ≡ tab (λ j. getD row (1 + j) nan) 0 n = tab-set-out row (n + 1) 1 n zero64 nan λ j b c. omega (arith, b, c) in
-    let c : getD (set row (n + 1) zero64) 0 nan ≡ getD row 0 nan = getD-set-other row (n + 1) 0 zero64 nan (omega arith) in
-    let d : tab g 0 (n + 1) ≡ tab (λ j. getD row (1 + j) nan) 0 n ++ (zero64 ∷ []) = ap (tab g 0) (add-one n) ∙ tab-snoc g 0 n ∙ rw (last, rest) refl in
     rw (c, d) refl
 
 pub shift-read : (n : ℕ) (d : Float) (row : List Float) → n < length row

@@ -1,13 +1,11 @@
--- What each operation on a row leaves as it was: the row's length, and the places past the width.
-use Prim.Native.Nat.{ℕ, _+_, _≤_, _<_}
+-- Each operation on a row leaves the row's length as it was.
+use Prim.Native.Nat.{ℕ, _+_}
 use mathlib.Core.Path.{_≡_, refl, _∙_}
 use mathlib.Core.Bool.{Bool, true, false, cond}
 use mathlib.Core.List.{List}
-use native.Mathlib.Omega.{arith}
 use lib.ListN.{length, getD, set, length-set}
-use lib.Seq.{getD-set-other}
 use lib.Ieee.{Float, nan, neg}
-use Rattle.laws.specs.Places.{length-mapIn, length-zipIn, mapIn-after, zipIn-after}
+use Rattle.laws.specs.Places.{length-mapIn, length-zipIn}
 use Rattle.steps.specs.Number.{zero64, minusOne64, _+₆₄_, _*₆₄_}
 use Rattle.steps.specs.Symbol.{absent}
 use Rattle.steps.specs.Row.{cellValue, insertCell}
@@ -61,51 +59,3 @@ length-substituteCellsIn at n other row =
 pub length-shiftConstantIn : (d : Float) (row : List Float) → length (shiftConstantIn d row) ≡ length row
 unfolding shiftConstantIn
 length-shiftConstantIn d row = length-set row 0 (getD row 0 nan +₆₄ d)
-
--- ---- a place q past the width
-
-module _ (n q : ℕ) (h : n < q) where
-  pub past-insertCellsIn : (k : Float) (other row : List Float) → getD (insertCellsIn k n other row) q nan ≡ getD row q nan
-  unfolding insertCellsIn
-  past-insertCellsIn k other row = zipIn-after (insertedValue k) 1 (1 + n) row other q nan (omega (arith, h))
-
-  pub past-insertRowIn : (k : Float) (other row : List Float) → getD (insertRowIn k n other row) q nan ≡ getD row q nan
-  unfolding insertRowIn
-  past-insertRowIn k other row =
-      past-insertCellsIn k other (set row 0 (addedConstant k other row)) ∙ getD-set-other row 0 q (addedConstant k other row) nan (omega (arith, h))
-
-  pub past-insertSymbolAt : (at : ℕ) (k : Float) (row : List Float) → at ≤ n → getD (insertSymbolAt at k row) q nan ≡ getD row q nan
-  unfolding insertSymbolAt
-  past-insertSymbolAt at k row l = getD-set-other row at q (cellValue (insertCell (getD row at nan) k)) nan (omega (arith, h, l))
-
-  pub past-solveRowIn : (at : ℕ) (row : List Float) → at ≤ n → getD (solveRowIn at n row) q nan ≡ getD row q nan
-  unfolding solveRowIn scaleCellsIn solveStart
-  past-solveRowIn at row l =
-      let v : Float = getD row 0 nan *₆₄ solveFactor at row in
-      mapIn-after (scaledValue (solveFactor at row)) 1 (1 + n) (set (set row 0 v) at zero64) q nan (omega (arith, h))
-      ∙ getD-set-other (set row 0 v) at q zero64 nan (omega (arith, h, l)) ∙ getD-set-other row 0 q v nan (omega (arith, h))
-
-  pub past-solveForSymbolsIn : (leaving entering : ℕ) (row : List Float) → leaving ≤ n → entering ≤ n → getD (solveForSymbolsIn leaving entering n row) q nan ≡ getD row q nan
-  unfolding solveForSymbolsIn
-  past-solveForSymbolsIn leaving entering row l m = past-solveRowIn entering (insertSymbolAt leaving minusOne64 row) m ∙ past-insertSymbolAt leaving minusOne64 row l
-
-  pub past-reverseSignIn : (row : List Float) → getD (reverseSignIn n row) q nan ≡ getD row q nan
-  unfolding reverseSignIn
-  past-reverseSignIn row =
-      mapIn-after reversedValue 1 (1 + n) (set row 0 (neg (getD row 0 nan))) q nan (omega (arith, h)) ∙ getD-set-other row 0 q (neg (getD row 0 nan)) nan (omega (arith, h))
-
-  one-of : (b : Bool) (x y : List Float) → getD y q nan ≡ getD x q nan → getD (cond b x y) q nan ≡ getD x q nan
-  one-of true x y e = refl
-  one-of false x y e = e
-
-  pub past-substituteRowIn : (at : ℕ) (other row : List Float) → at ≤ n → getD (substituteRowIn at n other row) q nan ≡ getD row q nan
-  unfolding substituteRowIn
-  past-substituteRowIn at other row l =
-      one-of (absent (getD row at nan)) row (insertRowIn (getD row at nan) n other (set row at zero64))
-      (past-insertRowIn (getD row at nan) other (set row at zero64) ∙ getD-set-other row at q zero64 nan (omega (arith, h, l)))
-
-  pub past-substituteCellsIn : (at : ℕ) (other row : List Float) → at ≤ n → getD (substituteCellsIn at n other row) q nan ≡ getD row q nan
-  unfolding substituteCellsIn
-  past-substituteCellsIn at other row l =
-      one-of (absent (getD row at nan)) row (insertCellsIn (getD row at nan) n other (set row at zero64))
-      (past-insertCellsIn (getD row at nan) other (set row at zero64) ∙ getD-set-other row at q zero64 nan (omega (arith, h, l)))

@@ -1,12 +1,12 @@
 -- "Reset refuses only wrong lengths": nine places of the head are written, the rest lies past the counts.
 -- Assumes nothing.
 use Prim.Native.Nat.{ℕ}
-use mathlib.Core.Path.{_≡_, refl, sym, ap, _∙_}
+use mathlib.Core.Path.{_≡_, refl, ap, _∙_}
 use mathlib.Core.Bool.{Bool, true, false, cond}
-use mathlib.Core.List.{List, [], _∷_}
-use lib.ListN.{length, getD, set}
+use mathlib.Core.List.{List, []}
+use lib.ListN.{getD, set}
 use lib.Ieee.{Float}
-use Rattle.steps.specs.Calls.{Answer, empty, reset}
+use Rattle.steps.specs.Calls.{empty, reset}
 use Rattle.layout.specs.Layout.{Tables, tables, writeHead, writeNames, writeReals, writeRows, write, over, heading, bitOf, listAt, rowsAt, symbolsAt, editsAt, constraintsAt}
 use Rattle.layout.specs.Rooms.{lengthsRight}
 use Rattle.layout.specs.Laying.{laid-nil, laid-cons, set-same}

@@ -1,12 +1,9 @@
 -- What a changing call answers and leaves, for any call of the steps: proved once.
 -- Assumes nothing.
-use Prim.Native.Nat.{ℕ, _≤_, _<_}
 use mathlib.Core.Path.{_≡_, refl, sym, ap, _∙_, subst}
 use mathlib.Core.Bool.{Bool, true, false, _&&_, cond}
-use mathlib.Core.List.{List, []}
 use lib.Dec.{T, eqb}
-use lib.ListN.{length, getD, replicate}
-use lib.Ieee.{Float}
+use lib.ListN.{length}
 use Rattle.laws.specs.Given.{Then}
 use Rattle.steps.specs.State.{State}
 use Rattle.steps.specs.Calls.{Answer, Result}
@@ -18,7 +15,7 @@ use Rattle.layout.specs.Written.{written-is, write-read}
 use Rattle.layout.specs.Copied.{copy-reads, copy-lengths, copy-counts, copy-coded}
 use Rattle.reading.specs.Reads.{reads}
 use Rattle.reading.specs.Given.{reads-lengths, reads-counts, reads-coded, reads-readable}
-use Rattle.room.specs.Room.{cleared, zeroNames, zeroReals, zeroRow}
+use Rattle.room.specs.Room.{cleared}
 use Rattle.shell.specs.declared.Answer as code
 
 -- "Each changing call answers: accepted or a number below, pivots made, whole mark." 0 is accepted.

@@ -1,34 +1,24 @@
 -- Tables that stand, with a note more, other rows, or a shorter infeasible list: they read as the steps say, and stand.
 -- Assumes nothing.
 use Prim.Native.Nat.{ℕ, _+_, _≤_, _<_}
-use mathlib.Core.Path.{_≡_, refl, sym, ap, _∙_, subst}
-use mathlib.Core.Bool.{Bool, true, false, not, _||_, cond}
-use mathlib.Core.List.{List, [], _∷_}
+use mathlib.Core.Path.{_≡_, sym, ap, _∙_, subst}
+use mathlib.Core.Bool.{Bool, true, false, cond}
+use mathlib.Core.List.{List}
 use native.Mathlib.Omega.{arith}
-use lib.Dec.{eqb}
-use borrow.Author.Tests.{eq-eqb}
 use lib.ListN.{length, getD, set, length-set}
 use lib.Seq.{getD-set-other}
 use lib.Ieee.{Float}
 use Rattle.steps.specs.Number.{Mark}
-use Rattle.steps.specs.State.{Basic, Tableau}
+use Rattle.steps.specs.State.{Tableau}
 use Rattle.steps.specs.Work.{Work, withTableau, withInfeasible, withChanges}
 use Rattle.steps.specs.Changes.{note}
-use Rattle.steps.specs.Optimise.{isBelow}
-use Rattle.steps.specs.Calls.{stillBelow}
-use Rattle.steps.specs.Tests.{member}
-use Rattle.steps.specs.Readable.{distinct}
-use Rattle.laws.specs.Loops.{run, run-keeps}
 use Rattle.laws.specs.Lists.{tab, listOf}
 use Rattle.keeps.specs.Fits.{FitsW}
 use Rattle.layout.specs.Layout.{tables}
-use Rattle.choose.specs.Choose.{isBelowOf}
-use Rattle.choose.specs.Reading.{basicsIn, entriesIn, tableauIn}
+use Rattle.choose.specs.Reading.{entriesIn, tableauIn}
 use Rattle.moves.specs.Columns.{Wide}
-use Rattle.moves.specs.Moves.{Pruned, pruned, keepIf, pruneTurn, countKept, pruneOf}
-use Rattle.moves.specs.Prune.{pruned-entries, pruned-same}
 use Rattle.moves.specs.Listed.{cut-tableau, front-held}
-use Rattle.moves.specs.Room.{Among, Held, or-left, or-right, or-other, by-eqb, and-left, and-right, not-is, is-not, both, contra}
+use Rattle.moves.specs.Room.{Held}
 use Rattle.tableau.specs.Notes.{Noted, noted, varChangedIf, changed-if-head}
 use Rattle.tableau.specs.NotesKept.{ItemsKept, items-by, items-same, note-kept}
 use Rattle.tableau.specs.Working.{workOf, Ready, symbols-by, symbols-same, entries-same, list-changed}
@@ -36,47 +26,6 @@ use Rattle.tableau.specs.EnterRead.{note-read, ready-noted}
 use Rattle.standing.specs.Standing.{Standing, Beside}
 use Rattle.standing.specs.Places.{ready-of}
 use Rattle.standing.specs.Kept.{standing-by, beside-by, listed-by, listed-same}
-
--- ---- what is left of a list that is held is held
-
-among-still : (rows : List Basic) (l : List ℕ) → Among (stillBelow rows l) l
-unfolding stillBelow member
-among-still rows [] y h = h
-among-still rows (x ∷ l) y h = go (isBelow x rows) h (λ k. among-still rows l y k)
-  where
-    go : (b : Bool) → member y (elim b [ true ↦ x ∷ stillBelow rows l | false ↦ stillBelow rows l ]) ≡ true → (member y (stillBelow rows l) ≡ true → member y l ≡ true)
-        → eqb y x || member y l ≡ true
-    go true k rest = by-eqb (eqb y x || member y l ≡ true) y x (λ e. or-left (eqb y x) (member y l) (eq-eqb y x e)) (λ e. or-right (eqb y x) (member y l) (rest (or-other (eqb y x) (member y (stillBelow rows l)) e k)))
-    go false k rest = or-right (eqb y x) (member y l) (rest k)
-
-distinct-still : (rows : List Basic) (l : List ℕ) → distinct l ≡ true → distinct (stillBelow rows l) ≡ true
-unfolding stillBelow distinct
-distinct-still rows [] d = d
-distinct-still rows (x ∷ l) d = go (isBelow x rows) (distinct-still rows l (and-right (not (member x l)) (distinct l) d))
-  where
-    go : (b : Bool) → distinct (stillBelow rows l) ≡ true → distinct (elim b [ true ↦ x ∷ stillBelow rows l | false ↦ stillBelow rows l ]) ≡ true
-    go true k =
-        both (not (member x (stillBelow rows l))) (distinct (stillBelow rows l))
-        (is-not (member x (stillBelow rows l)) (contra (member x (stillBelow rows l)) (member x l) (among-still rows l x) (not-is (member x l) (and-left (not (member x l)) (distinct l) d)))) k
-    go false k = k
-
-pub still-held : (rows : List Basic) (l m : List ℕ) → Held l m → Held (stillBelow rows l) m
-still-held rows l m h = (distinct-still rows l (h .0), λ y e. h .1 y (among-still rows l y e))
-
-kept-length : (on : Bool) (x : ℕ) (s : Pruned) → length (keepIf on x s .head) ≡ length (s .head)
-unfolding keepIf
-kept-length true x s = length-set (s .head) (196 + s .kept) x
-kept-length false x s = refl
-
-turn-length : (w : List (List Float)) (i : ℕ) (s : Pruned) → length (pruneTurn w i s .head) ≡ length (s .head)
-unfolding pruneTurn
-turn-length w i s = kept-length (isBelowOf (getD (s .head) (195 + i) 0) (s .head) w) (getD (s .head) (195 + i) 0) s
-
-pub pruned-length : (w : List (List Float)) (h : List ℕ) → length (pruneOf w h) ≡ length h
-unfolding pruneOf countKept
-pruned-length w h =
-    let t : Pruned = run (pruneTurn w) 1 (1 + getD h 3 0) (pruned h 0) in
-    length-set (t .head) 3 (t .kept) ∙ run-keeps (λ (s : Pruned). length (s .head) ≡ length h) (pruneTurn w) (λ i s e. turn-length w i s ∙ e) 1 (1 + getD h 3 0) (pruned h 0) refl
 
 module _ (art : Bool) (a : Mark) (h : List ℕ) (n : List (List ℕ)) (reals w : List (List Float)) (s : Standing art a (tables h n reals w)) where
   ready : Ready h n w
@@ -147,25 +96,6 @@ module _ (art : Bool) (a : Mark) (h : List ℕ) (n : List (List ℕ)) (reals w :
 
     pub list-beside : Beside (tables h n reals w) (tables g n reals w)
     list-beside = beside-by art a h n reals w s g n w list-kept
-
-  -- "list entries whose row is absent or not below 0 go"
-  prune-long : length (pruneOf w h) ≡ 326
-  prune-long = pruned-length w h ∙ ready .head-long
-
-  prune-same : (q : ℕ) → (q ≡ 3 → ⊥) → q < 196 → getD (pruneOf w h) q 0 ≡ getD h q 0
-  prune-same = pruned-same h w (ready .head-long) (s .few-rows) (s .few-entries)
-
-  prune-entries : entriesIn (pruneOf w h) ≡ stillBelow (basicsIn h w) (entriesIn h)
-  prune-entries = pruned-entries h w (ready .head-long) (s .few-rows) (s .few-entries)
-
-  pub prune-reads : (v : ℕ) → workOf art a v (tables (pruneOf w h) n reals w) ≡ withInfeasible (stillBelow (basicsIn h w) (entriesIn h)) (workOf art a v (tables h n reals w))
-  prune-reads v = list-reads (pruneOf w h) prune-long prune-same v ∙ ap (λ (l : List ℕ). withInfeasible l (workOf art a v (tables h n reals w))) prune-entries
-
-  pub prune-stands : Standing art a (tables (pruneOf w h) n reals w)
-  prune-stands = list-stands (pruneOf w h) prune-long prune-same (rw prune-entries (still-held (basicsIn h w) (entriesIn h) (s .listed .seen) (s .listed .held)))
-
-  pub prune-beside : Beside (tables h n reals w) (tables (pruneOf w h) n reals w)
-  prune-beside = list-beside (pruneOf w h) prune-long prune-same
 
   -- the first k entries are left
   module _ (k : ℕ) where

@@ -4,13 +4,12 @@ use Prim.Native.Nat.{ℕ, _≤_}
 use mathlib.Core.Path.{_≡_, refl, _∙_}
 use mathlib.Core.Bool.{Bool}
 use mathlib.Core.List.{List}
-use native.Mathlib.Omega.{arith}
 use lib.ListN.{length}
 use Rattle.steps.specs.Number.{Mark}
 use Rattle.keeps.specs.Along.{ids}
 use Rattle.keeps.specs.Fits.{FitsW}
 use Rattle.layout.specs.Layout.{Tables, symbolCount, rowCount, entryCount, variableCount, constraintCount, editCount, constraintsOf, editsOf}
-use Rattle.layout.specs.Rooms.{Lengths, Wide, Coded, Counts}
+use Rattle.layout.specs.Rooms.{Lengths, Wide, Coded}
 use Rattle.choose.specs.Reading.{symbolsIn, entriesIn}
 use Rattle.moves.specs.Room.{Among, Held}
 use Rattle.tableau.specs.Working.{workOf}
@@ -46,11 +45,3 @@ beside-same t = record { constraints = refl; edits = refl }
 
 pub beside-then : {t u v : Tables} → Beside t u → Beside u v → Beside t v
 beside-then b c = record { constraints = c .constraints ∙ b .constraints; edits = c .edits ∙ b .edits }
-
--- the shape does not know of the pivots made
-pub fits-any : (art : Bool) (a : Mark) (v u : ℕ) (t : Tables) → FitsW (workOf art a v t) → FitsW (workOf art a u t)
-unfolding workOf
-fits-any art a v u t f = f
-
-pub counts-of : (art : Bool) (a : Mark) (t : Tables) → Standing art a t → Counts (t .head)
-counts-of art a t s = (s .few-symbols, omega (arith, s .few-rows), s .few-entries, s .few-variables, s .few-constraints, s .few-edits)

@@ -1,12 +1,12 @@
 -- Symbols in order: no two are the same, so that a symbol has one place.
 -- Assumes nothing.
-use Prim.Native.Nat.{ℕ, _+_, _-_, _/_, _≤_, _<_}
-use mathlib.Core.Path.{_≡_, refl, sym, ap, _∙_}
-use mathlib.Core.Bool.{Bool, true}
+use Prim.Native.Nat.{ℕ, _+_, _/_, _<_}
+use mathlib.Core.Path.{_≡_, sym, ap}
+use mathlib.Core.Bool.{true}
 use mathlib.Core.List.{List}
 use lib.ListN.{getD}
 use Rattle.layout.specs.Layout.{symbolsAt}
-use Rattle.places.specs.Finding.{placeIn, Apart, Rising, place-le, place-at, rising-apart, tested-rising}
+use Rattle.places.specs.Finding.{Apart, Rising, place-at, rising-apart, tested-rising}
 use Rattle.symbols.specs.Symbols.{idsAscend, placeOf}
 
 pub ids-rise : (h : List ℕ) (a n : ℕ) → idsAscend h a n ≡ true → Rising (λ j. getD h (a + j) 0 / 4) n

@@ -1,6 +1,6 @@
 -- The tableau's part of the reading test, place by place. The code runs it so, but for the rows' cells: those it walks once (Marks.antt).
 use Prim.Native.Nat.{ℕ, _+_, _-_, _/_, _%_}
-use mathlib.Core.Bool.{Bool, true, false, not, _&&_, cond}
+use mathlib.Core.Bool.{Bool, true, not, _&&_, cond}
 use mathlib.Core.List.{List, []}
 use lib.Dec.{eqb, ltb}
 use lib.ListN.{getD, set, replicate}

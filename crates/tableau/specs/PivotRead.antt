@@ -33,7 +33,7 @@ use Rattle.tableau.specs.Substituting.{Substitution, substituteOf}
 use Rattle.tableau.specs.Pivoting.{enterOf, solvedRow, solvedMark, withMark, pivotOf}
 use Rattle.tableau.specs.Working.{workOf, artificialIn, symbols-by, changes-by, length-symbols, Ready}
 use Rattle.tableau.specs.Pushed.{wide-row, wide-every, every-wide, Room}
-use Rattle.tableau.specs.EnterRead.{workBy, work-is, enter-read, ready-entered}
+use Rattle.tableau.specs.EnterRead.{workBy, work-is, enter-read}
 
 -- ---- a row taken out
 
@@ -153,8 +153,3 @@ module _ (l i t j : ℕ) (h : List ℕ) (n : List (List ℕ)) (reals w : List (L
         ∙ enter-read code j row (out .head) n reals (out .rows) (ready-dropped i h n w ready low high) row-long (rw out-symbols q) art room fit (worse a m) v
         ∙ rw one (ap (enterBasis (symbolOf code) (rowOf (getD h 1 0) row)) (drop-read i h n w ready low high l found art a m v reals))
         ∙ sym (pivot-found l (symbolOf code) (workOf art a v (tables h n reals w)) (rowOf (getD h 1 0) (getD w i [])) (writtenOf (rowOf (getD h 1 0) row) false m) (row-is a v) (solved-is a v))
-
-    pub ready-pivoted : Ready (pivotOf art i (1 + t) (1 + j) (noted h n) w .head) (pivotOf art i (1 + t) (1 + j) (noted h n) w .names) (pivotOf art i (1 + t) (1 + j) (noted h n) w .rows)
-    unfolding pivotOf withMark
-    ready-pivoted =
-        ready-entered code j row (out .head) n reals (out .rows) (ready-dropped i h n w ready low high) row-long (rw out-symbols q) art room (rw (dropped-count i h n w ready low high) (omega (arith, low, high, ready .few-rows)))

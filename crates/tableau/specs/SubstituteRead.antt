@@ -25,7 +25,7 @@ use Rattle.tableau.specs.Notes.{Noted, varChangedIf, changed-if-head}
 use Rattle.tableau.specs.NotesRead.{changesIn, Flags, changed-if-read, changed-if-flags, changed-if-length}
 use Rattle.tableau.specs.Substituting.{substituteRowsIn, rowMarkWith, row-mark, substituteRowsMark, changes, noteRow, noteRows}
 
-noted-cons : (r : Substituted) (rs : List Substituted) (c : Changes)
+pub noted-cons : (r : Substituted) (rs : List Substituted) (c : Changes)
     → allChanged (notedOf (r ∷ rs)) c ≡ allChanged (notedOf rs) (cond (isExternal (r .symbol) && r .written .constantChanged) (varChanged (r .symbol .id) c) c)
 unfolding notedOf allChanged
 noted-cons r rs c = go (isExternal (r .symbol) && r .written .constantChanged)

@@ -284,25 +284,10 @@ module _ (s j : ℕ) (pivot : List Float) (h : List ℕ) (n : List (List ℕ)) (
   abbrev before : Bool → Mark → ℕ → Work
   before art a v = work (symbolsIn h) (getD h 0 0) (basicsIn h w) (cellsOf (getD h 1 0) (getD w 0 [])) (entriesIn h) (changesIn reals (noted h n)) (artificialIn art h w) a v
 
-  steps-of : (art : Bool) (a : Mark) (v : ℕ) → withInfeasible (entriesIn h) (substitute s (rowOf (getD h 1 0) pivot) (before art a v)) ≡ result (entriesIn h) art a v
-  unfolding substitute withInfeasible withTableau withRows withObjective withArtificial withChanges marking artificialIn rowOf
-  steps-of true a v = rw rows-stepped refl
-  steps-of false a v = rw rows-stepped refl
-
   steps-whole : (art : Bool) (a : Mark) (v : ℕ) → substitute s (rowOf (getD h 1 0) pivot) (before art a v) ≡ result (pushBelow (rowsOf (tab sub 0 (getD h 2 0))) (entriesIn h)) art a v
   unfolding substitute withInfeasible withTableau withRows withObjective withArtificial withChanges marking artificialIn rowOf
   steps-whole true a v = rw rows-stepped refl
   steps-whole false a v = rw rows-stepped refl
-
-  steps-are : (art : Bool) (a : Mark) (v : ℕ) → withInfeasible (entriesIn h) (substitute s (rowOf (getD h 1 0) pivot) (workOf art a v (tables h n reals w))) ≡ result (entriesIn h) art a v
-  steps-are art a v = ap (λ (x : Work). withInfeasible (entriesIn h) (substitute s (rowOf (getD h 1 0) pivot) x)) (work-parts art a v h n reals w) ∙ steps-of art a v
-
-  pub substitute-read : (art : Bool) (a : Mark) (v : ℕ)
-      → workOf art (worse a (substituteOf art (1 + j) pivot (noted h n) w .mark)) v
-      (tables (substituteOf art (1 + j) pivot (noted h n) w .head) (substituteOf art (1 + j) pivot (noted h n) w .names) reals (substituteOf art (1 + j) pivot (noted h n) w .rows))
-      ≡ withInfeasible (entriesIn h) (substitute s (rowOf (getD h 1 0) pivot) (workOf art a v (tables h n reals w)))
-  unfolding substituteOf
-  substitute-read art a v = after art a v ∙ sym (steps-are art a v)
 
   -- with the pushes: g is the head that they leave
   pub substitute-pushed-read : (art : Bool) (a : Mark) (v : ℕ) (g : List ℕ)

@@ -1,27 +1,23 @@
 -- A new error read as the steps' `addError`: in the row, and in the objective with the strength.
 -- Assumes nothing.
-use Prim.Native.Nat.{ℕ, zero, suc, _+_, _*_, _/_, _≤_, _<_}
+use Prim.Native.Nat.{ℕ, _+_, _<_}
 use mathlib.Core.Path.{_≡_, refl, sym, ap, _∙_}
-use mathlib.Core.Bool.{Bool, true, false}
 use mathlib.Core.List.{List, []}
 use native.Mathlib.Omega.{arith}
-use lib.Dec.{eqb}
-use lib.ListN.{length, getD, set, length-set}
+use lib.ListN.{length, getD, set}
 use lib.Seq.{getD-set-same, getD-set-other}
 use lib.Ieee.{Float}
-use Rattle.steps.specs.Number.{zero64, objectiveBound, Mark, worse}
-use Rattle.steps.specs.Symbol.{Symbol}
-use Rattle.steps.specs.Row.{cellValues, cellMarks, insertSymbol}
-use Rattle.steps.specs.Work.{Work, marking, withObjective, withTableau}
-use Rattle.steps.specs.CreateRow.{Building, insertInObjective, addSymbol, addError}
+use Rattle.steps.specs.Number.{objectiveBound, worse}
+use Rattle.steps.specs.Work.{marking, withObjective, withTableau}
+use Rattle.steps.specs.CreateRow.{insertInObjective}
 use Rattle.laws.specs.Lists.{listOf, tab-ext}
-use Rattle.layout.specs.Layout.{tables, symbolOf, cellsOf, basicOf}
+use Rattle.layout.specs.Layout.{tables, basicOf}
 use Rattle.rows.specs.Table.{insertSymbolAt, insertSymbolMark}
 use Rattle.rows.specs.Place.{PlaceOf}
 use Rattle.rows.specs.Reading.{insert-symbol-values, insert-symbol-marks}
-use Rattle.choose.specs.Reading.{symbolsIn, basicsIn, entriesIn, rowIn, tableauIn}
-use Rattle.tags.specs.Tags.{Frame, frame, newPlace, appendIn, insertAtPlace, addSymbolIn, insertInObjectiveAt, addErrorIn}
-use Rattle.tags.specs.Read.{workIn, readFrame, parts, work-is, length-symbols, Open}
+use Rattle.choose.specs.Reading.{symbolsIn, basicsIn, tableauIn}
+use Rattle.tags.specs.Tags.{Frame, insertInObjectiveAt}
+use Rattle.tags.specs.Read.{workIn, readFrame, work-is, length-symbols}
 
 basics-kept : (h : List ℕ) (w : List (List Float)) (x : List Float) → basicsIn h (set w 0 x) ≡ basicsIn h w
 unfolding basicsIn listOf

@@ -1,21 +1,20 @@
 -- After a new symbol the tables are open to another, and a new error reads as the steps' `addError`.
 -- Assumes nothing.
-use Prim.Native.Nat.{ℕ, zero, suc, _+_, _*_, _/_, _≤_, _<_}
-use mathlib.Core.Path.{_≡_, refl, sym, ap, _∙_}
+use Prim.Native.Nat.{ℕ, _+_, _*_, _/_, _<_}
+use mathlib.Core.Path.{_≡_, refl, ap, _∙_}
 use mathlib.Core.List.{List, []}
 use native.Mathlib.Omega.{arith}
 use lib.ListN.{length, getD, set, length-set}
 use lib.Ieee.{Float}
 use Rattle.steps.specs.Number.{zero64}
-use Rattle.steps.specs.Symbol.{Symbol}
-use Rattle.steps.specs.CreateRow.{Building, insertInObjective, addSymbol, addError}
+use Rattle.steps.specs.CreateRow.{Building, insertInObjective, addError}
 use Rattle.laws.specs.Places.{below-more, length-mapIn, lengths-mapIn, lengths-set}
 use Rattle.layout.specs.Layout.{symbolOf}
 use Rattle.rows.specs.Table.{insertSymbolAt}
 use Rattle.rows.specs.Stays.{length-insertSymbolAt}
 use Rattle.moves.specs.Moves.{Board, board, appendedHead, clearedColumn}
 use Rattle.moves.specs.Counts.{appended-length, appended-same, appended-id, appended-symbols, appended-code}
-use Rattle.tags.specs.Tags.{Frame, frame, newPlace, appendIn, insertAtPlace, addSymbolIn, insertInObjectiveAt, addErrorIn}
+use Rattle.tags.specs.Tags.{Frame, newPlace, appendIn, insertAtPlace, addSymbolIn, insertInObjectiveAt, addErrorIn}
 use Rattle.tags.specs.Read.{readFrame, Open, new-place, add-symbol-read}
 use Rattle.tags.specs.Errors.{objective-read}
 

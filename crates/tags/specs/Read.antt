@@ -1,9 +1,9 @@
 -- What a row that is being built and its tables read as: the steps' Building; and a new symbol read as the steps' `addSymbol`.
 -- Assumes nothing.
-use Prim.Native.Nat.{ℕ, zero, suc, _+_, _*_, _/_, _≤_, _<_}
+use Prim.Native.Nat.{ℕ, _+_, _*_, _/_, _≤_, _<_}
 use mathlib.Core.Path.{_≡_, refl, sym, ap, _∙_}
-use mathlib.Core.Bool.{Bool, true, false}
-use mathlib.Core.List.{List, [], _∷_}
+use mathlib.Core.Bool.{false}
+use mathlib.Core.List.{List}
 use mathlib.Core.Option.{none}
 use native.Mathlib.Nat.{zero-add}
 use native.Mathlib.Omega.{arith}
@@ -13,22 +13,22 @@ use lib.ListN.{length, getD, set, length-set}
 use lib.Ieee.{Float}
 use Rattle.steps.specs.Number.{zero64, cellBound, Mark, worse}
 use Rattle.steps.specs.Symbol.{Symbol, isSymbol}
-use Rattle.steps.specs.Row.{Row, Written, insertSymbolInRow, appendCell}
-use Rattle.steps.specs.State.{State, Basic}
+use Rattle.steps.specs.Row.{Row, insertSymbolInRow}
+use Rattle.steps.specs.State.{State}
 use Rattle.steps.specs.Work.{Work, marking, appendSymbol, withTableau}
 use Rattle.steps.specs.CreateRow.{Building, written, appendTo, insertInto, addSymbol}
-use Rattle.laws.specs.Lists.{tab, listOf, getD-tab, length-tab}
+use Rattle.laws.specs.Lists.{listOf, getD-tab, length-tab}
 use Rattle.layout.specs.Layout.{Tables, tables, symbolOf, variableOf, read}
 use Rattle.rows.specs.Table.{insertSymbolAt, insertSymbolMark}
 use Rattle.rows.specs.Place.{PlaceOf, place-from}
 use Rattle.rows.specs.Reading.{rowOf, writtenOf, insert-symbol-read}
-use Rattle.choose.specs.Reading.{symbolsIn, rowIn, tableauIn, tableau-read}
+use Rattle.choose.specs.Reading.{symbolsIn, rowIn, tableauIn}
 use Rattle.moves.specs.Moves.{Board, board, appendedHead, clearedColumn}
 use Rattle.moves.specs.Counts.{appended-same, appended-symbols, appended-code}
 use Rattle.moves.specs.Columns.{Wide, appended-row, appended-tableau}
 use Rattle.records.specs.Region.{regionOf}
 use Rattle.records.specs.Read.{read-regions}
-use Rattle.tags.specs.Tags.{Frame, frame, newPlace, appendIn, insertAtPlace, addSymbolIn}
+use Rattle.tags.specs.Tags.{Frame, newPlace, appendIn, insertAtPlace, addSymbolIn}
 
 -- no artificial objective stands while a row is being built
 unfoldable pub workIn : Mark → ℕ → Tables → Work

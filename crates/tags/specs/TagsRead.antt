@@ -1,28 +1,27 @@
 -- The tag read as the steps' `addTag`.
 -- Assumes nothing.
-use Prim.Native.Nat.{ℕ, zero, suc, _+_, _*_, _/_, _≤_, _<_}
-use mathlib.Core.Path.{_≡_, refl, sym, ap, _∙_}
+use Prim.Native.Nat.{ℕ, _+_, _*_, _<_}
+use mathlib.Core.Path.{_≡_, refl, sym}
 use mathlib.Core.Bool.{Bool, true, false, cond}
-use mathlib.Core.List.{List, []}
+use mathlib.Core.List.{List}
 use mathlib.Core.Option.{none, some}
 use native.Mathlib.Omega.{arith}
 use borrow.Author.Tests.{ne-eqb}
-use lib.Dec.{eqb}
-use lib.ListN.{length, getD}
+use lib.ListN.{getD}
 use lib.Ieee.{Float, lt, neg}
 use Rattle.steps.specs.Number.{one64, minusOne64}
 use Rattle.steps.specs.Strength.{required}
-use Rattle.steps.specs.Symbol.{Kind, Slack, Error, Dummy, Symbol}
+use Rattle.steps.specs.Symbol.{Kind, Slack, Error, Dummy}
 use Rattle.steps.specs.Readable.{kindCode}
 use Rattle.steps.specs.State.{Relation, atMost, equal, atLeast}
 use Rattle.steps.specs.Work.{newSymbol}
 use Rattle.steps.specs.CreateRow.{Building, Created, tagged, addSymbol, addError, inequality, softEquality, requiredEquality, addTag}
 use Rattle.layout.specs.Layout.{symbolOf, otherOf, read}
 use Rattle.choose.specs.Chosen.{as-cond}
-use Rattle.moves.specs.Moves.{Board, board, appendedHead}
+use Rattle.moves.specs.Moves.{Board, board}
 use Rattle.moves.specs.Counts.{appended-id}
 use Rattle.moves.specs.Columns.{new-symbol}
-use Rattle.tags.specs.Tags.{Frame, frame, appendIn, insertAtPlace, addSymbolIn, insertInObjectiveAt, addErrorIn, Tags, tags, nextCode, secondCode, inequalityIn, softEqualityIn, requiredEqualityIn, equalityIn, addTagIn}
+use Rattle.tags.specs.Tags.{Frame, appendIn, insertAtPlace, addSymbolIn, insertInObjectiveAt, addErrorIn, Tags, tags, nextCode, secondCode, inequalityIn, softEqualityIn, requiredEqualityIn, equalityIn, addTagIn}
 use Rattle.tags.specs.Read.{workIn, readFrame, Open, add-symbol-read}
 use Rattle.tags.specs.Opens.{open-after, error-open, add-error-read}
 

@@ -1,15 +1,14 @@
 -- What the code's calls and branches come to: each step put together from what its parts ensure.
 -- Assumes nothing.
-use Prim.Native.Nat.{ℕ, _+_, _*_, _≤_, _<_}
-use mathlib.Core.Path.{_≡_, refl, sym, ap, _∙_}
-use mathlib.Core.Bool.{Bool, true, false, cond}
+use Prim.Native.Nat.{ℕ, _+_, _<_}
+use mathlib.Core.Path.{_≡_, refl, ap}
+use mathlib.Core.Bool.{true, false}
 use mathlib.Core.List.{List, []}
 use native.Mathlib.Omega.{arith}
 use lib.ListN.{length, getD, set}
 use lib.Ieee.{Float, lt, neg}
 use Rattle.steps.specs.Number.{zero64, one64, minusOne64, cellBound, objectiveBound, Mark, worse}
 use Rattle.steps.specs.Strength.{required}
-use Rattle.steps.specs.State.{atMost, equal, atLeast}
 use Rattle.rows.specs.Table.{insertSymbolAt, insertSymbolMark}
 use Rattle.moves.specs.Moves.{Board, board, appendedHead, appendedSymbol, clearedColumn}
 use Rattle.moves.specs.Counts.{appended-same, appended-id, appended-symbols}
@@ -27,9 +26,6 @@ grew-of kind h w {g} {v} len fit e =
   where
     ap-head : {x y : Board} → x ≡ y → x .head ≡ y .head
     ap-head p = rw p refl
-
-pub grew-same : (h : List ℕ) {g k : List ℕ} → Grew h g → k ≡ g → Grew h k
-grew-same h x q = rw q x
 
 module _ (f : Frame) where
   pub symbol-is : (kind : ℕ) (k : Float) {g : List ℕ} {v : List (List Float)} {row row₁ : List Float} {m : Mark}

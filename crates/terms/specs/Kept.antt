@@ -1,25 +1,23 @@
--- The terms of a pack that count, and the whole ones: what the functions over a pack are of the terms that it reads as.
+-- The terms of a pack that count: what the functions over a pack are of the terms that it reads as.
 -- Assumes nothing.
-use Prim.Native.Nat.{ℕ, zero, suc, _+_, _≤_, _<_}
+use Prim.Native.Nat.{ℕ, zero, suc, _+_, _≤_}
 use mathlib.Core.Path.{_≡_, refl, sym, ap, _∙_}
-use mathlib.Core.Bool.{Bool, true, false, _&&_, cond}
+use mathlib.Core.Bool.{Bool, true, false, cond}
 use mathlib.Core.List.{List, [], _∷_, _++_, append-assoc, append-nil}
-use native.Mathlib.Nat.{sub-zero, zero-add}
+use native.Mathlib.Nat.{sub-zero}
 use native.Mathlib.Omega.{arith}
 use lib.Dec.{leb}
-use lib.ListN.{length, getD}
+use lib.ListN.{length}
 use borrow.Author.Tests.{leb-true}
-use Rattle.steps.specs.Number.{cellBound, nearZero}
+use Rattle.steps.specs.Number.{nearZero}
 use Rattle.steps.specs.State as steps
-use Rattle.steps.specs.Add.{wholeWithin, wholeTerms}
 use Rattle.steps.specs.Tests.{keptTerms}
 use Rattle.laws.specs.Loops.{turns, run}
-use Rattle.laws.specs.Lists.{tab, listOf, length-tab, getD-tab, allFrom, allIn}
+use Rattle.laws.specs.Lists.{tab, listOf, length-tab}
 use Rattle.layout.specs.Copy.{most16}
-use Rattle.terms.specs.declared.Term.{Term}
 use Rattle.terms.specs.declared.Pack.{Pack}
-use Rattle.terms.specs.Terms.{noPack, pushed, termOf, termIn, termsOf, wholePack, pushedKept, keptOf}
-use Rattle.terms.specs.Packed.{Sized, pushed-room, pushed-sized, none-sized, few-none, none-terms, terms-pushed, most-few}
+use Rattle.terms.specs.Terms.{noPack, pushed, termOf, termIn, termsOf, pushedKept, keptOf}
+use Rattle.terms.specs.Packed.{Sized, pushed-room, pushed-sized, none-sized, few-none, none-terms, terms-pushed}
 
 pub most-le : (n : ℕ) → most16 n ≤ 16
 unfolding most16
@@ -45,26 +43,9 @@ kept-cons t ts = go (nearZero (t .coefficient))
     go true = refl
     go false = refl
 
-pub term-at : (p : Pack) (j : ℕ) (d : steps.Term) → j < most16 (p .count) → getD (termsOf p) j d ≡ termOf (termIn p j)
-unfolding termsOf listOf
-term-at p j d h = getD-tab (λ i. termOf (termIn p i)) 0 (most16 (p .count)) j d h ∙ ap (λ (i : ℕ). termOf (termIn p i)) (zero-add j)
-
--- ---- whole
-
 module _ (p : Pack) where
   abbrev term : ℕ → steps.Term
   term j = termOf (termIn p j)
-
-  whole-tab : (i n : ℕ) → allFrom (λ j. wholeWithin cellBound (term j .coefficient)) i n ≡ wholeTerms (tab term i n)
-  unfolding allFrom tab wholeTerms
-  whole-tab i zero = refl
-  whole-tab i (suc n) = ap (λ (b : Bool). wholeWithin cellBound (term i .coefficient) && b) (whole-tab (suc i) n)
-
-  pub whole-terms : wholePack p ≡ wholeTerms (termsOf p)
-  unfolding wholePack allIn termsOf listOf termOf termIn
-  whole-terms = rw (sub-zero (most16 (p .count))) (whole-tab 0 (most16 (p .count)))
-
-  -- ---- kept
 
   abbrev keeps : ℕ → Pack → Pack
   keeps j q = pushedKept q (termIn p j)
@@ -99,9 +80,3 @@ module _ (p : Pack) where
 
   pub kept-terms : termsOf (keptOf p) ≡ keptTerms (termsOf p)
   kept-terms = kept-holds .2
-
-  pub kept-few : keptOf p .count ≤ 16
-  kept-few = let h = kept-holds .1 in omega (arith, h)
-
-  pub kept-count : keptOf p .count ≡ length (keptTerms (termsOf p))
-  kept-count = sym (most-few (keptOf p .count) kept-few) ∙ sym (terms-length (keptOf p)) ∙ ap (λ (l : List steps.Term). length l) kept-terms

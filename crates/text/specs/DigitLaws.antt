@@ -1,6 +1,6 @@
 -- A turn of the loops that read digits and compare words, and their ends.
 use Prim.Native.Nat.{ℕ, suc, _+_, _-_, _*_, _≤_, _<_, zero-le, suc-le-suc}
-use mathlib.Core.Path.{_≡_, refl, sym, ap, subst, _∙_}
+use mathlib.Core.Path.{_≡_, refl, sym, ap, subst}
 use mathlib.Core.Bool.{Bool, true, false, cond, _&&_}
 use mathlib.Core.List.{List, [], _∷_}
 use mathlib.Core.Option.{Option, none, some}
@@ -11,7 +11,6 @@ use borrow.Author.Tests.{leb-true, lt-leb, le-leb, lt-ltb, le-ltb, eq-eqb, ne-eq
 use lib.Dec.{T, leb, ltb, eqb}
 use lib.ListN.{length, getD, take, drop, length-drop, drop-of-length-le}
 use lib.Seq.{drop-cons, take-all}
-use Rattle.text.specs.declared.digits.Whole.{Whole}
 use Rattle.text.specs.declared.digits.Whole.the-variants.{Is, NoWhole}
 use Rattle.text.specs.Digits.{isFrom, digitOf, digitsFrom, digitsOf, upTo, sameBytes, startsWith}
 

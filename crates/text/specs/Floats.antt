@@ -1,10 +1,10 @@
 -- Words that are ids, budgets and floats.
 use Prim.Native.Nat.{ℕ}
-use mathlib.Core.Bool.{Bool, true, false, cond, _&&_}
+use mathlib.Core.Bool.{cond}
 use mathlib.Core.List.{List, [], _∷_}
-use lib.Dec.{leb, eqb}
+use lib.Dec.{eqb}
 use lib.IntN.{pos}
-use lib.Ieee.{Float, binary64, nan, neg, ofInt, ofBits}
+use lib.Ieee.{binary64, nan, neg, ofInt, ofBits}
 use lib.ListN.{length, drop}
 use Rattle.steps.specs.Strength.{required}
 use Rattle.text.specs.declared.digits.Whole.{Whole}

@@ -2,17 +2,14 @@
 use Prim.Native.Nat.{ℕ, suc, _+_, _≤_, _<_}
 use mathlib.Core.Path.{_≡_, refl, sym, ap, _∙_}
 use mathlib.Core.Bool.{true, false}
-use mathlib.Core.List.{List, [], _∷_}
+use mathlib.Core.List.{List, []}
 use mathlib.Core.Option.{Option, none, some}
-use native.Mathlib.Numerals.{add-one}
 use native.Mathlib.Omega.{arith}
 use lib.Ieee.{Float}
 use lib.ListN.{length, drop, drop-of-length-le}
 use lib.Seq.{drop-cons}
 use Rattle.steps.specs.State.{Term}
-use Rattle.text.specs.declared.floats.Id.{Id}
 use Rattle.text.specs.declared.floats.Id.the-variants.{Is32, No32}
-use Rattle.text.specs.declared.floats.Real.{Real}
 use Rattle.text.specs.declared.floats.Real.the-variants.{Number, NoReal}
 use Rattle.terms.specs.declared.Pack.{Pack}
 use Rattle.text.specs.declared.packing.Packed.{Packed}

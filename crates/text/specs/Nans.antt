@@ -1,7 +1,7 @@
 -- Which floats are no numbers.
 use Prim.Native.Nat.{_*_}
 use mathlib.Core.Path.{_≡_, refl, sym, subst}
-use mathlib.Core.Bool.{Bool, true, false, not, _&&_}
+use mathlib.Core.Bool.{true, false, not}
 use borrow.Author.Tests.{eq-eqb}
 use lib.Dec.{T}
 use lib.Ieee.{Float, nan, inf, fin, eq, isNan, up, down}

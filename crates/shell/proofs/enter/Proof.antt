@@ -11,9 +11,6 @@ use borrow.Author.Needs.{needs}
 use Rattle.shell.proofs.enter.Statement.{statement}
 use Rattle.shell.proofs.enter.Tie as tie
 
-said : (t w : Tables) {a b o : Bool} → a ≡ reads t → b ≡ lengthsRight w → o ≡ a && b → o ≡ reads t && lengthsRight w
-said t w e f g = rw (← e, ← f) g
-
 no : (t w : Tables) {a b : Bool} → a ≡ reads t → b ≡ lengthsRight w → a && b ≡ false → false ≡ reads t && lengthsRight w
 no t w e f g = rw (← e, ← f) (sym g)
 

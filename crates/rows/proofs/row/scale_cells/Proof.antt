@@ -8,8 +8,7 @@ use lib.ListN.{length, length-set}
 use borrow.Author.Needs.{needs}
 use Rattle.laws.specs.Loops.{fold-last, fold-next-set, foldIn, map-last, map-next, mapIn}
 use Rattle.rows.specs.Marks.{mark-clean, markOf}
-use Rattle.rows.specs.Table.{scaleCellsIn, scaleCellsMark, scaled-mark, scaled-value, scaledMark, scaledValue}
-use Rattle.steps.specs.Number.{cellBound}
+use Rattle.rows.specs.Table.{scaleCellsIn, scaleCellsMark, scaledMark, scaledValue}
 use Rattle.rows.proofs.row.scale_cells.Statement.{statement}
 use Rattle.rows.proofs.row.scale_cells.Tie as tie
 

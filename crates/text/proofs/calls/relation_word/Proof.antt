@@ -1,7 +1,7 @@
 -- `text::calls::relation_word` meets its contract.
 -- Assumes nothing.
 use borrow.Author.Needs.{needs}
-use mathlib.Core.Path.{_≡_, sym, ap, _∙_}
+use mathlib.Core.Path.{sym, ap, _∙_}
 use mathlib.Core.Path.{refl}
 use Rattle.text.specs.declared.floats.Real.{Real}
 use Rattle.text.specs.Choices.{yes-in, no-in}

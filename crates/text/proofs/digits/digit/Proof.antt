@@ -1,7 +1,7 @@
 -- `text::digits::digit` meets its contract.
 -- Assumes nothing.
 use borrow.Author.Needs.{needs}
-use mathlib.Core.Path.{_≡_, sym, _∙_}
+use mathlib.Core.Path.{sym, _∙_}
 use native.Mathlib.Omega.{arith}
 use Rattle.text.specs.Digits.{digitOf}
 use Rattle.text.specs.DigitLaws.{from-low}

@@ -1,7 +1,7 @@
 -- `text::floats::bits_of_float` meets its contract.
 -- Assumes nothing.
 use borrow.Author.Needs.{needs}
-use mathlib.Core.Path.{_≡_, sym, ap}
+use mathlib.Core.Path.{sym, ap}
 use lib.Ieee.{binary64, toBits}
 use Rattle.text.specs.Nans.{no-nan, is-nan}
 use Rattle.text.proofs.floats.bits_of_float.Statement.{statement}

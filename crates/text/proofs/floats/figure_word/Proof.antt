@@ -1,8 +1,7 @@
 -- `text::floats::figure_word` meets its contract.
 -- Assumes nothing.
 use borrow.Author.Needs.{needs}
-use mathlib.Core.Path.{_≡_, refl, sym, ap, _∙_}
-use native.Mathlib.Omega.{arith}
+use mathlib.Core.Path.{sym, ap, _∙_}
 use Rattle.text.specs.Choices.{yes, no}
 use Rattle.text.specs.DigitLaws.{starts-length, rest}
 use Rattle.text.specs.Floats.{figureOf, hexMark, minusMark, bitsReal, minusReal, wholeReal, patternOf, wholeOf}

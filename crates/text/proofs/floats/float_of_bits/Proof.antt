@@ -2,11 +2,11 @@
 -- Assumes nothing.
 use borrow.Author.Needs.{needs}
 use Prim.Native.Nat.{_%_}
-use mathlib.Core.Path.{_≡_, sym, ap, _∙_, subst}
+use mathlib.Core.Path.{sym, _∙_, subst}
 use mathlib.Core.Bool.{Bool, not}
 use borrow.Author.Tests.{lt-ltb, le-ltb}
 use lib.Dec.{T}
-use lib.Ieee.{binary64, div, ofBits, nanBits}
+use lib.Ieee.{binary64, div, ofBits}
 use lib.Ieee.Bits.{nanBits-is, nanBits-above}
 use Rattle.text.specs.Nans.{nan-is}
 use Rattle.text.proofs.floats.float_of_bits.Statement.{statement}

@@ -1,7 +1,7 @@
 -- `text::floats::float_word` meets its contract.
 -- Assumes nothing.
 use borrow.Author.Needs.{needs}
-use mathlib.Core.Path.{_≡_, refl, sym, ap, _∙_}
+use mathlib.Core.Path.{refl, sym, ap, _∙_}
 use lib.Ieee.{div, ofBits}
 use Rattle.steps.specs.Strength.{required}
 use Rattle.text.specs.declared.floats.Real.the-variants.{Number}

@@ -1,7 +1,7 @@
 -- `text::floats::id_word` meets its contract.
 -- Assumes nothing.
 use borrow.Author.Needs.{needs}
-use mathlib.Core.Path.{_≡_, sym, ap, _∙_}
+use mathlib.Core.Path.{sym, ap, _∙_}
 use native.Mathlib.Omega.{arith}
 use Rattle.text.specs.DigitLaws.{up-to-most}
 use Rattle.text.specs.Floats.{asId, idOf}

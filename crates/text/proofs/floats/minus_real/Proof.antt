@@ -1,7 +1,7 @@
 -- `text::floats::minus_real` meets its contract.
 -- Assumes nothing.
 use borrow.Author.Needs.{needs}
-use mathlib.Core.Path.{_≡_, sym, ap, _∙_}
+use mathlib.Core.Path.{sym, ap, _∙_}
 use lib.Ieee.{Float, neg}
 use Rattle.text.specs.declared.floats.Real.the-variants.{Number}
 use Rattle.text.specs.Floats.{minusReal}

@@ -1,7 +1,7 @@
 -- `text::packing::no_packed` meets its contract.
 -- Assumes nothing.
 use borrow.Author.Needs.{needs}
-use mathlib.Core.Path.{_≡_, ap}
+use mathlib.Core.Path.{ap}
 use mathlib.Core.Bool.{false}
 use Rattle.text.specs.Lines.{packed}
 use Rattle.text.proofs.packing.no_packed.Statement.{statement}

@@ -1,7 +1,7 @@
 -- `text::reading::line_with` meets its contract.
 -- Assumes nothing.
 use borrow.Author.Needs.{needs}
-use mathlib.Core.Path.{_≡_, refl, sym, ap, _∙_}
+use mathlib.Core.Path.{sym, ap, _∙_}
 use Rattle.text.specs.declared.calls.Head.{Head}
 use Rattle.text.specs.Lines.{lineWith}
 use Rattle.text.proofs.reading.line_with.Statement.{statement}

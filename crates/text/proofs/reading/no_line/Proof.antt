@@ -1,7 +1,7 @@
 -- `text::reading::no_line` meets its contract.
 -- Assumes nothing.
 use borrow.Author.Needs.{needs}
-use mathlib.Core.Path.{_≡_, refl, sym, ap, _∙_}
+use mathlib.Core.Path.{ap}
 use Rattle.text.specs.declared.calls.Call.the-variants.{Bad}
 use Rattle.text.specs.declared.calls.Line.{Line}
 use Rattle.terms.specs.declared.Pack.{Pack}

@@ -1,7 +1,7 @@
 -- `text::reading::read_line` meets its contract.
 -- Assumes nothing.
 use borrow.Author.Needs.{needs}
-use mathlib.Core.Path.{_≡_, refl, sym, ap, _∙_}
+use mathlib.Core.Path.{sym, _∙_}
 use native.Mathlib.Omega.{arith}
 use Rattle.text.specs.declared.calls.Call.{Call}
 use Rattle.text.specs.declared.calls.Line.{Line}
@@ -9,7 +9,6 @@ use Rattle.terms.specs.declared.Pack.{Pack}
 use Rattle.text.specs.Choices.{ap2}
 use Rattle.text.specs.Words.{wordsOf}
 use Rattle.text.specs.FormatLaws.{no-terms}
-use Rattle.text.specs.Lines.{asCall}
 use Rattle.text.proofs.reading.read_line.Statement.{statement}
 use Rattle.text.proofs.reading.read_line.Tie as tie
 

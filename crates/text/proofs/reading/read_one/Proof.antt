@@ -2,17 +2,12 @@
 -- Assumes nothing.
 use borrow.Author.Needs.{needs}
 use Prim.Native.Nat.{ℕ}
-use mathlib.Core.Path.{_≡_, refl, sym, ap, _∙_}
+use mathlib.Core.Path.{refl, sym, ap, _∙_}
 use mathlib.Core.List.{List}
-use Rattle.steps.specs.Session.{valueOf, hasConstraints, hasEdits, clips, removes, removesEdit, addsEdit, suggests}
-use Rattle.text.specs.declared.floats.Id.{Id}
-use Rattle.text.specs.declared.floats.Budget.{Budget}
-use Rattle.text.specs.declared.floats.Real.{Real}
-use Rattle.text.specs.Choices.{yes-in, no-in, ap2, ap3, ap4}
+use Rattle.text.specs.Choices.{yes-in, no-in}
 use Rattle.text.specs.Digits.{sameBytes}
-use Rattle.text.specs.Floats.{idOf, budgetOf, floatOf}
-use Rattle.text.specs.Names.{resetName, fetchName, valueName, hasconName, haseditName, clipName, removeName, removeeditName, addeditName, suggestName, createName}
-use Rattle.text.specs.Format.{oneWord, ofId, ofReal, ofIdBudget, ofEdit, ofReals}
+use Rattle.text.specs.Names.{resetName, fetchName}
+use Rattle.text.specs.Format.{oneWord}
 use Rattle.text.specs.Lines.{asCall}
 use Rattle.text.proofs.reading.read_one.Statement.{statement}
 use Rattle.text.proofs.reading.read_one.Tie as tie

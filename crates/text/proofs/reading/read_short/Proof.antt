@@ -1,7 +1,7 @@
 -- `text::reading::read_short` meets its contract.
 -- Assumes nothing.
 use borrow.Author.Needs.{needs}
-use mathlib.Core.Path.{_≡_, refl, sym, ap, _∙_}
+use mathlib.Core.Path.{sym, ap, _∙_}
 use native.Mathlib.Omega.{arith}
 use Rattle.text.specs.Words.{wordsOf}
 use Rattle.text.specs.FormatLaws.{call-1, call-2, call-3, call-4, call-5, call-none}

@@ -1,7 +1,7 @@
 -- `text::stream::keep_byte` meets its contract.
 -- Assumes nothing.
 use borrow.Author.Needs.{needs}
-use mathlib.Core.Path.{_≡_, _∙_}
+use mathlib.Core.Path.{_∙_}
 use lib.ListN.{length-set}
 use Rattle.text.specs.Stream.{held-more, held-over}
 use Rattle.text.proofs.stream.keep_byte.Statement.{statement}

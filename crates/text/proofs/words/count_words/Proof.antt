@@ -2,12 +2,11 @@
 -- Assumes nothing.
 use borrow.Author.Needs.{needs}
 use Prim.Native.Nat.{_≤_, _-_, _+_}
-use mathlib.Core.Path.{_≡_, refl, sym, ap, _∙_}
-use mathlib.Core.List.{_++_}
+use mathlib.Core.Path.{_≡_}
 use mathlib.Core.Logic.{⊎-elim}
 use native.Mathlib.Omega.{arith}
-use lib.ListN.{length, take, drop}
-use Rattle.text.specs.Words.{wordsOf, word, count-space, count-other, count-last}
+use lib.ListN.{length, drop}
+use Rattle.text.specs.Words.{wordsOf, count-space, count-other, count-last}
 use Rattle.text.proofs.words.count_words.Statement.{statement}
 use Rattle.text.proofs.words.count_words.Tie as tie
 

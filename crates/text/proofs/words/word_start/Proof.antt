@@ -1,12 +1,11 @@
 -- `text::words::word_start` meets its contract. The invariant: the word asked for is one of those that are left.
 -- Assumes nothing.
 use borrow.Author.Needs.{needs}
-use Prim.Native.Nat.{_≤_, _-_, _+_}
-use mathlib.Core.Path.{_≡_, refl, sym, ap, _∙_}
-use mathlib.Core.List.{_++_}
+use Prim.Native.Nat.{_≤_, _-_}
+use mathlib.Core.Path.{_≡_}
 use mathlib.Core.Logic.{⊎-elim}
 use native.Mathlib.Omega.{arith}
-use lib.ListN.{length, take, drop}
+use lib.ListN.{length, drop}
 use Rattle.text.specs.Words.{wordsOf, word, skip-space, skip-other, skip-last}
 use Rattle.text.proofs.words.word_start.Statement.{statement}
 use Rattle.text.proofs.words.word_start.Tie as tie

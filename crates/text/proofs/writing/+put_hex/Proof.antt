@@ -1,8 +1,8 @@
 -- `text::writing::put_hex` meets its contract. The measure is the number of digits.
 -- Assumes nothing.
-use Prim.Native.Nat.{_+_, _-_, _/_, _%_}
-use mathlib.Core.Path.{_≡_, refl, sym, ap, _∙_}
-use mathlib.Core.List.{List, [], _∷_}
+use Prim.Native.Nat.{_-_, _/_, _%_}
+use mathlib.Core.Path.{sym, ap}
+use mathlib.Core.List.{[], _∷_}
 use Rattle.text.specs.Answers.{wrote-as, wrote-nothing, wrote-then, glyph, hexText, hex-none, hex-more, hex-length}
 use borrow.Author.Needs.{needs}
 use native.Mathlib.Omega.{arith}

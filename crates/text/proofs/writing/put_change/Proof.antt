@@ -2,10 +2,10 @@
 -- Assumes nothing.
 use borrow.Author.Needs.{needs}
 use Prim.Native.Nat.{_+_, _≤_, _<_}
-use mathlib.Core.List.{List, [], _∷_, _++_}
+use mathlib.Core.List.{[], _∷_, _++_}
 use native.Mathlib.Omega.{arith}
 use lib.ListN.{length}
-use Rattle.text.specs.Answers.{wrote-then, numberText, floatText, flagText, decimal-short}
+use Rattle.text.specs.Answers.{wrote-then, numberText, floatText, decimal-short}
 use Rattle.text.proofs.writing.put_change.Statement.{statement}
 use Rattle.text.proofs.writing.put_change.Tie as tie
 

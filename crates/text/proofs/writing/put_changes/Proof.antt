@@ -1,10 +1,9 @@
 -- `text::writing::put_changes` meets its contract. The invariant: the entries before place i are written.
 -- Assumes nothing.
 use borrow.Author.Needs.{needs}
-use Prim.Native.Nat.{ℕ, _+_, _-_, _*_, _≤_}
+use Prim.Native.Nat.{_-_, _≤_}
 use mathlib.Core.Path.{_≡_}
 use native.Mathlib.Omega.{arith}
-use lib.ListN.{length}
 use Rattle.text.specs.Answers.{Wrote, changesText, listedIn, wrote-entries, wrote-entry, entries-room}
 use Rattle.text.proofs.writing.put_changes.Statement.{statement}
 use Rattle.text.proofs.writing.put_changes.Tie as tie

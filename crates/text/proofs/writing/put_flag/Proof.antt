@@ -1,9 +1,7 @@
 -- `text::writing::put_flag` meets its contract.
 -- Assumes nothing.
 use borrow.Author.Needs.{needs}
-use Prim.Native.Nat.{_+_, _-_, _/_, _%_}
-use mathlib.Core.Path.{_≡_, refl, sym, ap, _∙_}
-use mathlib.Core.List.{List, [], _∷_}
+use mathlib.Core.Path.{ap}
 use Rattle.text.specs.Answers.{wrote-as, flagText}
 use Rattle.text.proofs.writing.put_flag.Statement.{statement}
 use Rattle.text.proofs.writing.put_flag.Tie as tie

@@ -1,9 +1,7 @@
 -- `text::writing::put_float` meets its contract.
 -- Assumes nothing.
 use borrow.Author.Needs.{needs}
-use Prim.Native.Nat.{_+_, _-_, _/_, _%_}
-use mathlib.Core.Path.{_≡_, refl, sym, ap, _∙_}
-use mathlib.Core.List.{List, [], _∷_}
+use mathlib.Core.Path.{sym, ap}
 use Rattle.text.specs.Answers.{wrote-as, hexText}
 use Rattle.text.proofs.writing.put_float.Statement.{statement}
 use Rattle.text.proofs.writing.put_float.Tie as tie
