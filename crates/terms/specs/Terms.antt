@@ -5,11 +5,10 @@ use mathlib.Core.List.{List, [], _∷_, _++_, map}
 use lib.Dec.{leb, ltb}
 use lib.ListN.{getD, set, replicate}
 use lib.Ieee.{nan}
-use Rattle.steps.specs.Number.{zero64, cellBound, nearZero, isFinite}
+use Rattle.steps.specs.Number.{zero64, nearZero, isFinite}
 use Rattle.steps.specs.State as steps
-use Rattle.steps.specs.Add.{wholeWithin}
 use Rattle.laws.specs.Loops.{run}
-use Rattle.laws.specs.Lists.{listOf, allIn}
+use Rattle.laws.specs.Lists.{listOf}
 use Rattle.layout.specs.Copy.{most16}
 use Rattle.terms.specs.declared.Term.{Term}
 use Rattle.terms.specs.declared.Pack.{Pack}
@@ -55,10 +54,6 @@ unfoldable pub termsOf : Pack → List steps.Term
 termsOf p = listOf (most16 (p .count)) λ j. termOf (termIn p j)
 
 -- ---- over a pack
-
--- "skipped coefficients too, are whole, coefficients within 1,024"
-unfoldable pub wholePack : Pack → Bool
-wholePack p = allIn (λ j. wholeWithin cellBound (getD (p .coefs) j nan)) 0 (most16 (p .count))
 
 -- one term more, if it is "not near zero"
 unfoldable pub pushedKept : Pack → Term → Pack
