@@ -1,5 +1,6 @@
-/* The solver's calls, as libarchive.a has them (`rt staticlib archive`; it is for x86-64). Everything that a call answers and leaves is proved of
-   the code behind it (crates/archive, docs/CLAIMS.md); that this header says the same as that code is not proved.
+/* The solver's calls, as libarchive.a has them (`rt staticlib archive`; it is for x86-64). Everything that a call answers and
+   leaves is proved of the code behind it (crates/archive, docs/CLAIMS.md); that this header says the same as that code is not
+   proved.
 
    All memory is the caller's. A state lives in four lent tables; a changing call is lent a working room of four tables more.
    Each table and list crosses as a pointer and a length, counted in elements: a head's numbers, the rows of the others.
@@ -152,8 +153,8 @@ knobharbor_answer knobharbor_suggest(uint64_t *head, size_t heads, knobharbor_na
 
 /* Lists the variables that calls have moved and whose value is not the one last fetched, by ascending number, with their values;
    a second fetch straight after lists none. A variable that no constraint or edit names any more is forgotten without notice,
-   and a new one that stands at 0 is not listed: ask its value. Both lists have 32 places and are zero past the count; on 18, which wrong lengths of the lists give too, they
-   are all zero and no table changes. The rows are only read. */
+   and a new one that stands at 0 is not listed: ask its value. Both lists have 32 places and are zero past the count; on 18,
+   which wrong lengths of the lists give too, they are all zero and no table changes. The rows are only read. */
 knobharbor_fetched knobharbor_fetch(uint64_t *head, size_t heads, knobharbor_name *names, size_t named, knobharbor_real *reals,
                                     size_t valued, knobharbor_row *rows, size_t rowed, uint64_t *numbers,
                                     size_t number_count, double *values, size_t value_count);

@@ -40,7 +40,7 @@ fn copy(to: &mut Cells, from: &Cells, rows: usize, columns: usize) {
 
 /// Microseconds: every live cell read once, every live cell copied once, the room cleared once, and the sum for a drag and its
 /// fetch, which are two tests, a copy in, a copy back and a clearing.
-pub fn floor(l: &Layout, rounds: usize) {
+pub(super) fn floor(l: &Layout, rounds: usize) {
     let (rows, columns) = live(l);
     let mut tables = Box::new([[1u64; WIDTH]; ROWS]);
     let mut room = vec![1u64; ROOM];

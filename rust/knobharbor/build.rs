@@ -1,4 +1,5 @@
-//! Finds the proved archive, `libarchive.a`: in the folder that KNOBHARBOR_ARCHIVE names (as an absolute path: cargo runs this in the crate's own folder), or where `rt staticlib archive` leaves it.
+//! Finds the proved archive, `libarchive.a`: in the folder that KNOBHARBOR_ARCHIVE names (by an absolute path: cargo runs this in
+//! the crate's own folder), or where `rt staticlib archive` leaves it.
 use std::env;
 use std::path::PathBuf;
 

@@ -36,7 +36,7 @@ packed-terms p item real n r =
     let l : j < 16 = omega (arith, b, most-le (p .count)) in
     rw (n .variables j l, r .coefficients j l) refl)
 
--- "its terms are those whose coefficient is not near zero"
+-- its terms are those whose coefficient is not near zero
 pub record Recorded (p : Pack) (n marker other : ℕ) (item : List ℕ) : Type 0 where
   pub number : numberOf item ≡ n
   pub first : symbolCode item ≡ marker

@@ -114,7 +114,7 @@ addWords name c b rel s k n ws =
     (cond (counts (upTo 4294967295 (digitsOf 10 n)) (length ws)) (ofAdd (idOf c) (budgetOf b) (relationOf rel (floatOf s)) (floatOf k) (termsOf ws)) none)
     none
 
--- ---- the call that a line names; "A line that is none of these is answered `?` and changes nothing."
+-- ---- the call that a line names; "A line that is no call is answered `?` and changes nothing."
 
 unfoldable pub callOf : List (List ℕ) → Option Call
 callOf [] = none

@@ -7,7 +7,6 @@ use borrow.Author.Needs.{needs}
 use Rattle.rows.specs.Marks.{cellOf, markOf}
 use Rattle.steps.specs.Number.{isFinite, markWrite, notFinite, wholeIf, within}
 use Rattle.steps.specs.Row.{cellMark, kept, wrote}
-use Rattle.steps.specs.Twelve.{x}
 use Rattle.rows.proofs.cell.cell_mark.Statement.{statement}
 use Rattle.rows.proofs.cell.cell_mark.Tie as tie
 

@@ -4,7 +4,6 @@ use mathlib.Core.Bool.{_&&_, false, true}
 use mathlib.Core.Path.{refl, _≡_}
 use lib.Ieee.{Float, div, fin, inf, lt, nan, neg, ofBits}
 use Rattle.steps.specs.Number.{isFinite}
-use Rattle.steps.specs.Twelve.{x}
 use Rattle.rows.proofs.number.is_finite.Statement.{statement}
 use Rattle.rows.proofs.number.is_finite.Tie as tie
 
