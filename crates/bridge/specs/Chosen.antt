@@ -112,7 +112,7 @@ first-z b i q (x ∷ xs) (c ∷ cs) u h = go (not (isDummy x)) refl (belowZero c
 
 -- ---- leaving: the rows with a cell below 0
 -- the rows of the list, each with what it reads as
-pub listed : (xs : List Symbol) (B : Mask) (R : ℕ → Vec) (i : ℕ) (bs : List Basic) → UpRows i bs → ((j : ℕ) → i < j → RowAt xs (findRow j bs) (B j) (R j))
+listed : (xs : List Symbol) (B : Mask) (R : ℕ → Vec) (i : ℕ) (bs : List Basic) → UpRows i bs → ((j : ℕ) → i < j → RowAt xs (findRow j bs) (B j) (R j))
     → All (λ (b : Basic). (B (b .symbol .id) ≡ true) × ReadsRow xs (b .row) (R (b .symbol .id))) bs
 listed xs B R i [] u h = tt
 listed xs B R i (b ∷ bs) u h = (head (sym? (b .symbol .id) (b .symbol)), listed xs B R (b .symbol .id) bs (u .1) (λ j l. tail j l (sym? j (b .symbol))))
@@ -132,6 +132,14 @@ pub known : (kind : ℕ → KindZ) (xs : List Symbol) (bs : List Basic) (cs : Li
 known kind xs bs cs art B R o a H =
     all-zip (λ (b : Basic). Live kind xs (b .symbol)) (λ (b : Basic). (B (b .symbol .id) ≡ true) × ReadsRow xs (b .row) (R (b .symbol .id))) (Known kind xs B R) (λ b x y. (x, y)) bs (H .rows-live)
     (listed xs B R 0 bs (H .rows-up) (λ j _. H .rows j))
+
+-- a fact of each restricted row, by column
+pub by-column : (kind : ℕ → KindZ) (xs : List Symbol) (bs : List Basic) (cs : List Float) (art : Option Row) (B : Mask) (R : ℕ → Vec) (o a : Vec) → ReadsTable kind xs bs cs art B R o a
+    → (Q : ℕ → Type 0) → All (λ (b : Basic). isRestricted (b .symbol) ≡ true → Q (b .symbol .id)) bs → (j : ℕ) → B j ≡ true → kind j ≡ slack → Q j
+by-column kind xs bs cs art B R o a H Q A =
+    of-basic kind xs bs cs art B R o a H (λ j. kind j ≡ slack → Q j)
+    (all-zip (λ (b : Basic). Live kind xs (b .symbol)) (λ (b : Basic). isRestricted (b .symbol) ≡ true → Q (b .symbol .id)) (λ (b : Basic). kind (b .symbol .id) ≡ slack → Q (b .symbol .id))
+    (λ b x f k. f (slack-restricted (b .symbol) (sym (x .1) ∙ k))) bs (H .rows-live) A)
 
 module _ (kind : ℕ → KindZ) (xs : List Symbol) (B : Mask) (R : ℕ → Vec) (e : ℕ) (e≢0 : e ≢ 0) where
   -- what a candidate comes from
@@ -254,16 +262,6 @@ module _ (kind : ℕ → KindZ) (xs : List Symbol) (bs : List Basic) (cs : List 
   Leaving none = (j : ℕ) → B j ≡ true → kind j ≡ slack → R j e ≺ 0ℤ → ⊥
   Leaving (some l) = Leaves l
 
-  -- a fact of each restricted row with a cell below 0, by column
-  by-column : (Q : ℕ → Type 0) → All (λ (b : Basic). isRestricted (b .symbol) ≡ true → R (b .symbol .id) e ≺ 0ℤ → Q (b .symbol .id)) bs
-      → (j : ℕ) → B j ≡ true → kind j ≡ slack → R j e ≺ 0ℤ → Q j
-  by-column Q A j b s l = of-basic kind xs bs cs art B R o a H (λ j. kind j ≡ slack → R j e ≺ 0ℤ → Q j) as-columns j b s l
-    where
-      as-columns : All (λ (b : Basic). kind (b .symbol .id) ≡ slack → R (b .symbol .id) e ≺ 0ℤ → Q (b .symbol .id)) bs
-      as-columns =
-          all-zip (λ (b : Basic). Live kind xs (b .symbol)) (λ (b : Basic). isRestricted (b .symbol) ≡ true → R (b .symbol .id) e ≺ 0ℤ → Q (b .symbol .id))
-          (λ (b : Basic). kind (b .symbol .id) ≡ slack → R (b .symbol .id) e ≺ 0ℤ → Q (b .symbol .id)) (λ b x f k. f (slack-restricted (b .symbol) (sym (x .1) ∙ k))) bs (H .rows-live) A
-
   pub leaving-is : Leaving (smallestRatio (negativeRatios e xs bs))
   leaving-is = go (smallestRatio (negativeRatios e xs bs)) (smallest-is (negativeRatios e xs bs) ranked (from-rising kind xs B R e e≢0 0 bs (H .rows-up) .1))
     where
@@ -277,7 +275,7 @@ module _ (kind : ℕ → KindZ) (xs : List Symbol) (bs : List Basic) (cs : List 
       none-left q = subst (All (λ (c : Candidate). ⊥)) (sym q) tt
 
       won : (w : Candidate) → From kind xs B R e e≢0 w → All (Beats w) (negativeRatios e xs bs) → Leaves (w .symbol)
-      won w F A = record { live = F .live; restricted = F .restricted; basic = F .basic; cell = F .cell; before = λ u. by-column (Before (w .symbol .id)) (beaten u) }
+      won w F A = record { live = F .live; restricted = F .restricted; basic = F .basic; cell = F .cell; before = λ u. by-column kind xs bs cs art B R o a H (λ j. R j e ≺ 0ℤ → Before (w .symbol .id) j) (beaten u) }
         where
           l : ℕ
           l = w .symbol .id
@@ -299,5 +297,5 @@ module _ (kind : ℕ → KindZ) (xs : List Symbol) (bs : List Basic) (cs : List 
               (λ b f g r c. beats u b (f r c) (g r c)) bs (to-rows kind xs B R e e≢0 (From kind xs B R e e≢0) bs (known kind xs bs cs art B R o a H) froms) (to-rows kind xs B R e e≢0 (Beats w) bs (known kind xs bs cs art B R o a H) A)
 
       go : (t : Option Symbol) → Smallest (negativeRatios e xs bs) t → Leaving t
-      go t (Smallest.nobody q) = by-column (λ j. ⊥) (to-rows kind xs B R e e≢0 (λ c. ⊥) bs (known kind xs bs cs art B R o a H) (none-left q))
+      go t (Smallest.nobody q) = by-column kind xs bs cs art B R o a H (λ j. R j e ≺ 0ℤ → ⊥) (to-rows kind xs B R e e≢0 (λ c. ⊥) bs (known kind xs bs cs art B R o a H) (none-left q))
       go t (Smallest.winner w m r A) = won w (all-mem (From kind xs B R e e≢0) (negativeRatios e xs bs) w froms m) A
