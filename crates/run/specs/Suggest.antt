@@ -1,6 +1,5 @@
 -- A suggestion keeps the invariant of a whole run, whatever it answers. Assumes nothing.
 use mathlib.Core.Path.{_≡_, refl, sym, ap, ap₂, _∙_, subst}
-use mathlib.Core.Logic.{_⊎_, inl, inr}
 use mathlib.Core.Bool.{Bool, true, false, not, cond}
 use mathlib.Core.List.{List, [], _∷_, map}
 use mathlib.Core.Option.{none, some}
@@ -29,17 +28,17 @@ use Rattle.steps.specs.Edit.{shiftOf, shiftRows, shiftConstants, suggestSteps}
 use Rattle.steps.specs.Tests.{keptTerms}
 use Rattle.steps.specs.Calls.{Result, begin, refusedBy, acceptedAs}
 use Rattle.bridge.specs.Nums.{finite≢, worse-r, constantBound-z, whole-if}
-use Rattle.bridge.specs.Rows.{In}
 use Rattle.bridge.specs.Table.{ReadsWork}
-use Rattle.bridge.specs.Runs.{markOf}
-use Rattle.bridge.specs.Drags.{Dragged, Ends, drag, dual-mark}
+use Rattle.bridge.specs.Looks.{slack-in}
+use Rattle.bridge.specs.Runs.{markOf, dual-mark}
+use Rattle.bridge.specs.Drags.{Dragged, Ends, drag}
 use Rattle.run.specs.Demand.{ofEdit, Call, make, accepted, liveAfter, Moment, next}
 use Rattle.run.specs.Inv.{columns, Held, exprOf, formOf, otherId, conOf, findHeld, Shaped, EditedAs, WholeDemand, Inv}
 use Rattle.run.specs.AtRest.{one, best-columns}
 use Rattle.run.specs.Perm.{withoutHeld, all-found, all-first, models-first}
 use Rattle.run.specs.Inputs.{whole-within, inputs-z}
-use Rattle.run.specs.Steady.{Kept, kept-trans, IfGoing}
-use Rattle.run.specs.Drag.{dual-kept, shift-kept, shift-marks, starts}
+use Rattle.run.specs.Steady.{Kept, kept-trans, IfGoing, dual-kept}
+use Rattle.run.specs.Drag.{shift-kept, shift-marks, starts}
 
 -- ---- a refused call, and an accepted one
 
@@ -103,11 +102,7 @@ module _ (m : Moment) (I : Inv m) (u : ℕ) (x : Float) (e : Edit) (h : Held) (f
 
   unfoldable pub inside : (j : ℕ) → I .kind j ≡ slack → j < columns
   unfolding begin
-  inside j k = go (Rattle.bridge.specs.Looks.in-or-not j (m .state .tableau .symbols))
-    where
-      go : In j (m .state .tableau .symbols) ⊎ Rattle.bridge.specs.Rows.NotIn j (m .state .tableau .symbols) → j < columns
-      go (inl i) = omega (arith, I .ids j i, I .room)
-      go (inr n) = absurd (Rattle.simplex.specs.Opt.slack≢external (sym k ∙ I .reads .unknown j (λ z. Rattle.simplex.specs.Opt.slack≢const (sym k ∙ ap (I .kind) z ∙ I .good .zero)) n))
+  inside j k = omega (arith, I .ids j (slack-in (I .kind) (m .state .tableau .symbols) (I .good .zero) (I .reads .unknown) j k), I .room)
 
   -- the stored suggestion is whole
   old : Zb (2 ^ 30) (neg (e .suggestion)) (val (h .demand .constant))
@@ -160,10 +155,6 @@ module _ (m : Moment) (I : Inv m) (u : ℕ) (x : Float) (e : Edit) (h : Held) (f
   unfolding work marking begin
   no-art = refl
 
-  still : work .tableau .infeasible ≡ []
-  unfolding work marking begin
-  still = I .idle
-
   two : e .tag .other ≡ some o
   unfolding o
   two = ap (λ (t : Tag). t .other) (E .tag) ∙ shape .1 .1
@@ -188,7 +179,7 @@ module _ (m : Moment) (I : Inv m) (u : ℕ) (x : Float) (e : Edit) (h : Held) (f
   ended left a q =
       go (dualOptimise left (shiftConstants (e .tag) delta work))
       (drag columns (I .kind) inside (edit (plus expr (negℤ grown) (δ 0)) weight (e .tag .marker .id) (o .id) ∷ others) (omega arith) (λ j. I .table .R j 0) denominator (tt, met) left (shiftConstants (e .tag) delta work) _ _
-      (starts columns (I .kind) (omega arith) inside work (I .table) (λ _. 0ℤ) (I .good) (I .rest) work-reads no-art still expr weight (e .tag) o two others tagged delta grown (delta-z input) (marks .1)) q)
+      (starts columns (I .kind) (omega arith) inside work (I .table) (λ _. 0ℤ) (I .good) (I .rest) work-reads no-art expr weight (e .tag) o two others tagged delta grown (delta-z input) (marks .1)) q)
       (dual-kept left (shiftConstants (e .tag) delta work))
     where
       marks : (work .mark ≡ allWhole) × (Rattle.steps.specs.Substitute.marksOf (shiftRows (shiftOf (e .tag) delta work) (work .tableau .rows)) ≡ allWhole)
