@@ -14,7 +14,7 @@ use Rattle.choose.specs.declared.Found.the-variants.{At, Nothing}
 use Rattle.choose.specs.Choose.{Within, onFound, idAt, rowOf}
 use Rattle.choose.specs.Own.{first-within}
 use Rattle.moves.specs.Close.{closed, opened}
-use Rattle.moves.specs.Moved.{closed-before, closed-after, length-closed, opened-before, opened-after, length-opened}
+use Rattle.moves.specs.Moved.{closed-before, closed-after, length-closed, opened-before, length-opened}
 use Rattle.moves.specs.Moves.{Board, droppedRow, dropRowOf, rowPlace, keptRow, appendedHead, closedColumn}
 
 -- the counts of symbols and rows are at most these
@@ -61,10 +61,6 @@ module _ (b : Board) (len : length (b .head) ≡ 196) where
     pub dropped-same : (m : ℕ) → (m ≡ 2 → ⊥) → (m < 145 + i) → getD (droppedRow i b .head) m 0 ≡ getD (b .head) m 0
     unfolding droppedRow
     dropped-same m n h = getD-set-other shut 2 m (r - 1) 0 n ∙ closed-before 0 (145 + i) (145 + r) (b .head) (omega arith) (omega arith) 0 m h
-
-    pub dropped-past : (m : ℕ) → 145 + r < m → getD (droppedRow i b .head) m 0 ≡ getD (b .head) m 0
-    unfolding droppedRow
-    dropped-past m h = getD-set-other shut 2 m (r - 1) 0 (λ e. omega arith) ∙ closed-after 0 (145 + i) (145 + r) (b .head) (omega arith) (omega arith) 0 m h
 
     pub dropped-rows : getD (droppedRow i b .head) 2 0 ≡ r - 1
     unfolding droppedRow
@@ -122,12 +118,6 @@ module _ (b : Board) (len : length (b .head) ≡ 196) where
     kept-same m n h =
         let a = row-place-between (code / 4) in
         getD-set-other wide 2 m (r + 1) 0 n ∙ opened-before (145 + p) (146 + r) code (b .head) (omega arith) (omega arith) 0 m h
-
-    pub kept-past : (m : ℕ) → 146 + r < m → getD (keptRow code row b .head) m 0 ≡ getD (b .head) m 0
-    unfolding keptRow
-    kept-past m h =
-        let a = row-place-between (code / 4) in
-        getD-set-other wide 2 m (r + 1) 0 (λ e. omega arith) ∙ opened-after (145 + p) (146 + r) code (b .head) (omega arith) (omega arith) 0 m h
 
     pub kept-rows : getD (keptRow code row b .head) 2 0 ≡ r + 1
     unfolding keptRow
