@@ -62,7 +62,7 @@ abbrev pub Standing : Option Row → Type 0
 Standing none = ⊥
 Standing (some r) = Unit
 
-pub pivot-standing : (l : ℕ) (e : Symbol) (w : Work) → Standing (w .artificial) → Standing (pivot l e w .artificial)
+pivot-standing : (l : ℕ) (e : Symbol) (w : Work) → Standing (w .artificial) → Standing (pivot l e w .artificial)
 unfolding marking withRows withTableau
 pivot-standing l e w h = pivot-cases l e w (λ (x : Work). Standing (x .artificial)) h entered
   where
@@ -146,7 +146,7 @@ abbrev pub ReadsGoal : Goal → (ℕ → KindZ) → Work → State → Vec → T
 ReadsGoal theObjective kind w S z = ReadsWork kind w (S .B) (S .R) (S .o) z
 ReadsGoal theArtificial kind w S z = ReadsWork kind w (S .B) (S .R) z (S .o) × Standing (w .artificial)
 
-pub goal-cells : (g : Goal) (kind : ℕ → KindZ) (w : Work) (S : State) (z : Vec) → ReadsGoal g kind w S z → (b : ℕ) × Reads b (w .tableau .symbols) (goalCells g w) (S .o)
+goal-cells : (g : Goal) (kind : ℕ → KindZ) (w : Work) (S : State) (z : Vec) → ReadsGoal g kind w S z → (b : ℕ) × Reads b (w .tableau .symbols) (goalCells g w) (S .o)
 unfolding goalCells
 goal-cells theObjective kind w S z h = (2 ^ 40, h .objective)
 goal-cells theArtificial kind w S z h = (1024, go (w .artificial) (h .0 .artificial) (h .1))
@@ -184,12 +184,12 @@ count-reads kind theObjective x S z h = h
 count-reads kind theArtificial x S z h = h
 
 -- ---- a pass from the second state on
-pub shift : (kind : ℕ → KindZ) (ids : List ℕ) (S : State) (l e : ℕ) → look kind ids S ≡ go-on l e → (i : ℕ) → after kind ids S (suc i) ≡ after kind ids (step l e S) i
+shift : (kind : ℕ → KindZ) (ids : List ℕ) (S : State) (l e : ℕ) → look kind ids S ≡ go-on l e → (i : ℕ) → after kind ids S (suc i) ≡ after kind ids (step l e S) i
 unfolding after next
 shift kind ids S l e k zero = ap (next kind ids S) k
 shift kind ids S l e k (suc i) = ap (λ (t : State). next kind ids t (look kind ids t)) (shift kind ids S l e k i)
 
-pub at-first : (kind : ℕ → KindZ) (ids : List ℕ) (S : State) (l e : ℕ) → look kind ids S ≡ go-on l e → S .R l e ≡ negsuc 0 → Pivots (after kind ids S zero) (look kind ids (after kind ids S zero))
+at-first : (kind : ℕ → KindZ) (ids : List ℕ) (S : State) (l e : ℕ) → look kind ids S ≡ go-on l e → S .R l e ≡ negsuc 0 → Pivots (after kind ids S zero) (look kind ids (after kind ids S zero))
 unfolding after
 at-first kind ids S l e k u = subst (Pivots S) (sym k) u
 

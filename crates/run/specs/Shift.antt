@@ -35,11 +35,11 @@ module _ (shift : Basic → Option Float) where
   after bs = rowsOf (shiftRows shift bs)
 
   -- what is found for a column, before and after
-  pub data Found (j : ℕ) (bs : List Basic) : Option Row → Option Row → Type 0 where
+  data Found (j : ℕ) (bs : List Basic) : Option Row → Option Row → Type 0 where
     no-row : Found j bs none none
     a-row : (b : Basic) → b .symbol .id ≡ j → shiftRow (b .row) (shift b) .mark ≡ allWhole → Found j bs (some (b .row)) (some (shiftRow (b .row) (shift b) .row))
 
-  pub find-shift : (j : ℕ) (bs : List Basic) → marksOf (shiftRows shift bs) ≡ allWhole → Found j bs (findRow j bs) (findRow j (after bs))
+  find-shift : (j : ℕ) (bs : List Basic) → marksOf (shiftRows shift bs) ≡ allWhole → Found j bs (findRow j bs) (findRow j (after bs))
   unfolding shiftRows rowsOf marksOf
   find-shift j [] m = subst (λ (o : Option Row). Found j [] o o) (sym (find-none j)) no-row
   find-shift j (b ∷ bs) m = go (sym? j (b .symbol)) (find-shift j bs (worse-r (shiftRow (b .row) (shift b) .mark) (marksOf (shiftRows shift bs)) m))

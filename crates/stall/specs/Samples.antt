@@ -1,11 +1,11 @@
--- Two adds, a removal and a drag, computed pass by pass: what n and r are, the ways to choose r of n, and the pivots made.
+-- Two adds, a removal and two drags, computed pass by pass: what n and r are, the ways to choose r of n, and the pivots made.
 use Prim.Native.Nat.{ℕ}
 use mathlib.Core.List.{List, [], _∷_, map}
 use lib.Dec.{T}
 use lib.Ieee.{Float}
 use Rattle.simplex.specs.Choose.{choose}
 use Rattle.steps.specs.Strength.{required}
-use Rattle.steps.specs.State.{Relation, atMost, equal}
+use Rattle.steps.specs.State.{Relation, atMost, equal, atLeast}
 use Rattle.steps.specs.Readable.{concat}
 use Rattle.steps.specs.Session.{sameNumbers}
 use Rattle.steps.specs.Twelve.{num, minus, x, openTwelve}
@@ -48,3 +48,8 @@ removed-again = tt
 pub dragged-past : T (sameNumbers (figuresOf (xIs 2 atMost 30 required ∷ addsEdit 1 (num 1) 10 ∷ []) (suggests 1 (num 40) 10)) (3 ∷ 1 ∷ 3 ∷ 1 ∷ []))
 unfolding openSamples
 dragged-past = tt
+
+-- x ≥ -3, and x ≥ 0 at 1, then x dragged to -11: two rows are below 0. The lower id leaves first, and two pivots are made; with the higher first it would be one.
+pub two-below : T (sameNumbers (figuresOf (adds 7 (x ∷ []) (num 0) (atLeast (num 1)) 10 ∷ adds 6 (x ∷ []) (num 3) (atLeast required) 10 ∷ addsEdit 1 (num 1) 10 ∷ []) (suggests 1 (minus 11) 10)) (5 ∷ 2 ∷ 10 ∷ 2 ∷ []))
+unfolding openSamples
+two-below = tt
