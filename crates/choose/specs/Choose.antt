@@ -91,7 +91,7 @@ unfoldable pub positiveOf : ℕ → List ℕ → List (List Float) → Found
 positiveOf at h w =
     smallestOf (λ i. isRestricted (basicAt h i) && lt zero64 (cellAt w at i)) (λ i. cellAt w 0 i /₆₄ cellAt w at i) (getD h 2 0)
 
--- "the non-dummy positive cell with strictly smallest objective cell / cell"
+-- "the non-dummy positive cell with strictly smallest objective cell / cell, the lowest id on a tie"
 unfoldable pub dualEnteringOf : List ℕ → List Float → List Float → Found
 dualEnteringOf h row objective =
     smallestOf (λ p. not (isDummy (symbolAt h p)) && lt zero64 (getD row p nan)) (λ p. getD objective p nan /₆₄ getD row p nan) (getD h 1 0)

@@ -278,7 +278,7 @@ fn dual_better(p: usize, code: u64, cell: f64, objective: f64, b: Best) -> Best
     }
 }
 
-// "the non-dummy positive cell with strictly smallest objective cell / cell"
+// "the non-dummy positive cell with strictly smallest objective cell / cell, the lowest id on a tie"
 pub fn get_dual_entering_symbol(head: &[u64], row: &[f64; 130], objective: &[f64; 130]) -> Found
     requires { ⌜ length (now head) ≡ 196 ⌝ }
     requires { ⌜ getD (now head) 1 0 ≤ 129 ⌝ }
