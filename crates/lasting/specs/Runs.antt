@@ -144,13 +144,18 @@ module _ (t : Tables) (long : lengthsRight t ≡ true) (wide : Wide t) where
       → None (accepted (s .call) (after (callsOf ss) .live))
   tables-12 s ss h w e = let a = tables-answer s ss (h .0) (h .1) in marked-12 (s .call) (callsOf ss) (rw a at w) (rw a at e)
 
-  -- ---- demand 3, where the answer says yes, as in a whole run
+  -- ---- demand 3, of adds, removals and suggestions, where the answer says yes, as in a whole run
 
   module _ (s : Step) (ss : List Step) (h : All Lent (s ∷ ss)) (b : ℕ) (budget : budgetOf (s .call) ≡ some b) (w : makeOn (s .call) (s .room) (tablesAfter t ss) .answer .whole ≡ true) where
-    -- "no optimise pass of an add or a removal holds the same set of basic symbols twice", and the rest, of the state that the tables read as
+    -- "no optimise pass of an add or a removal holds the same set of basic symbols twice", "a dual pass then never holds the same basic set twice", and the
+    -- rest, of the state that the tables read as
     pub tables-never-stalls : Demand3 b (s .call) (read (tablesAfter t ss))
     tables-never-stalls = rw (tables-hold ss (h .1) .state) (marked-never-stalls (callsOf ss) (s .call) b budget (rw (tables-answer s ss (h .0) (h .1)) at w))
 
     -- "a budget no smaller than these ways summed over such a call's passes is never the reason for its refusal"
     pub tables-14 : allWays (passesOf (s .call) (read (tablesAfter t ss))) ≤ b → makeOn (s .call) (s .room) (tablesAfter t ss) .answer .number ≢ 14
     tables-14 l = rw (tables-answer s ss (h .0) (h .1), ← tables-hold ss (h .1) .state) (tables-never-stalls .enough l)
+
+    -- "and 16 is never given"
+    pub tables-16 : makeOn (s .call) (s .room) (tablesAfter t ss) .answer .number ≢ 16
+    tables-16 = rw (tables-answer s ss (h .0) (h .1), ← tables-hold ss (h .1) .state) (tables-never-stalls .some-way)
