@@ -33,7 +33,7 @@ pub extern "C" fn timed_substitute(
     at: usize,
     pivot: &[f64; 130],
 ) -> Wrote
-    requires { ⌜ length (now head) ≡ 326 ⌝ }
+    requires { ⌜ length (now head) ≡ 196 ⌝ }
     requires { ⌜ getD (now head) 1 0 ≤ 129 ⌝ }
     requires { ⌜ getD (now head) 2 0 ≤ 49 ⌝ }
     requires { ⌜ getD (now head) 3 0 ≤ 130 ⌝ }
@@ -54,7 +54,7 @@ pub extern "C" fn timed_pivot(
     leaving: usize,
     entering: usize,
 ) -> Wrote
-    requires { ⌜ length (now head) ≡ 326 ⌝ }
+    requires { ⌜ length (now head) ≡ 196 ⌝ }
     requires { ⌜ getD (now head) 1 0 ≤ 129 ⌝ }
     requires { ⌜ getD (now head) 2 0 ≤ 49 ⌝ }
     requires { ⌜ getD (now head) 3 0 ≤ 130 ⌝ }
