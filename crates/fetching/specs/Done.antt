@@ -1,10 +1,10 @@
 -- What the code of a fetch leaves is the state after it, written into the tables, and its list.
 -- Assumes nothing.
-use Prim.Native.Nat.{ℕ, zero, suc, _-_, _≤_, _<_}
+use Prim.Native.Nat.{ℕ, zero, suc, _+_, _-_, _≤_, _<_}
 use mathlib.Core.Path.{_≡_, refl, sym, ap, _∙_}
 use mathlib.Core.Bool.{Bool, true, false, not, _&&_, cond}
-use mathlib.Core.List.{List, [], map}
-use native.Mathlib.Nat.{not-suc-le-zero, le-of-suc-le-suc, zero-add}
+use mathlib.Core.List.{List, [], _∷_, map}
+use native.Mathlib.Nat.{not-suc-le-zero, le-of-suc-le-suc, zero-add, suc-add}
 use native.Mathlib.Omega.{arith}
 use lib.Dec.{eqb}
 use lib.ListN.{length, getD, set, replicate, length-map, length-replicate}
@@ -26,7 +26,7 @@ use Rattle.tableau.specs.Notes.{WideNames, clearedRow, clearedNames}
 use Rattle.tableau.specs.NotesRead.{flags-of, clear-names-read}
 use Rattle.fetching.specs.Fetch.{fetch, places, fetchIn, fetch18, fetchOf}
 use Rattle.fetching.specs.Listing.{Listing, listing, listAll, listed}
-use Rattle.layout.specs.Relaid.{laid-again, laid-map, laid-map-same, laid-set, put-set, put-from, first-anew}
+use Rattle.layout.specs.Relaid.{laid-again, laid-map, laid-map-same, laid-set, put-set, first-anew}
 
 -- the toggle as a number
 toggled : (x : ℕ) → x ≤ 1 → bitOf (not (eqb x 1)) ≡ 1 - x
@@ -39,6 +39,13 @@ toggled (suc (suc x)) h = absurd (not-suc-le-zero (le-of-suc-le-suc h))
 over-again : {A : Type 0} (k l m : List A) → length k ≤ length l → over 0 l (over 0 k m) ≡ over 0 l m
 unfolding over
 over-again k l m h = laid-again (λ x _. x) k l m h (λ b c y. refl)
+
+-- a list laid from place a on, with another element at one place
+put-from : (a : ℕ) (l m : List ℕ) (j x : ℕ) → j < length l → laid (λ y _. y) a (set l j x) m ≡ set (laid (λ y _. y) a l m) (a + j) x
+unfolding laid
+put-from zero l m j x h = rw (zero-add j) (put-set l m j x h)
+put-from (suc a) l [] j x h = refl
+put-from (suc a) l (y ∷ m) j x h = rw (suc-add a j) (ap (λ (r : List ℕ). y ∷ r) (put-from a l m j x h))
 
 -- another number in place 7 of the head, the fourth of the records' counts and flags
 head-set : (bs ss hs h : List ℕ) (x : ℕ) → 3 < length hs → over rowsAt bs (over symbolsAt ss (over recordCountsAt (set hs 3 x) h)) ≡ set (over rowsAt bs (over symbolsAt ss (over recordCountsAt hs h))) 7 x

@@ -1,9 +1,9 @@
 -- A list laid over a table anew: laws that know nothing of the solver.
 -- Assumes nothing.
-use Prim.Native.Nat.{ℕ, zero, suc, _+_, _≤_, _<_}
+use Prim.Native.Nat.{ℕ, zero, suc, _≤_, _<_}
 use mathlib.Core.Path.{_≡_, refl, sym, ap, _∙_}
 use mathlib.Core.List.{List, [], _∷_, map}
-use native.Mathlib.Nat.{not-suc-le-zero, le-of-suc-le-suc, zero-add, suc-add}
+use native.Mathlib.Nat.{not-suc-le-zero, le-of-suc-le-suc}
 use native.Mathlib.Omega.{arith}
 use lib.ListN.{length, set}
 use Rattle.laws.specs.Loops.{mapIn}
@@ -48,13 +48,6 @@ module _ {A : Type 0} where
   put-set (b ∷ l) [] j x h = refl
   put-set (b ∷ l) (y ∷ m) zero x h = refl
   put-set (b ∷ l) (y ∷ m) (suc j) x h = ap (λ (r : List A). b ∷ r) (put-set l m j x (le-of-suc-le-suc h))
-
-  -- and laid from place a on
-  pub put-from : (a : ℕ) (l m : List A) (j : ℕ) (x : A) → j < length l → laid (λ y _. y) a (set l j x) m ≡ set (laid (λ y _. y) a l m) (a + j) x
-  unfolding laid
-  put-from zero l m j x h = rw (zero-add j) (put-set l m j x h)
-  put-from (suc a) l [] j x h = refl
-  put-from (suc a) l (y ∷ m) j x h = rw (suc-add a j) (ap (λ (r : List A). y ∷ r) (put-from a l m j x h))
 
 module _ {A B C : Type 0} where
   -- two lists laid over places apart, in either order
