@@ -9,7 +9,8 @@ import subprocess
 import sys
 
 HERE = os.path.dirname(os.path.abspath(__file__))
-RUSTC = ['rustc', '-O', '-A', 'warnings']
+# without -O: a changed crate is built for some thousand calls
+RUSTC = ['rustc', '-A', 'warnings']
 
 
 def mutants(path):

@@ -101,7 +101,7 @@ impl Run {
     fn tables(&mut self, kind: usize) -> Tables {
         let words = if kind == 3 { breaks::broken(&mut self.g) } else { craft::state(&mut self.g) };
         let mut t = match kind {
-            0 | 1 => self.live.clone(),
+            1 => self.live.clone(),
             2..=4 => self.made_up(words),
             5 => random_tables(&mut self.g),
             _ => self.live.with_lengths(other_lengths(&mut self.g)),
@@ -143,20 +143,23 @@ impl Run {
         Ok((answer.number, after))
     }
 
-    /// One call more on the tables of the run, which now and then begins anew; then one on tables of some kind.
+    fn some_call(&mut self, kind: usize, t: &Tables) -> Result<Tables, Difference> {
+        let (number, after) = if self.g.one_in(6) { self.fetch(t)? } else { self.call(t)? };
+        self.counts.kinds[kind][(number == 18) as usize] += 1;
+        Ok(after)
+    }
+
+    /// One call more on the tables of the run, which now and then begins anew; then one on tables of some other kind.
     fn trial(&mut self) -> Result<(), Difference> {
         if self.g.one_in(80) {
             let (t, room) = (any_tables(&mut self.g, LENGTHS), any_tables(&mut self.g, LENGTHS));
             self.live = self.checker.call(&Call::Reset, &t, &room, true)?.1;
         }
-        let kind = self.g.pick(&[0, 1, 1, 1, 2, 2, 2, 3, 3, 3, 4, 4, 5, 6]);
+        let live = self.live.clone();
+        self.live = self.some_call(0, &live)?;
+        let kind = self.g.pick(&[1, 1, 1, 2, 2, 2, 3, 3, 3, 4, 4, 5, 6]);
         let t = self.tables(kind);
-        let (number, after) = if self.g.one_in(6) { self.fetch(&t)? } else { self.call(&t)? };
-        self.counts.kinds[kind][(number == 18) as usize] += 1;
-        if kind == 0 {
-            self.live = after;
-        }
-        Ok(())
+        self.some_call(kind, &t).map(|_| ())
     }
 }
 
