@@ -4,7 +4,7 @@ pub mod begin;
 ghost use mathlib.Core.Path.{_≡_};
 ghost use mathlib.Core.Bool.{false};
 ghost use mathlib.Core.List.{[]};
-ghost use Prim.Native.Nat.{_+_, _<_, _≤_};
+ghost use Prim.Native.Nat.{_+_, _<_};
 ghost use lib.ListN.{getD, length, set};
 ghost use Rattle.steps.specs.Tests.{keepConstraint, dropConstraint, keepEdit, dropEdit};
 ghost use Rattle.layout.specs.Layout.{tables, headSize, bitOf, constraintOf, editOf, constraintsOf, editsOf};
