@@ -1,0 +1,55 @@
+"""Today's exports on 32 bits. Their lengths are numbers of 64 bits and their answers come back in registers, as x86-64 has it; the
+C conventions of 32 bits have lengths of 32 bits and answers in memory. Each exported function gets a wrapper in between, so that
+include/knobharbor.h holds as it stands. Here until exports have a form that needs none."""
+import re
+
+EXPORT = re.compile(r'^define ((?:[\w()]+ )*?)(\{[^}]*\}|i\d+|double|void) @(knobharbor_\w+)\(([^)]*)\)(.*)$', re.M)
+# the bytes of what comes back, by its type in the module: a struct of two words, and one of two words and a flag
+BYTES = {"i64": 8, "{ i64, i32 }": 12, "{ i64, i8 }": 12, "{ i64, i64 }": 12}
+
+
+def shim32(text, answers):
+    """answers: whether a struct of 8 bytes and one of 12 come back in `registers` or in `memory`."""
+    wrappers = []
+
+    def one(m):
+        attributes, kind, name, parameters, rest = m.groups()
+        types = [p.split()[0] for p in parameters.split(", ")]
+        in_memory = kind in BYTES and answers[BYTES[kind] == 12] == "memory"
+        if "i64" not in types and not in_memory:
+            return m.group(0)
+        wrappers.append(wrapper(attributes, kind, name, parameters.split(", "), types, in_memory))
+        return f'define internal {attributes}{kind} @"{name}.wide"({parameters}){rest}'
+
+    text, n = EXPORT.subn(one, text)
+    if not wrappers:
+        raise SystemExit("shim32: the module has no export that needs a wrapper: the kit writes them another way")
+    at = text.index("\nattributes #0")
+    return text[:at] + "\n" + "\n".join(wrappers) + text[at:]
+
+
+def wrapper(attributes, kind, name, parameters, types, in_memory):
+    widen = [f"  %z{i} = zext i32 %p{i} to i64" for i, t in enumerate(types) if t == "i64"]
+    taken = [f"i32 noundef %p{i}" if t == "i64" else f"{narrow(p, t)} %p{i}" for i, (p, t) in enumerate(zip(parameters, types))]
+    given = [f"i64 %z{i}" if t == "i64" else f"{narrow(p, t)} %p{i}" for i, (p, t) in enumerate(zip(parameters, types))]
+    call = f'  %r = call {attributes}{kind} @"{name}.wide"({", ".join(given)})'
+    if not in_memory:
+        return "\n".join([f"define {attributes}{kind} @{name}({', '.join(taken)}) nounwind {{", *widen, call, f"  ret {kind} %r", "}", ""])
+    out = f"ptr noalias sret([{BYTES[kind]} x i8]) align 4 %out"
+    return "\n".join([f"define void @{name}({', '.join([out, *taken])}) nounwind {{", *widen, call, *stores(kind), "  ret void", "}", ""])
+
+
+def narrow(parameter, kind):
+    """A number of 8 or 16 bits keeps the word that says that its caller widened it."""
+    return f"{kind} noundef zeroext" if "zeroext" in parameter else f"{kind} noundef"
+
+
+def stores(kind):
+    if kind == "i64":
+        return ["  store i64 %r, ptr %out, align 4"]
+    second = kind.strip("{} ").split(", ")[1]
+    lines = [f"  %a = extractvalue {kind} %r, 0", f"  %b = extractvalue {kind} %r, 1", "  store i64 %a, ptr %out, align 4",
+             "  %q = getelementptr i8, ptr %out, i32 8"]
+    if second == "i64":
+        return lines + ["  %c = trunc i64 %b to i32", "  store i32 %c, ptr %q, align 4"]
+    return lines + [f"  store {second} %b, ptr %q, align 4"]
