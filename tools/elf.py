@@ -1,4 +1,4 @@
-"""The little that is asked of an object file: how much code and how many constants it has, and what it needs."""
+"""The little that is asked of an object file: how much code, how many constants and how much data it has, and what it needs."""
 import struct
 
 
@@ -13,6 +13,7 @@ class Elf:
         kept = [s for s in sections if s["flags"] & allocated and s["type"] != nothing]
         self.code = sum(s["size"] for s in kept if s["flags"] & executable)
         self.constants = sum(s["size"] for s in kept if not s["flags"] & (executable | writable))
+        self.data_size = sum(s["size"] for s in sections if s["flags"] & allocated and s["flags"] & writable)
         self.needed = sorted(n for s in sections if s["type"] == 2 for n in self.undefined(s, sections[s["link"]], wide))
 
     def header(self, wide):
