@@ -3,9 +3,9 @@ C conventions of 32 bits have lengths of 32 bits and answers in memory. Each exp
 include/knobharbor.h holds as it stands. Here until exports have a form that needs none."""
 import re
 
-EXPORT = re.compile(r'^define ((?:[\w()]+ )*?)(\{[^}]*\}|i\d+|double|void) @(knobharbor_\w+)\(([^)]*)\)(.*)$', re.M)
+EXPORT = re.compile(r"^define ((?:\w+ )*?)(\{[^}]*\}|i\d+|double) @(knobharbor_\w+)\(([^)]*)\)(.*)$", re.M)
 # the bytes of what comes back, by its type in the module: a struct of two words, and one of two words and a flag
-BYTES = {"i64": 8, "{ i64, i32 }": 12, "{ i64, i8 }": 12, "{ i64, i64 }": 12}
+BYTES = {"i64": 8, "{ i64, i32 }": 12}
 
 
 def shim32(text, answers):
@@ -21,9 +21,10 @@ def shim32(text, answers):
         wrappers.append(wrapper(attributes, kind, name, parameters.split(", "), types, in_memory))
         return f'define internal {attributes}{kind} @"{name}.wide"({parameters}){rest}'
 
-    text, n = EXPORT.subn(one, text)
-    if not wrappers:
-        raise SystemExit("shim32: the module has no export that needs a wrapper: the kit writes them another way")
+    exports = len(re.findall(r"^define .*@knobharbor_", text, re.M))
+    text, known = EXPORT.subn(one, text)
+    if known != exports or not wrappers:
+        raise SystemExit(f"shim32: {known} of {exports} exports are written as it knows them, {len(wrappers)} need a wrapper: the kit writes them another way")
     at = text.index("\nattributes #0")
     return text[:at] + "\n" + "\n".join(wrappers) + text[at:]
 
@@ -47,9 +48,5 @@ def narrow(parameter, kind):
 def stores(kind):
     if kind == "i64":
         return ["  store i64 %r, ptr %out, align 4"]
-    second = kind.strip("{} ").split(", ")[1]
-    lines = [f"  %a = extractvalue {kind} %r, 0", f"  %b = extractvalue {kind} %r, 1", "  store i64 %a, ptr %out, align 4",
-             "  %q = getelementptr i8, ptr %out, i32 8"]
-    if second == "i64":
-        return lines + ["  %c = trunc i64 %b to i32", "  store i32 %c, ptr %q, align 4"]
-    return lines + [f"  store {second} %b, ptr %q, align 4"]
+    return [f"  %a = extractvalue {kind} %r, 0", f"  %b = extractvalue {kind} %r, 1", "  store i64 %a, ptr %out, align 4",
+            "  %q = getelementptr i8, ptr %out, i32 8", "  store i32 %b, ptr %q, align 4"]
