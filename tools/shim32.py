@@ -18,7 +18,7 @@ def shim32(text, answers):
         in_memory = kind in BYTES and answers[BYTES[kind] == 12] == "memory"
         if "i64" not in types and not in_memory:
             return m.group(0)
-        wrappers.append(wrapper(attributes, kind, name, parameters.split(", "), types, in_memory))
+        wrappers.append(wrapper(attributes, kind, name, types, in_memory))
         return f'define internal {attributes}{kind} @"{name}.wide"({parameters}){rest}'
 
     exports = len(re.findall(r"^define .*@knobharbor_", text, re.M))
@@ -29,20 +29,15 @@ def shim32(text, answers):
     return text[:at] + "\n" + "\n".join(wrappers) + text[at:]
 
 
-def wrapper(attributes, kind, name, parameters, types, in_memory):
+def wrapper(attributes, kind, name, types, in_memory):
     widen = [f"  %z{i} = zext i32 %p{i} to i64" for i, t in enumerate(types) if t == "i64"]
-    taken = [f"i32 noundef %p{i}" if t == "i64" else f"{narrow(p, t)} %p{i}" for i, (p, t) in enumerate(zip(parameters, types))]
-    given = [f"i64 %z{i}" if t == "i64" else f"{narrow(p, t)} %p{i}" for i, (p, t) in enumerate(zip(parameters, types))]
+    taken = [f"i32 noundef %p{i}" if t == "i64" else f"{t} noundef %p{i}" for i, t in enumerate(types)]
+    given = [f"i64 %z{i}" if t == "i64" else f"{t} noundef %p{i}" for i, t in enumerate(types)]
     call = f'  %r = call {attributes}{kind} @"{name}.wide"({", ".join(given)})'
     if not in_memory:
         return "\n".join([f"define {attributes}{kind} @{name}({', '.join(taken)}) nounwind {{", *widen, call, f"  ret {kind} %r", "}", ""])
     out = f"ptr noalias sret([{BYTES[kind]} x i8]) align 4 %out"
     return "\n".join([f"define void @{name}({', '.join([out, *taken])}) nounwind {{", *widen, call, *stores(kind), "  ret void", "}", ""])
-
-
-def narrow(parameter, kind):
-    """A number of 8 or 16 bits keeps the word that says that its caller widened it."""
-    return f"{kind} noundef zeroext" if "zeroext" in parameter else f"{kind} noundef"
 
 
 def stores(kind):
