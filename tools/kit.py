@@ -4,7 +4,7 @@ import os, platform, shutil, sys
 ROOT = os.path.dirname(os.path.dirname(os.path.realpath(__file__)))
 MACHINE = platform.machine()
 # the crate that the firmware links: target/staticlib/libCRATE.a
-CRATE = "archive"
+CRATE = "knobharbor"
 
 
 def fail(words):

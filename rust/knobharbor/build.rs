@@ -4,7 +4,7 @@
 use std::env;
 use std::path::PathBuf;
 
-const NAME: &str = "archive";
+const NAME: &str = "knobharbor";
 
 fn main() {
     println!("cargo:rerun-if-env-changed=KNOBHARBOR_ARCHIVE");
