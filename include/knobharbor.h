@@ -1,6 +1,6 @@
-/* The solver's calls, as libknobharbor.a has them (`rt staticlib knobharbor` for x86-64, `tools/cross TARGET` for others). Everything that a call answers
-   and leaves is proved of the code behind it (crates/knobharbor, docs/CLAIMS.md); that this header says the same as that code is
-   not proved.
+/* The solver's calls, as libknobharbor.a has them (`rt staticlib knobharbor` for x86-64, `tools/cross TARGET` for others). Everything
+   that a call answers and leaves is proved of the code behind it (crates/knobharbor, docs/CLAIMS.md); that this header says the same
+   as that code is not proved.
 
    All memory is the caller's. A state lives in four lent tables; a changing call is lent a working room of four tables more.
    Each table and list crosses as a pointer and a length, counted in elements: a head's numbers, the rows of the others.
