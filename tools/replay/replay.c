@@ -11,7 +11,7 @@ extern const char calls[], calls_end[], answers[], answers_end[];
 
 static knobharbor_tables screen, room;
 static char call[8192], want[8192], got[2048];
-static char *word[80];
+static char *word[2100]; /* a line has 4,096 bytes at most */
 static int words;
 static unsigned long deepest[8];
 
@@ -75,7 +75,7 @@ static void answered(knobharbor_answer a)
 
 static void add(void)
 {
-    static knobharbor_term terms[40];
+    static knobharbor_term terms[1040];
     size_t count = whole(6);
     knobharbor_kind kind = word[3][0] == 'l' ? KNOBHARBOR_AT_MOST : word[3][0] == 'e' ? KNOBHARBOR_EQUAL : KNOBHARBOR_AT_LEAST;
     knobharbor_answer a;
@@ -175,7 +175,7 @@ static unsigned long replay(void)
             continue;
         }
         words = 0;
-        for (char *w = strtok(call, " "); w != NULL && words < 80; w = strtok(NULL, " "))
+        for (char *w = strtok(call, " "); w != NULL && words < 2100; w = strtok(NULL, " "))
             word[words++] = w;
         made++;
         make();

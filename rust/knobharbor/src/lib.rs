@@ -3,7 +3,8 @@
 //!
 //! Two elements side by side in a window of some width:
 //!
-//! ```
+#![cfg_attr(feature = "alloc", doc = "```")]
+#![cfg_attr(not(feature = "alloc"), doc = "```ignore")]
 //! use knobharbor::strength::{MEDIUM, REQUIRED, STRONG, WEAK};
 //! use knobharbor::WeightedRelation::*;
 //! use knobharbor::{Solver, Variable};
