@@ -99,7 +99,7 @@ impl Screen {
         let narrow = (0..PANES).filter(|&i| at[i + 1] - at[i] < LEAST[i] - 1e-6).count();
         println!("{}: {:?}{}", what, at, if at == asked { "" } else { " (not what the solver says)" });
         if narrow > 0 {
-            println!("  {} panes are narrower than their least width", narrow);
+            println!("  panes narrower than their least width: {}", narrow);
         }
     }
 }
