@@ -114,11 +114,11 @@ same-length-14 c = search needs
 
 returns-2 : tie.Need-returns-2
 returns-2 c =
-    let a = c .before .before .before .before .before .before .before .before .before .before .before .before .before .before .before .before .before .before .before .before .before .before .before .before .before .before .before .before .args in
+    let a = c .before .before .before .before .before .before .before .before .before .before .before .before .before .before .before .before .before .before .before .before .before .before .before .before .before .before .before .before .before .args in
     let p = c .before .before .put-answer2 in
     let d = c .before .before .before .before .before .before .before .before .before .before .before .before .before .before .add in
     let ts = listed (a .p) in
-    add-said (tables (a .h2 .now) (a .n2 .now) (a .r2 .now) (a .w2 .now)) (tables (a .h .now) (a .n .now) (a .r .now) (a .w .now)) (a .out .now) (p .last .0) (a .at) (p .result) (d .result) ts (c .before .before .before .before .before .before .before .before .before .before .before .before .before .before .before .before .before .before .before .before .before .before .before .call .given .1) (d .ensures .0) (p .ensures)
+    add-said (tables (a .h2 .now) (a .n2 .now) (a .r2 .now) (a .w2 .now)) (tables (a .h .now) (a .n .now) (a .r .now) (a .w .now)) (a .out .now) (p .last .0) (a .at) (p .result) (d .result) ts (c .before .before .before .before .before .before .before .before .before .before .before .before .before .before .before .before .before .before .before .before .before .before .before .before .call .given .1) (d .ensures .0) (p .ensures)
 
 same-length-15 : tie.Need-same-length-15
 same-length-15 c = search needs
@@ -149,11 +149,11 @@ same-length-23 c = search needs
 
 returns-3 : tie.Need-returns-3
 returns-3 c =
-    let a = c .before .before .before .before .before .before .before .before .before .before .before .before .before .before .before .before .before .before .before .before .before .before .before .before .before .before .before .before .args in
+    let a = c .before .before .before .before .before .before .before .before .before .before .before .before .before .before .before .before .before .before .before .before .before .before .before .before .before .before .before .before .before .args in
     let p = c .before .before .put-answer3 in
     let d = c .before .before .before .before .before .before .before .before .before .before .before .before .before .before .remove in
     let ts = listed (a .p) in
-    remove-said (tables (a .h2 .now) (a .n2 .now) (a .r2 .now) (a .w2 .now)) (tables (a .h .now) (a .n .now) (a .r .now) (a .w .now)) (a .out .now) (p .last .0) (a .at) (p .result) (d .result) ts (c .before .before .before .before .before .before .before .before .before .before .before .before .before .before .before .before .before .before .before .before .before .before .before .call2 .given .1) (d .ensures .0) (p .ensures)
+    remove-said (tables (a .h2 .now) (a .n2 .now) (a .r2 .now) (a .w2 .now)) (tables (a .h .now) (a .n .now) (a .r .now) (a .w .now)) (a .out .now) (p .last .0) (a .at) (p .result) (d .result) ts (c .before .before .before .before .before .before .before .before .before .before .before .before .before .before .before .before .before .before .before .before .before .before .before .before .call2 .given .1) (d .ensures .0) (p .ensures)
 
 same-length-24 : tie.Need-same-length-24
 same-length-24 c = search needs

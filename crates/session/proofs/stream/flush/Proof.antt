@@ -10,7 +10,7 @@ returns : tie.Need-returns
 returns c = search needs
 
 slice-aggregate-write-all : tie.Need-slice-aggregate-write-all
-slice-aggregate-write-all c = sym (length-take-le (c .before .before .before .args .p .at) _ (c .before .before .before .pre))
+slice-aggregate-write-all c = sym (length-take-le (c .before .before .before .before .args .p .at) _ (c .before .before .before .before .pre))
 
 write-all-requires : tie.Need-write-all-requires
 write-all-requires c κs = search needs
