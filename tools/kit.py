@@ -21,27 +21,42 @@ def kit():
     return os.path.dirname(os.path.dirname(os.path.realpath(rt)))
 
 
-def sources():
-    """A digest of all that an archive is made from, as rt's own stamps are."""
-    digest = hashlib.sha256()
-    names = [f"{kit()}/KIT-ID", f"{ROOT}/crates.txt"]
-    for at, folders, files in os.walk(f"{ROOT}/crates"):
-        folders.sort()
-        names += [f"{at}/{name}" for name in sorted(files)]
-    for name in names:
-        with open(name, "rb") as f:
-            digest.update(name[len(ROOT):].encode() + b"\0" + hashlib.sha256(f.read()).digest())
+def reached(crate):
+    """The crate and those of the repository that it depends on, each with its line of crates.txt."""
+    with open(f"{ROOT}/crates.txt") as f:
+        lines = {line.split(":")[0].strip(): line.split("#")[0] for line in f if ":" in line.split("#")[0]}
+    found, todo = {}, [crate]
+    while todo:
+        name = todo.pop()
+        if name in lines and name not in found:
+            found[name] = lines[name]
+            todo += lines[name].split(":")[1].split()
+    return sorted(found.items())
+
+
+def sources(crate):
+    """A digest of all that the archive of a crate is made from, as rt's own stamps are."""
+    with open(f"{kit()}/KIT-ID", "rb") as f:
+        digest = hashlib.sha256(f.read())
+    for name, line in reached(crate):
+        digest.update(line.encode())
+        for part in ("src", "specs", "proofs"):
+            for at, folders, files in os.walk(f"{ROOT}/crates/{name}/{part}"):
+                folders.sort()
+                for file in sorted(files):
+                    with open(f"{at}/{file}", "rb") as f:
+                        digest.update(f"{at[len(ROOT):]}/{file}".encode() + hashlib.sha256(f.read()).digest())
     return digest.hexdigest()
 
 
-def is_built(archive):
+def is_built(crate, archive):
     """Whether the archive was made from what stands in crates/ now: `rt staticlib` proves its crate anew each time."""
     if not (os.path.exists(archive) and os.path.exists(archive + ".made-from")):
         return False
     with open(archive + ".made-from") as f:
-        return f.read() == sources()
+        return f.read() == sources(crate)
 
 
-def mark_built(archive):
+def mark_built(crate, archive):
     with open(archive + ".made-from", "w") as f:
-        f.write(sources())
+        f.write(sources(crate))
