@@ -230,6 +230,15 @@ static inline knobharbor_answer kh_add(knobharbor_tables *t, knobharbor_tables *
     return knobharbor_add(KNOBHARBOR_LEND(t), KNOBHARBOR_LEND(room), number, terms, count, constant, (uint32_t)kind, strength, budget);
 }
 
+/* the same of two lists of `count` each */
+static inline knobharbor_answer kh_add_lists(knobharbor_tables *t, knobharbor_tables *room, uint32_t number, const uint32_t *vars,
+                                             const double *coefs, size_t count, double constant, knobharbor_kind kind, double strength,
+                                             uint16_t budget)
+{
+    return knobharbor_add_lists(KNOBHARBOR_LEND(t), KNOBHARBOR_LEND(room), number, vars, count, coefs, count, constant, (uint32_t)kind,
+                                strength, budget);
+}
+
 static inline knobharbor_answer kh_remove(knobharbor_tables *t, knobharbor_tables *room, uint32_t number, uint16_t budget)
 {
     return knobharbor_remove(KNOBHARBOR_LEND(t), KNOBHARBOR_LEND(room), number, budget);

@@ -73,19 +73,27 @@ static void answered(knobharbor_answer a)
     sprintf(got, "%lu %lu %d", (unsigned long)a.number, (unsigned long)a.pivots, a.whole);
 }
 
+/* by its two C names in turn: the terms as records, and as two lists */
 static void add(void)
 {
     static knobharbor_term terms[1040];
+    static uint32_t vars[1040];
+    static double coefs[1040];
+    static bool lists;
     size_t count = whole(6);
     knobharbor_kind kind = word[3][0] == 'l' ? KNOBHARBOR_AT_MOST : word[3][0] == 'e' ? KNOBHARBOR_EQUAL : KNOBHARBOR_AT_LEAST;
     knobharbor_answer a;
     for (size_t i = 0; i < count; i++) {
-        terms[i].variable = whole(7 + 2 * (int)i);
-        terms[i].coefficient = number(word[8 + 2 * i]);
+        terms[i].variable = vars[i] = whole(7 + 2 * (int)i);
+        terms[i].coefficient = coefs[i] = number(word[8 + 2 * i]);
     }
+    lists = !lists;
     double constant = number(word[5]), strength = number(word[4]);
     paint();
-    a = kh_add(&screen, &room, whole(1), terms, count, constant, kind, strength, budget(2));
+    if (lists)
+        a = kh_add_lists(&screen, &room, whole(1), vars, coefs, count, constant, kind, strength, budget(2));
+    else
+        a = kh_add(&screen, &room, whole(1), terms, count, constant, kind, strength, budget(2));
     note(0, depth());
     answered(a);
 }

@@ -32,7 +32,7 @@ pub struct Fetched {
     pub count: u32,
 }
 
-/// The tables that hold a solver's state, or its working room: 93,536 bytes, to be lent to a `LentSolver`.
+/// The tables that hold a solver's state, or its working room, to be lent to a `LentSolver`. They are some 90 KB.
 #[repr(C)]
 #[derive(Clone)]
 pub struct Tables {
