@@ -1,12 +1,14 @@
-/* The solver's calls, as libarchive.a has them (`rt staticlib archive`; it is for x86-64). Everything that a call answers and
-   leaves is proved of the code behind it (crates/archive, docs/CLAIMS.md); that this header says the same as that code is not
-   proved.
+/* The solver's calls, as libknobharbor.a has them (`rt staticlib knobharbor`; it is for x86-64). Everything that a call answers
+   and leaves is proved of the code behind it (crates/knobharbor, docs/CLAIMS.md); that this header says the same as that code is
+   not proved.
 
    All memory is the caller's. A state lives in four lent tables; a changing call is lent a working room of four tables more.
    Each table and list crosses as a pointer and a length, counted in elements: a head's numbers, the rows of the others.
 
    What the caller owes, and no call can test: a pointer is not null, is aligned, and points at as many elements as its length
-   says, also where that is 0; no two of a call's tables and lists overlap; no other thread uses them during the call. */
+   says, also where that is 0; no two of a call's tables and lists overlap; no other thread uses them during the call; the float
+   unit rounds to nearest and flushes no subnormal number to zero, as C starts it (FTZ or DAZ set, or another rounding mode: the
+   answers differ, and no number says so). */
 #ifndef KNOBHARBOR_H
 #define KNOBHARBOR_H
 
@@ -96,6 +98,12 @@ typedef struct knobharbor_fetched {
     uint32_t count;  /* how many places of both lists are filled */
 } knobharbor_fetched;
 
+/* a variable times a coefficient */
+typedef struct knobharbor_term {
+    uint32_t variable;
+    double coefficient;
+} knobharbor_term;
+
 /* what a constraint's sum of terms plus its constant is to zero */
 typedef enum knobharbor_kind {
     KNOBHARBOR_AT_MOST = 0,
@@ -107,47 +115,53 @@ typedef enum knobharbor_kind {
 
    Each tests, takes its steps in the working room, and writes to the tables if it is accepted. A refusal changes no table. The
    working room is all zero after every call, refused or not. The tests come in the order that is given with each call. A call
-   makes at most `budget` pivots; any number is taken, and the document's are 0 to 65,535. */
+   makes at most `budget` pivots, 0 to 65,535. */
 
 /* No variable, constraint or edit is left; the mark is yes. Refuses only wrong lengths. */
 knobharbor_answer knobharbor_reset(uint64_t *head, size_t heads, knobharbor_name *names, size_t named, knobharbor_real *reals,
                                    size_t valued, knobharbor_row *rows, size_t rowed);
 
-/* Adds the constraint of this number: the sum of vars[i] times coefs[i], plus the constant, is at most, equal to or at least
-   zero, with this strength. Tests 18, 1, 2, 3, 4, 10, 9, 11; steps 12 to 15. Lists of different lengths, and a kind that is none
-   of the three, are answered 18 too. */
+/* Adds the constraint of this number: the sum of the terms, plus the constant, is at most, equal to or at least zero, with this
+   strength. Tests 18, 1, 2, 3, 4, 10, 9, 11; steps 12 to 15. A kind that is none of the three is answered 18 too. */
 knobharbor_answer knobharbor_add(uint64_t *head, size_t heads, knobharbor_name *names, size_t named, knobharbor_real *reals,
                                  size_t valued, knobharbor_row *rows, size_t rowed, uint64_t *whead, size_t wheads,
                                  knobharbor_name *wnames, size_t wnamed, knobharbor_real *wreals, size_t wvalued,
-                                 knobharbor_row *wrows, size_t wrowed, uint32_t number, const uint32_t *vars, size_t var_count,
-                                 const double *coefs, size_t coef_count, double constant, uint32_t kind, double strength,
-                                 uint32_t budget);
+                                 knobharbor_row *wrows, size_t wrowed, uint32_t number, const knobharbor_term *terms,
+                                 size_t term_count, double constant, uint32_t kind, double strength, uint16_t budget);
+
+/* The same, with the terms as two lists: vars[i] times coefs[i]. Lists of different lengths are answered 18 too. */
+knobharbor_answer knobharbor_add_lists(uint64_t *head, size_t heads, knobharbor_name *names, size_t named, knobharbor_real *reals,
+                                       size_t valued, knobharbor_row *rows, size_t rowed, uint64_t *whead, size_t wheads,
+                                       knobharbor_name *wnames, size_t wnamed, knobharbor_real *wreals, size_t wvalued,
+                                       knobharbor_row *wrows, size_t wrowed, uint32_t number, const uint32_t *vars,
+                                       size_t var_count, const double *coefs, size_t coef_count, double constant, uint32_t kind,
+                                       double strength, uint16_t budget);
 
 /* Removes the constraint of this number. Tests 18, 5; steps 13, 14, 15, 17. */
 knobharbor_answer knobharbor_remove(uint64_t *head, size_t heads, knobharbor_name *names, size_t named, knobharbor_real *reals,
                                     size_t valued, knobharbor_row *rows, size_t rowed, uint64_t *whead, size_t wheads,
                                     knobharbor_name *wnames, size_t wnamed, knobharbor_real *wreals, size_t wvalued,
-                                    knobharbor_row *wrows, size_t wrowed, uint32_t number, uint32_t budget);
+                                    knobharbor_row *wrows, size_t wrowed, uint32_t number, uint16_t budget);
 
 /* Makes the variable one that can be dragged: an equality with 0, at this strength clipped. Tests 18, 6, 7, 10, 9, 11; steps 12
    to 15. */
 knobharbor_answer knobharbor_add_edit(uint64_t *head, size_t heads, knobharbor_name *names, size_t named, knobharbor_real *reals,
                                       size_t valued, knobharbor_row *rows, size_t rowed, uint64_t *whead, size_t wheads,
                                       knobharbor_name *wnames, size_t wnamed, knobharbor_real *wreals, size_t wvalued,
-                                      knobharbor_row *wrows, size_t wrowed, uint32_t variable, double strength, uint32_t budget);
+                                      knobharbor_row *wrows, size_t wrowed, uint32_t variable, double strength, uint16_t budget);
 
 /* Removes the variable's edit, and with it the last suggestion. Tests 18, 8; steps 13, 14, 15, 17. */
 knobharbor_answer knobharbor_remove_edit(uint64_t *head, size_t heads, knobharbor_name *names, size_t named, knobharbor_real *reals,
                                          size_t valued, knobharbor_row *rows, size_t rowed, uint64_t *whead, size_t wheads,
                                          knobharbor_name *wnames, size_t wnamed, knobharbor_real *wreals, size_t wvalued,
-                                         knobharbor_row *wrows, size_t wrowed, uint32_t variable, uint32_t budget);
+                                         knobharbor_row *wrows, size_t wrowed, uint32_t variable, uint16_t budget);
 
 /* Drags the variable: its edit aims at the suggestion from now on. Tests 18, 1, 8; steps 13, 14, 16. After a refusal the edit
    still aims at the suggestion before. */
 knobharbor_answer knobharbor_suggest(uint64_t *head, size_t heads, knobharbor_name *names, size_t named, knobharbor_real *reals,
                                      size_t valued, knobharbor_row *rows, size_t rowed, uint64_t *whead, size_t wheads,
                                      knobharbor_name *wnames, size_t wnamed, knobharbor_real *wreals, size_t wvalued,
-                                     knobharbor_row *wrows, size_t wrowed, uint32_t variable, double suggestion, uint32_t budget);
+                                     knobharbor_row *wrows, size_t wrowed, uint32_t variable, double suggestion, uint16_t budget);
 
 /* ---- fetch changes */
 

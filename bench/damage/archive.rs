@@ -21,6 +21,12 @@ pub struct Fetched {
     pub count: u32,
 }
 
+#[repr(C)]
+pub struct Term {
+    variable: u32,
+    coefficient: f64,
+}
+
 macro_rules! changing {
     ($($name:ident($($arg:ident: $type:ty),*);)*) => {
         extern "C" {
@@ -31,11 +37,12 @@ macro_rules! changing {
 }
 
 changing! {
-    knobharbor_add(number: u32, vars: &[u32], coefs: &[f64], constant: f64, kind: u32, strength: f64, budget: u32);
-    knobharbor_remove(number: u32, budget: u32);
-    knobharbor_add_edit(variable: u32, strength: f64, budget: u32);
-    knobharbor_remove_edit(variable: u32, budget: u32);
-    knobharbor_suggest(variable: u32, suggestion: f64, budget: u32);
+    knobharbor_add(number: u32, terms: &[Term], constant: f64, kind: u32, strength: f64, budget: u16);
+    knobharbor_add_lists(number: u32, vars: &[u32], coefs: &[f64], constant: f64, kind: u32, strength: f64, budget: u16);
+    knobharbor_remove(number: u32, budget: u16);
+    knobharbor_add_edit(variable: u32, strength: f64, budget: u16);
+    knobharbor_remove_edit(variable: u32, budget: u16);
+    knobharbor_suggest(variable: u32, suggestion: f64, budget: u16);
 }
 
 extern "C" {
@@ -106,18 +113,18 @@ impl Tables {
 #[derive(Clone, Debug)]
 pub enum Call {
     Reset,
-    Add { number: u32, vars: Vec<u32>, coefs: Vec<f64>, constant: f64, kind: u32, strength: f64, budget: u32 },
-    Remove { number: u32, budget: u32 },
-    AddEdit { variable: u32, strength: f64, budget: u32 },
-    RemoveEdit { variable: u32, budget: u32 },
-    Suggest { variable: u32, suggestion: f64, budget: u32 },
+    Add { number: u32, vars: Vec<u32>, coefs: Vec<f64>, constant: f64, kind: u32, strength: f64, budget: u16 },
+    Remove { number: u32, budget: u16 },
+    AddEdit { variable: u32, strength: f64, budget: u16 },
+    RemoveEdit { variable: u32, budget: u16 },
+    Suggest { variable: u32, suggestion: f64, budget: u16 },
 }
 
 impl Call {
     pub fn budget(&self) -> u32 {
         match self {
             Call::Reset => 0,
-            Call::Add { budget, .. } | Call::Remove { budget, .. } | Call::AddEdit { budget, .. } | Call::RemoveEdit { budget, .. } | Call::Suggest { budget, .. } => *budget,
+            Call::Add { budget, .. } | Call::Remove { budget, .. } | Call::AddEdit { budget, .. } | Call::RemoveEdit { budget, .. } | Call::Suggest { budget, .. } => (*budget).into(),
         }
     }
 
@@ -136,7 +143,12 @@ impl Call {
         unsafe {
             match self {
                 Call::Reset => knobharbor_reset(&mut t.head[..a], &mut t.names[..b], &mut t.reals[..c], &mut t.rows[..d]),
-                Call::Add { number, vars, coefs, constant, kind, strength, budget } => lend!(knobharbor_add, *number, vars, coefs, *constant, *kind, *strength, *budget),
+                // even numbers by the list of records, where the lengths let it
+                Call::Add { number, vars, coefs, constant, kind, strength, budget } if number % 2 == 0 && vars.len() == coefs.len() => {
+                    let terms: Vec<Term> = vars.iter().zip(coefs).map(|(&variable, &coefficient)| Term { variable, coefficient }).collect();
+                    lend!(knobharbor_add, *number, &terms, *constant, *kind, *strength, *budget)
+                }
+                Call::Add { number, vars, coefs, constant, kind, strength, budget } => lend!(knobharbor_add_lists, *number, vars, coefs, *constant, *kind, *strength, *budget),
                 Call::Remove { number, budget } => lend!(knobharbor_remove, *number, *budget),
                 Call::AddEdit { variable, strength, budget } => lend!(knobharbor_add_edit, *variable, *strength, *budget),
                 Call::RemoveEdit { variable, budget } => lend!(knobharbor_remove_edit, *variable, *budget),

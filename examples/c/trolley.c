@@ -2,7 +2,7 @@
    examples/trolley.txt, then a pane that closes and a grip that goes. `make run` in this folder builds the archive, builds this against it and runs it. With the archive at
    hand, from the repository's root:
 
-       gcc -Wall -Wextra -Werror -I include -o target/trolley examples/c/trolley.c target/staticlib/libarchive.a */
+       gcc -Wall -Wextra -Werror -I include -o target/trolley examples/c/trolley.c target/staticlib/libknobharbor.a */
 #include "knobharbor.h"
 #include <stdio.h>
 #include <stdlib.h>
@@ -37,13 +37,12 @@ static void show(const char *what, knobharbor_answer a)
 /* right edge minus left edge, minus the width, is `kind` zero */
 static void pane(uint32_t number, uint32_t left, double width, knobharbor_kind kind, double strength)
 {
-    uint32_t vars[2] = { left + 1, left };
-    double coefs[2] = { 1.0, -1.0 };
-    knobharbor_answer a = knobharbor_add(KNOBHARBOR_LEND(&screen), KNOBHARBOR_LEND(&room), number, vars, 2, coefs, 2, -width, kind, strength, 20);
+    knobharbor_term terms[2] = { { left + 1, 1.0 }, { left, -1.0 } };
+    knobharbor_answer a = knobharbor_add(KNOBHARBOR_LEND(&screen), KNOBHARBOR_LEND(&room), number, terms, 2, -width, kind, strength, 20);
     expect(a.number == KNOBHARBOR_ACCEPTED, "a pane is added");
 }
 
-static knobharbor_answer drag(uint32_t variable, double to, uint32_t budget)
+static knobharbor_answer drag(uint32_t variable, double to, uint16_t budget)
 {
     return knobharbor_suggest(KNOBHARBOR_LEND(&screen), KNOBHARBOR_LEND(&room), variable, to, budget);
 }
@@ -53,9 +52,8 @@ static void lay_out(void)
     static const double least[6] = { 40, 40, 60, 60, 40, 40 };
     static const double liked[6] = { 160, 160, 240, 240, 120, 120 };
     static const double strength[6] = { 1, 1, 10, 10, 1, 1 };
-    uint32_t first = 1;
-    double one = 1.0;
-    knobharbor_answer a = knobharbor_add(KNOBHARBOR_LEND(&screen), KNOBHARBOR_LEND(&room), 1, &first, 1, &one, 1, 0.0, KNOBHARBOR_EQUAL, KNOBHARBOR_REQUIRED, 20);
+    knobharbor_term first = { 1, 1.0 };
+    knobharbor_answer a = knobharbor_add(KNOBHARBOR_LEND(&screen), KNOBHARBOR_LEND(&room), 1, &first, 1, 0.0, KNOBHARBOR_EQUAL, KNOBHARBOR_REQUIRED, 20);
     expect(a.number == KNOBHARBOR_ACCEPTED, "the left edge is held");
     for (uint32_t i = 0; i < 6; i++)
         pane(2 + i, 1 + i, least[i], KNOBHARBOR_AT_LEAST, KNOBHARBOR_REQUIRED);

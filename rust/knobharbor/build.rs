@@ -1,5 +1,5 @@
-//! Finds the proved archive, `libarchive.a`: in the folder that KNOBHARBOR_ARCHIVE names (by an absolute path: cargo runs this in
-//! the crate's own folder), or where `rt staticlib archive` leaves it.
+//! Finds the proved archive, `libknobharbor.a`: in the folder that KNOBHARBOR_ARCHIVE names (by an absolute path: cargo runs this in
+//! the crate's own folder), or where `rt staticlib knobharbor` leaves it.
 use std::env;
 use std::path::PathBuf;
 
@@ -9,14 +9,14 @@ fn main() {
         Ok(folder) => PathBuf::from(folder),
         Err(_) => PathBuf::from(env::var("CARGO_MANIFEST_DIR").unwrap()).join("../../target/staticlib"),
     };
-    let file = folder.join("libarchive.a");
+    let file = folder.join("libknobharbor.a");
     println!("cargo:rerun-if-changed={}", file.display());
     if !file.exists() {
         panic!(
-            "{} is not there: run `rt staticlib archive` in the repository's root, which proves and builds it, or let KNOBHARBOR_ARCHIVE name its folder by an absolute path",
+            "{} is not there: run `rt staticlib knobharbor` in the repository's root, which proves and builds it, or let KNOBHARBOR_ARCHIVE name its folder by an absolute path",
             file.display()
         );
     }
     println!("cargo:rustc-link-search=native={}", folder.display());
-    println!("cargo:rustc-link-lib=static=archive");
+    println!("cargo:rustc-link-lib=static=knobharbor");
 }

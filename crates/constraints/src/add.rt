@@ -109,7 +109,7 @@ pub fn add(
     p: Pack,
     constant: f64,
     relation: Relation,
-    budget: u32,
+    budget: u16,
 ) -> Answer
     ensures { λ r. ⌜ called (answerOf r) (tables (now (head .exit)) (now (names .exit)) (now (reals .exit)) (now (rows .exit))) ≡ callOf (add n (termsIn (listed p)) constant (relationOf relation) budget) (tables (now (whead .entry)) (now (wnames .entry)) (now (wreals .entry)) (now (wrows .entry))) (tables (now (head .entry)) (now (names .entry)) (now (reals .entry)) (now (rows .entry))) ⌝ }
     ensures { λ _. ⌜ tables (now (whead .exit)) (now (wnames .exit)) (now (wreals .exit)) (now (wrows .exit)) ≡ cleared (tables (now (whead .entry)) (now (wnames .entry)) (now (wreals .entry)) (now (wrows .entry))) ⌝ }
@@ -125,7 +125,7 @@ pub fn add(
         p,
         constant,
         relation,
-        budget,
+        budget as u32,
     );
     shell::leave(
         ok & (a.number == 0),

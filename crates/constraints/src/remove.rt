@@ -95,13 +95,13 @@ pub fn remove(
     wreals: &mut [[f64; 17]],
     wrows: &mut [[f64; 130]],
     n: u32,
-    budget: u32,
+    budget: u16,
 ) -> Answer
     ensures { λ r. ⌜ called (answerOf r) (tables (now (head .exit)) (now (names .exit)) (now (reals .exit)) (now (rows .exit))) ≡ callOf (remove n budget) (tables (now (whead .entry)) (now (wnames .entry)) (now (wreals .entry)) (now (wrows .entry))) (tables (now (head .entry)) (now (names .entry)) (now (reals .entry)) (now (rows .entry))) ⌝ }
     ensures { λ _. ⌜ tables (now (whead .exit)) (now (wnames .exit)) (now (wreals .exit)) (now (wrows .exit)) ≡ cleared (tables (now (whead .entry)) (now (wnames .entry)) (now (wreals .entry)) (now (wrows .entry))) ⌝ }
 {
     let ok = shell::enter(head, names, reals, rows, whead, wnames, wreals, wrows);
-    let a = remove_if(ok, whead, wnames, wreals, wrows, n, budget);
+    let a = remove_if(ok, whead, wnames, wreals, wrows, n, budget as u32);
     shell::leave(
         ok & (a.number == 0),
         head,

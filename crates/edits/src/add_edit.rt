@@ -117,13 +117,13 @@ pub fn add_edit(
     wrows: &mut [[f64; 130]],
     n: u32,
     strength: f64,
-    budget: u32,
+    budget: u16,
 ) -> Answer
     ensures { λ r. ⌜ called (answerOf r) (tables (now (head .exit)) (now (names .exit)) (now (reals .exit)) (now (rows .exit))) ≡ callOf (addEdit n strength budget) (tables (now (whead .entry)) (now (wnames .entry)) (now (wreals .entry)) (now (wrows .entry))) (tables (now (head .entry)) (now (names .entry)) (now (reals .entry)) (now (rows .entry))) ⌝ }
     ensures { λ _. ⌜ tables (now (whead .exit)) (now (wnames .exit)) (now (wreals .exit)) (now (wrows .exit)) ≡ cleared (tables (now (whead .entry)) (now (wnames .entry)) (now (wreals .entry)) (now (wrows .entry))) ⌝ }
 {
     let ok = shell::enter(head, names, reals, rows, whead, wnames, wreals, wrows);
-    let a = add_edit_if(ok, whead, wnames, wreals, wrows, n, strength, budget);
+    let a = add_edit_if(ok, whead, wnames, wreals, wrows, n, strength, budget as u32);
     shell::leave(
         ok & (a.number == 0),
         head,

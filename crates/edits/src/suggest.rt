@@ -87,13 +87,13 @@ pub fn suggest(
     wrows: &mut [[f64; 130]],
     n: u32,
     new: f64,
-    budget: u32,
+    budget: u16,
 ) -> Answer
     ensures { λ r. ⌜ called (answerOf r) (tables (now (head .exit)) (now (names .exit)) (now (reals .exit)) (now (rows .exit))) ≡ callOf (suggest n new budget) (tables (now (whead .entry)) (now (wnames .entry)) (now (wreals .entry)) (now (wrows .entry))) (tables (now (head .entry)) (now (names .entry)) (now (reals .entry)) (now (rows .entry))) ⌝ }
     ensures { λ _. ⌜ tables (now (whead .exit)) (now (wnames .exit)) (now (wreals .exit)) (now (wrows .exit)) ≡ cleared (tables (now (whead .entry)) (now (wnames .entry)) (now (wreals .entry)) (now (wrows .entry))) ⌝ }
 {
     let ok = shell::enter(head, names, reals, rows, whead, wnames, wreals, wrows);
-    let a = suggest_if(ok, whead, wnames, wreals, wrows, n, new, budget);
+    let a = suggest_if(ok, whead, wnames, wreals, wrows, n, new, budget as u32);
     shell::leave(
         ok & (a.number == 0),
         head,

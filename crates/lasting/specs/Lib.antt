@@ -4,4 +4,5 @@ pub mod NearAdd
 pub mod Narrow
 pub mod Written
 pub mod Promises
+pub mod Public
 pub mod Runs

@@ -1,4 +1,5 @@
 -- What the contracts of `rows` cite, and the laws that its definitions read as the steps.
+pub mod Nans
 pub mod Marks
 pub mod Table
 pub mod Integral

@@ -21,10 +21,13 @@ pub fn create(a: f64, b: f64, c: f64, w: f64) -> f64
     held_part(a * w) * 1000000.0 + held_part(b * w) * 1000.0 + held_part(c * w)
 }
 
+// NaN is told apart first: a comparison and a choice alone can become one instruction for the smaller of two numbers (ARM's `fminnm`), which lets a signalling NaN through.
 pub fn clip(s: f64) -> f64
     ensures { λ r. ⌜ r ≡ clip s ⌝ }
 {
-    if s <= 0.0 {
+    if s != s {
+        REQUIRED
+    } else if s <= 0.0 {
         0.0
     } else if s < REQUIRED {
         s

@@ -28,15 +28,15 @@ fn say_edit(
 {
     match call {
         Call::AddEdit(v, s, b) => {
-            let a = edits::add_edit::add_edit(h, n, r, w, h2, n2, r2, w2, v, s, b as u32);
+            let a = edits::add_edit::add_edit(h, n, r, w, h2, n2, r2, w2, v, s, b);
             put_answer(out, at, a.number, a.pivots, a.whole)
         }
         Call::RemoveEdit(v, b) => {
-            let a = edits::remove_edit::remove_edit(h, n, r, w, h2, n2, r2, w2, v, b as u32);
+            let a = edits::remove_edit::remove_edit(h, n, r, w, h2, n2, r2, w2, v, b);
             put_answer(out, at, a.number, a.pivots, a.whole)
         }
         Call::Suggest(v, x, b) => {
-            let a = edits::suggest::suggest(h, n, r, w, h2, n2, r2, w2, v, x, b as u32);
+            let a = edits::suggest::suggest(h, n, r, w, h2, n2, r2, w2, v, x, b);
             put_answer(out, at, a.number, a.pivots, a.whole)
         }
         _ => say_query(call, h, n, r, w, out, at),
@@ -67,11 +67,11 @@ pub fn say_call(
             put_answer(out, at, a.number, a.pivots, a.whole)
         }
         Call::Add(c, b, rel, k) => {
-            let a = constraints::add::add(h, n, r, w, h2, n2, r2, w2, c, p, k, rel, b as u32);
+            let a = constraints::add::add(h, n, r, w, h2, n2, r2, w2, c, p, k, rel, b);
             put_answer(out, at, a.number, a.pivots, a.whole)
         }
         Call::Remove(c, b) => {
-            let a = constraints::remove::remove(h, n, r, w, h2, n2, r2, w2, c, b as u32);
+            let a = constraints::remove::remove(h, n, r, w, h2, n2, r2, w2, c, b);
             put_answer(out, at, a.number, a.pivots, a.whole)
         }
         _ => say_edit(call, h, n, r, w, h2, n2, r2, w2, out, at),

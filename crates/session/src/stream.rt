@@ -15,17 +15,24 @@ pub struct Place {
     pub open: bool,
 }
 
-// What waits is written.
+// What waits is written; after a write that failed nothing more is, so that what was written is the answers' beginning.
 fn flush(out: &[u8], p: Place) -> Place
     requires { ⌜ p .at ≤ length (now out) ⌝ }
     ensures { λ q. ⌜ q .at ≡ 0 ⌝ }
 {
+    if !p.open {
+        return Place {
+            held: p.held,
+            at: 0,
+            open: false,
+        };
+    }
     let at = p.at;
     let ok = io::write_all(1, &out[..at]);
     Place {
         held: p.held,
         at: 0,
-        open: p.open & ok,
+        open: ok,
     }
 }
 
@@ -128,7 +135,7 @@ fn take_piece(
     q
 }
 
-// The input's end, after which nothing more is read.
+// The input's end.
 fn take_end(
     p: Place,
     h: &mut [u64],
@@ -148,21 +155,12 @@ fn take_end(
     ensures { λ q. ⌜ q .at ≤ length (now (out .exit)) ⌝ }
 {
     if p.held == 0 {
-        return Place {
-            held: 0,
-            at: p.at,
-            open: false,
-        };
+        return p;
     }
-    let q = end_line(p, h, n, r, w, h2, n2, r2, w2, line, out);
-    Place {
-        held: 0,
-        at: q.at,
-        open: false,
-    }
+    end_line(p, h, n, r, w, h2, n2, r2, w2, line, out)
 }
 
-// One read. A read that fails ends the input.
+// One read. A read that fails ends the input, after which nothing more is read.
 fn serve_piece(
     p: Place,
     h: &mut [u64],
@@ -186,7 +184,12 @@ fn serve_piece(
     let k = io::count(got, &piece);
     if k == 0 {
         let q = take_end(p, h, n, r, w, h2, n2, r2, w2, line, out);
-        return flush(out, q);
+        let f = flush(out, q);
+        return Place {
+            held: f.held,
+            at: f.at,
+            open: false,
+        };
     }
     let q = take_piece(&piece[..k], p, h, n, r, w, h2, n2, r2, w2, line, out);
     flush(out, q)

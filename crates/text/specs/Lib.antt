@@ -2,7 +2,6 @@
 pub mod Digits
 pub mod DigitLaws
 pub mod Floats
-pub mod Nans
 pub mod Choices
 pub mod Words
 pub mod Names

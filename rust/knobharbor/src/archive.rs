@@ -86,13 +86,12 @@ declare! {
 
 declare_changing! {
     knobharbor_add(
-        number: u32, vars: *const u32, var_count: usize, coefs: *const f64, coef_count: usize,
-        constant: f64, kind: u32, strength: f64, budget: u32
+        number: u32, terms: *const Term, term_count: usize, constant: f64, kind: u32, strength: f64, budget: u16
     );
-    knobharbor_remove(number: u32, budget: u32);
-    knobharbor_add_edit(variable: u32, strength: f64, budget: u32);
-    knobharbor_remove_edit(variable: u32, budget: u32);
-    knobharbor_suggest(variable: u32, value: f64, budget: u32);
+    knobharbor_remove(number: u32, budget: u16);
+    knobharbor_add_edit(variable: u32, strength: f64, budget: u16);
+    knobharbor_remove_edit(variable: u32, budget: u16);
+    knobharbor_suggest(variable: u32, value: f64, budget: u16);
 }
 
 extern "C" {
@@ -128,35 +127,37 @@ pub fn reset(t: &mut Tables) -> Answer {
     with!(knobharbor_reset, t)
 }
 
+#[repr(C)]
+pub struct Term {
+    pub variable: u32,
+    pub coefficient: f64,
+}
+
 pub struct Added<'a> {
     pub number: u32,
-    pub vars: &'a [u32],
-    pub coefs: &'a [f64],
+    pub terms: &'a [Term],
     pub constant: f64,
     pub kind: u32,
     pub strength: f64,
 }
 
-pub fn add(t: &mut Tables, w: &mut Tables, a: Added, budget: u32) -> Answer {
-    change!(
-        knobharbor_add, t, w, a.number, a.vars.as_ptr(), a.vars.len(), a.coefs.as_ptr(), a.coefs.len(), a.constant, a.kind, a.strength,
-        budget
-    )
+pub fn add(t: &mut Tables, w: &mut Tables, a: Added, budget: u16) -> Answer {
+    change!(knobharbor_add, t, w, a.number, a.terms.as_ptr(), a.terms.len(), a.constant, a.kind, a.strength, budget)
 }
 
-pub fn remove(t: &mut Tables, w: &mut Tables, number: u32, budget: u32) -> Answer {
+pub fn remove(t: &mut Tables, w: &mut Tables, number: u32, budget: u16) -> Answer {
     change!(knobharbor_remove, t, w, number, budget)
 }
 
-pub fn add_edit(t: &mut Tables, w: &mut Tables, variable: u32, strength: f64, budget: u32) -> Answer {
+pub fn add_edit(t: &mut Tables, w: &mut Tables, variable: u32, strength: f64, budget: u16) -> Answer {
     change!(knobharbor_add_edit, t, w, variable, strength, budget)
 }
 
-pub fn remove_edit(t: &mut Tables, w: &mut Tables, variable: u32, budget: u32) -> Answer {
+pub fn remove_edit(t: &mut Tables, w: &mut Tables, variable: u32, budget: u16) -> Answer {
     change!(knobharbor_remove_edit, t, w, variable, budget)
 }
 
-pub fn suggest(t: &mut Tables, w: &mut Tables, variable: u32, value: f64, budget: u32) -> Answer {
+pub fn suggest(t: &mut Tables, w: &mut Tables, variable: u32, value: f64, budget: u16) -> Answer {
     change!(knobharbor_suggest, t, w, variable, value, budget)
 }
 

@@ -1,5 +1,5 @@
 //! The solver: its tables, its working room, and the numbers of its constraints.
-use crate::archive::{self, Added, Answer, Held, PLACES};
+use crate::archive::{self, Added, Answer, Held, Term, PLACES};
 use crate::{Constraint, Refusal, RelationalOperator, Variable};
 
 /// The largest budget, and the one that a new solver has.
@@ -72,13 +72,11 @@ impl Solver {
     pub fn add_constraint(&mut self, constraint: Constraint) -> Result<(), Refusal> {
         let known = self.number_of(&constraint);
         let number = known.unwrap_or_else(|| self.free_number());
-        let terms = &constraint.expr().terms;
-        let vars: Vec<u32> = terms.iter().map(|t| t.variable.number()).collect();
-        let coefs: Vec<f64> = terms.iter().map(|t| t.coefficient).collect();
+        let terms: Vec<Term> =
+            constraint.expr().terms.iter().map(|t| Term { variable: t.variable.number(), coefficient: t.coefficient }).collect();
         let added = Added {
             number,
-            vars: &vars,
-            coefs: &coefs,
+            terms: &terms,
             constant: constraint.expr().constant,
             kind: match constraint.op() {
                 RelationalOperator::LessOrEqual => 0,
@@ -87,7 +85,7 @@ impl Solver {
             },
             strength: constraint.strength(),
         };
-        let answer = archive::add(&mut self.held.tables, &mut self.held.room, added, self.budget.into());
+        let answer = archive::add(&mut self.held.tables, &mut self.held.room, added, self.budget);
         self.concluded(answer)?;
         self.constraints.push((constraint, number));
         Ok(())
@@ -107,7 +105,7 @@ impl Solver {
             // a number that is not live: the archive refuses it, with the stored mark
             None => self.free_number(),
         };
-        let answer = archive::remove(&mut self.held.tables, &mut self.held.room, number, self.budget.into());
+        let answer = archive::remove(&mut self.held.tables, &mut self.held.room, number, self.budget);
         self.concluded(answer)?;
         self.constraints.retain(|(c, _)| c != constraint);
         Ok(())
@@ -121,12 +119,12 @@ impl Solver {
     }
 
     pub fn add_edit_variable(&mut self, v: Variable, strength: f64) -> Result<(), Refusal> {
-        let answer = archive::add_edit(&mut self.held.tables, &mut self.held.room, v.number(), strength, self.budget.into());
+        let answer = archive::add_edit(&mut self.held.tables, &mut self.held.room, v.number(), strength, self.budget);
         self.concluded(answer)
     }
 
     pub fn remove_edit_variable(&mut self, v: Variable) -> Result<(), Refusal> {
-        let answer = archive::remove_edit(&mut self.held.tables, &mut self.held.room, v.number(), self.budget.into());
+        let answer = archive::remove_edit(&mut self.held.tables, &mut self.held.room, v.number(), self.budget);
         self.concluded(answer)
     }
 
@@ -136,7 +134,7 @@ impl Solver {
 
     /// Moves an edit's aim. If it is refused, every value, and the aim itself, is as it was.
     pub fn suggest_value(&mut self, v: Variable, value: f64) -> Result<(), Refusal> {
-        let answer = archive::suggest(&mut self.held.tables, &mut self.held.room, v.number(), value, self.budget.into());
+        let answer = archive::suggest(&mut self.held.tables, &mut self.held.room, v.number(), value, self.budget);
         self.concluded(answer)
     }
 

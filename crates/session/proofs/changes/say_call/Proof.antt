@@ -44,9 +44,6 @@ put-answer-requires c κs = search needs
 enum-known-call : tie.Need-enum-known-call
 enum-known-call c = search needs
 
-cast-add : tie.Need-cast-add
-cast-add c = search needs
-
 add-requires : tie.Need-add-requires
 add-requires c κs = search needs
 
@@ -55,9 +52,6 @@ put-answer-requires-2 c κs = search needs
 
 enum-known-call-2 : tie.Need-enum-known-call-2
 enum-known-call-2 c = search needs
-
-cast-remove : tie.Need-cast-remove
-cast-remove c = search needs
 
 remove-requires : tie.Need-remove-requires
 remove-requires c κs = search needs
@@ -203,11 +197,9 @@ say-call-spec =
     reset-requires
     put-answer-requires
     enum-known-call
-    cast-add
     add-requires
     put-answer-requires-2
     enum-known-call-2
-    cast-remove
     remove-requires
     put-answer-requires-3
     say-edit-requires

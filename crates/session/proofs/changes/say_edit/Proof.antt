@@ -34,9 +34,6 @@ rest Bad w t e = refl
 enum-known-call : tie.Need-enum-known-call
 enum-known-call c = search needs
 
-cast-add-edit : tie.Need-cast-add-edit
-cast-add-edit c = search needs
-
 add-edit-requires : tie.Need-add-edit-requires
 add-edit-requires c κs = search needs
 
@@ -46,9 +43,6 @@ put-answer-requires c κs = search needs
 enum-known-call-2 : tie.Need-enum-known-call-2
 enum-known-call-2 c = search needs
 
-cast-remove-edit : tie.Need-cast-remove-edit
-cast-remove-edit c = search needs
-
 remove-edit-requires : tie.Need-remove-edit-requires
 remove-edit-requires c κs = search needs
 
@@ -57,9 +51,6 @@ put-answer-requires-2 c κs = search needs
 
 enum-known-call-3 : tie.Need-enum-known-call-3
 enum-known-call-3 c = search needs
-
-cast-suggest : tie.Need-cast-suggest
-cast-suggest c = search needs
 
 suggest-requires : tie.Need-suggest-requires
 suggest-requires c κs = search needs
@@ -198,15 +189,12 @@ say-edit-spec =
     tie.close
     (tie.spec
     enum-known-call
-    cast-add-edit
     add-edit-requires
     put-answer-requires
     enum-known-call-2
-    cast-remove-edit
     remove-edit-requires
     put-answer-requires-2
     enum-known-call-3
-    cast-suggest
     suggest-requires
     put-answer-requires-3
     say-query-requires

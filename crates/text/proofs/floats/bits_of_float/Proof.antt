@@ -3,7 +3,7 @@
 use borrow.Author.Needs.{needs}
 use mathlib.Core.Path.{sym, ap}
 use lib.Ieee.{binary64, toBits}
-use Rattle.text.specs.Nans.{no-nan, is-nan}
+use Rattle.rows.specs.Nans.{no-nan, is-nan}
 use Rattle.text.proofs.floats.bits_of_float.Statement.{statement}
 use Rattle.text.proofs.floats.bits_of_float.Tie as tie
 

@@ -8,7 +8,7 @@ use borrow.Author.Tests.{lt-ltb, le-ltb}
 use lib.Dec.{T}
 use lib.Ieee.{binary64, div, ofBits}
 use lib.Ieee.Bits.{nanBits-is, nanBits-above}
-use Rattle.text.specs.Nans.{nan-is}
+use Rattle.rows.specs.Nans.{nan-is}
 use Rattle.text.proofs.floats.float_of_bits.Statement.{statement}
 use Rattle.text.proofs.floats.float_of_bits.Tie as tie
 
