@@ -25,6 +25,8 @@ pub enum Call {
     Dump,
     Check,
     SetNext(u32),
+    // a row's cell by the ids, 0 for the objective and for the constant: states that read and come from no run
+    SetCell(u32, u32, f64),
 }
 
 const LARGEST_WHOLE: u64 = 9_007_199_254_740_992;
@@ -127,6 +129,7 @@ pub fn read(line: &str, decimals: bool) -> Option<Call> {
         "dump" => Call::Dump,
         "check" => Call::Check,
         "setnext" => Call::SetNext(w.u32()?),
+        "setcell" => Call::SetCell(w.u32()?, w.u32()?, w.f64()?),
         _ => return None,
     };
     if w.word().is_some() {

@@ -1,17 +1,23 @@
-//! The archive, driven by the text format of calls.
-#![allow(dead_code)] // what damage/main.rs alone uses
-mod archive;
+//! The archive as a program of the text format, through its C names, with the bench's own words: a dump and a check are of the state
+//! that the tables hold.
 #[path = "../format.rs"]
 mod format;
-mod random;
 
-use archive::{ask, fetch, Call, Tables, LENGTHS};
+mod archive;
+#[allow(dead_code)]
+mod layout;
+#[allow(dead_code)]
+mod memory;
+#[allow(dead_code)]
+mod model;
+#[allow(dead_code)]
+mod reading;
+
+use archive::{ask, clip, create, fetch, Call};
+use cassowary_patched::{Solver, State};
 use format::{bits, Relation};
-
-extern "C" {
-    fn knobharbor_strength_create(a: f64, b: f64, c: f64, w: f64) -> f64;
-    fn knobharbor_strength_clip(s: f64) -> f64;
-}
+use layout::{Tables, Words, CHANGES, LENGTHS};
+use memory::{Lists, Set};
 
 fn kind(r: Relation) -> u32 {
     match r {
@@ -21,37 +27,77 @@ fn kind(r: Relation) -> u32 {
     }
 }
 
-fn fetched(t: &mut Tables) -> String {
-    let (mut numbers, mut values) = ([0; 32], [0.0; 32]);
-    let f = fetch(t, &mut numbers, &mut values);
-    let list: String = (0..f.count as usize).map(|i| format!(" {}:{}", numbers[i], bits(values[i]))).collect();
-    format!("{}{}", f.count, list)
+struct Program {
+    tables: Tables,
+    lent: Set,
+    room: Set,
+    changes: Lists<u64, f64>,
 }
 
-fn main() {
-    let mut g = random::Random(1);
-    let (mut t, mut room) = (Tables::any(&mut g, LENGTHS, 0), Tables::any(&mut g, LENGTHS, 0));
-    Call::Reset.make(&mut t, &mut room);
-    format::serve(|call| {
+impl Program {
+    fn make(&mut self, call: Call) -> String {
+        let nothing: (&[u32], &[f64]) = (&[], &[]);
+        let (vars, coefs) = if let Call::Add { vars, coefs, .. } = &call { (&vars[..], &coefs[..]) } else { nothing };
+        let room = Tables::filled(LENGTHS, || 7, || 7.0);
+        let a = call.make(self.lent.lend(&self.tables, true), self.room.lend(&room, true), vars, coefs);
+        self.tables = self.lent.back().expect("what is not lent stays");
+        format!("{} {} {}", a.number, a.pivots, a.whole as u8)
+    }
+
+    fn fetch(&mut self) -> String {
+        let (numbers, values) = self.changes.lend(&[7; CHANGES], &[7.0; CHANGES], true);
+        let f = fetch(self.lent.lend(&self.tables, true), numbers, values);
+        self.tables = self.lent.back().expect("what is not lent stays");
+        let list: String = (0..f.count as usize).map(|i| format!(" {}:{}", numbers[i], bits(values[i]))).collect();
+        format!("{}{}", f.count, list)
+    }
+
+    fn ask(&mut self, n: u32) -> (f64, bool, bool) {
+        ask(self.lent.lend(&self.tables, true), n)
+    }
+
+    fn change(&mut self, change: impl FnOnce(&mut State) -> bool) -> String {
+        let mut state = model::state(&Words::of(&self.tables));
+        let found = change(&mut state);
+        model::words(&state).lay(&mut self.tables);
+        if found { "set" } else { "no" }.to_string()
+    }
+
+    fn answer(&mut self, call: format::Call) -> String {
+        let words = Words::of(&self.tables);
         let call = match call {
-            format::Call::Value(v) => return bits(ask(&t, v).0),
-            format::Call::HasConstraint(n) => return (ask(&t, n).1 as u8).to_string(),
-            format::Call::HasEdit(v) => return (ask(&t, v).2 as u8).to_string(),
-            format::Call::Fetch => return fetched(&mut t),
-            format::Call::Create(a, b, c, w) => return bits(unsafe { knobharbor_strength_create(a, b, c, w) }),
-            format::Call::Clip(s) => return bits(unsafe { knobharbor_strength_clip(s) }),
-            format::Call::Dump | format::Call::Check | format::Call::SetNext(_) => return "?".to_string(),
+            format::Call::Value(v) => return bits(self.ask(v).0),
+            format::Call::HasConstraint(n) => return (self.ask(n).1 as u8).to_string(),
+            format::Call::HasEdit(v) => return (self.ask(v).2 as u8).to_string(),
+            format::Call::Fetch => return self.fetch(),
+            format::Call::Create(a, b, c, w) => return bits(create(a, b, c, w)),
+            format::Call::Clip(s) => return bits(clip(s)),
+            format::Call::Dump => return Solver::from_state(&model::state(&words)).dump(),
+            format::Call::Check => return if reading::reads(&words, None) { "reads" } else { "no" }.to_string(),
+            format::Call::SetNext(id) => {
+                return self.change(|s| {
+                    s.next = id as usize;
+                    true
+                })
+            }
+            format::Call::SetCell(row, cell, value) => return self.change(|s| s.set_cell(row as usize, cell as usize, value)),
             format::Call::Reset => Call::Reset,
             format::Call::Add { number, budget, relation, strength, constant, terms } => {
                 let (vars, coefs) = terms.into_iter().unzip();
-                Call::Add { number, vars, coefs, constant, kind: kind(relation), strength, budget: budget.into() }
+                Call::Add { number, vars, coefs, constant, kind: kind(relation), strength, budget }
             }
-            format::Call::Remove { number, budget } => Call::Remove { number, budget: budget.into() },
-            format::Call::AddEdit { variable, strength, budget } => Call::AddEdit { variable, strength, budget: budget.into() },
-            format::Call::RemoveEdit { variable, budget } => Call::RemoveEdit { variable, budget: budget.into() },
-            format::Call::Suggest { variable, value, budget } => Call::Suggest { variable, suggestion: value, budget: budget.into() },
+            format::Call::Remove { number, budget } => Call::Remove { number, budget },
+            format::Call::AddEdit { variable, strength, budget } => Call::AddEdit { variable, strength, budget },
+            format::Call::RemoveEdit { variable, budget } => Call::RemoveEdit { variable, budget },
+            format::Call::Suggest { variable, value, budget } => Call::Suggest { variable, suggestion: value, budget },
         };
-        let a = call.make(&mut t, &mut room);
-        format!("{} {} {}", a.number, a.pivots, a.whole as u8)
-    });
+        self.make(call)
+    }
+}
+
+fn main() {
+    let tables = Tables::filled(LENGTHS, || 7, || 7.0);
+    let mut program = Program { tables, lent: Set::new(), room: Set::new(), changes: Lists::new() };
+    program.make(Call::Reset);
+    format::serve(|call| program.answer(call));
 }

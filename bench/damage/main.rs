@@ -1,142 +1,220 @@
-// Lends damaged tables to the archive's calls. Live states come from random calls; words of a copy are damaged, or a length is
-// wrong, and a random call is made on it. `bench/run damage TRIALS SEED` builds and runs it.
+//! Lends tables of many kinds to the archive's calls, and compares what they answer and every word that they leave with an oracle
+//! that has nothing of the archive. `bench/run damage TRIALS SEED`, `bench/run damage-clauses TRIALS SEED`.
 mod archive;
+mod breaks;
+mod check;
+mod craft;
+mod layout;
+mod memory;
+mod model;
 mod random;
+mod reading;
 
-use archive::{ask, fetch, Answer, Call, Tables, LENGTHS};
+use archive::Call;
+use check::{clause_names, Checker, Difference};
+use layout::{Tables, Word, Words, CHANGES, LENGTHS};
+use memory::{MORE, TRIAL};
 use random::Random;
+use std::sync::atomic::Ordering;
 
+#[derive(Default)]
 struct Counts {
     answers: [u64; 19],
-    reads: u64,
-    fetched: [u64; 2],
+    fetches: [u64; 2],
+    kinds: [[u64; 2]; KINDS.len()],
 }
+
+const KINDS: [&str; 7] = ["of a run", "a word or more changed", "made up", "made up, one thing wrong", "made up, a word or more changed", "random", "wrong lengths"];
 
 struct Run {
     g: Random,
-    // how many elements stand behind each lent table
-    behind: usize,
+    checker: Checker,
     counts: Counts,
-    trial: u64,
+    live: Tables,
+}
+
+fn any_tables(g: &mut Random, lengths: [usize; 4]) -> Tables {
+    let (mut a, mut b) = (Random(g.word()), Random(g.word()));
+    Tables::filled(lengths, || a.word(), || f64::from_bits(b.word()))
+}
+
+/// Random words: all of them, or small ones with numbers that are finite.
+fn random_tables(g: &mut Random) -> Tables {
+    if g.one_in(2) {
+        return any_tables(g, LENGTHS);
+    }
+    let most = g.pick(&[2, 3, 6, 40]);
+    let (mut a, mut b) = (Random(g.word()), Random(g.word()));
+    Tables::filled(LENGTHS, || a.below(most) as u64, || b.tame())
+}
+
+fn other_lengths(g: &mut Random) -> [usize; 4] {
+    let mut out = LENGTHS;
+    for _ in 0..1 + g.below(2) {
+        let i = g.below(4);
+        out[i] = match g.below(4) {
+            0 => LENGTHS[i] + 1,
+            1 => LENGTHS[i] - 1,
+            2 => g.below(LENGTHS[i] + MORE),
+            _ => 0,
+        };
+    }
+    out
+}
+
+fn damage(g: &mut Random, t: &mut Tables) {
+    let place = if g.one_in(4) { g.below(usize::MAX) } else { t.live_place(|n| g.below(n)) };
+    match t.word_at(place) {
+        Word::Count(x) => {
+            *x = match g.below(8) {
+                0 => g.word(),
+                1 => *x ^ (1 << g.below(64)),
+                2 => x.wrapping_add(1),
+                3 => x.wrapping_sub(1),
+                4 => x.wrapping_add(4),
+                5 => g.below(300) as u64,
+                6 => 0,
+                _ => *x ^ (1 + g.below(3) as u64),
+            }
+        }
+        Word::Number(x) => {
+            *x = match g.below(8) {
+                0 => f64::from_bits(g.word()),
+                1 => f64::from_bits(x.to_bits() ^ (1 << g.below(64))),
+                2 => g.not_finite(),
+                3 => g.pick(&[0.0, -0.0, f64::MIN_POSITIVE / 2.0, f64::MAX]),
+                4 => -*x,
+                5 => *x + 1.0,
+                _ => g.wild(),
+            }
+        }
+    }
 }
 
 impl Run {
-    fn must(&self, held: bool, what: &str, about: &dyn std::fmt::Debug) {
-        if !held {
-            println!("trial {}: not so: {what}: {about:?}", self.trial);
-            println!("faults: 1");
-            std::process::exit(1);
-        }
+    fn made_up(&mut self, w: Words) -> Tables {
+        let mut t = any_tables(&mut self.g, LENGTHS);
+        w.lay(&mut t);
+        t
     }
 
-    // The call with any content in the working room, and what every call owes whatever it is lent.
-    fn make(&mut self, call: &Call, t: &mut Tables, lengths: [usize; 4]) -> Answer {
-        let mut room = Tables::any(&mut self.g, lengths, self.behind);
-        let (old, old_room) = (t.clone(), room.clone());
-        let a = call.make(t, &mut room);
-        let lent_room = !matches!(call, Call::Reset);
-        self.must(!lent_room || room.lent_is_zero(), "the working room is all zero", call);
-        self.must(lent_room || room.same(&old_room), "what is not lent is left", call);
-        self.must(room.behind() == old_room.behind() && t.behind() == old.behind(), "what is not lent is left", call);
-        self.must(a.number <= 18, "the number is at most 18", &(call, a));
-        self.must(a.number == 0 || t.same(&old), "a refusal changes no table", &(call, a));
-        self.must(a.number != 18 || a == Answer { number: 18, pivots: 0, whole: false }, "18 has no pivots and no mark", &(call, a));
-        self.must(a.pivots <= call.budget(), "no more pivots than the budget", &(call, a));
-        a
+    fn tables(&mut self, kind: usize) -> Tables {
+        let words = if kind == 3 { breaks::broken(&mut self.g) } else { craft::state(&mut self.g) };
+        let mut t = match kind {
+            1 => self.live.clone(),
+            2..=4 => self.made_up(words),
+            5 => random_tables(&mut self.g),
+            _ => self.live.with_lengths(other_lengths(&mut self.g)),
+        };
+        if kind == 1 || kind == 4 {
+            let many = if self.g.one_in(3) { 1 + self.g.below(6) } else { 1 };
+            (0..many).for_each(|_| damage(&mut self.g, &mut t));
+        }
+        t
     }
 
-    // A suggestion that is not finite is answered 1 after 18 is tested, and changes nothing.
-    fn reads(&mut self, t: &mut Tables) -> bool {
-        let a = self.make(&Call::Suggest { variable: 1, suggestion: f64::NAN, budget: 0 }, t, LENGTHS);
-        self.must(a.number == 1 || a.number == 18, "1 or 18", &a);
-        a.number == 1
+    fn call(&mut self, t: &Tables) -> Result<(u32, Tables), Difference> {
+        let w = Words::of(t);
+        let numbers = |list: Vec<u64>| -> Vec<u32> { list.into_iter().map(|n| n as u32).collect() };
+        let variables = numbers(w.variables.iter().map(|v| v.number).collect());
+        let constraints = numbers(w.constraints.iter().map(|c| c.number).collect());
+        let edits = numbers(w.edits.iter().map(|e| e.variable).collect());
+        let call = self.g.call(&variables, &constraints, &edits);
+        let lengths = if self.g.one_in(12) { other_lengths(&mut self.g) } else { LENGTHS };
+        let (room, last) = (any_tables(&mut self.g, lengths), self.g.one_in(2));
+        let (answer, after) = self.checker.call(&call, t, &room, last)?;
+        self.counts.answers[answer.number as usize] += 1;
+        self.checker.ask(t, self.g.pick(&variables.iter().chain(&constraints).chain(&edits).chain(&[0, 7]).copied().collect::<Vec<_>>()), last)?;
+        Ok((answer.number, after))
     }
 
-    fn fetch(&mut self, t: &mut Tables, lengths: (usize, usize), reads: bool) {
-        let mut numbers: Vec<u64> = (0..lengths.0).map(|_| self.g.word()).collect();
-        let mut values: Vec<f64> = (0..lengths.1).map(|_| f64::from_bits(self.g.word())).collect();
-        let old = t.clone();
-        let f = fetch(t, &mut numbers, &mut values);
-        let right = reads && lengths == (32, 32);
-        self.must(f.number == if right { 0 } else { 18 }, "fetch gives 18 where the tables do not read or a list has a wrong length", &f);
-        self.must(f.count as u64 <= t.head[4].min(32) && (right || f.count == 0), "no more changes than variables", &f);
-        self.must(right || t.same(&old), "fetch that gives 18 changes no table", &f);
-        let zero = numbers.iter().skip(f.count as usize).all(|&n| n == 0) && values.iter().skip(f.count as usize).all(|v| v.to_bits() == 0);
-        self.must(zero, "the lists are zero past the count", &f);
-        self.must(t.behind() == old.behind(), "what is not lent is left", &f);
-        self.counts.fetched[right as usize] += 1;
+    fn fetch(&mut self, t: &Tables) -> Result<(u32, Tables), Difference> {
+        let lengths = match self.g.below(8) {
+            0 => (self.g.below(MORE), CHANGES),
+            1 => (CHANGES, self.g.below(MORE)),
+            2 => (CHANGES - 1 + self.g.below(3), CHANGES - 1 + self.g.below(3)),
+            _ => (CHANGES, CHANGES),
+        };
+        let numbers: Vec<u64> = (0..lengths.0).map(|_| self.g.word()).collect();
+        let values: Vec<f64> = (0..lengths.1).map(|_| f64::from_bits(self.g.word())).collect();
+        let last = self.g.one_in(2);
+        let (answer, after) = self.checker.fetch(t, &numbers, &values, last)?;
+        self.counts.fetches[(answer.number == 18) as usize] += 1;
+        Ok((answer.number, after))
     }
 
-    fn ask(&mut self, t: &Tables, reads: bool) {
-        let n = self.g.below(50) as u32;
-        let (value, constraint, edit) = ask(t, n);
-        self.must(reads || (value.to_bits() == 0 && !constraint && !edit), "queries give 0.0 and false where the tables do not read", &n);
+    fn some_call(&mut self, kind: usize, t: &Tables) -> Result<Tables, Difference> {
+        let (number, after) = if self.g.one_in(6) { self.fetch(t)? } else { self.call(t)? };
+        self.counts.kinds[kind][(number == 18) as usize] += 1;
+        Ok(after)
     }
 
-    // One call on damaged tables.
-    fn damaged(&mut self, live: &Tables, size: u64) {
-        let mut t = live.clone();
-        let mut lengths = LENGTHS;
-        match self.g.below(20) {
-            0 => t = t.with_lengths(self.g.wrong_length(LENGTHS), self.behind),
-            1 => lengths = self.g.wrong_length(LENGTHS),
-            2..=14 => self.g.damage(&mut t),
-            _ => (0..1 + self.g.below(6)).for_each(|_| self.g.damage(&mut t)),
+    /// One call more on the tables of the run, which now and then begins anew; then one on tables of some other kind.
+    fn trial(&mut self) -> Result<(), Difference> {
+        if self.g.one_in(80) {
+            let (t, room) = (any_tables(&mut self.g, LENGTHS), any_tables(&mut self.g, LENGTHS));
+            self.live = self.checker.call(&Call::Reset, &t, &room, true)?.1;
         }
-        let reads = self.reads(&mut t);
-        self.ask(&t, reads);
-        if self.g.below(8) == 0 {
-            let lists = if self.g.below(4) == 0 { (31 + self.g.below(3) as usize, 32) } else { (32, 32) };
-            return self.fetch(&mut t, lists, reads);
-        }
-        let call = self.g.call(size);
-        let a = self.make(&call, &mut t, lengths);
-        let expected = !reads || lengths != LENGTHS || !call.fits();
-        self.must((a.number == 18) == expected, "18 exactly where a table does not read or an argument does not fit", &(&call, a));
-        self.counts.reads += reads as u64;
-        self.counts.answers[a.number as usize] += 1;
-        if a.number == 0 {
-            let still = self.reads(&mut t);
-            self.must(still, "what an accepted call leaves reads as a state", &call);
-        }
+        let live = self.live.clone();
+        self.live = self.some_call(0, &live)?;
+        let kind = self.g.pick(&[1, 1, 1, 2, 2, 2, 3, 3, 3, 4, 4, 5, 6]);
+        let t = self.tables(kind);
+        self.some_call(kind, &t).map(|_| ())
     }
+}
 
-    // One call more on the live tables; now and then they begin anew, with any content past the counts.
-    fn live(&mut self, t: &mut Tables, size: &mut u64) {
-        if self.g.below(80) == 0 {
-            *size = [4, 12, 24, 36][self.g.below(4) as usize];
-            *t = Tables::any(&mut self.g, LENGTHS, self.behind);
-            let a = self.make(&Call::Reset, t, LENGTHS);
-            self.must(a == Answer { number: 0, pivots: 0, whole: true }, "a reset is accepted", &a);
+fn run(trials: u64, seed: u64, left_out: Option<usize>) -> (Run, Result<(), (u64, Difference)>) {
+    let mut g = Random(seed);
+    let mut live = any_tables(&mut g, LENGTHS);
+    Words { next: 1, whole: 1, ..Words::default() }.lay(&mut live);
+    let mut run = Run { g, checker: Checker::new(left_out), counts: Counts::default(), live };
+    for trial in 0..trials {
+        TRIAL.store(trial, Ordering::SeqCst);
+        if let Err(difference) = run.trial() {
+            return (run, Err((trial, difference)));
         }
-        if self.g.below(8) == 0 {
-            return self.fetch(t, (32, 32), true);
-        }
-        let call = self.g.call(*size);
-        let a = self.make(&call, t, LENGTHS);
-        self.must((a.number == 18) != call.fits(), "what calls leave reads as a state", &(&call, a));
     }
+    (run, Ok(()))
+}
+
+/// Every clause of the reading left out in turn: a difference is due each time.
+fn clauses(trials: u64, seed: u64) -> bool {
+    let mut missed = 0;
+    for (i, name) in clause_names().iter().enumerate() {
+        match run(trials, seed, Some(i)).1 {
+            Err((trial, difference)) => println!("{name:45} trial {trial:6}: {:.90}", difference),
+            Ok(()) => {
+                missed += 1;
+                println!("{name:45} no difference in {trials} trials");
+            }
+        }
+    }
+    println!("clauses: {}, left out without a difference: {missed}", clause_names().len());
+    missed == 0
+}
+
+fn told(c: &Counts, trials: u64, seed: u64) {
+    println!("trials: {trials}, seed {seed}");
+    for (name, [read, not]) in KINDS.iter().zip(c.kinds) {
+        println!("{name:35} accepted or refused by the rules {read:7}, 18 {not:7}");
+    }
+    let answers: Vec<String> = c.answers.iter().enumerate().filter(|(_, n)| **n > 0).map(|(i, n)| format!("{i}: {n}")).collect();
+    println!("answers: {}; fetches of 0 and of 18: {} {}", answers.join(", "), c.fetches[0], c.fetches[1]);
 }
 
 fn main() {
     let args: Vec<String> = std::env::args().skip(1).collect();
     let number = |i: usize, other: u64| args.get(i).and_then(|s| s.parse().ok()).unwrap_or(other);
-    let (trials, seed) = (number(0, 100000), number(1, 1));
-    // `exact` has nothing behind a table, so that valgrind sees a read past its end
-    let behind = if args.get(2).map(String::as_str) == Some("exact") { 0 } else { 1 };
-    let mut g = Random(seed);
-    let mut t = Tables::any(&mut g, LENGTHS, behind);
-    let mut run = Run { g, behind, counts: Counts { answers: [0; 19], reads: 0, fetched: [0; 2] }, trial: 0 };
-    run.make(&Call::Reset, &mut t, LENGTHS);
-    let mut size = 12;
-    for trial in 0..trials {
-        run.trial = trial;
-        run.live(&mut t, &mut size);
-        run.damaged(&t, size);
+    let (trials, seed) = (number(1, 100000), number(2, 1));
+    memory::tell_faults();
+    if args.first().map(String::as_str) == Some("clauses") {
+        std::process::exit(!clauses(trials, seed) as i32);
     }
-    let c = &run.counts;
-    println!("trials: {trials}, seed {seed}; damaged tables that still read as a state: {}; fetches of 0 and of 18: {} {}", c.reads, c.fetched[1], c.fetched[0]);
-    let answers: Vec<String> = c.answers.iter().enumerate().filter(|(_, n)| **n > 0).map(|(i, n)| format!("{i}: {n}")).collect();
-    println!("answers on damaged tables: {}", answers.join(", "));
-    println!("faults: 0");
+    let (run, result) = run(trials, seed, None);
+    told(&run.counts, trials, seed);
+    if let Err((trial, difference)) = result {
+        println!("trial {trial}: {difference}\ndifferences: 1");
+        std::process::exit(1);
+    }
+    println!("differences: 0");
 }

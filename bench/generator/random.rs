@@ -55,13 +55,19 @@ impl Random {
     }
 }
 
+/// NaNs that are no quiet ones, of both signs.
+fn signalling(r: &mut Random) -> f64 {
+    let payload = [1, 0x0004_0000_0000_0000, 0x0007_ffff_ffff_ffff][r.below(3) as usize];
+    f64::from_bits((r.below(2) << 63) | 0x7ff0_0000_0000_0000 | payload)
+}
+
 /// As the text format has it: a whole number of at most 2^53 in decimal, another by its bits.
 pub fn number(x: f64) -> String {
     if x == 1_001_001_000.0 {
         "req".to_string()
     } else if x == x.trunc() && x.abs() <= 9_007_199_254_740_992.0 && x.to_bits() != (-0.0f64).to_bits() {
         format!("{}", x as i64)
-    } else if x.is_nan() {
+    } else if x.to_bits() == f64::NAN.to_bits() {
         "nan".to_string()
     } else if x.is_infinite() {
         if x > 0.0 { "inf" } else { "-inf" }.to_string()
@@ -172,6 +178,7 @@ pub fn edit_strength(r: &mut Random) -> f64 {
 
 pub fn any_strength(r: &mut Random) -> f64 {
     match r.below(3) {
+        _ if r.one_in(12) => signalling(r),
         0 => r.choice(&[f64::NAN, f64::INFINITY, f64::NEG_INFINITY, -1.0, -0.0, 1_001_001_000.0, 2_000_000_000.0, 1_001_000_999.0]),
         1 => extreme(r),
         _ => usual_strength(r),
@@ -181,6 +188,7 @@ pub fn any_strength(r: &mut Random) -> f64 {
 /// A part of a strength, or its weight.
 pub fn part(r: &mut Random) -> f64 {
     match r.below(4) {
+        _ if r.one_in(12) => signalling(r),
         0 => r.choice(&[0.0, -0.0, 1.0, 1000.0, 1001.0, 999.0, -1.0, f64::NAN, f64::INFINITY, f64::NEG_INFINITY]),
         1 => extreme(r),
         2 => general(r),
@@ -191,9 +199,16 @@ pub fn part(r: &mut Random) -> f64 {
 // ---- numbers that a call may refuse
 
 pub fn any(r: &mut Random) -> f64 {
+    if r.one_in(12) {
+        return signalling(r);
+    }
     if r.one_in(3) { r.choice(&[f64::NAN, f64::INFINITY, f64::NEG_INFINITY, -0.0]) } else { extreme(r) }
 }
 
 pub fn seldom_bad(r: &mut Random) -> f64 {
-    if r.one_in(60) { r.choice(&[f64::NAN, f64::INFINITY]) } else { small_coefficient(r) }
+    match r.below(60) {
+        0 => r.choice(&[f64::NAN, f64::INFINITY]),
+        1 => signalling(r),
+        _ => small_coefficient(r),
+    }
 }

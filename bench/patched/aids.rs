@@ -1,7 +1,7 @@
 //! EDIT 20: aids of the bench, no part of the crate nor calls of document 01: the whole state as a line, whether it
 //! reads as one, and the next id set.
 use std::collections::{ BTreeMap, BTreeSet };
-use super::{ near_zero, Name, RelationalOperator, Row, Solver, Symbol, SymbolType, Variable };
+use super::{ Name, RelationalOperator, Row, Solver, Symbol, SymbolType, Variable };
 
 fn named(s: Symbol) -> String {
     match s.type_() {
@@ -73,7 +73,7 @@ impl Solver {
                 (_, true) => (SymbolType::Slack, SymbolType::Invalid),
                 (_, false) => (SymbolType::Slack, SymbolType::Error)
             };
-            let terms: Vec<_> = c.expr().terms.iter().filter(|t| !near_zero(t.coefficient)).collect();
+            let terms = &c.expr().terms;
             let fits = (tag.marker.type_(), tag.other.type_()) == given
                 && terms.len() <= 16
                 && terms.iter().all(|t| t.coefficient.is_finite())

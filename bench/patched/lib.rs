@@ -24,13 +24,15 @@
 //! 17. "every row holding the marker gets delta times that cell": a row that doesn't hold it is left alone, whatever delta is.
 //! 18. "Create: each of three parts times w is held to 0..1000 (NaN gives 0) ... A zero is +0.0."
 //! 19. "Left out: operators, `Display`, the variable counter, `add_constraints`."
-//! 20. Aids of the bench, no part of document 01: dump, reads_as_one, set_next.
+//! 20. Aids of the bench, no part of document 01: dump, reads_as_one, set_next, and the state as plain numbers.
+//! 21. "use counts are those of the stored terms": skipped terms are not stored.
 use std::collections::BTreeMap; // EDIT 1: was HashMap
 use std::collections::btree_map::{Entry};
 
 mod solver_impl;
 mod watch; // EDIT 6 and 7: what is written is looked at there
 mod aids; // EDIT 20
+mod plain; // EDIT 20
 
 /// Identifies a variable for the constraint solver.
 // EDIT 2, 19: a number chosen by the caller, no counter
@@ -156,10 +158,17 @@ impl Constraint {
     pub fn strength(&self) -> f64 {
         self.strength
     }
+    // EDIT 21: as it is stored
+    fn kept(&self) -> Constraint {
+        let mut out = self.clone();
+        out.expression.terms.retain(|t| !near_zero(t.coefficient));
+        out
+    }
 }
 
-#[derive(Copy, Clone, PartialEq, Eq, PartialOrd, Ord, Hash)]
-enum SymbolType {
+// EDIT 20: SymbolType and Symbol are pub
+#[derive(Copy, Clone, PartialEq, Eq, PartialOrd, Ord, Hash, Debug)]
+pub enum SymbolType {
     Invalid,
     External,
     Slack,
@@ -168,12 +177,12 @@ enum SymbolType {
 }
 
 // EDIT 1: the derived order goes by id first, and ids are distinct
-#[derive(Copy, Clone, PartialEq, Eq, PartialOrd, Ord, Hash)]
-struct Symbol(usize, SymbolType);
+#[derive(Copy, Clone, PartialEq, Eq, PartialOrd, Ord, Hash, Debug)]
+pub struct Symbol(pub usize, pub SymbolType);
 
 impl Symbol {
-    fn invalid() -> Symbol { Symbol(0, SymbolType::Invalid) }
-    fn type_(&self) -> SymbolType { self.1 }
+    pub fn invalid() -> Symbol { Symbol(0, SymbolType::Invalid) }
+    pub fn type_(&self) -> SymbolType { self.1 }
 }
 
 // EDIT 7, 10: which bound a row's cells are held against, and whether it has a constant
@@ -305,3 +314,4 @@ pub struct Answer {
 }
 
 pub use solver_impl::Solver;
+pub use plain::{ ConstraintState, EditState, RowState, State, VariableState }; // EDIT 20

@@ -49,5 +49,11 @@ fn main() {
             solver.set_next(id);
             "set".to_string()
         }
+        Call::SetCell(row, cell, value) => {
+            let mut state = solver.state();
+            let found = state.set_cell(row as usize, cell as usize, value);
+            solver = Solver::from_state(&state);
+            if found { "set" } else { "no" }.to_string()
+        }
     });
 }

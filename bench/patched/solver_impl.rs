@@ -36,7 +36,7 @@ pub(crate) struct Tag {
 #[derive(Clone)]
 pub(crate) struct EditInfo {
     pub(crate) tag: Tag,
-    constraint: Constraint,
+    pub(crate) constraint: Constraint,
     pub(crate) constant: f64
 }
 
@@ -44,7 +44,7 @@ pub(crate) struct EditInfo {
 pub struct Solver {
     pub(crate) cns: BTreeMap<Name, (Constraint, Tag)>, // EDIT 2: by number, was by the constraint's address
     pub(crate) var_data: BTreeMap<Variable, (f64, Symbol, usize)>,
-    var_for_symbol: BTreeMap<Symbol, Variable>,
+    pub(crate) var_for_symbol: BTreeMap<Symbol, Variable>,
     public_changes: Vec<(Variable, f64)>,
     pub(crate) changed: BTreeSet<Variable>,
     pub(crate) should_clear_changes: bool,
@@ -54,7 +54,7 @@ pub struct Solver {
     pub(crate) objective: Rc<RefCell<Row>>,
     artificial: Option<Rc<RefCell<Row>>>,
     pub(crate) id_tick: usize,
-    whole: bool, // EDIT 7: the stored mark
+    pub(crate) whole: bool, // EDIT 7: the stored mark
     budget: u32, // EDIT 8: of the call that runs, with the pivots it has made
     pivots: u32
 }
@@ -227,7 +227,7 @@ impl Solver {
             try!(Solver::check_finite()); // EDIT 6
         }
 
-        self.cns.insert(constraint.name, (constraint, tag)); // EDIT 2
+        self.cns.insert(constraint.name, (constraint.kept(), tag)); // EDIT 2, 21
 
         // Optimizing after each constraint is added performs less
         // aggregate work due to a smaller average system size. It
@@ -278,21 +278,20 @@ impl Solver {
 
         // Check for and decrease the reference count for variables referenced by the constraint
         // If the reference count is zero remove the variable from the variable map
+        // EDIT 21: the crate stores skipped terms too, and skips them here
         for term in &constraint.expr().terms {
-            if !near_zero(term.coefficient) {
-                let mut should_remove = false;
-                if let Some(&mut (_, _, ref mut count)) = self.var_data.get_mut(&term.variable) {
-                    *count -= 1;
-                    should_remove = *count == 0;
-                }
-                if should_remove {
-                    // EDIT 14: "a variable at zero goes with its row and cells and leaves the changed set without notice"
-                    let symbol = self.var_data[&term.variable].1;
-                    self.var_for_symbol.remove(&symbol);
-                    self.var_data.remove(&term.variable);
-                    self.changed.remove(&term.variable);
-                    self.purge(symbol);
-                }
+            let mut should_remove = false;
+            if let Some(&mut (_, _, ref mut count)) = self.var_data.get_mut(&term.variable) {
+                *count -= 1;
+                should_remove = *count == 0;
+            }
+            if should_remove {
+                // EDIT 14: "a variable at zero goes with its row and cells and leaves the changed set without notice"
+                let symbol = self.var_data[&term.variable].1;
+                self.var_for_symbol.remove(&symbol);
+                self.var_data.remove(&term.variable);
+                self.changed.remove(&term.variable);
+                self.purge(symbol);
             }
         }
         Ok(())

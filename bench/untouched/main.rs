@@ -128,7 +128,7 @@ impl Driver {
             }
             Call::Create(a, b, c, w) => bits(strength::create(a, b, c, w)),
             Call::Clip(s) => bits(strength::clip(s)),
-            Call::Dump | Call::Check | Call::SetNext(_) => "?".to_string(),
+            Call::Dump | Call::Check | Call::SetNext(_) | Call::SetCell(..) => "?".to_string(),
         }
     }
 }

@@ -1,0 +1,256 @@
+//! States in which one thing is wrong and all else fits to it, so that the one clause that forbids it must be what refuses them.
+use crate::craft::{count_uses, state, LARGEST, LAST_ID, MOST_TAGS, MOST_TERMS, MOST_VARIABLES, REQUIRED};
+use crate::layout::{code, id_of, kind_of, ConstraintWords, RowWords, VariableWords, Words, DUMMY, ERROR, EXTERNAL, NONE, SLACK};
+use crate::random::Random;
+
+/// A symbol's word another word wherever it stands.
+fn rename(w: &mut Words, old: u64, new: u64) {
+    let change = |s: &mut u64| {
+        if *s == old {
+            *s = new;
+        }
+    };
+    w.symbols.iter_mut().for_each(change);
+    w.rows.iter_mut().for_each(|r| change(&mut r.symbol));
+    w.variables.iter_mut().for_each(|v| change(&mut v.symbol));
+    w.constraints.iter_mut().for_each(|c| [&mut c.marker, &mut c.other].into_iter().for_each(change));
+    w.edits.iter_mut().for_each(|e| [&mut e.marker, &mut e.other].into_iter().for_each(change));
+    let id = id_of(old);
+    w.entries.iter_mut().filter(|e| **e == id).for_each(|e| *e = id_of(new));
+}
+
+/// One more symbol at the end, with cells of 0.0.
+fn append(w: &mut Words, symbol: u64) {
+    w.symbols.push(symbol);
+    w.objective.push(0.0);
+    w.rows.iter_mut().for_each(|r| r.cells.push(0.0));
+}
+
+fn last_id(w: &Words) -> u64 {
+    w.symbols.last().map_or(0, |s| id_of(*s))
+}
+
+fn some<'a, T>(g: &mut Random, from: &'a mut [T]) -> Option<&'a mut T> {
+    if from.is_empty() { None } else { let i = g.below(from.len()); Some(&mut from[i]) }
+}
+
+fn swap<T>(g: &mut Random, list: &mut [T]) {
+    if list.len() > 1 {
+        let i = g.below(list.len() - 1);
+        list.swap(i, i + 1);
+    }
+}
+
+/// A place among the cells of a symbol that is not basic.
+fn free_cell(g: &mut Random, w: &Words) -> Option<usize> {
+    let places: Vec<usize> = (0..w.symbols.len()).filter(|i| w.rows.iter().all(|r| id_of(r.symbol) != id_of(w.symbols[*i]))).collect();
+    if places.is_empty() { None } else { Some(g.pick(&places)) }
+}
+
+fn basic_cell(g: &mut Random, w: &Words) -> Option<usize> {
+    let r = w.rows.get(g.below(w.rows.len().max(1)))?;
+    w.symbols.iter().position(|s| *s == r.symbol)
+}
+
+type Break = fn(&mut Random, &mut Words) -> Option<()>;
+
+const COUNTS_AND_ORDER: &[Break] = &[
+    |_, w| {
+        (w.constraints, w.rows, w.next) = (Vec::new(), Vec::new(), LAST_ID);
+        let of_edits: Vec<u64> = w.edits.iter().flat_map(|e| [e.marker, e.other]).collect();
+        w.symbols = w.variables.iter().map(|v| v.symbol).chain(of_edits).collect();
+        w.symbols.sort();
+        (w.objective, w.entries) = (vec![0.0; w.symbols.len()], Vec::new());
+        while w.variables.len() <= MOST_VARIABLES {
+            let (symbol, number) = (code(last_id(w) + 1, EXTERNAL), w.variables.last().map_or(0, |v| v.number) + 1);
+            w.variables.push(VariableWords { number, symbol, old: 1.0, ..VariableWords::default() });
+            append(w, symbol);
+        }
+        count_uses(w);
+        w.next = last_id(w) + 1;
+        Some(())
+    },
+    |_, w| {
+        *w = Words { next: 1, ..Words::default() };
+        for i in 0..=MOST_TAGS as u64 {
+            let marker = code(i + 1, SLACK);
+            w.constraints.push(ConstraintWords { number: i, marker, strength: REQUIRED, ..ConstraintWords::default() });
+            append(w, marker);
+        }
+        w.next = last_id(w) + 1;
+        Some(())
+    },
+    |g, w| {
+        let variable = some(g, &mut w.variables)?.number;
+        let c = some(g, &mut w.constraints)?;
+        c.terms.resize(MOST_TERMS, (variable, 1.0));
+        c.count = MOST_TERMS as u64 + 1 + g.word() % 3;
+        Some(count_uses(w))
+    },
+    |g, w| Some(swap(g, &mut w.variables)),
+    |g, w| Some(swap(g, &mut w.constraints)),
+    |g, w| Some(swap(g, &mut w.edits)),
+    |g, w| Some(swap(g, &mut w.rows)),
+    |g, w| {
+        let i = g.below(w.symbols.len().checked_sub(1)?.max(1));
+        w.symbols.get(i + 1)?;
+        w.symbols.swap(i, i + 1);
+        w.objective.swap(i, i + 1);
+        w.rows.iter_mut().for_each(|r| r.cells.swap(i, i + 1));
+        Some(())
+    },
+    |_, w| {
+        let first = *w.symbols.first()?;
+        Some(rename(w, first, code(0, kind_of(first))))
+    },
+    |g, w| {
+        let i = g.below(w.variables.len().checked_sub(1)?.max(1));
+        let (kept, gone) = (w.variables[i].symbol, w.variables.get(i + 1)?.symbol);
+        remove_symbol(w, gone);
+        w.variables[i + 1].symbol = kept;
+        Some(())
+    },
+    |g, w| Some(w.entries.push(g.pick(&[*w.entries.first()?]))),
+    |g, w| Some(w.next = last_id(w).checked_sub(g.word() % 2)?.max(1)).filter(|_| !w.symbols.is_empty()),
+    |_, w| Some(*w = Words::default()),
+    |_, w| {
+        let tags = w.constraints.len() + w.edits.len();
+        let free = w.symbols.iter().copied().find(|s| w.rows.iter().all(|r| r.symbol != *s))?;
+        let place = w.symbols.iter().position(|s| *s == free)?;
+        w.objective[place] = 0.0;
+        w.rows.iter_mut().for_each(|r| r.cells[place] = 0.0);
+        let cells = vec![0.0; w.symbols.len()];
+        w.rows.push(RowWords { symbol: free, constant: 1.0, cells });
+        w.rows.sort_by_key(|r| r.symbol);
+        Some(()).filter(|_| w.rows.len() == tags + 1)
+    },
+];
+
+fn remove_symbol(w: &mut Words, gone: u64) {
+    w.rows.retain(|r| r.symbol != gone);
+    if let Some(place) = w.symbols.iter().position(|s| *s == gone) {
+        w.symbols.remove(place);
+        w.objective.remove(place);
+        w.rows.iter_mut().for_each(|r| {
+            r.cells.remove(place);
+        });
+    }
+    w.entries.retain(|e| *e != id_of(gone));
+}
+
+const SYMBOLS: &[Break] = &[
+    |g, w| {
+        let i = basic_cell(g, w)?;
+        some(g, &mut w.rows)?.cells[i] = 1.0;
+        Some(())
+    },
+    |g, w| {
+        let i = basic_cell(g, w)?;
+        Some(w.objective[i] = -1.0)
+    },
+    |g, w| {
+        let id = last_id(w) + 1;
+        w.next = w.next.max(id + 1);
+        Some(append(w, code(id, g.pick(&[EXTERNAL, SLACK, ERROR, DUMMY]))))
+    },
+    |g, w| {
+        let s = g.pick(&[*w.symbols.first()?]);
+        Some(remove_symbol(w, s))
+    },
+    |g, w| {
+        let r = some(g, &mut w.rows)?;
+        Some(r.symbol = code(id_of(r.symbol), (kind_of(r.symbol) + 1) % 4))
+    },
+    |_, w| {
+        let id = last_id(w) + 1;
+        Some(w.rows.last_mut()?.symbol = code(id, SLACK))
+    },
+    |_, w| Some(w.entries.push(last_id(w) + 1)),
+    |_, w| Some(w.entries.push(0)),
+    |g, w| {
+        let v = some(g, &mut w.variables)?;
+        Some(v.uses = g.pick(&[v.uses + 1, v.uses.wrapping_sub(1)]))
+    },
+    |g, w| {
+        let variable = w.variables.last().map_or(0, |v| v.number) + 1;
+        let c = some(g, &mut w.constraints)?;
+        c.terms.push((variable, 1.0));
+        c.count += 1;
+        Some(()).filter(|_| c.terms.len() <= MOST_TERMS)
+    },
+    |_, w| Some(w.edits.last_mut()?.variable = w.variables.last()?.number + 1).map(|_| count_uses(w)),
+];
+
+const NUMBERS: &[Break] = &[
+    |g, w| {
+        let i = free_cell(g, w)?;
+        Some(w.objective[i] = g.not_finite())
+    },
+    |g, w| {
+        let bad = g.not_finite();
+        Some(some(g, &mut w.rows)?.constant = bad)
+    },
+    |g, w| {
+        let (i, bad) = (free_cell(g, w)?, g.not_finite());
+        Some(some(g, &mut w.rows)?.cells[i] = bad)
+    },
+    |g, w| {
+        let bad = g.pick(&[f64::INFINITY, f64::NEG_INFINITY]);
+        Some(some(g, &mut w.variables)?.old = bad)
+    },
+    |g, w| {
+        let c = some(g, &mut w.constraints)?;
+        // one that leaves the tag's kinds as they fit
+        Some(c.strength = if c.strength < REQUIRED { f64::NEG_INFINITY } else { g.pick(&[f64::INFINITY, f64::NAN]) })
+    },
+    |g, w| {
+        let bad = g.not_finite();
+        let c = some(g, &mut w.constraints)?;
+        Some(some(g, &mut c.terms)?.1 = bad)
+    },
+    |g, w| Some(some(g, &mut w.edits)?.strength = f64::NEG_INFINITY),
+    |g, w| {
+        let bad = g.not_finite();
+        Some(some(g, &mut w.edits)?.suggestion = bad)
+    },
+    |g, w| {
+        let old = some(g, &mut w.variables)?.symbol;
+        Some(rename(w, old, code(id_of(old), g.pick(&[SLACK, ERROR, DUMMY]))))
+    },
+    |g, w| {
+        let c = some(g, &mut w.constraints)?;
+        let old = if c.other != NONE && g.one_in(2) { c.other } else { c.marker };
+        Some(rename(w, old, code(id_of(old), (kind_of(old) + 1 + g.word() % 3) % 4)))
+    },
+    |g, w| {
+        let c = some(g, &mut w.constraints)?;
+        Some(c.strength = if c.strength < REQUIRED { REQUIRED } else { 1.0 })
+    },
+    |g, w| {
+        let e = some(g, &mut w.edits)?;
+        let old = g.pick(&[e.marker, e.other]);
+        Some(rename(w, old, code(id_of(old), g.pick(&[EXTERNAL, SLACK, DUMMY]))))
+    },
+    |g, w| Some(some(g, &mut w.edits)?.strength = REQUIRED),
+    |g, w| Some(w.next = LARGEST + 1 + g.word() % 1000),
+    |_, w| {
+        let (old, new) = (w.variables.last()?.number, LARGEST + 1 + w.variables.last()?.number);
+        w.variables.last_mut()?.number = new;
+        w.constraints.iter_mut().flat_map(|c| &mut c.terms).filter(|t| t.0 == old).for_each(|t| t.0 = new);
+        w.edits.iter_mut().filter(|e| e.variable == old).for_each(|e| e.variable = new);
+        Some(())
+    },
+    |_, w| Some(w.constraints.last_mut()?.number += LARGEST + 1),
+    |g, w| Some(w.clear = 2 + g.word() % 9),
+    |g, w| Some(w.whole = 2 + g.word() % 9),
+    |g, w| Some(some(g, &mut w.variables)?.changed = 2 + g.word() % 9),
+];
+
+/// A state in which one thing is wrong, or none where the state has no place for it.
+pub fn broken(g: &mut Random) -> Words {
+    let w = state(g);
+    let breaks: Vec<Break> = [COUNTS_AND_ORDER, SYMBOLS, NUMBERS].concat();
+    let mut out = w.clone();
+    let made = g.pick(&breaks)(g, &mut out);
+    if made.is_some() { out.counted() } else { w }
+}

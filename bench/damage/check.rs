@@ -1,0 +1,174 @@
+//! One call of the archive on lent tables, held against the oracle: whether the tables read (`reading.rs`), and what the patched
+//! crate's model comes to where they do (`model.rs`).
+use crate::archive::{self, Answer, Call, Fetched};
+use crate::layout::{Tables, Words, CHANGES, LENGTHS};
+use crate::memory::{Lists, Set};
+use crate::model;
+use crate::reading::{self, CLAUSES};
+
+/// What a call is asked for beside tables that read.
+const ASKED: &[&str] = &[
+    "the head's length",
+    "the names' length",
+    "the reals' length",
+    "the rows' length",
+    "the room's head's length",
+    "the room's names' length",
+    "the room's reals' length",
+    "the room's rows' length",
+    "fetch's numbers' length",
+    "fetch's values' length",
+    "an add's two lists are of one length",
+    "an add's kind is one of three",
+];
+const ROOM: usize = 4;
+const FETCHED: usize = 8;
+const ADDED: usize = 10;
+const KINDS: u32 = 3;
+
+pub fn clause_names() -> Vec<&'static str> {
+    CLAUSES.iter().map(|c| c.0).chain(ASKED.iter().copied()).collect()
+}
+
+pub type Difference = String;
+
+pub struct Checker {
+    tables: Set,
+    room: Set,
+    terms: Lists<u32, f64>,
+    changes: Lists<u64, f64>,
+    /// the clause that the oracle leaves out
+    pub left_out: Option<usize>,
+}
+
+fn differ<T>(what: &str, about: &dyn std::fmt::Debug) -> Result<T, Difference> {
+    Err(format!("{what}: {about:?}"))
+}
+
+/// A cell that is -0.0 is absent, and stays or goes as steps touch it; the model has no absent cells.
+fn has_negative_zero(w: &Words) -> bool {
+    let negative = |x: &f64| x.to_bits() == (-0.0f64).to_bits();
+    w.objective.iter().any(negative) || w.rows.iter().any(|r| r.cells.iter().any(negative))
+}
+
+impl Checker {
+    pub fn new(left_out: Option<usize>) -> Checker {
+        Checker { tables: Set::new(), room: Set::new(), terms: Lists::new(), changes: Lists::new(), left_out }
+    }
+
+    /// All of these hold, but for the one that is left out; the first has the place `start` among what is asked.
+    fn asked(&self, start: usize, hold: &[bool]) -> bool {
+        hold.iter().enumerate().all(|(i, held)| *held || self.left_out == Some(CLAUSES.len() + start + i))
+    }
+
+    fn right_lengths(&self, start: usize, lengths: [usize; 4]) -> bool {
+        let right: Vec<bool> = lengths.iter().zip(LENGTHS).map(|(a, b)| *a == b).collect();
+        self.asked(start, &right)
+    }
+
+    fn reads(&self, t: &Tables, w: &Words) -> bool {
+        self.right_lengths(0, t.lengths()) && reading::reads(w, self.left_out)
+    }
+
+    fn fits(&self, call: &Call) -> bool {
+        match call {
+            Call::Add { vars, coefs, kind, .. } => self.asked(ADDED, &[vars.len() == coefs.len(), *kind < KINDS]),
+            _ => true,
+        }
+    }
+
+    /// The call with this room, against the first or the last page; the tables afterwards, or what differs.
+    pub fn call(&mut self, call: &Call, t: &Tables, room: &Tables, last: bool) -> Result<(Answer, Tables), Difference> {
+        let (vars, coefs): (&[u32], &[f64]) = match call {
+            Call::Add { vars, coefs, .. } => (vars, coefs),
+            _ => (&[], &[]),
+        };
+        let (lent_vars, lent_coefs) = self.terms.lend(vars, coefs, last);
+        let (lent, lent_room) = (self.tables.lend(t, last), self.room.lend(room, last));
+        let answer = call.make(lent, lent_room, lent_vars, lent_coefs);
+        let (Some(after), Some(room_after), Some(lists)) = (self.tables.back(), self.room.back(), self.terms.back()) else {
+            return differ("what is not lent changed", call);
+        };
+        if lists.0 != vars || !lists.1.iter().map(|x| x.to_bits()).eq(coefs.iter().map(|x| x.to_bits())) {
+            return differ("an add's lists changed", call);
+        }
+        let lends_room = !matches!(call, Call::Reset);
+        if lends_room && room_after.bits().any(|b| b != 0) || !lends_room && !room_after.same(room, false) {
+            return differ("the room is not all zero, or was not lent and changed", call);
+        }
+        self.judge(call, t, room, answer, &after)?;
+        Ok((answer, after))
+    }
+
+    fn judge(&self, call: &Call, t: &Tables, room: &Tables, answer: Answer, after: &Tables) -> Result<(), Difference> {
+        let w = Words::of(t);
+        let taken = match call {
+            Call::Reset => self.right_lengths(0, t.lengths()),
+            _ => self.reads(t, &w) && self.right_lengths(ROOM, room.lengths()) && self.fits(call),
+        };
+        if taken != (answer.number != 18) {
+            return differ(if taken { "it reads, and the answer is 18" } else { "it does not read, and the answer is not 18" }, &(call, answer));
+        }
+        if !taken {
+            let right = answer == Answer { number: 18, pivots: 0, whole: false } && after.same(t, false);
+            return if right { Ok(()) } else { differ("18 has no pivots and no mark, and changes no table", &(call, answer)) };
+        }
+        let (expected, tables) = match call {
+            Call::Reset => (Answer { number: 0, pivots: 0, whole: true }, emptied(t)),
+            _ => model::call(&w, t, call),
+        };
+        if answer != expected {
+            return differ("answer, and what the model answers", &(call, answer, expected));
+        }
+        if !after.same(&tables, answer.number == 0 && has_negative_zero(&w)) {
+            return differ("the tables are not the model's after", &(call, answer));
+        }
+        Ok(())
+    }
+
+    pub fn fetch(&mut self, t: &Tables, numbers: &[u64], values: &[f64], last: bool) -> Result<(Fetched, Tables), Difference> {
+        let (lent_numbers, lent_values) = self.changes.lend(numbers, values, last);
+        let lent = self.tables.lend(t, last);
+        let answer = archive::fetch(lent, lent_numbers, lent_values);
+        let (Some(after), Some((got_numbers, got_values))) = (self.tables.back(), self.changes.back()) else {
+            return differ("fetch: what is not lent changed", &answer);
+        };
+        let w = Words::of(t);
+        let taken = self.reads(t, &w) && self.asked(FETCHED, &[numbers.len() == CHANGES, values.len() == CHANGES]);
+        if taken != (answer.number != 18) {
+            return differ("fetch: whether it reads", &(answer, taken));
+        }
+        let (list, tables) = if taken { model::fetch(&w, t) } else { (Vec::new(), t.clone()) };
+        let expected = Fetched { number: if taken { 0 } else { 18 }, count: list.len() as u32 };
+        let listed = |i: usize| list.get(i).copied().unwrap_or((0, 0.0));
+        let lists = got_numbers.iter().enumerate().all(|(i, n)| *n == listed(i).0) && got_values.iter().enumerate().all(|(i, x)| x.to_bits() == listed(i).1.to_bits());
+        if answer != expected || !lists {
+            return differ("fetch: the lists are not the model's", &(answer, expected, list));
+        }
+        if !after.same(&tables, taken && has_negative_zero(&w)) {
+            return differ("fetch: the tables are not the model's", &answer);
+        }
+        Ok((answer, after))
+    }
+
+    pub fn ask(&mut self, t: &Tables, n: u32, last: bool) -> Result<(), Difference> {
+        let lent = self.tables.lend(t, last);
+        let (value, constraint, edit) = archive::ask(lent, n);
+        let Some(after) = self.tables.back() else { return differ("queries: what is not lent changed", &n) };
+        let w = Words::of(t);
+        // of tables that do not read the model says nothing: a clause that is left out shows by the calls
+        let really = t.lengths() == LENGTHS && reading::reads(&w, None);
+        let expected = if really { model::ask(&w, n) } else { (0.0, false, false) };
+        if (value.to_bits(), constraint, edit) != (expected.0.to_bits(), expected.1, expected.2) || !after.same(t, false) {
+            return differ("queries, and what the model says", &(n, value, constraint, edit, expected));
+        }
+        Ok(())
+    }
+}
+
+/// "Reset": the head alone is written.
+fn emptied(t: &Tables) -> Tables {
+    let mut out = t.clone();
+    Words { next: 1, whole: 1, ..Words::default() }.lay(&mut out);
+    out
+}

@@ -1,0 +1,126 @@
+//! Memory that ends at pages nobody may touch: what is lent stands against the page before it or the page behind it, and the
+//! rest of its own pages is filled with a pattern that must stay.
+use crate::archive::Lent;
+use crate::layout::{Name, Real, Row, Tables, LENGTHS};
+use std::sync::atomic::{AtomicU64, Ordering};
+
+const PAGE: usize = 4096;
+const NO_ACCESS: i32 = 0;
+const READ_WRITE: i32 = 3;
+const PRIVATE_ANONYMOUS: i32 = 0x22;
+const SEGMENTATION_FAULT: i32 = 11;
+const PATTERN: u8 = 0xa5;
+/// How many elements a table may be too long, or a list have.
+pub const MORE: usize = 64;
+
+extern "C" {
+    fn mmap(at: *mut u8, length: usize, protection: i32, flags: i32, file: i32, offset: i64) -> *mut u8;
+    fn mprotect(at: *mut u8, length: usize, protection: i32) -> i32;
+    fn signal(number: i32, handler: extern "C" fn(i32)) -> usize;
+}
+
+/// The trial that runs, told if a call touches what it is not lent.
+pub static TRIAL: AtomicU64 = AtomicU64::new(0);
+
+extern "C" fn touched(_: i32) {
+    println!("trial {}: a call touched memory that it was not lent\ndifferences: 1", TRIAL.load(Ordering::SeqCst));
+    std::process::exit(1);
+}
+
+pub fn tell_faults() {
+    unsafe { signal(SEGMENTATION_FAULT, touched) };
+}
+
+/// Room for one table or list.
+struct Fenced<T> {
+    start: *mut u8,
+    bytes: usize,
+    lent: (usize, usize),
+    kind: std::marker::PhantomData<T>,
+}
+
+impl<T: Copy + 'static> Fenced<T> {
+    fn new(most: usize) -> Fenced<T> {
+        let bytes = (most * std::mem::size_of::<T>()).div_ceil(PAGE) * PAGE;
+        let start = unsafe {
+            let all = mmap(std::ptr::null_mut(), bytes + 2 * PAGE, NO_ACCESS, PRIVATE_ANONYMOUS, -1, 0);
+            assert!(all as isize != -1 && mprotect(all.add(PAGE), bytes, READ_WRITE) == 0, "no memory");
+            all.add(PAGE)
+        };
+        Fenced { start, bytes, lent: (0, 0), kind: std::marker::PhantomData }
+    }
+
+    fn all(&mut self) -> &mut [u8] {
+        unsafe { std::slice::from_raw_parts_mut(self.start, self.bytes) }
+    }
+
+    /// A copy of the content, against the page behind it if `last`.
+    fn lend(&mut self, content: &[T], last: bool) {
+        let size = std::mem::size_of_val(content);
+        let at = if last { self.bytes - size } else { 0 };
+        self.lent = (at, at + size);
+        self.all().fill(PATTERN);
+        unsafe { std::ptr::copy_nonoverlapping(content.as_ptr() as *const u8, self.start.add(at), size) };
+    }
+
+    fn slice(&mut self) -> &'static mut [T] {
+        let (a, e) = self.lent;
+        unsafe { std::slice::from_raw_parts_mut(self.start.add(a) as *mut T, (e - a) / std::mem::size_of::<T>()) }
+    }
+
+    fn rest_stays(&mut self) -> bool {
+        let (a, e) = self.lent;
+        let all = self.all();
+        all[..a].iter().chain(&all[e..]).all(|b| *b == PATTERN)
+    }
+}
+
+/// Memory for four tables.
+pub struct Set {
+    head: Fenced<u64>,
+    names: Fenced<Name>,
+    reals: Fenced<Real>,
+    rows: Fenced<Row>,
+}
+
+impl Set {
+    pub fn new() -> Set {
+        let [a, b, c, d] = LENGTHS.map(|n| n + MORE);
+        Set { head: Fenced::new(a), names: Fenced::new(b), reals: Fenced::new(c), rows: Fenced::new(d) }
+    }
+
+    pub fn lend(&mut self, t: &Tables, last: bool) -> Lent<'static> {
+        self.head.lend(&t.head, last);
+        self.names.lend(&t.names, last);
+        self.reals.lend(&t.reals, last);
+        self.rows.lend(&t.rows, last);
+        Lent { head: self.head.slice(), names: self.names.slice(), reals: self.reals.slice(), rows: self.rows.slice() }
+    }
+
+    /// What stands there now, or none if something beside it changed.
+    pub fn back(&mut self) -> Option<Tables> {
+        let stays = self.head.rest_stays() & self.names.rest_stays() & self.reals.rest_stays() & self.rows.rest_stays();
+        let t = Tables { head: self.head.slice().to_vec(), names: self.names.slice().to_vec(), reals: self.reals.slice().to_vec(), rows: self.rows.slice().to_vec() };
+        Some(t).filter(|_| stays)
+    }
+}
+
+/// Memory for two lists of a call.
+pub struct Lists<A, B>(Fenced<A>, Fenced<B>);
+
+impl<A: Copy + 'static, B: Copy + 'static> Lists<A, B> {
+    pub fn new() -> Lists<A, B> {
+        Lists(Fenced::new(MORE), Fenced::new(MORE))
+    }
+
+    pub fn lend(&mut self, a: &[A], b: &[B], last: bool) -> (&'static mut [A], &'static mut [B]) {
+        self.0.lend(a, last);
+        self.1.lend(b, last);
+        (self.0.slice(), self.1.slice())
+    }
+
+    pub fn back(&mut self) -> Option<(Vec<A>, Vec<B>)> {
+        let stays = self.0.rest_stays() & self.1.rest_stays();
+        Some((self.0.slice().to_vec(), self.1.slice().to_vec())).filter(|_| stays)
+    }
+}

@@ -1,0 +1,141 @@
+//! The patched crate's solver made from tables that read, the call made on it, and the tables that it comes to.
+use crate::archive::{Answer, Call};
+use crate::layout::{code, id_of, kind_of, ConstraintWords, EditWords, RowWords, Tables, VariableWords, Words, DUMMY, ERROR, EXTERNAL, NONE, SLACK};
+use cassowary_patched::{Constraint, ConstraintState, EditState, Expression, Name, RelationalOperator, RowState, Solver, State, Symbol, SymbolType, Term, Variable, VariableState};
+
+// ---- symbols
+
+fn symbol(word: u64) -> Symbol {
+    let kind = match kind_of(word) {
+        EXTERNAL => SymbolType::External,
+        SLACK => SymbolType::Slack,
+        ERROR => SymbolType::Error,
+        _ => SymbolType::Dummy,
+    };
+    Symbol(id_of(word) as usize, kind)
+}
+
+fn other(word: u64) -> Symbol {
+    if word == NONE { Symbol::invalid() } else { symbol(word) }
+}
+
+fn word(s: Symbol) -> u64 {
+    let kind = match s.1 {
+        SymbolType::Invalid => return NONE,
+        SymbolType::External => EXTERNAL,
+        SymbolType::Slack => SLACK,
+        SymbolType::Error => ERROR,
+        SymbolType::Dummy => DUMMY,
+    };
+    code(s.0 as u64, kind)
+}
+
+// ---- states: "A row holds a symbol if its cell isn't 0.0."
+
+fn present(symbols: &[u64], cells: &[f64]) -> Vec<(Symbol, f64)> {
+    symbols.iter().zip(cells).filter(|(_, x)| **x != 0.0).map(|(s, x)| (symbol(*s), *x)).collect()
+}
+
+/// Of words that read.
+pub fn state(w: &Words) -> State {
+    let by_id = |id: u64| symbol(*w.symbols.iter().find(|s| id_of(**s) == id).expect("a list entry is live"));
+    State {
+        next: w.next as usize,
+        clear: w.clear == 1,
+        whole: w.whole == 1,
+        variables: w.variables.iter().map(|v| VariableState { number: v.number as u32, symbol: symbol(v.symbol), old: v.old, uses: v.uses as usize, changed: v.changed == 1 }).collect(),
+        constraints: w
+            .constraints
+            .iter()
+            .map(|c| ConstraintState {
+                number: c.number as u32,
+                strength: c.strength,
+                terms: c.terms.iter().map(|&(v, k)| (v as u32, k)).collect(),
+                marker: symbol(c.marker),
+                other: other(c.other),
+            })
+            .collect(),
+        edits: w.edits.iter().map(|e| EditState { variable: e.variable as u32, strength: e.strength, marker: symbol(e.marker), other: other(e.other), suggestion: e.suggestion }).collect(),
+        rows: w.rows.iter().map(|r| RowState { symbol: symbol(r.symbol), constant: r.constant, cells: present(&w.symbols, &r.cells) }).collect(),
+        objective: present(&w.symbols, &w.objective),
+        infeasible: w.entries.iter().map(|id| by_id(*id)).collect(),
+    }
+}
+
+pub fn words(s: &State) -> Words {
+    let live = s.live();
+    let along = |cells: &[(Symbol, f64)]| -> Vec<f64> { live.iter().map(|x| cells.iter().find(|c| c.0 == *x).map_or(0.0, |c| c.1)).collect() };
+    let constraint = |c: &ConstraintState| ConstraintWords {
+        number: c.number.into(),
+        marker: word(c.marker),
+        other: word(c.other),
+        strength: c.strength,
+        count: c.terms.len() as u64,
+        terms: c.terms.iter().map(|&(v, k)| (v.into(), k)).collect(),
+    };
+    Words {
+        next: s.next as u64,
+        clear: s.clear.into(),
+        whole: s.whole.into(),
+        symbols: live.iter().map(|x| word(*x)).collect(),
+        rows: s.rows.iter().map(|r| RowWords { symbol: word(r.symbol), constant: r.constant, cells: along(&r.cells) }).collect(),
+        objective: along(&s.objective),
+        entries: s.infeasible.iter().map(|x| x.0 as u64).collect(),
+        variables: s.variables.iter().map(|v| VariableWords { number: v.number.into(), symbol: word(v.symbol), uses: v.uses as u64, changed: v.changed.into(), old: v.old }).collect(),
+        constraints: s.constraints.iter().map(constraint).collect(),
+        edits: s.edits.iter().map(|e| EditWords { variable: e.variable.into(), marker: word(e.marker), other: word(e.other), strength: e.strength, suggestion: e.suggestion }).collect(),
+        ..Words::default()
+    }
+    .counted()
+}
+
+// ---- calls
+
+fn relation(kind: u32) -> RelationalOperator {
+    match kind {
+        0 => RelationalOperator::LessOrEqual,
+        1 => RelationalOperator::Equal,
+        _ => RelationalOperator::GreaterOrEqual,
+    }
+}
+
+fn made(solver: &mut Solver, call: &Call) -> Answer {
+    let a = match call {
+        Call::Reset => solver.reset(),
+        Call::Add { number, vars, coefs, constant, kind, strength, budget } => {
+            let terms = vars.iter().zip(coefs).map(|(v, k)| Term::new(Variable(*v), *k)).collect();
+            solver.add_constraint(Constraint::new(Name::Number(*number), Expression::new(terms, *constant), relation(*kind), *strength), *budget)
+        }
+        Call::Remove { number, budget } => solver.remove_constraint(*number, *budget),
+        Call::AddEdit { variable, strength, budget } => solver.add_edit_variable(Variable(*variable), *strength, *budget),
+        Call::RemoveEdit { variable, budget } => solver.remove_edit_variable(Variable(*variable), *budget),
+        Call::Suggest { variable, suggestion, budget } => solver.suggest_value(Variable(*variable), *suggestion, *budget),
+    };
+    Answer { number: a.refusal.into(), pivots: a.pivots, whole: a.whole }
+}
+
+/// The answer, and the tables afterwards: a state is written over the live part, "A refusal changes no table".
+pub fn call(w: &Words, t: &Tables, call: &Call) -> (Answer, Tables) {
+    let mut solver = Solver::from_state(&state(w));
+    let answer = made(&mut solver, call);
+    let mut after = t.clone();
+    if answer.number == 0 {
+        words(&solver.state()).lay(&mut after);
+    }
+    (answer, after)
+}
+
+/// The list of a fetch, and the tables afterwards.
+pub fn fetch(w: &Words, t: &Tables) -> (Vec<(u64, f64)>, Tables) {
+    let mut solver = Solver::from_state(&state(w));
+    let list = solver.fetch_changes().iter().map(|(v, x)| (v.0.into(), *x)).collect();
+    let mut after = t.clone();
+    words(&solver.state()).lay(&mut after);
+    (list, after)
+}
+
+/// Value, has constraint, has edit.
+pub fn ask(w: &Words, n: u32) -> (f64, bool, bool) {
+    let solver = Solver::from_state(&state(w));
+    (solver.get_value(Variable(n)), solver.has_constraint(n), solver.has_edit_variable(&Variable(n)))
+}
