@@ -18,6 +18,11 @@ fn tables_are_as_large() {
 }
 
 #[test]
+fn the_version_is_the_same() {
+    assert!(HEADER.contains(&format!("#define KNOBHARBOR_VERSION \"{}\"", env!("CARGO_PKG_VERSION"))));
+}
+
+#[test]
 fn refusals_have_the_same_words() {
     let (_, table) = HEADER.split_once("words[] = {").expect("the header has words");
     let words: Vec<&str> = table.split("};").next().unwrap().split('"').skip(1).step_by(2).collect();
