@@ -1,5 +1,6 @@
 #!/usr/bin/env python3
-"""Where the crate, its maps ordered and nothing else changed, first answers otherwise than the patched crate, by cause.
+"""Where the crate, its maps ordered, the row of a dual pass chosen as in document 02's T-11 and nothing else changed, first
+answers otherwise than the patched crate, by cause.
 
 usage: crate_check.py SESSIONS ORDERED PATCHED
 

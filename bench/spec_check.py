@@ -90,8 +90,6 @@ def dump(text):
             out += symbol(p[1]) + ['0x' + p[2]] + cells(p[4:])
         elif p[0] == 'obj':
             out += cells(p[1:])
-        elif p[0] == 'inf':
-            out += [x[1:] for x in p[1:]]
     return out
 
 

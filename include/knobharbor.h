@@ -23,7 +23,7 @@ extern "C" {
 /* ---- sizes */
 
 /* the lengths that tables have; a call on others is answered 18 */
-#define KNOBHARBOR_HEAD 326
+#define KNOBHARBOR_HEAD 196
 #define KNOBHARBOR_ITEMS 128
 #define KNOBHARBOR_ROWS 51
 /* how wide an element is */
@@ -47,7 +47,7 @@ typedef uint64_t knobharbor_name[KNOBHARBOR_NAME];
 typedef double knobharbor_real[KNOBHARBOR_REAL];
 typedef double knobharbor_row[KNOBHARBOR_ROW];
 
-/* Four tables of the right lengths, 93,536 bytes: one to keep, and one as working room. Both may start with any content: reset
+/* Four tables of the right lengths, 92,496 bytes: one to keep, and one as working room. Both may start with any content: reset
    makes a state of the first, and every call leaves the second all zero. */
 typedef struct knobharbor_tables {
     uint64_t head[KNOBHARBOR_HEAD];

@@ -17,14 +17,13 @@ pub struct Fetched {
     pub count: u32,
 }
 
+/// A term of an add's list of records.
 #[repr(C)]
+#[derive(Clone, Copy, Debug, PartialEq)]
 pub struct Term {
-    variable: u32,
-    coefficient: f64,
+    pub variable: u32,
+    pub coefficient: f64,
 }
-
-/// What the archive takes for a budget.
-type Budget = u16;
 
 macro_rules! changing {
     ($($name:ident($($arg:ident: $type:ty),*);)*) => {
@@ -36,12 +35,12 @@ macro_rules! changing {
 }
 
 changing! {
-    knobharbor_add(number: u32, terms: &[Term], constant: f64, kind: u32, strength: f64, budget: Budget);
-    knobharbor_add_lists(number: u32, vars: &[u32], coefs: &[f64], constant: f64, kind: u32, strength: f64, budget: Budget);
-    knobharbor_remove(number: u32, budget: Budget);
-    knobharbor_add_edit(variable: u32, strength: f64, budget: Budget);
-    knobharbor_remove_edit(variable: u32, budget: Budget);
-    knobharbor_suggest(variable: u32, suggestion: f64, budget: Budget);
+    knobharbor_add(number: u32, terms: &[Term], constant: f64, kind: u32, strength: f64, budget: u16);
+    knobharbor_add_lists(number: u32, vars: &[u32], coefs: &[f64], constant: f64, kind: u32, strength: f64, budget: u16);
+    knobharbor_remove(number: u32, budget: u16);
+    knobharbor_add_edit(variable: u32, strength: f64, budget: u16);
+    knobharbor_remove_edit(variable: u32, budget: u16);
+    knobharbor_suggest(variable: u32, suggestion: f64, budget: u16);
 }
 
 extern "C" {
@@ -75,8 +74,17 @@ pub enum Call {
 }
 
 impl Call {
-    /// `vars` and `coefs` are the lists of an add, where they are lent from.
-    pub fn make(&self, t: Lent, w: Lent, vars: &[u32], coefs: &[f64]) -> Answer {
+    /// The terms of an add as records, where the two lists are of one length.
+    pub fn records(&self) -> Option<Vec<Term>> {
+        match self {
+            Call::Add { vars, coefs, .. } if vars.len() == coefs.len() => Some(vars.iter().zip(coefs).map(|(&variable, &coefficient)| Term { variable, coefficient }).collect()),
+            _ => None,
+        }
+    }
+
+    /// `vars` and `coefs` are the lists of an add, `records` the same as one list, which is taken for even numbers; all where they
+    /// are lent from.
+    pub fn make(&self, t: Lent, w: Lent, vars: &[u32], coefs: &[f64], records: Option<&[Term]>) -> Answer {
         macro_rules! lend {
             ($call:ident, $($arg:expr),*) => {
                 $call(t.head, t.names, t.reals, t.rows, w.head, w.names, w.reals, w.rows, $($arg),*)
@@ -85,12 +93,10 @@ impl Call {
         unsafe {
             match *self {
                 Call::Reset => knobharbor_reset(t.head, t.names, t.reals, t.rows),
-                // even numbers by the list of records, where the lengths let it
-                Call::Add { number, constant, kind, strength, budget, .. } if number % 2 == 0 && vars.len() == coefs.len() => {
-                    let terms: Vec<Term> = vars.iter().zip(coefs).map(|(&variable, &coefficient)| Term { variable, coefficient }).collect();
-                    lend!(knobharbor_add, number, &terms, constant, kind, strength, budget)
-                }
-                Call::Add { number, constant, kind, strength, budget, .. } => lend!(knobharbor_add_lists, number, vars, coefs, constant, kind, strength, budget),
+                Call::Add { number, constant, kind, strength, budget, .. } => match records {
+                    Some(terms) if number % 2 == 0 => lend!(knobharbor_add, number, terms, constant, kind, strength, budget),
+                    _ => lend!(knobharbor_add_lists, number, vars, coefs, constant, kind, strength, budget),
+                },
                 Call::Remove { number, budget } => lend!(knobharbor_remove, number, budget),
                 Call::AddEdit { variable, strength, budget } => lend!(knobharbor_add_edit, variable, strength, budget),
                 Call::RemoveEdit { variable, budget } => lend!(knobharbor_remove_edit, variable, budget),

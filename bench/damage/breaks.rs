@@ -15,8 +15,6 @@ fn rename(w: &mut Words, old: u64, new: u64) {
     w.variables.iter_mut().for_each(|v| change(&mut v.symbol));
     w.constraints.iter_mut().for_each(|c| [&mut c.marker, &mut c.other].into_iter().for_each(change));
     w.edits.iter_mut().for_each(|e| [&mut e.marker, &mut e.other].into_iter().for_each(change));
-    let id = id_of(old);
-    w.entries.iter_mut().filter(|e| **e == id).for_each(|e| *e = id_of(new));
 }
 
 /// One more symbol at the end, with cells of 0.0.
@@ -60,7 +58,7 @@ const COUNTS_AND_ORDER: &[Break] = &[
         let of_edits: Vec<u64> = w.edits.iter().flat_map(|e| [e.marker, e.other]).collect();
         w.symbols = w.variables.iter().map(|v| v.symbol).chain(of_edits).collect();
         w.symbols.sort();
-        (w.objective, w.entries) = (vec![0.0; w.symbols.len()], Vec::new());
+        w.objective = vec![0.0; w.symbols.len()];
         while w.variables.len() <= MOST_VARIABLES {
             let (symbol, number) = (code(last_id(w) + 1, EXTERNAL), w.variables.last().map_or(0, |v| v.number) + 1);
             w.variables.push(VariableWords { number, symbol, old: 1.0, ..VariableWords::default() });
@@ -110,7 +108,6 @@ const COUNTS_AND_ORDER: &[Break] = &[
         w.variables[i + 1].symbol = kept;
         Some(())
     },
-    |g, w| Some(w.entries.push(g.pick(&[*w.entries.first()?]))),
     |g, w| Some(w.next = last_id(w).checked_sub(g.word() % 2)?.max(1)).filter(|_| !w.symbols.is_empty()),
     |_, w| Some(*w = Words::default()),
     |_, w| {
@@ -135,7 +132,6 @@ fn remove_symbol(w: &mut Words, gone: u64) {
             r.cells.remove(place);
         });
     }
-    w.entries.retain(|e| *e != id_of(gone));
 }
 
 const SYMBOLS: &[Break] = &[
@@ -165,8 +161,6 @@ const SYMBOLS: &[Break] = &[
         let id = last_id(w) + 1;
         Some(w.rows.last_mut()?.symbol = code(id, SLACK))
     },
-    |_, w| Some(w.entries.push(last_id(w) + 1)),
-    |_, w| Some(w.entries.push(0)),
     |g, w| {
         let v = some(g, &mut w.variables)?;
         Some(v.uses = g.pick(&[v.uses + 1, v.uses.wrapping_sub(1)]))

@@ -1,6 +1,6 @@
 //! One call of the archive on lent tables, held against the oracle: whether the tables read (`reading.rs`), and what the patched
 //! crate's model comes to where they do (`model.rs`).
-use crate::archive::{self, Answer, Call, Fetched};
+use crate::archive::{self, Answer, Call, Fetched, Term};
 use crate::layout::{Tables, Words, CHANGES, LENGTHS};
 use crate::memory::{Lists, Set};
 use crate::model;
@@ -36,6 +36,7 @@ pub struct Checker {
     tables: Set,
     room: Set,
     terms: Lists<u32, f64>,
+    records: Lists<Term, u8>,
     changes: Lists<u64, f64>,
     /// the clause that the oracle leaves out
     pub left_out: Option<usize>,
@@ -53,7 +54,7 @@ fn has_negative_zero(w: &Words) -> bool {
 
 impl Checker {
     pub fn new(left_out: Option<usize>) -> Checker {
-        Checker { tables: Set::new(), room: Set::new(), terms: Lists::new(), changes: Lists::new(), left_out }
+        Checker { tables: Set::new(), room: Set::new(), terms: Lists::new(), records: Lists::new(), changes: Lists::new(), left_out }
     }
 
     /// All of these hold, but for the one that is left out; the first has the place `start` among what is asked.
@@ -85,10 +86,16 @@ impl Checker {
         };
         let (lent_vars, lent_coefs) = self.terms.lend(vars, coefs, last);
         let (lent, lent_room) = (self.tables.lend(t, last), self.room.lend(room, last));
-        let answer = call.make(lent, lent_room, lent_vars, lent_coefs);
-        let (Some(after), Some(room_after), Some(lists)) = (self.tables.back(), self.room.back(), self.terms.back()) else {
+        let records = call.records();
+        let lent_records = &*self.records.lend(records.as_deref().unwrap_or(&[]), &[], last).0;
+        let answer = call.make(lent, lent_room, lent_vars, lent_coefs, records.as_ref().map(|_| lent_records));
+        let (Some(after), Some(room_after), Some(lists), Some(_)) = (self.tables.back(), self.room.back(), self.terms.back(), self.records.back()) else {
             return differ("what is not lent changed", call);
         };
+        let bits = |list: &[Term]| -> Vec<(u32, u64)> { list.iter().map(|t| (t.variable, t.coefficient.to_bits())).collect() };
+        if records.is_some_and(|r| bits(&r) != bits(lent_records)) {
+            return differ("an add's records changed", call);
+        }
         if lists.0 != vars || !lists.1.iter().map(|x| x.to_bits()).eq(coefs.iter().map(|x| x.to_bits())) {
             return differ("an add's lists changed", call);
         }

@@ -1,5 +1,5 @@
 //! States that read and come from no run: any ids in any order, any rows, any numbers.
-use crate::layout::{code, id_of, ConstraintWords, EditWords, RowWords, VariableWords, Words, DUMMY, ERROR, EXTERNAL, NONE, SLACK};
+use crate::layout::{code, ConstraintWords, EditWords, RowWords, VariableWords, Words, DUMMY, ERROR, EXTERNAL, NONE, SLACK};
 use crate::random::Random;
 
 pub const REQUIRED: f64 = 1_001_001_000.0;
@@ -123,8 +123,6 @@ fn tableau(g: &mut Random, w: &mut Words, wild: bool) {
     // above 0 for the most part, as a pass leaves it
     let least = if g.one_in(4) { f64::MIN } else { 0.0 };
     w.objective = cells(g, least);
-    w.entries = w.symbols.iter().map(|s| id_of(*s)).filter(|_| g.one_in(5)).collect();
-    (1..w.entries.len()).rev().for_each(|i| w.entries.swap(i, g.below(i + 1)));
 }
 
 /// A state that reads.

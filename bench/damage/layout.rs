@@ -3,7 +3,7 @@
 
 // ---- lengths, widths and places
 
-const HEAD: usize = 326;
+const HEAD: usize = 196;
 const ITEMS: usize = 128;
 const ROWS: usize = 51;
 const NAME: usize = 20;
@@ -22,7 +22,6 @@ pub const CHANGES: usize = 32;
 const NEXT: usize = 0;
 const SYMBOL_COUNT: usize = 1;
 const ROW_COUNT: usize = 2;
-const ENTRY_COUNT: usize = 3;
 const VARIABLE_COUNT: usize = 4;
 const CONSTRAINT_COUNT: usize = 5;
 const EDIT_COUNT: usize = 6;
@@ -32,10 +31,8 @@ const HEADING: usize = 9;
 
 const SYMBOLS: usize = 16;
 const BASICS: usize = 146;
-const ENTRIES: usize = 196;
 const SYMBOL_ROOM: usize = BASICS - SYMBOLS - 1;
-const BASIC_ROOM: usize = ENTRIES - BASICS;
-const ENTRY_ROOM: usize = HEAD - ENTRIES;
+const BASIC_ROOM: usize = HEAD - BASICS;
 
 const VARIABLES: usize = 0;
 const CONSTRAINTS: usize = 32;
@@ -163,8 +160,7 @@ impl Tables {
             0 => pick(HEADING),
             1 => SYMBOLS + one_of(w.symbols.len(), SYMBOL_ROOM, &mut pick),
             2 => BASICS + one_of(w.rows.len(), BASIC_ROOM, &mut pick),
-            3 => ENTRIES + one_of(w.entries.len(), ENTRY_ROOM, &mut pick),
-            4 | 5 => HEAD + item(start, count, &mut pick) * NAME + pick(TERMS + 2),
+            3..=5 => HEAD + item(start, count, &mut pick) * NAME + pick(TERMS + 2),
             6 => HEAD + ITEMS * NAME + item(start, count, &mut pick) * REAL + pick(COEFFICIENTS + 2),
             _ => HEAD + ITEMS * (NAME + REAL) + one_of(w.rows.len() + 1, ROWS, &mut pick) * ROW + one_of(w.symbols.len() + 1, ROW, &mut pick),
         }
@@ -221,14 +217,12 @@ pub struct Words {
     pub whole: u64,
     pub symbol_count: u64,
     pub row_count: u64,
-    pub entry_count: u64,
     pub variable_count: u64,
     pub constraint_count: u64,
     pub edit_count: u64,
     pub symbols: Vec<u64>,
     pub rows: Vec<RowWords>,
     pub objective: Vec<f64>,
-    pub entries: Vec<u64>,
     pub variables: Vec<VariableWords>,
     pub constraints: Vec<ConstraintWords>,
     pub edits: Vec<EditWords>,
@@ -249,15 +243,13 @@ impl Words {
             whole: h[WHOLE],
             symbol_count: h[SYMBOL_COUNT],
             row_count: h[ROW_COUNT],
-            entry_count: h[ENTRY_COUNT],
             variable_count: h[VARIABLE_COUNT],
             constraint_count: h[CONSTRAINT_COUNT],
             edit_count: h[EDIT_COUNT],
             ..Words::default()
         };
-        let (k, r, q) = (held(w.symbol_count, SYMBOL_ROOM), held(w.row_count, BASIC_ROOM), held(w.entry_count, ENTRY_ROOM));
+        let (k, r) = (held(w.symbol_count, SYMBOL_ROOM), held(w.row_count, BASIC_ROOM));
         w.symbols = h[SYMBOLS..SYMBOLS + k].to_vec();
-        w.entries = h[ENTRIES..ENTRIES + q].to_vec();
         w.objective = t.rows[OBJECTIVE][CELLS..CELLS + k].to_vec();
         w.rows = (0..r)
             .map(|i| RowWords { symbol: h[BASICS + i], constant: t.rows[FIRST_ROW + i][CONSTANT], cells: t.rows[FIRST_ROW + i][CELLS..CELLS + k].to_vec() })
@@ -293,7 +285,6 @@ impl Words {
     pub fn counted(mut self) -> Words {
         self.symbol_count = self.symbols.len() as u64;
         self.row_count = self.rows.len() as u64;
-        self.entry_count = self.entries.len() as u64;
         self.variable_count = self.variables.len() as u64;
         self.constraint_count = self.constraints.len() as u64;
         self.edit_count = self.edits.len() as u64;
@@ -307,7 +298,6 @@ impl Words {
             (NEXT, self.next),
             (SYMBOL_COUNT, self.symbol_count),
             (ROW_COUNT, self.row_count),
-            (ENTRY_COUNT, self.entry_count),
             (VARIABLE_COUNT, self.variable_count),
             (CONSTRAINT_COUNT, self.constraint_count),
             (EDIT_COUNT, self.edit_count),
@@ -316,7 +306,6 @@ impl Words {
         ];
         heading.iter().for_each(|&(place, word)| t.head[place] = word);
         t.head[SYMBOLS..SYMBOLS + self.symbols.len()].copy_from_slice(&self.symbols);
-        t.head[ENTRIES..ENTRIES + self.entries.len()].copy_from_slice(&self.entries);
         t.rows[OBJECTIVE][CELLS..CELLS + self.objective.len()].copy_from_slice(&self.objective);
         for (i, r) in self.rows.iter().enumerate() {
             t.head[BASICS + i] = r.symbol;

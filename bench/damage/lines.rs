@@ -39,7 +39,7 @@ impl Program {
         let nothing: (&[u32], &[f64]) = (&[], &[]);
         let (vars, coefs) = if let Call::Add { vars, coefs, .. } = &call { (&vars[..], &coefs[..]) } else { nothing };
         let room = Tables::filled(LENGTHS, || 7, || 7.0);
-        let a = call.make(self.lent.lend(&self.tables, true), self.room.lend(&room, true), vars, coefs);
+        let a = call.make(self.lent.lend(&self.tables, true), self.room.lend(&room, true), vars, coefs, call.records().as_deref());
         self.tables = self.lent.back().expect("what is not lent stays");
         format!("{} {} {}", a.number, a.pivots, a.whole as u8)
     }

@@ -38,7 +38,6 @@ fn present(symbols: &[u64], cells: &[f64]) -> Vec<(Symbol, f64)> {
 
 /// Of words that read.
 pub fn state(w: &Words) -> State {
-    let by_id = |id: u64| symbol(*w.symbols.iter().find(|s| id_of(**s) == id).expect("a list entry is live"));
     State {
         next: w.next as usize,
         clear: w.clear == 1,
@@ -58,7 +57,6 @@ pub fn state(w: &Words) -> State {
         edits: w.edits.iter().map(|e| EditState { variable: e.variable as u32, strength: e.strength, marker: symbol(e.marker), other: other(e.other), suggestion: e.suggestion }).collect(),
         rows: w.rows.iter().map(|r| RowState { symbol: symbol(r.symbol), constant: r.constant, cells: present(&w.symbols, &r.cells) }).collect(),
         objective: present(&w.symbols, &w.objective),
-        infeasible: w.entries.iter().map(|id| by_id(*id)).collect(),
     }
 }
 
@@ -80,7 +78,6 @@ pub fn words(s: &State) -> Words {
         symbols: live.iter().map(|x| word(*x)).collect(),
         rows: s.rows.iter().map(|r| RowWords { symbol: word(r.symbol), constant: r.constant, cells: along(&r.cells) }).collect(),
         objective: along(&s.objective),
-        entries: s.infeasible.iter().map(|x| x.0 as u64).collect(),
         variables: s.variables.iter().map(|v| VariableWords { number: v.number.into(), symbol: word(v.symbol), uses: v.uses as u64, changed: v.changed.into(), old: v.old }).collect(),
         constraints: s.constraints.iter().map(constraint).collect(),
         edits: s.edits.iter().map(|e| EditWords { variable: e.variable.into(), marker: word(e.marker), other: word(e.other), strength: e.strength, suggestion: e.suggestion }).collect(),

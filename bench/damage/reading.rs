@@ -20,12 +20,11 @@ pub const CLAUSES: &[Clause] = &[
     ("variable numbers ascend", |w| ascend(w.variables.iter().map(|v| v.number))),
     ("constraint numbers ascend", |w| ascend(w.constraints.iter().map(|c| c.number))),
     ("edits ascend by their variables", |w| ascend(w.edits.iter().map(|e| e.variable))),
-    // "symbols and list entries are distinct", and stand by ascending id, from 1
+    // "symbols ... are distinct", and stand by ascending id, from 1
     ("symbols ascend by id", |w| ascend(w.symbols.iter().map(|s| id_of(*s)))),
     ("ids are above 0", |w| w.symbols.iter().all(|s| id_of(*s) > 0)),
     ("rows ascend by id", |w| ascend(w.rows.iter().map(|r| id_of(r.symbol)))),
     ("no symbol has two owners", |w| distinct(&owned(w))),
-    ("list entries are distinct", |w| distinct(&w.entries)),
     // "ids lie below the next id"
     ("ids lie below the next id", |w| w.symbols.iter().all(|s| id_of(*s) < w.next)),
     ("the next id is above 0", |w| w.next > 0),
@@ -38,7 +37,6 @@ pub const CLAUSES: &[Clause] = &[
     ("every symbol has an owner", |w| within(&w.symbols, &owned(w))),
     ("every owner's symbol is there", |w| within(&owned(w), &w.symbols)),
     ("every row's symbol is there", |w| within(&w.rows.iter().map(|r| r.symbol).collect::<Vec<_>>(), &w.symbols)),
-    ("list entries are ids that are there", |w| within(&w.entries, &w.symbols.iter().map(|s| id_of(*s)).collect::<Vec<_>>())),
     // "use counts are those of the stored terms"
     ("use counts are those of the stored terms", |w| w.variables.iter().all(|v| v.uses == uses(w).get(&v.number).copied().unwrap_or(0))),
     ("the stored terms' variables are live", |w| uses(w).keys().all(|n| w.variables.iter().any(|v| v.number == *n))),

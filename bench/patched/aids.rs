@@ -29,7 +29,7 @@ impl Solver {
 
     /// Parts split by ` ; `: the next id and the fetch toggle; each variable with its symbol, old value and uses; each
     /// numbered constraint with its marker and other; each edit with these and its suggestion; each row with its symbol,
-    /// constant and cells; the objective; the infeasible list; the changed set.
+    /// constant and cells; the objective; the changed set.
     pub fn dump(&self) -> String {
         let mut parts = vec![format!("next {} clear {}", self.id_tick, self.should_clear_changes as u8)];
         for (v, &(old, symbol, uses)) in &self.var_data {
@@ -47,7 +47,6 @@ impl Solver {
             parts.push(format!("row {} {:016x} :{}", named(*s), row.constant.to_bits(), cells(row)));
         }
         parts.push(format!("obj{}", cells(&self.objective.borrow())));
-        parts.push(format!("inf{}", with_space(self.infeasible_rows.iter().map(|s| named(*s)))));
         parts.push(format!("chg{}", with_space(self.changed.iter().map(|v| v.0.to_string()))));
         parts.join(" ; ")
     }
@@ -92,7 +91,6 @@ impl Solver {
         }
         let row_reads = |row: &Row| row.constant.is_finite()
             && row.cells.iter().all(|(s, v)| v.is_finite() && live.contains(&s.0) && !self.rows.contains_key(s));
-        let listed: BTreeSet<Symbol> = self.infeasible_rows.iter().cloned().collect();
         all_fresh
             && live.iter().all(|id| 1 <= *id && *id < self.id_tick)
             && self.var_data.len() <= 32
@@ -100,8 +98,6 @@ impl Solver {
             && self.rows.len() <= self.cns.len()
             && self.rows.iter().all(|(s, row)| live.contains(&s.0) && row_reads(row))
             && row_reads(&self.objective.borrow())
-            && listed.len() == self.infeasible_rows.len()
-            && listed.iter().all(|s| live.contains(&s.0))
             && self.var_data.iter().all(|(v, d)| d.2 == uses.get(v).cloned().unwrap_or(0) && !d.0.is_infinite())
             && self.edits.iter().all(|(v, e)| e.constant.is_finite() && self.cns.contains_key(&Name::EditOf(*v)))
     }

@@ -19,7 +19,8 @@
 //! 13. "in rank: the first Dummy row holding the marker; ..."
 //! 14. "drop the other's row if it's basic, then remove cells of both tag symbols"; "a variable at zero goes with its row
 //!     and cells and leaves the changed set without notice."
-//! 15. "one already there moves to the end"; "After any accepted call, list entries whose row is absent or not below 0 go."
+//! 15. "leaving is the restricted row below 0 with the lowest id, not the last pushed, and the infeasible list goes" (document
+//!     02, T-11).
 //! 16. "Its constant not near zero: refuse 12." before the temporary's pivot.
 //! 17. "every row holding the marker gets delta times that cell": a row that doesn't hold it is left alone, whatever delta is.
 //! 18. "Create: each of three parts times w is held to 0..1000 (NaN gives 0) ... A zero is +0.0."

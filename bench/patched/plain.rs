@@ -50,8 +50,7 @@ pub struct State {
     pub constraints: Vec<ConstraintState>,
     pub edits: Vec<EditState>,
     pub rows: Vec<RowState>,
-    pub objective: Cells,
-    pub infeasible: Vec<Symbol>
+    pub objective: Cells
 }
 
 impl State {
@@ -120,8 +119,7 @@ impl Solver {
             constraints: constraints,
             edits: self.edits.iter().map(|(v, e)| EditState { variable: v.0, strength: e.constraint.strength(), marker: e.tag.marker, other: e.tag.other, suggestion: e.constant }).collect(),
             rows: self.rows.iter().map(|(s, r)| RowState { symbol: *s, constant: r.constant, cells: cells_of(r) }).collect(),
-            objective: cells_of(&self.objective.borrow()),
-            infeasible: self.infeasible_rows.clone()
+            objective: cells_of(&self.objective.borrow())
         }
     }
 
@@ -153,7 +151,6 @@ impl Solver {
             out.rows.insert(r.symbol, Box::new(row));
         }
         out.objective.borrow_mut().cells = s.objective.iter().cloned().collect();
-        out.infeasible_rows = s.infeasible.clone();
         out
     }
 }

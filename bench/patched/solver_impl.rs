@@ -18,7 +18,6 @@ use {
 use ::std::rc::Rc;
 use ::std::cell::RefCell;
 use ::std::collections::{ BTreeMap, BTreeSet }; // EDIT 1: was HashMap, HashSet
-use ::std::collections::btree_map::Entry;
 
 // EDIT 4: "32 live variables, 48 live constraints (edits counted), 16 terms in a constraint." "next id is above 4,294,900,000"
 const MOST_VARIABLES: usize = 32;
@@ -50,7 +49,7 @@ pub struct Solver {
     pub(crate) should_clear_changes: bool,
     pub(crate) rows: BTreeMap<Symbol, Box<Row>>,
     pub(crate) edits: BTreeMap<Variable, EditInfo>,
-    pub(crate) infeasible_rows: Vec<Symbol>, // never contains external symbols
+    // EDIT 15: infeasible_rows is gone
     pub(crate) objective: Rc<RefCell<Row>>,
     artificial: Option<Rc<RefCell<Row>>>,
     pub(crate) id_tick: usize,
@@ -73,7 +72,6 @@ impl Solver {
             should_clear_changes: false,
             rows: BTreeMap::new(),
             edits: BTreeMap::new(),
-            infeasible_rows: Vec::new(),
             objective: Rc::new(RefCell::new(Row::objective())), // EDIT 10
             artificial: None,
             id_tick: 1,
@@ -94,7 +92,6 @@ impl Solver {
             should_clear_changes: self.should_clear_changes,
             rows: self.rows.clone(),
             edits: self.edits.clone(),
-            infeasible_rows: self.infeasible_rows.clone(),
             objective: Rc::new(RefCell::new(self.objective.borrow().clone())),
             artificial: None,
             id_tick: self.id_tick,
@@ -109,7 +106,7 @@ impl Solver {
         Answer { refusal: number, pivots: 0, whole: self.whole }
     }
 
-    // EDIT 3, 5, 7, 8, 15: runs the steps of a call, and says what comes of them.
+    // EDIT 3, 5, 7, 8: runs the steps of a call, and says what comes of them.
     fn take_steps<F: FnOnce(&mut Solver) -> Result<(), Refusal>>(&mut self, budget: u16, steps: F) -> Answer {
         let before = if cfg!(unwatched) { None } else { Some(self.snapshot()) };
         self.budget = budget as u32;
@@ -120,9 +117,6 @@ impl Solver {
         let whole = self.whole && watch::all_whole();
         match result {
             Ok(()) => {
-                // "After any accepted call, list entries whose row is absent or not below 0 go."
-                let rows = &self.rows;
-                self.infeasible_rows.retain(|s| rows.get(s).map_or(false, |row| row.constant < 0.0));
                 self.whole = whole;
                 Answer { refusal: 0, pivots: pivots, whole: whole }
             }
@@ -396,20 +390,14 @@ impl Solver {
 
         // The nice version of the following code runs into non-lexical borrow issues.
         // Ideally the `if row...` code would be in the body of the if. Pretend that it is.
+        // EDIT 15: nothing is pushed, here and below
         {
-            let infeasible_rows = &mut self.infeasible_rows;
             if self.rows.get_mut(&info_tag_marker)
-                .map(|row|
-                     if row.add(-delta) < 0.0 {
-                         Solver::push_infeasible(infeasible_rows, info_tag_marker); // EDIT 15
-                     }).is_some()
+                .map(|row| { row.add(-delta); }).is_some()
             {
 
             } else if self.rows.get_mut(&info_tag_other)
-                .map(|row|
-                     if row.add(delta) < 0.0 {
-                         Solver::push_infeasible(infeasible_rows, info_tag_other); // EDIT 15
-                     }).is_some()
+                .map(|row| { row.add(delta); }).is_some()
             {
 
             } else {
@@ -428,23 +416,12 @@ impl Solver {
                         }
                         self.changed.insert(v);
                     }
-                    if coeff != 0.0 &&
-                        row.add(diff) < 0.0 &&
-                        symbol.type_() != SymbolType::External
-                    {
-                        Solver::push_infeasible(infeasible_rows, *symbol); // EDIT 15
-                    }
+                    row.add(diff);
                 }
             }
         }
         try!(Solver::check_finite()); // EDIT 6
         self.dual_optimise()
-    }
-
-    // EDIT 15: "pushed on the infeasible list (one already there moves to the end)"
-    fn push_infeasible(infeasible_rows: &mut Vec<Symbol>, symbol: Symbol) {
-        infeasible_rows.retain(|s| *s != symbol);
-        infeasible_rows.push(symbol);
     }
 
     fn var_changed(&mut self, v: Variable) {
@@ -495,7 +472,6 @@ impl Solver {
         self.changed.clear();
         self.should_clear_changes = false;
         self.edits.clear();
-        self.infeasible_rows.clear();
         *self.objective.borrow_mut() = Row::objective(); // EDIT 10
         self.artificial = None;
         self.id_tick = 1;
@@ -706,9 +682,7 @@ impl Solver {
                 }
                 self.changed.insert(v);
             }
-            if other_symbol.type_() != SymbolType::External && other_row.constant < 0.0 {
-                Solver::push_infeasible(&mut self.infeasible_rows, other_symbol); // EDIT 15
-            }
+            // EDIT 15: nothing is pushed
         }
         self.objective.borrow_mut().substitute(symbol, row);
         if let Some(artificial) = self.artificial.as_ref() {
@@ -749,37 +723,33 @@ impl Solver {
     /// an iteration of the dual simplex method to make the solution both
     /// optimal and feasible.
     fn dual_optimise(&mut self) -> Result<(), Refusal> {
-        while !self.infeasible_rows.is_empty() {
-            let leaving = self.infeasible_rows.pop().unwrap();
-
-            let row = if let Entry::Occupied(entry) = self.rows.entry(leaving) {
-                if entry.get().constant < 0.0 {
-                    Some(entry.remove())
-                } else {
-                    None
-                }
-            } else {
-                None
-            };
-            if let Some(mut row) = row {
-                let entering = self.get_dual_entering_symbol(&row);
-                if entering.type_() == SymbolType::Invalid {
-                    return Err(Refusal(16)); // EDIT 3
-                }
-                try!(self.check_budget()); // EDIT 8
-                // pivot the entering symbol into the basis
-                row.solve_for_symbols(leaving, entering);
-                self.substitute(entering, &row);
-                if entering.type_() == SymbolType::External && row.constant != 0.0 {
-                    let v = self.var_for_symbol[&entering];
-                    self.var_changed(v);
-                }
-                self.rows.insert(entering, row);
-                try!(Solver::check_finite()); // EDIT 6
-                self.pivots += 1; // EDIT 8
+        // EDIT 15: was a walk of the list, last pushed first
+        while let Some(leaving) = self.get_dual_leaving_symbol() {
+            let entering = self.get_dual_entering_symbol(&self.rows[&leaving]);
+            if entering.type_() == SymbolType::Invalid {
+                return Err(Refusal(16)); // EDIT 3
             }
+            try!(self.check_budget()); // EDIT 8
+            let mut row = self.rows.remove(&leaving).unwrap();
+            // pivot the entering symbol into the basis
+            row.solve_for_symbols(leaving, entering);
+            self.substitute(entering, &row);
+            if entering.type_() == SymbolType::External && row.constant != 0.0 {
+                let v = self.var_for_symbol[&entering];
+                self.var_changed(v);
+            }
+            self.rows.insert(entering, row);
+            try!(Solver::check_finite()); // EDIT 6
+            self.pivots += 1; // EDIT 8
         }
         Ok(())
+    }
+
+    // EDIT 15: "leaving is the restricted row below 0 with the lowest id"
+    fn get_dual_leaving_symbol(&self) -> Option<Symbol> {
+        self.rows.iter()
+            .find(|&(s, row)| s.type_() != SymbolType::External && row.constant < 0.0)
+            .map(|(s, _)| *s)
     }
 
     /// Compute the entering variable for a pivot operation.

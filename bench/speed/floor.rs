@@ -4,7 +4,7 @@ use super::{black_box, least, Layout, REQUIRED};
 const WIDTH: usize = 130;
 const ROWS: usize = 51;
 /// head, names, reals and rows: include/knobharbor.h has the sizes
-const ROOM: usize = 326 + 128 * 20 + 128 * 17 + ROWS * WIDTH;
+const ROOM: usize = 196 + 128 * 20 + 128 * 17 + ROWS * WIDTH;
 
 type Cells = [[u64; WIDTH]; ROWS];
 

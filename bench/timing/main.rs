@@ -88,19 +88,6 @@ fn note(head: &mut [u64], names: &mut [Name], id: u64) {
     }
 }
 
-fn push(head: &mut [u64], id: u64) {
-    let n = head[3] as usize;
-    match head[196..196 + n].iter().position(|&x| x == id) {
-        Some(p) => head[196 + p..196 + n].rotate_left(1),
-        None => {
-            if n < 130 {
-                head[196 + n] = id;
-                head[3] += 1;
-            }
-        }
-    }
-}
-
 #[inline(never)]
 fn substitute(head: &mut [u64], names: &mut [Name], rows: &mut [Row], at: usize, pivot: &Row) -> Wrote {
     let (width, count) = (head[1] as usize, head[2] as usize);
@@ -118,12 +105,6 @@ fn substitute(head: &mut [u64], names: &mut [Name], rows: &mut [Row], at: usize,
     if k != 0.0 {
         rows[0][at] = 0.0;
         w = joined(w, insert_cells(&mut rows[0], pivot, k, width, 1099511627776.0));
-    }
-    for i in 1..=count {
-        let code = head[145 + i];
-        if code % 4 != 0 && rows[i][0] < 0.0 {
-            push(head, code / 4);
-        }
     }
     w
 }
@@ -185,7 +166,7 @@ struct Tables {
 // Every third row and column is an External; the rows' symbols are the lowest ids, the columns follow.
 fn tables(count: usize, width: usize, filled: u64, seed: u64) -> Tables {
     let mut g = Random(seed);
-    let mut t = Tables { head: vec![0; 326], names: vec![[0; 20]; 128], rows: vec![[0.0; 130]; 51] };
+    let mut t = Tables { head: vec![0; 196], names: vec![[0; 20]; 128], rows: vec![[0.0; 130]; 51] };
     let code = |id: usize| (4 * id + if id % 3 == 0 { 0 } else { 1 }) as u64;
     t.head[0] = (count + width + 1) as u64;
     t.head[1] = width as u64;

@@ -17,7 +17,6 @@ use Rattle.steps.specs.Add as add
 use Rattle.steps.specs.Add.{wholeInputs, addCreated, addSteps}
 use Rattle.steps.specs.Readable.{usesIn}
 use Rattle.steps.specs.Tests.{keptTerms, newVariables}
-use Rattle.keeps.specs.Along.{ids}
 use Rattle.keeps.specs.Fits.{fits-worse}
 use Rattle.keeps.specs.Frame.{mark-frame}
 use Rattle.keeps.specs.Good.{Good, good-frame}
@@ -25,8 +24,6 @@ use Rattle.keeps.specs.Creating.{Tagged, createRow-tagged}
 use Rattle.layout.specs.Layout.{Tables, tables, symbolCount, rowCount, nextIdOf}
 use Rattle.rows.specs.declared.number.Wrote.{Wrote}
 use Rattle.rows.specs.Marks.{markOf}
-use Rattle.choose.specs.Reading.{symbolsIn, entriesIn}
-use Rattle.moves.specs.Room.{Held}
 use Rattle.tableau.specs.Working.{workOf}
 use Rattle.standing.specs.declared.Ended.{Ended}
 use Rattle.standing.specs.Standing.{Standing, Beside}
@@ -80,7 +77,6 @@ opening-worse a m terms constant h n reals w o =
       K = o .K;
       U = o .U;
       good = good;
-      entries = o .entries;
       finite = o .finite;
       few-terms = o .few-terms;
       few-rows = o .few-rows;
@@ -104,11 +100,11 @@ created-by r t row = refl
 
 pub made-by : (first : Wrote) (terms : List Term) (constant : Float) (relation : Relation) (t : Tables) (r : Tags) (t₁ : Tables) (row : List Float)
     → Opening (markOf first) terms constant t → createdOf r t₁ row ≡ createRow terms constant relation (workOf false (markOf first) 0 t) → Standing false (markOf (r .wrote)) t₁
-    → symbolCount (t₁ .head) ≤ 128 → rowCount (t₁ .head) ≤ 47 → nextIdOf (t₁ .head) ≤ 4294900018 → Held (entriesIn (t₁ .head)) (ids (symbolsIn (t₁ .head)))
+    → symbolCount (t₁ .head) ≤ 128 → rowCount (t₁ .head) ≤ 47 → nextIdOf (t₁ .head) ≤ 4294900018
     → Made (markOf (r .wrote)) (r .marker) (r .other) t₁ row
-made-by first terms constant relation t r t₁ row o e s k m i l =
+made-by first terms constant relation t r t₁ row o e s k m i =
     record {
-      fitting = record { standing = s; few-symbols = k; few-rows = m; few-ids = i; entries = l; holds = tagged .row };
+      fitting = record { standing = s; few-symbols = k; few-rows = m; few-ids = i; holds = tagged .row };
       K = o .K;
       U = U;
       N = length (before .tableau .rows);

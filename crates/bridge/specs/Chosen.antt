@@ -31,7 +31,7 @@ use Rattle.bridge.specs.Walk.{Ranked, Beats, Rising, MemC, Smallest, sma
 use Rattle.bridge.specs.Nums.{belowZero-z}
 use Rattle.bridge.specs.Rows.{Reads, Up, Sym?, is, isnt, sym?, ReadsRow, row-cell}
 use Rattle.bridge.specs.Finds.{UpRows, find-hit, find-miss}
-use Rattle.bridge.specs.Table.{kindOf, RowAt, Live, ReadsTable, found-in}
+use Rattle.bridge.specs.Table.{kindOf, RowAt, Live, ReadsTable, of-basic}
 
 -- ---- kinds
 pub not-dummy : (x : Symbol) → not (isDummy x) ≡ true → (kindOf (x .kind) ≡ slack) ⊎ (kindOf (x .kind) ≡ external)
@@ -83,10 +83,10 @@ pub data First (q : Vec) (xs : List Symbol) : Option Symbol → Type 0 where
   nobody : All (λ (x : Symbol). not (isDummy x) ≡ true → 0ℤ ≼ q (x .id)) xs → First q xs none
   winner : (e : Symbol) → MemS e xs → not (isDummy e) ≡ true → q (e .id) ≺ 0ℤ → All (λ (x : Symbol). x .id < e .id → not (isDummy x) ≡ true → 0ℤ ≼ q (x .id)) xs → First q xs (some e)
 
-below : (z : ℤ) → ltZ z 0ℤ ≡ true → z ≺ 0ℤ
+pub below : (z : ℤ) → ltZ z 0ℤ ≡ true → z ≺ 0ℤ
 below z e = ltZ-yes (subst T (sym e) tt)
 
-not-below : (z : ℤ) → ltZ z 0ℤ ≡ false → 0ℤ ≼ z
+pub not-below : (z : ℤ) → ltZ z 0ℤ ≡ false → 0ℤ ≼ z
 not-below z e = ltZ-no (subst (λ (b : Bool). T (not b)) (sym e) tt)
 
 pub first-z : (b i : ℕ) (q : Vec) (xs : List Symbol) (cs : List Float) → Up i xs → Reads b xs cs q → First q xs (firstSymbol (λ (s : Symbol). not (isDummy s)) belowZero xs cs)
@@ -112,7 +112,7 @@ first-z b i q (x ∷ xs) (c ∷ cs) u h = go (not (isDummy x)) refl (belowZero c
 
 -- ---- leaving: the rows with a cell below 0
 -- the rows of the list, each with what it reads as
-pub listed : (xs : List Symbol) (B : Mask) (R : ℕ → Vec) (i : ℕ) (bs : List Basic) → UpRows i bs → ((j : ℕ) → i < j → RowAt xs (findRow j bs) (B j) (R j))
+listed : (xs : List Symbol) (B : Mask) (R : ℕ → Vec) (i : ℕ) (bs : List Basic) → UpRows i bs → ((j : ℕ) → i < j → RowAt xs (findRow j bs) (B j) (R j))
     → All (λ (b : Basic). (B (b .symbol .id) ≡ true) × ReadsRow xs (b .row) (R (b .symbol .id))) bs
 listed xs B R i [] u h = tt
 listed xs B R i (b ∷ bs) u h = (head (sym? (b .symbol .id) (b .symbol)), listed xs B R (b .symbol .id) bs (u .1) (λ j l. tail j l (sym? j (b .symbol))))
@@ -125,6 +125,22 @@ listed xs B R i (b ∷ bs) u h = (head (sym? (b .symbol .id) (b .symbol)), liste
     tail j l (is e p d) = absurd (omega arith)
     tail j l (isnt e p d) = subst (λ (t : Option Row). RowAt xs t (B j) (R j)) (find-miss j b bs e) (h j (omega (arith, u .0)))
 
+abbrev pub Known : (ℕ → KindZ) → List Symbol → Mask → (ℕ → Vec) → Basic → Type 0
+Known kind xs B R b = Live kind xs (b .symbol) × ((B (b .symbol .id) ≡ true) × ReadsRow xs (b .row) (R (b .symbol .id)))
+
+pub known : (kind : ℕ → KindZ) (xs : List Symbol) (bs : List Basic) (cs : List Float) (art : Option Row) (B : Mask) (R : ℕ → Vec) (o a : Vec) → ReadsTable kind xs bs cs art B R o a → All (Known kind xs B R) bs
+known kind xs bs cs art B R o a H =
+    all-zip (λ (b : Basic). Live kind xs (b .symbol)) (λ (b : Basic). (B (b .symbol .id) ≡ true) × ReadsRow xs (b .row) (R (b .symbol .id))) (Known kind xs B R) (λ b x y. (x, y)) bs (H .rows-live)
+    (listed xs B R 0 bs (H .rows-up) (λ j _. H .rows j))
+
+-- a fact of each restricted row, by column
+pub by-column : (kind : ℕ → KindZ) (xs : List Symbol) (bs : List Basic) (cs : List Float) (art : Option Row) (B : Mask) (R : ℕ → Vec) (o a : Vec) → ReadsTable kind xs bs cs art B R o a
+    → (Q : ℕ → Type 0) → All (λ (b : Basic). isRestricted (b .symbol) ≡ true → Q (b .symbol .id)) bs → (j : ℕ) → B j ≡ true → kind j ≡ slack → Q j
+by-column kind xs bs cs art B R o a H Q A =
+    of-basic kind xs bs cs art B R o a H (λ j. kind j ≡ slack → Q j)
+    (all-zip (λ (b : Basic). Live kind xs (b .symbol)) (λ (b : Basic). isRestricted (b .symbol) ≡ true → Q (b .symbol .id)) (λ (b : Basic). kind (b .symbol .id) ≡ slack → Q (b .symbol .id))
+    (λ b x f k. f (slack-restricted (b .symbol) (sym (x .1) ∙ k))) bs (H .rows-live) A)
+
 module _ (kind : ℕ → KindZ) (xs : List Symbol) (B : Mask) (R : ℕ → Vec) (e : ℕ) (e≢0 : e ≢ 0) where
   -- what a candidate comes from
   pub record From (c : Candidate) : Type 0 where
@@ -135,13 +151,10 @@ module _ (kind : ℕ → KindZ) (xs : List Symbol) (B : Mask) (R : ℕ → Vec) 
     pub small : natAbs (R (c .symbol .id) 0) ≤ 2 ^ 30
     pub quotient : Quotient (c .ratio) (R (c .symbol .id) 0) (negℤ (R (c .symbol .id) e))
 
-  abbrev Known : Basic → Type 0
-  Known b = Live kind xs (b .symbol) × ((B (b .symbol .id) ≡ true) × ReadsRow xs (b .row) (R (b .symbol .id)))
-
   abbrev pub cand : Basic → Candidate
   cand b = record { symbol = b .symbol; ratio = neg (b .row .constant) /₆₄ coefficientFor e xs (b .row .cells) }
 
-  from : (b : Basic) → Known b → isRestricted (b .symbol) ≡ true → R (b .symbol .id) e ≺ 0ℤ → From (cand b)
+  from : (b : Basic) → Known kind xs B R b → isRestricted (b .symbol) ≡ true → R (b .symbol .id) e ≺ 0ℤ → From (cand b)
   from b k r l = record {
     live = k .0;
     restricted = r;
@@ -153,11 +166,11 @@ module _ (kind : ℕ → KindZ) (xs : List Symbol) (B : Mask) (R : ℕ → Vec) 
         (omega (arith, abs-neg (R (b .symbol .id) 0), k .1 .1 .constant .small)));
   }
 
-  cell-test : (b : Basic) → Known b → belowZero (coefficientFor e xs (b .row .cells)) ≡ ltZ (R (b .symbol .id) e) 0ℤ
+  cell-test : (b : Basic) → Known kind xs B R b → belowZero (coefficientFor e xs (b .row .cells)) ≡ ltZ (R (b .symbol .id) e) 0ℤ
   cell-test b k = belowZero-z (row-cell e xs (b .row) (R (b .symbol .id)) e≢0 (k .1 .1) .isz)
 
   -- every candidate comes from a row ..
-  pub from-all : (bs : List Basic) → All Known bs → All From (negativeRatios e xs bs)
+  pub from-all : (bs : List Basic) → All (Known kind xs B R) bs → All From (negativeRatios e xs bs)
   unfolding negativeRatios
   from-all [] k = tt
   from-all (b ∷ bs) k = go (isRestricted (b .symbol) && belowZero (coefficientFor e xs (b .row .cells))) refl (from-all bs (k .1))
@@ -184,7 +197,7 @@ module _ (kind : ℕ → KindZ) (xs : List Symbol) (B : Mask) (R : ℕ → Vec) 
       go false ih = (weaken (negativeRatios e xs bs) (ih .0), ih .1)
 
   -- .. and every restricted row with a cell below 0 is among them
-  pub to-rows : (Q : Candidate → Type 0) (bs : List Basic) → All Known bs → All Q (negativeRatios e xs bs)
+  pub to-rows : (Q : Candidate → Type 0) (bs : List Basic) → All (Known kind xs B R) bs → All Q (negativeRatios e xs bs)
       → All (λ (b : Basic). isRestricted (b .symbol) ≡ true → R (b .symbol .id) e ≺ 0ℤ → Q (cand b)) bs
   unfolding negativeRatios
   to-rows Q [] k a = tt
@@ -249,30 +262,11 @@ module _ (kind : ℕ → KindZ) (xs : List Symbol) (bs : List Basic) (cs : List 
   Leaving none = (j : ℕ) → B j ≡ true → kind j ≡ slack → R j e ≺ 0ℤ → ⊥
   Leaving (some l) = Leaves l
 
-  known : All (λ (b : Basic). Live kind xs (b .symbol) × ((B (b .symbol .id) ≡ true) × ReadsRow xs (b .row) (R (b .symbol .id)))) bs
-  known =
-      all-zip (λ (b : Basic). Live kind xs (b .symbol)) (λ (b : Basic). (B (b .symbol .id) ≡ true) × ReadsRow xs (b .row) (R (b .symbol .id)))
-      (λ (b : Basic). Live kind xs (b .symbol) × ((B (b .symbol .id) ≡ true) × ReadsRow xs (b .row) (R (b .symbol .id)))) (λ b x y. (x, y)) bs (H .rows-live) (listed xs B R 0 bs (H .rows-up) (λ j _. H .rows j))
-
-  -- a fact of each restricted row with a cell below 0, by column
-  by-column : (Q : ℕ → Type 0) → All (λ (b : Basic). isRestricted (b .symbol) ≡ true → R (b .symbol .id) e ≺ 0ℤ → Q (b .symbol .id)) bs
-      → (j : ℕ) → B j ≡ true → kind j ≡ slack → R j e ≺ 0ℤ → Q j
-  by-column Q A j b s l = go (findRow j bs) refl (H .rows j)
-    where
-      as-columns : All (λ (b : Basic). kind (b .symbol .id) ≡ slack → R (b .symbol .id) e ≺ 0ℤ → Q (b .symbol .id)) bs
-      as-columns =
-          all-zip (λ (b : Basic). Live kind xs (b .symbol)) (λ (b : Basic). isRestricted (b .symbol) ≡ true → R (b .symbol .id) e ≺ 0ℤ → Q (b .symbol .id))
-          (λ (b : Basic). kind (b .symbol .id) ≡ slack → R (b .symbol .id) e ≺ 0ℤ → Q (b .symbol .id)) (λ b x f k. f (slack-restricted (b .symbol) (sym (x .1) ∙ k))) bs (H .rows-live) A
-
-      go : (t : Option Row) → findRow j bs ≡ t → RowAt xs t (B j) (R j) → Q j
-      go none q h = absurd (true≢false (sym b ∙ h))
-      go (some r) q h = found-in (λ j. kind j ≡ slack → R j e ≺ 0ℤ → Q j) j bs r as-columns q s l
-
   pub leaving-is : Leaving (smallestRatio (negativeRatios e xs bs))
   leaving-is = go (smallestRatio (negativeRatios e xs bs)) (smallest-is (negativeRatios e xs bs) ranked (from-rising kind xs B R e e≢0 0 bs (H .rows-up) .1))
     where
       froms : All (From kind xs B R e e≢0) (negativeRatios e xs bs)
-      froms = from-all kind xs B R e e≢0 bs known
+      froms = from-all kind xs B R e e≢0 bs (known kind xs bs cs art B R o a H)
 
       ranked : All Ranked (negativeRatios e xs bs)
       ranked = all-map (From kind xs B R e e≢0) Ranked (λ c f. record { rank = f .quotient .rank; over = f .quotient .over }) (negativeRatios e xs bs) froms
@@ -281,7 +275,7 @@ module _ (kind : ℕ → KindZ) (xs : List Symbol) (bs : List Basic) (cs : List 
       none-left q = subst (All (λ (c : Candidate). ⊥)) (sym q) tt
 
       won : (w : Candidate) → From kind xs B R e e≢0 w → All (Beats w) (negativeRatios e xs bs) → Leaves (w .symbol)
-      won w F A = record { live = F .live; restricted = F .restricted; basic = F .basic; cell = F .cell; before = λ u. by-column (Before (w .symbol .id)) (beaten u) }
+      won w F A = record { live = F .live; restricted = F .restricted; basic = F .basic; cell = F .cell; before = λ u. by-column kind xs bs cs art B R o a H (λ j. R j e ≺ 0ℤ → Before (w .symbol .id) j) (beaten u) }
         where
           l : ℕ
           l = w .symbol .id
@@ -300,8 +294,8 @@ module _ (kind : ℕ → KindZ) (xs : List Symbol) (bs : List Basic) (cs : List 
               all-zip (λ (b : Basic). isRestricted (b .symbol) ≡ true → R (b .symbol .id) e ≺ 0ℤ → From kind xs B R e e≢0 (cand kind xs B R e e≢0 b))
               (λ (b : Basic). isRestricted (b .symbol) ≡ true → R (b .symbol .id) e ≺ 0ℤ → Beats w (cand kind xs B R e e≢0 b))
               (λ (b : Basic). isRestricted (b .symbol) ≡ true → R (b .symbol .id) e ≺ 0ℤ → Before (w .symbol .id) (b .symbol .id))
-              (λ b f g r c. beats u b (f r c) (g r c)) bs (to-rows kind xs B R e e≢0 (From kind xs B R e e≢0) bs known froms) (to-rows kind xs B R e e≢0 (Beats w) bs known A)
+              (λ b f g r c. beats u b (f r c) (g r c)) bs (to-rows kind xs B R e e≢0 (From kind xs B R e e≢0) bs (known kind xs bs cs art B R o a H) froms) (to-rows kind xs B R e e≢0 (Beats w) bs (known kind xs bs cs art B R o a H) A)
 
       go : (t : Option Symbol) → Smallest (negativeRatios e xs bs) t → Leaving t
-      go t (Smallest.nobody q) = by-column (λ j. ⊥) (to-rows kind xs B R e e≢0 (λ c. ⊥) bs known (none-left q))
+      go t (Smallest.nobody q) = by-column kind xs bs cs art B R o a H (λ j. R j e ≺ 0ℤ → ⊥) (to-rows kind xs B R e e≢0 (λ c. ⊥) bs (known kind xs bs cs art B R o a H) (none-left q))
       go t (Smallest.winner w m r A) = won w (all-mem (From kind xs B R e e≢0) (negativeRatios e xs bs) w froms m) A

@@ -1,4 +1,4 @@
--- The dual pass: the steps' entering symbol has the least ratio of objective cell to cell, by cross multiplication, the lowest id on a tie; a pivot that keeps the mark is the theory's dual move. Assumes nothing.
+-- The dual pass: the steps' leaving row is the first slack's below 0; their entering symbol has the least ratio of objective cell to cell, by cross multiplication, the lowest id on a tie; a pivot that keeps the mark is the theory's. Assumes nothing.
 use mathlib.Core.Path.{_≡_, refl, sym, ap, ap₂, _∙_, subst}
 use mathlib.Core.Logic.{_⊎_, inl, inr}
 use mathlib.Core.List.{List, [], _∷_}
@@ -19,23 +19,25 @@ use Rattle.simplex.specs.Ord.{0ℤ, 1ℤ, ≼-of-eq, ≼-trans, clash, ≺-irre
 use Rattle.simplex.specs.Lin.{Vec}
 use Rattle.simplex.specs.Choose.{All, all-map-of as all-map, all-zip-of as all-zip}
 use Rattle.simplex.specs.Tab.{pivoted}
-use Rattle.simplex.specs.Opt.{Kind as KindZ, external, slack, slack≢external, slack≢const}
+use Rattle.simplex.specs.Basis.{Mask}
+use Rattle.simplex.specs.Opt.{Kind as KindZ, external, slack, dummy, slack≢external}
 use Rattle.simplex.specs.Pass.{State, step}
-use Rattle.simplex.specs.Dual.{Good, Move, step-good}
+use Rattle.simplex.specs.Dual.{Good, Move, Choice as DualChoice, step-good}
 use Rattle.simplex.specs.Look.{both}
-use Rattle.steps.specs.Number.{zero64, _/₆₄_, allWhole}
-use Rattle.steps.specs.Symbol.{Symbol, isDummy}
-use Rattle.steps.specs.Row.{Row}
-use Rattle.steps.specs.Work.{Work, findRow}
+use Rattle.steps.specs.Number.{zero64, _/₆₄_, belowZero, allWhole}
+use Rattle.steps.specs.Symbol.{Symbol, isDummy, isRestricted}
+use Rattle.steps.specs.State.{Basic}
+use Rattle.steps.specs.Work.{Work}
 use Rattle.steps.specs.Substitute.{pivot}
-use Rattle.steps.specs.Optimise.{Candidate, smallestRatio, dualRatios, getDualEnteringSymbol}
+use Rattle.steps.specs.Optimise.{Candidate, smallestRatio, Choice, ended, stuck, pivotOn, getDualLeavingRow, dualRatios, getDualEnteringSymbol, chooseDualPivot}
 use Rattle.bridge.specs.Quot.{Quotient, div-above, yes}
 use Rattle.bridge.specs.Walk.{Ranked, Beats, Rising, Smallest, smallest-is}
-use Rattle.bridge.specs.Nums.{zero64-z}
-use Rattle.bridge.specs.Rows.{Reads, NotIn, In, Up, ReadsRow}
-use Rattle.bridge.specs.Table.{kindOf, RowAt, Live, ReadsWork, pivot-z}
-use Rattle.bridge.specs.Chosen.{not-dummy, slack-not-dummy, MemS, cross, all-mem}
-use Rattle.bridge.specs.Looks.{is-live, in-or-not, all-in}
+use Rattle.bridge.specs.Nums.{zero64-z, belowZero-z}
+use Rattle.bridge.specs.Rows.{Reads, Up, ReadsRow}
+use Rattle.bridge.specs.Finds.{UpRows}
+use Rattle.bridge.specs.Table.{kindOf, Live, ReadsWork, of-basic, pivot-z}
+use Rattle.bridge.specs.Chosen.{not-dummy, restricted-is, slack-not-dummy, slack-restricted, MemS, below, not-below, Known, known, cross, all-mem}
+use Rattle.bridge.specs.Looks.{is-live, slack-in, all-in}
 
 -- ---- the walk: f is the leaving row, o the objective
 module _ (f o : Vec) where
@@ -151,7 +153,36 @@ module _ (f o : Vec) where
       go t (Smallest.nobody q) = to-symbols (λ i. ⊥) xs cs os h g (subst (All (λ (c : Candidate). ⊥)) (sym q) tt)
       go t (Smallest.winner w m r A) = won w (all-mem From (dualRatios xs cs os) w froms m) (all-mem (λ (c : Candidate). MemS (c .symbol) xs) (dualRatios xs cs os) w (from-mem xs cs os) m) A
 
--- ---- one pivot of the dual pass
+-- ---- leaving: the first restricted row below 0
+data Lowest (kind : ℕ → KindZ) (xs : List Symbol) (B : Mask) (R : ℕ → Vec) (bs : List Basic) : Option Basic → Type 0 where
+  nobody : All (λ (b : Basic). kind (b .symbol .id) ≡ slack → 0ℤ ≼ R (b .symbol .id) 0) bs → Lowest kind xs B R bs none
+  winner : (b : Basic) → Known kind xs B R b → isRestricted (b .symbol) ≡ true → R (b .symbol .id) 0 ≺ 0ℤ
+      → All (λ (c : Basic). c .symbol .id < b .symbol .id → kind (c .symbol .id) ≡ slack → 0ℤ ≼ R (c .symbol .id) 0) bs → Lowest kind xs B R bs (some b)
+
+lowest-is : (kind : ℕ → KindZ) (xs : List Symbol) (B : Mask) (R : ℕ → Vec) (i : ℕ) (bs : List Basic) → UpRows i bs → All (Known kind xs B R) bs → Lowest kind xs B R bs (getDualLeavingRow bs)
+unfolding getDualLeavingRow
+lowest-is kind xs B R i [] u k = nobody tt
+lowest-is kind xs B R i (b ∷ bs) u k = go (isRestricted (b .symbol) && belowZero (b .row .constant)) refl (getDualLeavingRow bs) (lowest-is kind xs B R (b .symbol .id) bs (u .1) (k .1))
+  where
+    test : belowZero (b .row .constant) ≡ ltZ (R (b .symbol .id) 0) 0ℤ
+    test = belowZero-z (k .0 .1 .1 .constant .isz)
+
+    -- a slack's row that the test passes over
+    above : isRestricted (b .symbol) && belowZero (b .row .constant) ≡ false → kind (b .symbol .id) ≡ slack → 0ℤ ≼ R (b .symbol .id) 0
+    above q s = not-below (R (b .symbol .id) 0) (sym test ∙ sym (ap (λ (t : Bool). t && belowZero (b .row .constant)) (slack-restricted (b .symbol) (sym (k .0 .0 .1) ∙ s))) ∙ q)
+
+    later : (i : ℕ) (cs : List Basic) → b .symbol .id ≤ i → UpRows i cs → All (λ (c : Basic). c .symbol .id < b .symbol .id → kind (c .symbol .id) ≡ slack → 0ℤ ≼ R (c .symbol .id) 0) cs
+    later i [] l u = tt
+    later i (c ∷ cs) l u = ((λ m. absurd (omega (arith, u .0))), later (c .symbol .id) cs (omega (arith, u .0)) (u .1))
+
+    go : (t : Bool) → isRestricted (b .symbol) && belowZero (b .row .constant) ≡ t → (o : Option Basic) → Lowest kind xs B R bs o → Lowest kind xs B R (b ∷ bs) (elim t [ true ↦ some b | false ↦ o ])
+    go true q o ih =
+        let t = both (isRestricted (b .symbol)) (belowZero (b .row .constant)) q in
+        winner b (k .0) (t .0) (below (R (b .symbol .id) 0) (sym test ∙ t .1)) ((λ l. absurd (omega arith)), later (b .symbol .id) bs (omega arith) (u .1))
+    go false q o (nobody A) = nobody (above q, A)
+    go false q o (winner c K r l A) = winner c K r l ((λ _. above q), A)
+
+-- ---- one turn of the dual pass
 pub one-of : (z : ℤ) → z *ℤ z ≡ 1ℤ → 0ℤ ≺ z → z ≡ 1ℤ
 one-of (pos zero) e l = absurd (≺-irrefl l)
 one-of (pos (suc zero)) e l = refl
@@ -161,18 +192,53 @@ one-of (pos (suc (suc m))) e l = absurd (big m (ap natAbs e))
     big m e = omega (arith, suc-mul (suc m) (suc (suc m)), suc-mul m (suc (suc m)))
 one-of (negsuc m) e l = absurd (l .lt)
 
-module _ (n : ℕ) (kind : ℕ → KindZ) (w : Work) (S : State) (G : Good n kind S) (z : Vec) (H : ReadsWork kind w (S .B) (S .R) (S .o) z)
-    (inside : (j : ℕ) → kind j ≡ slack → j < n) (l : ℕ) (hl : S .B l ≡ true) (sl : kind l ≡ slack) (low : S .R l 0 ≺ 0ℤ) (row : Row) (hit : findRow l (w .tableau .rows) ≡ some row) where
-  row-l : ReadsRow (w .tableau .symbols) row (S .R l)
-  row-l = (subst (λ (t : Option Row). RowAt (w .tableau .symbols) t (S .B l) (S .R l)) hit (H .rows l)) .1
+module _ (n : ℕ) (kind : ℕ → KindZ) (w : Work) (S : State) (G : Good n kind S) (z : Vec) (H : ReadsWork kind w (S .B) (S .R) (S .o) z) where
+  -- the leaving row is a slack's, for a dummy's has the constant 0
+  pub record Leaves (b : Basic) : Type 0 where
+    pub basic : S .B (b .symbol .id) ≡ true
+    pub is-slack : kind (b .symbol .id) ≡ slack
+    pub low : S .R (b .symbol .id) 0 ≺ 0ℤ
+    pub reads : ReadsRow (w .tableau .symbols) (b .row) (S .R (b .symbol .id))
+    pub lowest : (j : ℕ) → j < b .symbol .id → S .B j ≡ true → kind j ≡ slack → 0ℤ ≼ S .R j 0
 
-  -- what getDualEnteringSymbol finds
-  pub dual-entering : Entering (S .R l) (S .o) (w .tableau .symbols) (getDualEnteringSymbol l w)
-  unfolding getDualEnteringSymbol
-  dual-entering = subst (λ (t : Option Row). Entering (S .R l) (S .o) (w .tableau .symbols) (elim t [ none ↦ none | some r ↦ smallestRatio (dualRatios (w .tableau .symbols) (r .cells) (w .tableau .objective)) ])) (sym hit)
-      (entering-is (S .R l) (S .o) (w .tableau .symbols) (row .cells) (w .tableau .objective) (H .up) (row-l .cells) (H .objective))
+  -- what the steps choose
+  pub data Dual : Choice → Type 0 where
+    at-rest : ((j : ℕ) → S .B j ≡ true → kind j ≡ slack → 0ℤ ≼ S .R j 0) → Dual ended
+    no-way : (b : Basic) → Leaves b → Entering (S .R (b .symbol .id)) (S .o) (w .tableau .symbols) none → Dual stuck
+    moves : (b : Basic) (e : Symbol) → Leaves b → Enters (S .R (b .symbol .id)) (S .o) (w .tableau .symbols) e → Dual (pivotOn (b .symbol) e)
 
-  module _ (e : Symbol) (E : Enters (S .R l) (S .o) (w .tableau .symbols) e) where
+  pub dual-is : Dual (chooseDualPivot w)
+  unfolding chooseDualPivot getDualEnteringSymbol
+  dual-is = go (getDualLeavingRow bs) (lowest-is kind xs (S .B) (S .R) 0 bs (H .rows-up) (known kind xs bs (w .tableau .objective) (w .artificial) (S .B) (S .R) (S .o) z H))
+    where
+      xs : List Symbol
+      xs = w .tableau .symbols
+
+      bs : List Basic
+      bs = w .tableau .rows
+
+      columns : (Q : ℕ → Type 0) → All (λ (b : Basic). Q (b .symbol .id)) bs → (j : ℕ) → S .B j ≡ true → Q j
+      columns = of-basic kind xs bs (w .tableau .objective) (w .artificial) (S .B) (S .R) (S .o) z H
+
+      by-symbol : (b : Basic) → Leaves b → (t : Option Symbol) → Entering (S .R (b .symbol .id)) (S .o) xs t → Dual (elim t [ none ↦ stuck | some e ↦ pivotOn (b .symbol) e ])
+      by-symbol b L none f = no-way b L f
+      by-symbol b L (some e) E = moves b e L E
+
+      go : (t : Option Basic) → Lowest kind xs (S .B) (S .R) bs t
+          → Dual (elim t [ none ↦ ended | some b ↦ elim (smallestRatio (dualRatios xs (b .row .cells) (w .tableau .objective))) [ none ↦ stuck | some e ↦ pivotOn (b .symbol) e ] ])
+      go t (nobody A) = at-rest (λ j b s. columns (λ j. kind j ≡ slack → 0ℤ ≼ S .R j 0) A j b s)
+      go t (winner b K r l A) =
+          by-symbol b (record { basic = K .1 .0; is-slack = slack-of (restricted-is (b .symbol) r); low = l; reads = K .1 .1; lowest = λ j m h s. columns (λ j. j < b .symbol .id → kind j ≡ slack → 0ℤ ≼ S .R j 0) A j h m s })
+          (smallestRatio (dualRatios xs (b .row .cells) (w .tableau .objective))) (entering-is (S .R (b .symbol .id)) (S .o) xs (b .row .cells) (w .tableau .objective) (H .up) (K .1 .1 .cells) (H .objective))
+        where
+          slack-of : (kindOf (b .symbol .kind) ≡ slack) ⊎ (kindOf (b .symbol .kind) ≡ dummy) → kind (b .symbol .id) ≡ slack
+          slack-of (inl k) = K .0 .1 ∙ k
+          slack-of (inr k) = absurd (clash l (≼-of-eq (sym (G .still-dummies (b .symbol .id) (K .0 .1 ∙ k)))))
+
+  module _ (inside : (j : ℕ) → kind j ≡ slack → j < n) (b : Basic) (L : Leaves b) (e : Symbol) (E : Enters (S .R (b .symbol .id)) (S .o) (w .tableau .symbols) e) where
+    abbrev l : ℕ
+    l = b .symbol .id
+
     live : Live kind (w .tableau .symbols) e
     live = is-live kind e (w .tableau .symbols) (H .kinds) (E .among)
 
@@ -181,7 +247,7 @@ module _ (n : ℕ) (kind : ℕ → KindZ) (w : Work) (S : State) (G : Good n kin
       where
         go : (kindOf (e .kind) ≡ slack) ⊎ (kindOf (e .kind) ≡ external) → kind (e .id) ≡ slack
         go (inl q) = live .1 ∙ q
-        go (inr q) = absurd (clash (E .cell) (≼-of-eq (G .no-vars l (e .id) (λ x. slack≢external (sym sl ∙ x)) (live .1 ∙ q))))
+        go (inr q) = absurd (clash (E .cell) (≼-of-eq (G .no-vars l (e .id) (λ x. slack≢external (sym (L .is-slack) ∙ x)) (live .1 ∙ q))))
 
     e-free : S .B (e .id) ≡ false
     e-free = go (S .B (e .id)) refl
@@ -190,30 +256,22 @@ module _ (n : ℕ) (kind : ℕ → KindZ) (w : Work) (S : State) (G : Good n kin
         go false q = q
         go true q = absurd (clash (E .cell) (≼-of-eq (G .shape .gone (e .id) q l)))
 
-    slack-in : (j : ℕ) → kind j ≡ slack → In j (w .tableau .symbols)
-    slack-in j s = go (in-or-not j (w .tableau .symbols))
-      where
-        go : In j (w .tableau .symbols) ⊎ NotIn j (w .tableau .symbols) → In j (w .tableau .symbols)
-        go (inl m) = m
-        go (inr m) = absurd (slack≢external (sym s ∙ H .unknown j (λ z. slack≢const (sym s ∙ ap kind z ∙ G .zero)) m))
-
     before : S .R l (e .id) ≡ 1ℤ → (i : ℕ) → kind i ≡ slack → 0ℤ ≺ S .R l i → Before (S .R l) (S .o) (e .id) i
     before q i s c =
         all-in (λ i. kind i ≡ slack → 0ℤ ≺ S .R l i → Before (S .R l) (S .o) (e .id) i) i (w .tableau .symbols)
         (all-zip (λ (x : Symbol). kind (x .id) ≡ kindOf (x .kind)) (λ (x : Symbol). not (isDummy x) ≡ true → 0ℤ ≺ S .R l (x .id) → Before (S .R l) (S .o) (e .id) (x .id))
         (λ (x : Symbol). kind (x .id) ≡ slack → 0ℤ ≺ S .R l (x .id) → Before (S .R l) (S .o) (e .id) (x .id)) (λ x k g s. g (slack-not-dummy x (sym k ∙ s))) (w .tableau .symbols) (H .kinds) (E .before q))
-        (slack-in i s) s c
+        (slack-in kind (w .tableau .symbols) (G .zero) (H .unknown) i s) s c
 
-    -- with the mark whole: a dual move on 1, the theory's step, a good state again, and the tie rule
+    -- with the mark whole: the theory's choice, on 1, its step, and a good state again
     pub record Moved : Type 0 where
-      pub move : Move n kind S l (e .id)
-      pub ties : (i : ℕ) → kind i ≡ slack → 0ℤ ≺ S .R l i → S .o (e .id) *ℤ S .R l i ≡ S .o i *ℤ S .R l (e .id) → e .id ≤ i
+      pub choice : DualChoice n kind S l (e .id)
       pub good : Good n kind (step l (e .id) S)
       pub reads : ReadsWork kind (pivot l e w) (step l (e .id) S .B) (step l (e .id) S .R) (step l (e .id) S .o) (pivoted l (e .id) (S .R) z)
 
     pub dual-pivot : pivot l e w .mark ≡ allWhole → Moved
     dual-pivot m =
-        let t = pivot-z kind w (S .B) (S .R) (S .o) z H l e hl e-free live (G .shape .unit (e .id) e-free) m in
+        let t = pivot-z kind w (S .B) (S .R) (S .o) z H l e (L .basic) e-free live (G .shape .unit (e .id) e-free) m in
         let q = one-of (S .R l (e .id)) (t .1) (E .cell) in
-        let mv : Move n kind S l (e .id) = record { l-basic = hl; l-slack = sl; l-const = low; in-n = inside (e .id) e-slack; e-free = e-free; e-slack = e-slack; e-cell = q; least = λ i s c. before q i s c .least } in
-        record { move = mv; ties = λ i s c. before q i s c .ties; good = step-good n kind S G l (e .id) mv; reads = t .2 }
+        let mv : Move n kind S l (e .id) = record { l-basic = L .basic; l-slack = L .is-slack; l-const = L .low; in-n = inside (e .id) e-slack; e-free = e-free; e-slack = e-slack; e-cell = q; least = λ i s c. before q i s c .least } in
+        record { choice = record { move = mv; lowest = L .lowest; ties = λ i s c. before q i s c .ties }; good = step-good n kind S G l (e .id) mv; reads = t .2 }

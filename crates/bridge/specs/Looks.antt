@@ -1,6 +1,6 @@
 -- What the steps choose in a pass is what the theory's rule looks for: the end, no row, or Bland's choice. Assumes nothing.
 use mathlib.Core.Path.{_≡_, refl, sym, ap, ap₂, _∙_, subst}
-use mathlib.Core.Logic.{_⊎_, inl, inr}
+use mathlib.Core.Logic.{_⊎_, inl, inr, _≢_}
 use mathlib.Core.List.{List, [], _∷_}
 use mathlib.Core.Option.{Option, none, some}
 use Prim.Native.Nat.{ℕ, zero, suc, _*_, _≤_, _<_}
@@ -14,7 +14,7 @@ use Rattle.simplex.specs.Ord.{0ℤ, 1ℤ, ≼-of-eq, ≼-antisym, clash}
 use Rattle.simplex.specs.Lin.{Vec}
 use Rattle.simplex.specs.Choose.{All, all-zip-of as all-zip}
 use Rattle.simplex.specs.Basis.{Mask}
-use Rattle.simplex.specs.Opt.{Kind as KindZ, external, slack, dummy, slack≢external, slack≢const}
+use Rattle.simplex.specs.Opt.{Kind as KindZ, const, external, slack, dummy, slack≢external, slack≢const}
 use Rattle.simplex.specs.Pass.{State, Good, Choice}
 use Rattle.simplex.specs.Bound.{Mem}
 use Rattle.simplex.specs.Search.{Asc}
@@ -35,6 +35,14 @@ in-or-not j (x ∷ xs) = go (eqb j (x .id)) refl (in-or-not j xs)
     go true e r = inl (inl (eqb→eq j (x .id) (subst T (sym e) tt)))
     go false e (inl m) = inl (inr m)
     go false e (inr m) = inr ((λ p. subst T e (subst (λ (y : ℕ). T (eqb j y)) p (lib.Dec.eqb-refl j))), m)
+
+-- a column that no symbol has is no slack's
+pub slack-in : (kind : ℕ → KindZ) (xs : List Symbol) → kind 0 ≡ const → ((i : ℕ) → i ≢ 0 → NotIn i xs → kind i ≡ external) → (j : ℕ) → kind j ≡ slack → In j xs
+slack-in kind xs z unknown j s = go (in-or-not j xs)
+  where
+    go : In j xs ⊎ NotIn j xs → In j xs
+    go (inl m) = m
+    go (inr m) = absurd (slack≢external (sym s ∙ unknown j (λ e. slack≢const (sym s ∙ ap kind e ∙ z)) m))
 
 pub all-in : (Q : ℕ → Type 0) (j : ℕ) (xs : List Symbol) → All (λ (x : Symbol). Q (x .id)) xs → In j xs → Q j
 all-in Q j [] a m = absurd m
@@ -59,13 +67,6 @@ module _ (n : ℕ) (kind : ℕ → KindZ) (w : Work) (B : Mask) (R : ℕ → Vec
   abbrev xs : List Symbol
   xs = w .tableau .symbols
 
-  slack-in : (j : ℕ) → kind j ≡ slack → In j xs
-  slack-in j s = go (in-or-not j xs)
-    where
-      go : In j xs ⊎ NotIn j xs → In j xs
-      go (inl m) = m
-      go (inr m) = absurd (slack≢external (sym s ∙ H .unknown j (λ z. slack≢const (sym s ∙ ap kind z ∙ G .zero)) m))
-
   pub record Enters (e : Symbol) : Type 0 where
     pub live : Live kind xs e
     pub is-slack : kind (e .id) ≡ slack
@@ -74,7 +75,7 @@ module _ (n : ℕ) (kind : ℕ → KindZ) (w : Work) (B : Mask) (R : ℕ → Vec
     pub lowest : (j : ℕ) → j < e .id → kind j ≡ slack → 0ℤ ≼ q j
 
   enters : (e : Symbol) → MemS e xs → not (isDummy e) ≡ true → q (e .id) ≺ 0ℤ → All (λ (x : Symbol). x .id < e .id → not (isDummy x) ≡ true → 0ℤ ≼ q (x .id)) xs → Enters e
-  enters e m d l A = record { live = live; is-slack = by (not-dummy e d); free = free (B (e .id)) refl; cell = l; lowest = λ j h s. all-in (λ j. j < e .id → kind j ≡ slack → 0ℤ ≼ q j) j xs lows (slack-in j s) h s }
+  enters e m d l A = record { live = live; is-slack = by (not-dummy e d); free = free (B (e .id)) refl; cell = l; lowest = λ j h s. all-in (λ j. j < e .id → kind j ≡ slack → 0ℤ ≼ q j) j xs lows (slack-in kind xs (G .zero) (H .unknown) j s) h s }
     where
       live : Live kind xs e
       live = is-live kind e xs (H .kinds) m
@@ -113,7 +114,7 @@ module _ (n : ℕ) (kind : ℕ → KindZ) (w : Work) (B : Mask) (R : ℕ → Vec
       by-first t (First.nobody A) =
           at-end (λ j s. all-in (λ j. kind j ≡ slack → 0ℤ ≼ q j) j xs
           (all-zip (λ (x : Symbol). kind (x .id) ≡ kindOf (x .kind)) (λ (x : Symbol). not (isDummy x) ≡ true → 0ℤ ≼ q (x .id)) (λ (x : Symbol). kind (x .id) ≡ slack → 0ℤ ≼ q (x .id))
-          (λ x k f s. f (slack-not-dummy x (sym k ∙ s))) xs (H .kinds) A) (slack-in j s) s)
+          (λ x k f s. f (slack-not-dummy x (sym k ∙ s))) xs (H .kinds) A) (slack-in kind xs (G .zero) (H .unknown) j s) s)
       by-first t (First.winner e m d l A) =
           let E = enters e m d l A in
           by-row e E (getLeavingRow e w) (leaving-is kind (w .tableau .symbols) (w .tableau .rows) (w .tableau .objective) (w .artificial) B R o a H (e .id) (in-nonzero (e .id) (w .tableau .symbols) (H .up) (E .live .0)))

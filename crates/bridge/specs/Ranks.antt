@@ -37,8 +37,8 @@ use Rattle.bridge.specs.Walk.{Ranked, Beats, Rising, Smallest, smallest-
 use Rattle.bridge.specs.Nums.{zero64-z, finite≢}
 use Rattle.bridge.specs.Rows.{ReadsRow, row-cell}
 use Rattle.bridge.specs.Finds.{UpRows, find-drop-same, find-drop-other, drop-up, drop-all}
-use Rattle.bridge.specs.Table.{RowAt, Live, ReadsTable, ReadsWork, found-in}
-use Rattle.bridge.specs.Chosen.{slack-restricted, listed, cross, all-mem}
+use Rattle.bridge.specs.Table.{RowAt, Live, ReadsTable, ReadsWork}
+use Rattle.bridge.specs.Chosen.{Known, known, by-column, cross, all-mem}
 use Rattle.bridge.specs.Runs.{markOf}
 use Rattle.bridge.specs.Enter.{enter-z}
 
@@ -102,14 +102,11 @@ module _ (kind : ℕ → KindZ) (xs : List Symbol) (bs : List Basic) (cs : List 
     small : natAbs (R (c .symbol .id) 0) ≤ 2 ^ 30
     quotient : Quotient (c .ratio) (R (c .symbol .id) 0) (R (c .symbol .id) e)
 
-  abbrev Known : Basic → Type 0
-  Known b = Live kind xs (b .symbol) × ((B (b .symbol .id) ≡ true) × ReadsRow xs (b .row) (R (b .symbol .id)))
-
-  test-is : (b : Basic) → Known b → lt zero64 (cellIn e xs b) ≡ ltZ 0ℤ (R (b .symbol .id) e)
+  test-is : (b : Basic) → Known kind xs B R b → lt zero64 (cellIn e xs b) ≡ ltZ 0ℤ (R (b .symbol .id) e)
   unfolding cellIn
   test-is b k = lt-z zero64-z (row-cell e xs (b .row) (R (b .symbol .id)) e≢0 (k .1 .1) .isz)
 
-  from : (b : Basic) → Known b → isRestricted (b .symbol) ≡ true → 0ℤ ≺ R (b .symbol .id) e → From (record { symbol = b .symbol; ratio = b .row .constant /₆₄ cellIn e xs b })
+  from : (b : Basic) → Known kind xs B R b → isRestricted (b .symbol) ≡ true → 0ℤ ≺ R (b .symbol .id) e → From (record { symbol = b .symbol; ratio = b .row .constant /₆₄ cellIn e xs b })
   unfolding cellIn
   from b k r l = record {
     live = k .0;
@@ -120,7 +117,7 @@ module _ (kind : ℕ → KindZ) (xs : List Symbol) (bs : List Basic) (cs : List 
     quotient = div-above (k .1 .1 .constant .isz) (row-cell e xs (b .row) (R (b .symbol .id)) e≢0 (k .1 .1) .isz) l (row-cell e xs (b .row) (R (b .symbol .id)) e≢0 (k .1 .1) .small) (omega (arith, k .1 .1 .constant .small));
   }
 
-  from-all : (bs : List Basic) → All Known bs → All From (positiveRatios e xs bs)
+  from-all : (bs : List Basic) → All (Known kind xs B R) bs → All From (positiveRatios e xs bs)
   unfolding positiveRatios
   from-all [] k = tt
   from-all (b ∷ bs) k = go (isRestricted (b .symbol) && lt zero64 (cellIn e xs b)) refl (from-all bs (k .1))
@@ -145,7 +142,7 @@ module _ (kind : ℕ → KindZ) (xs : List Symbol) (bs : List Basic) (cs : List 
       go true ih = ((u .0, weaken (positiveRatios e xs bs) (ih .0)), ih)
       go false ih = (weaken (positiveRatios e xs bs) (ih .0), ih .1)
 
-  to-rows : (Q : ℕ → Type 0) (bs : List Basic) → All Known bs → All (λ (c : Candidate). Q (c .symbol .id)) (positiveRatios e xs bs)
+  to-rows : (Q : ℕ → Type 0) (bs : List Basic) → All (Known kind xs B R) bs → All (λ (c : Candidate). Q (c .symbol .id)) (positiveRatios e xs bs)
       → All (λ (b : Basic). isRestricted (b .symbol) ≡ true → 0ℤ ≺ R (b .symbol .id) e → Q (b .symbol .id)) bs
   unfolding positiveRatios
   to-rows Q [] k a = tt
@@ -170,28 +167,11 @@ module _ (kind : ℕ → KindZ) (xs : List Symbol) (bs : List Basic) (cs : List 
   Leaving none = (j : ℕ) → B j ≡ true → kind j ≡ slack → 0ℤ ≺ R j e → ⊥
   Leaving (some l) = Leaves l
 
-  by-column : (Q : ℕ → Type 0) → All (λ (b : Basic). isRestricted (b .symbol) ≡ true → 0ℤ ≺ R (b .symbol .id) e → Q (b .symbol .id)) bs → (j : ℕ) → B j ≡ true → kind j ≡ slack → 0ℤ ≺ R j e → Q j
-  by-column Q A j b s l = go (findRow j bs) refl (H .rows j)
-    where
-      as-columns : All (λ (b : Basic). kind (b .symbol .id) ≡ slack → 0ℤ ≺ R (b .symbol .id) e → Q (b .symbol .id)) bs
-      as-columns =
-          all-zip (λ (b : Basic). Live kind xs (b .symbol)) (λ (b : Basic). isRestricted (b .symbol) ≡ true → 0ℤ ≺ R (b .symbol .id) e → Q (b .symbol .id))
-          (λ (b : Basic). kind (b .symbol .id) ≡ slack → 0ℤ ≺ R (b .symbol .id) e → Q (b .symbol .id)) (λ b x f k. f (slack-restricted (b .symbol) (sym (x .1) ∙ k))) bs (H .rows-live) A
-
-      go : (t : Option Row) → findRow j bs ≡ t → RowAt xs t (B j) (R j) → Q j
-      go none q h = absurd (true≢false (sym b ∙ h))
-      go (some r) q h = found-in (λ j. kind j ≡ slack → 0ℤ ≺ R j e → Q j) j bs r as-columns q s l
-
   pub positive-is : Leaving (smallestRatio (positiveRatios e xs bs))
   positive-is = go (smallestRatio (positiveRatios e xs bs)) (smallest-is (positiveRatios e xs bs) ranked (from-rising 0 bs (H .rows-up) .1))
     where
-      known : All Known bs
-      known =
-          all-zip (λ (b : Basic). Live kind xs (b .symbol)) (λ (b : Basic). (B (b .symbol .id) ≡ true) × ReadsRow xs (b .row) (R (b .symbol .id))) Known (λ b x y. (x, y)) bs (H .rows-live)
-          (listed xs B R 0 bs (H .rows-up) (λ j _. H .rows j))
-
       froms : All From (positiveRatios e xs bs)
-      froms = from-all bs known
+      froms = from-all bs (known kind xs bs cs art B R o a H)
 
       ranked : All Ranked (positiveRatios e xs bs)
       ranked = all-map From Ranked (λ c f. record { rank = f .quotient .rank; over = f .quotient .over }) (positiveRatios e xs bs) froms
@@ -202,8 +182,8 @@ module _ (kind : ℕ → KindZ) (xs : List Symbol) (bs : List Basic) (cs : List 
         restricted = F .restricted;
         basic = F .basic;
         cell = F .cell;
-        least = λ u. by-column (λ j. R (w .symbol .id) 0 *ℤ R j e ≼ R j 0 *ℤ R (w .symbol .id) e)
-            (to-rows (λ j. R (w .symbol .id) 0 *ℤ R j e ≼ R j 0 *ℤ R (w .symbol .id) e) bs known
+        least = λ u. by-column kind xs bs cs art B R o a H (λ j. 0ℤ ≺ R j e → R (w .symbol .id) 0 *ℤ R j e ≼ R j 0 *ℤ R (w .symbol .id) e)
+            (to-rows (λ j. R (w .symbol .id) 0 *ℤ R j e ≼ R j 0 *ℤ R (w .symbol .id) e) bs (known kind xs bs cs art B R o a H)
             (all-zip From (Beats w) (λ (c : Candidate). R (w .symbol .id) 0 *ℤ R (c .symbol .id) e ≼ R (c .symbol .id) 0 *ℤ R (w .symbol .id) e) (beats u) (positiveRatios e xs bs) froms A));
       }
         where
@@ -213,5 +193,5 @@ module _ (kind : ℕ → KindZ) (xs : List Symbol) (bs : List Basic) (cs : List 
               (≼-of-eq (sym (ap (λ (z : ℤ). R (c .symbol .id) 0 *ℤ z) u ∙ ring (R (c .symbol .id) 0 ∷ []) (v 0 ⊠ κ 1ℤ) (v 0) tt)))
 
       go : (t : Option Symbol) → Smallest (positiveRatios e xs bs) t → Leaving t
-      go t (Smallest.nobody q) = by-column (λ j. ⊥) (to-rows (λ j. ⊥) bs known (subst (All (λ (c : Candidate). ⊥)) (sym q) tt))
+      go t (Smallest.nobody q) = by-column kind xs bs cs art B R o a H (λ j. 0ℤ ≺ R j e → ⊥) (to-rows (λ j. ⊥) bs (known kind xs bs cs art B R o a H) (subst (All (λ (c : Candidate). ⊥)) (sym q) tt))
       go t (Smallest.winner w m r A) = won w (all-mem From (positiveRatios e xs bs) w froms m) A

@@ -20,10 +20,10 @@ use Rattle.simplex.specs.Look.{Look, done, no-row, go-on, look, next, after, lv
 use Rattle.steps.specs.Number.{zero64, Mark, allWhole, notWhole, notFinite, worse}
 use Rattle.steps.specs.Symbol.{Symbol, isExternal}
 use Rattle.steps.specs.Row.{Row, Written, solveForSymbols}
-use Rattle.steps.specs.Work.{Work, Outcome, refused, going, _>>=_, refuse, checkFinite, countPivot, marking, withRows, withTableau, withChanges, withArtificial, withObjective, withInfeasible, findRow, dropRow, keepRow}
+use Rattle.steps.specs.Work.{Work, Outcome, refused, going, _>>=_, refuse, checkFinite, countPivot, marking, withRows, withTableau, withChanges, withArtificial, withObjective, findRow, dropRow, keepRow}
 use Rattle.steps.specs.Changes.{note}
 use Rattle.steps.specs.Substitute.{substitute, enterBasis, pivot}
-use Rattle.steps.specs.Optimise.{Goal, theObjective, theArtificial, goalCells, choosePivot, ended, stuck, pivotOn, Choice as Chosen, countedPivot, optimise}
+use Rattle.steps.specs.Optimise.{Goal, theObjective, theArtificial, goalCells, choosePivot, ended, stuck, pivotOn, Choice as Chosen, countedPivot, optimise, chooseDualPivot, dualOptimise}
 use Rattle.bridge.specs.Nums.{worse-l, finite≢}
 use Rattle.bridge.specs.Rows.{Reads}
 use Rattle.bridge.specs.Finds.{after-sub}
@@ -62,7 +62,7 @@ abbrev pub Standing : Option Row → Type 0
 Standing none = ⊥
 Standing (some r) = Unit
 
-pub pivot-standing : (l : ℕ) (e : Symbol) (w : Work) → Standing (w .artificial) → Standing (pivot l e w .artificial)
+pivot-standing : (l : ℕ) (e : Symbol) (w : Work) → Standing (w .artificial) → Standing (pivot l e w .artificial)
 unfolding marking withRows withTableau
 pivot-standing l e w h = pivot-cases l e w (λ (x : Work). Standing (x .artificial)) h entered
   where
@@ -78,7 +78,7 @@ pivot-standing l e w h = pivot-cases l e w (λ (x : Work). Standing (x .artifici
 
 -- a pivot counts no pivot, and counting it does no more
 pub pivot-pivots : (l : ℕ) (e : Symbol) (w : Work) → pivot l e w .pivots ≡ w .pivots
-unfolding enterBasis substitute note withTableau withChanges withArtificial marking withRows withObjective withInfeasible
+unfolding enterBasis substitute note withTableau withChanges withArtificial marking withRows withObjective
 pivot-pivots l e w = pivot-cases l e w (λ (x : Work). x .pivots ≡ w .pivots) refl (λ row. entered (isExternal e && ne (solveForSymbols l (e .id) (w .tableau .symbols) row .row .constant) zero64) (solveForSymbols l (e .id) (w .tableau .symbols) row))
   where
     entered : (b : Bool) (s : Written) → (withRows (keepRow (record { symbol = e; row = s .row }) ((cond b (note (e .id) (substitute (e .id) (s .row) (marking (s .mark) (withRows (dropRow l (w .tableau .rows)) w)))) (substitute (e .id) (s .row) (marking (s .mark) (withRows (dropRow l (w .tableau .rows)) w)))) .tableau .rows)) (cond b (note (e .id) (substitute (e .id) (s .row) (marking (s .mark) (withRows (dropRow l (w .tableau .rows)) w)))) (substitute (e .id) (s .row) (marking (s .mark) (withRows (dropRow l (w .tableau .rows)) w))))) .pivots ≡ w .pivots
@@ -93,41 +93,60 @@ pub counted-one : (l : ℕ) (e : Symbol) (w : Work) → countPivot (pivot l e w)
 unfolding countPivot
 counted-one l e w = ap suc (pivot-pivots l e w)
 
--- ---- one turn of the loop
-pub turned : (left : ℕ) (g : Goal) (l e : Symbol) (w : Work) (Q : Outcome Work → Type 0) → (pivot (l .id) e w .mark ≡ notFinite → Q (refused 13 (pivot (l .id) e w .pivots) notFinite))
-    → Q (optimise left g (countPivot (pivot (l .id) e w))) → Q (countedPivot l e w >>= λ v. optimise left g v)
+-- ---- one turn of a pass, which makes `on` of the next work
+pub turned : (on : Work → Outcome Work) (l e : Symbol) (w : Work) (Q : Outcome Work → Type 0) → (pivot (l .id) e w .mark ≡ notFinite → Q (refused 13 (pivot (l .id) e w .pivots) notFinite))
+    → Q (on (countPivot (pivot (l .id) e w))) → Q (countedPivot l e w >>= on)
 unfolding countedPivot checkFinite refuse _>>=_
-turned left g l e w Q f h = go (pivot (l .id) e w .mark) refl
+turned on l e w Q f h = go (pivot (l .id) e w .mark) refl
   where
     go : (m : Mark) → pivot (l .id) e w .mark ≡ m
-        → Q (((elim m [ allWhole ↦ going (pivot (l .id) e w) | notWhole ↦ going (pivot (l .id) e w) | notFinite ↦ refused 13 (pivot (l .id) e w .pivots) (pivot (l .id) e w .mark) ]) >>= λ v. going (countPivot v)) >>= λ v. optimise left g v)
+        → Q (((elim m [ allWhole ↦ going (pivot (l .id) e w) | notWhole ↦ going (pivot (l .id) e w) | notFinite ↦ refused 13 (pivot (l .id) e w .pivots) (pivot (l .id) e w .mark) ]) >>= λ v. going (countPivot v)) >>= on)
     go allWhole e′ = h
     go notWhole e′ = h
     go notFinite e′ = subst (λ (m : Mark). Q (refused 13 (pivot (l .id) e w .pivots) m)) (sym e′) (f e′)
 
-pub optimise-mark : (left : ℕ) (g : Goal) (w : Work) → markOf (optimise left g w) ≡ allWhole → w .mark ≡ allWhole
-unfolding optimise markOf refuse countPivot
-optimise-mark zero g w = go (choosePivot g w)
-  where
-    go : (c : Chosen) → markOf (elim c [ ended ↦ going w | stuck ↦ refused 15 (w .pivots) (w .mark) | pivotOn l e ↦ refused 14 (w .pivots) (w .mark) ]) ≡ allWhole → w .mark ≡ allWhole
-    go ended m = m
-    go stuck m = m
-    go (pivotOn l e) m = m
-optimise-mark (suc left) g w = go (choosePivot g w) (optimise-mark left g)
-  where
-    go : (c : Chosen) → ((v : Work) → markOf (optimise left g v) ≡ allWhole → v .mark ≡ allWhole)
-        → markOf (elim c [ ended ↦ going w | stuck ↦ refused 15 (w .pivots) (w .mark) | pivotOn l e ↦ countedPivot l e w >>= λ v. optimise left g v ]) ≡ allWhole → w .mark ≡ allWhole
-    go ended ih = λ m. m
-    go stuck ih = λ m. m
-    go (pivotOn l e) ih =
-        turned left g l e w (λ (x : Outcome Work). markOf x ≡ allWhole → w .mark ≡ allWhole) (λ f m. absurd (finite≢ m)) (λ m. pivot-mark (l .id) e w (ih (countPivot (pivot (l .id) e w)) m))
+-- ---- what holds of either pass, whatever it chooses: of its end, of each refusal, and before a pivot if after it
+module _ (P : Work → Outcome Work → Type 0) (rest : (w : Work) → P w (going w)) (refuses : (n : ℕ) (w : Work) → P w (refuse n w))
+    (lost : (l e : Symbol) (w : Work) → pivot (l .id) e w .mark ≡ notFinite → P w (refused 13 (pivot (l .id) e w .pivots) notFinite))
+    (before : (l e : Symbol) (w : Work) (x : Outcome Work) → P (countPivot (pivot (l .id) e w)) x → P w x) where
+  last : (n : ℕ) (w : Work) (c : Chosen) → P w (elim c [ ended ↦ going w | stuck ↦ refuse n w | pivotOn l e ↦ refuse 14 w ])
+  last n w ended = rest w
+  last n w stuck = refuses n w
+  last n w (pivotOn l e) = refuses 14 w
+
+  turn : (n : ℕ) (w : Work) (on : Work → Outcome Work) → ((v : Work) → P v (on v)) → (c : Chosen) → P w (elim c [ ended ↦ going w | stuck ↦ refuse n w | pivotOn l e ↦ countedPivot l e w >>= on ])
+  turn n w on h ended = rest w
+  turn n w on h stuck = refuses n w
+  turn n w on h (pivotOn l e) = turned on l e w (P w) (lost l e w) (before l e w (on (countPivot (pivot (l .id) e w))) (h (countPivot (pivot (l .id) e w))))
+
+  pub optimise-all : (left : ℕ) (g : Goal) (w : Work) → P w (optimise left g w)
+  unfolding optimise
+  optimise-all zero g w = last 15 w (choosePivot g w)
+  optimise-all (suc left) g w = turn 15 w (λ v. optimise left g v) (optimise-all left g) (choosePivot g w)
+
+  pub dual-all : (left : ℕ) (w : Work) → P w (dualOptimise left w)
+  unfolding dualOptimise
+  dual-all zero w = last 16 w (chooseDualPivot w)
+  dual-all (suc left) w = turn 16 w (λ v. dualOptimise left v) (dual-all left) (chooseDualPivot w)
+
+-- a mark that is whole at the end of a pass was so at its start
+abbrev Marked : Work → Outcome Work → Type 0
+Marked w x = markOf x ≡ allWhole → w .mark ≡ allWhole
+
+pub optimise-mark : (left : ℕ) (g : Goal) (w : Work) → Marked w (optimise left g w)
+unfolding markOf refuse
+optimise-mark = optimise-all Marked (λ w m. m) (λ n w m. m) (λ l e w f m. absurd (finite≢ m)) (λ l e w x h m. pivot-mark (l .id) e w (counted-mark (pivot (l .id) e w) (h m)))
+
+pub dual-mark : (left : ℕ) (w : Work) → Marked w (dualOptimise left w)
+unfolding markOf refuse
+dual-mark = dual-all Marked (λ w m. m) (λ n w m. m) (λ l e w f m. absurd (finite≢ m)) (λ l e w x h m. pivot-mark (l .id) e w (counted-mark (pivot (l .id) e w) (h m)))
 
 -- ---- what the pass works on: the goal's row is the theory's objective, the other objective is carried along
 abbrev pub ReadsGoal : Goal → (ℕ → KindZ) → Work → State → Vec → Type 0
 ReadsGoal theObjective kind w S z = ReadsWork kind w (S .B) (S .R) (S .o) z
 ReadsGoal theArtificial kind w S z = ReadsWork kind w (S .B) (S .R) z (S .o) × Standing (w .artificial)
 
-pub goal-cells : (g : Goal) (kind : ℕ → KindZ) (w : Work) (S : State) (z : Vec) → ReadsGoal g kind w S z → (b : ℕ) × Reads b (w .tableau .symbols) (goalCells g w) (S .o)
+goal-cells : (g : Goal) (kind : ℕ → KindZ) (w : Work) (S : State) (z : Vec) → ReadsGoal g kind w S z → (b : ℕ) × Reads b (w .tableau .symbols) (goalCells g w) (S .o)
 unfolding goalCells
 goal-cells theObjective kind w S z h = (2 ^ 40, h .objective)
 goal-cells theArtificial kind w S z h = (1024, go (w .artificial) (h .0 .artificial) (h .1))
@@ -149,13 +168,28 @@ abbrev pub artOf : Goal → Vec → Vec → Vec
 artOf theObjective q z = z
 artOf theArtificial q z = q
 
+pub reads-of : (kind : ℕ → KindZ) (g : Goal) (w : Work) (S : State) (z : Vec) → ReadsGoal g kind w S z → ReadsWork kind w (S .B) (S .R) (objOf g (S .o) z) (artOf g (S .o) z)
+reads-of kind theObjective w S z h = h
+reads-of kind theArtificial w S z h = h .0
+
+pub reads-on : (kind : ℕ → KindZ) (g : Goal) (w : Work) (S : State) (z : Vec) (l : ℕ) (e : Symbol) → ReadsGoal g kind w S z
+    → ReadsWork kind (pivot l e w) (swap l (e .id) (S .B)) (Rattle.simplex.specs.Tab.pivot l (e .id) (S .R)) (pivoted l (e .id) (S .R) (objOf g (S .o) z)) (pivoted l (e .id) (S .R) (artOf g (S .o) z))
+    → ReadsGoal g kind (pivot l e w) (step l (e .id) S) (pivoted l (e .id) (S .R) z)
+reads-on kind theObjective w S z l e h r = r
+reads-on kind theArtificial w S z l e h r = (r, pivot-standing l e w (h .1))
+
+pub count-reads : (kind : ℕ → KindZ) (g : Goal) (x : Work) (S : State) (z : Vec) → ReadsGoal g kind x S z → ReadsGoal g kind (countPivot x) S z
+unfolding countPivot
+count-reads kind theObjective x S z h = h
+count-reads kind theArtificial x S z h = h
+
 -- ---- a pass from the second state on
-pub shift : (kind : ℕ → KindZ) (ids : List ℕ) (S : State) (l e : ℕ) → look kind ids S ≡ go-on l e → (i : ℕ) → after kind ids S (suc i) ≡ after kind ids (step l e S) i
+shift : (kind : ℕ → KindZ) (ids : List ℕ) (S : State) (l e : ℕ) → look kind ids S ≡ go-on l e → (i : ℕ) → after kind ids S (suc i) ≡ after kind ids (step l e S) i
 unfolding after next
 shift kind ids S l e k zero = ap (next kind ids S) k
 shift kind ids S l e k (suc i) = ap (λ (t : State). next kind ids t (look kind ids t)) (shift kind ids S l e k i)
 
-pub at-first : (kind : ℕ → KindZ) (ids : List ℕ) (S : State) (l e : ℕ) → look kind ids S ≡ go-on l e → S .R l e ≡ negsuc 0 → Pivots (after kind ids S zero) (look kind ids (after kind ids S zero))
+at-first : (kind : ℕ → KindZ) (ids : List ℕ) (S : State) (l e : ℕ) → look kind ids S ≡ go-on l e → S .R l e ≡ negsuc 0 → Pivots (after kind ids S zero) (look kind ids (after kind ids S zero))
 unfolding after
 at-first kind ids S l e k u = subst (Pivots S) (sym k) u
 
@@ -167,13 +201,6 @@ module _ (n : ℕ) (kind : ℕ → KindZ) (ids : List ℕ) (asc : Asc ids) (cove
       ap₂ (λ (t : State) (y : Vec). pivoted (lv (look kind ids t)) (ev (look kind ids t)) (t .R) y) (shift kind ids S l e k i) (shift-carried S z l e k i)
 
   -- ---- one pivot
-  pub record Moves (g : Goal) (w : Work) (S : State) (z : Vec) (l e : Symbol) : Type 0 where
-    pub looks : look kind ids S ≡ go-on (l .id) (e .id)
-    pub minus : S .R (l .id) (e .id) ≡ negsuc 0
-    pub choice : Choice n kind S (l .id) (e .id)
-    pub good : Good n kind (step (l .id) (e .id) S)
-    pub reads : ReadsGoal g kind (pivot (l .id) e w) (step (l .id) (e .id) S) (pivoted (l .id) (e .id) (S .R) z)
-
   module _ (w : Work) (S : State) (G : Good n kind S) (o a : Vec) (H : ReadsWork kind w (S .B) (S .R) o a) (l e : Symbol) (E : Enters n kind w (S .B) (S .R) o a H (S .o) G e)
       (L : Leaves kind (w .tableau .symbols) (w .tableau .rows) (w .tableau .objective) (w .artificial) (S .B) (S .R) o a H (e .id) (in-nonzero (e .id) (w .tableau .symbols) (H .up) (E .live .0)) l)
       (m : pivot (l .id) e w .mark ≡ allWhole) where
@@ -184,7 +211,7 @@ module _ (n : ℕ) (kind : ℕ → KindZ) (ids : List ℕ) (asc : Asc ids) (cove
     on-minus : S .R (l .id) (e .id) ≡ negsuc 0
     on-minus = minus-one (S .R (l .id) (e .id)) (turn-is .1) (L .cell)
 
-    is-choice : Choice n kind S (l .id) (e .id)
+    pub is-choice : Choice n kind S (l .id) (e .id)
     is-choice = choice-is n kind w (S .B) (S .R) o a H (S .o) G (λ j s. inside j (cover j s)) l e E L on-minus
 
     is-look : look kind ids S ≡ go-on (l .id) (e .id)
@@ -200,21 +227,6 @@ module _ (n : ℕ) (kind : ℕ → KindZ) (ids : List ℕ) (asc : Asc ids) (cove
     used-up : ((i : ℕ) → i < left → Pivots (after kind ids S i) (look kind ids (after kind ids S i))) → (p : ℕ) → p ≡ w .pivots + left → (t : Mark) → Ran g left w S z (refused 14 p t)
     no-leaving : (m : ℕ) → m ≤ left → ((i : ℕ) → i < m → Pivots (after kind ids S i) (look kind ids (after kind ids S i))) → (e : ℕ) → look kind ids (after kind ids S m) ≡ no-row e
         → (p : ℕ) → p ≡ w .pivots + m → (t : Mark) → Ran g left w S z (refused 15 p t)
-
-  pub reads-of : (g : Goal) (w : Work) (S : State) (z : Vec) → ReadsGoal g kind w S z → ReadsWork kind w (S .B) (S .R) (objOf g (S .o) z) (artOf g (S .o) z)
-  reads-of theObjective w S z h = h
-  reads-of theArtificial w S z h = h .0
-
-  pub reads-on : (g : Goal) (w : Work) (S : State) (z : Vec) (l : ℕ) (e : Symbol) → ReadsGoal g kind w S z
-      → ReadsWork kind (pivot l e w) (swap l (e .id) (S .B)) (Rattle.simplex.specs.Tab.pivot l (e .id) (S .R)) (pivoted l (e .id) (S .R) (objOf g (S .o) z)) (pivoted l (e .id) (S .R) (artOf g (S .o) z))
-      → ReadsGoal g kind (pivot l e w) (step l (e .id) S) (pivoted l (e .id) (S .R) z)
-  reads-on theObjective w S z l e h r = r
-  reads-on theArtificial w S z l e h r = (r, pivot-standing l e w (h .1))
-
-  pub count-reads : (g : Goal) (x : Work) (S : State) (z : Vec) → ReadsGoal g kind x S z → ReadsGoal g kind (countPivot x) S z
-  unfolding countPivot
-  count-reads theObjective x S z h = h
-  count-reads theArtificial x S z h = h
 
   -- the pass from the second state on, and the first pivot before it
   extend : (g : Goal) (left : ℕ) (w v : Work) (S : State) (z : Vec) (l e : ℕ) → look kind ids S ≡ go-on l e → S .R l e ≡ negsuc 0 → v .pivots ≡ suc (w .pivots)
@@ -242,10 +254,10 @@ module _ (n : ℕ) (kind : ℕ → KindZ) (ids : List ℕ) (asc : Asc ids) (cove
   Whole-run g left w S z x = markOf x ≡ allWhole → Ran g left w S z x
 
   pub view : (g : Goal) (w : Work) (S : State) (z : Vec) (G : Good n kind S) (H : ReadsGoal g kind w S z)
-      → Choose n kind w (S .B) (S .R) (objOf g (S .o) z) (artOf g (S .o) z) (reads-of g w S z H) (S .o) G (choosePivot g w)
+      → Choose n kind w (S .B) (S .R) (objOf g (S .o) z) (artOf g (S .o) z) (reads-of kind g w S z H) (S .o) G (choosePivot g w)
   view g w S z G H =
       let c = goal-cells g kind w S z H in
-      choose-is n kind w (S .B) (S .R) (objOf g (S .o) z) (artOf g (S .o) z) (reads-of g w S z H) (S .o) G (c .0) g (c .1)
+      choose-is n kind w (S .B) (S .R) (objOf g (S .o) z) (artOf g (S .o) z) (reads-of kind g w S z H) (S .o) G (c .0) g (c .1)
 
   still : (S : State) → Good n kind S → ((j : ℕ) → kind j ≡ slack → 0ℤ ≼ S .o j) → look kind ids (after kind ids S zero) ≡ done
   unfolding after
@@ -270,27 +282,27 @@ module _ (n : ℕ) (kind : ℕ → KindZ) (ids : List ℕ) (asc : Asc ids) (cove
   unfolding optimise refuse markOf Whole-run
   run zero g w S z G H = go (choosePivot g w) (view g w S z G H)
     where
-      go : (c : Chosen) → Choose n kind w (S .B) (S .R) (objOf g (S .o) z) (artOf g (S .o) z) (reads-of g w S z H) (S .o) G c
+      go : (c : Chosen) → Choose n kind w (S .B) (S .R) (objOf g (S .o) z) (artOf g (S .o) z) (reads-of kind g w S z H) (S .o) G c
           → Whole-run g zero w S z (elim c [ ended ↦ going w | stuck ↦ refused 15 (w .pivots) (w .mark) | pivotOn l e ↦ refused 14 (w .pivots) (w .mark) ])
       go c (at-end h) = λ m. rests zero (omega arith) (none-yet S) (still S G h) w (reads-0 g w S z H) (add-0 (w .pivots))
-      go c (row-less e E f) = λ m. no-leaving zero (omega arith) (none-yet S) (e .id) (no-way w S G (objOf g (S .o) z) (artOf g (S .o) z) (reads-of g w S z H) e E f) (w .pivots) (add-0 (w .pivots)) (w .mark)
+      go c (row-less e E f) = λ m. no-leaving zero (omega arith) (none-yet S) (e .id) (no-way w S G (objOf g (S .o) z) (artOf g (S .o) z) (reads-of kind g w S z H) e E f) (w .pivots) (add-0 (w .pivots)) (w .mark)
       go c (pivots l e E L) = λ m. used-up (none-yet S) (w .pivots) (add-0 (w .pivots)) (w .mark)
   run (suc left) g w S z G H = go (choosePivot g w) (view g w S z G H) (run left g)
     where
-      go : (c : Chosen) → Choose n kind w (S .B) (S .R) (objOf g (S .o) z) (artOf g (S .o) z) (reads-of g w S z H) (S .o) G c
+      go : (c : Chosen) → Choose n kind w (S .B) (S .R) (objOf g (S .o) z) (artOf g (S .o) z) (reads-of kind g w S z H) (S .o) G c
           → ((w : Work) (S : State) (z : Vec) → Good n kind S → ReadsGoal g kind w S z → markOf (optimise left g w) ≡ allWhole → Ran g left w S z (optimise left g w))
           → Whole-run g (suc left) w S z (elim c [ ended ↦ going w | stuck ↦ refused 15 (w .pivots) (w .mark) | pivotOn l e ↦ countedPivot l e w >>= λ v. optimise left g v ])
       go c (at-end h) ih = λ m. rests zero (omega arith) (none-yet S) (still S G h) w (reads-0 g w S z H) (add-0 (w .pivots))
-      go c (row-less e E f) ih = λ m. no-leaving zero (omega arith) (none-yet S) (e .id) (no-way w S G (objOf g (S .o) z) (artOf g (S .o) z) (reads-of g w S z H) e E f) (w .pivots) (add-0 (w .pivots)) (w .mark)
-      go c (pivots l e E L) ih = turned left g l e w (Whole-run g (suc left) w S z) (λ f m. absurd (finite≢ m)) on
+      go c (row-less e E f) ih = λ m. no-leaving zero (omega arith) (none-yet S) (e .id) (no-way w S G (objOf g (S .o) z) (artOf g (S .o) z) (reads-of kind g w S z H) e E f) (w .pivots) (add-0 (w .pivots)) (w .mark)
+      go c (pivots l e E L) ih = turned (λ v. optimise left g v) l e w (Whole-run g (suc left) w S z) (λ f m. absurd (finite≢ m)) on
         where
           on : markOf (optimise left g (countPivot (pivot (l .id) e w))) ≡ allWhole → Ran g (suc left) w S z (optimise left g (countPivot (pivot (l .id) e w)))
           on m =
               let o = objOf g (S .o) z in
               let a = artOf g (S .o) z in
               let pm : pivot (l .id) e w .mark ≡ allWhole = counted-mark (pivot (l .id) e w) (optimise-mark left g (countPivot (pivot (l .id) e w)) m) in
-              let t = turn-is w S G o a (reads-of g w S z H) l e E L pm in
-              extend g left w (countPivot (pivot (l .id) e w)) S z (l .id) (e .id) (is-look w S G o a (reads-of g w S z H) l e E L pm) (on-minus w S G o a (reads-of g w S z H) l e E L pm) (counted-one (l .id) e w)
+              let t = turn-is w S G o a (reads-of kind g w S z H) l e E L pm in
+              extend g left w (countPivot (pivot (l .id) e w)) S z (l .id) (e .id) (is-look w S G o a (reads-of kind g w S z H) l e E L pm) (on-minus w S G o a (reads-of kind g w S z H) l e E L pm) (counted-one (l .id) e w)
               (optimise left g (countPivot (pivot (l .id) e w)))
-              (ih (countPivot (pivot (l .id) e w)) (step (l .id) (e .id) S) (pivoted (l .id) (e .id) (S .R) z) (is-good w S G o a (reads-of g w S z H) l e E L pm)
-              (count-reads g (pivot (l .id) e w) (step (l .id) (e .id) S) (pivoted (l .id) (e .id) (S .R) z) (reads-on g w S z (l .id) e H (t .2))) m)
+              (ih (countPivot (pivot (l .id) e w)) (step (l .id) (e .id) S) (pivoted (l .id) (e .id) (S .R) z) (is-good w S G o a (reads-of kind g w S z H) l e E L pm)
+              (count-reads kind g (pivot (l .id) e w) (step (l .id) (e .id) S) (pivoted (l .id) (e .id) (S .R) z) (reads-on kind g w S z (l .id) e H (t .2))) m)

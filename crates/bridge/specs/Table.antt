@@ -20,7 +20,7 @@ use Rattle.steps.specs.Number.{zero64, objectiveBound, Mark, allWhole, worse}
 use Rattle.steps.specs.Symbol.{Kind, External, Slack, Error, Dummy, Symbol, isExternal}
 use Rattle.steps.specs.Row.{Row, cellValues, cellMarks, Written, solveForSymbols}
 use Rattle.steps.specs.State.{Basic}
-use Rattle.steps.specs.Work.{Work, withTableau, withChanges, withArtificial, marking, withRows, withObjective, withInfeasible, findRow, dropRow, keepRow}
+use Rattle.steps.specs.Work.{Work, withTableau, withChanges, withArtificial, marking, withRows, withObjective, findRow, dropRow, keepRow}
 use Rattle.steps.specs.Changes.{note}
 use Rattle.steps.specs.Substitute.{substituteInRow, substituteInCells, substituteInRows, rowsOf, marksOf, substitute, enterBasis, pivot}
 use Rattle.bridge.specs.Nums.{worse-l, worse-r}
@@ -85,6 +85,15 @@ found-in Q j (b ∷ bs) r a f = go (sym? j (b .symbol)) (found-in Q j bs r (a .1
     go (is e p d) ih = subst Q (sym p) (a .0)
     go (isnt e p d) ih = ih (sym (find-miss j b bs e) ∙ f)
 
+-- and what holds of every row's column holds of every basic one
+pub of-basic : (kind : ℕ → KindZ) (xs : List Symbol) (bs : List Basic) (cs : List Float) (art : Option Row) (B : Mask) (R : ℕ → Vec) (o a : Vec) → ReadsTable kind xs bs cs art B R o a
+    → (Q : ℕ → Type 0) → All (λ (b : Basic). Q (b .symbol .id)) bs → (j : ℕ) → B j ≡ true → Q j
+of-basic kind xs bs cs art B R o a H Q A j b = go (findRow j bs) refl (H .rows j)
+  where
+    go : (t : Option Row) → findRow j bs ≡ t → RowAt xs t (B j) (R j) → Q j
+    go none q h = absurd (true≢false (sym b ∙ h))
+    go (some r) q h = found-in Q j bs r A q
+
 pub clash-bool : {X : Type 0} {a : Bool} → a ≡ true → a ≡ false → X
 clash-bool p q = absurd (true≢false (sym p ∙ q))
 
@@ -114,7 +123,7 @@ art-mark-is s xs r none = refl
 art-mark-is s xs r (some q) = refl
 
 pub enter-parts : (s : Symbol) (r : Row) (w : Work) → Parts s r w (enterBasis s r w)
-unfolding enterBasis substitute note withTableau withChanges withArtificial marking withRows withObjective withInfeasible
+unfolding enterBasis substitute note withTableau withChanges withArtificial marking withRows withObjective
 enter-parts s r w = go (isExternal s && ne (r .constant) zero64)
   where
     go : (b : Bool) → Parts s r w (withRows (keepRow (record { symbol = s; row = r }) ((cond b (note (s .id) (substitute (s .id) r w)) (substitute (s .id) r w)) .tableau .rows)) (cond b (note (s .id) (substitute (s .id) r w)) (substitute (s .id) r w)))

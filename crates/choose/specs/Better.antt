@@ -10,7 +10,7 @@ use lib.Ieee.{Float, nan}
 use Rattle.steps.specs.Number.{belowZero}
 use Rattle.steps.specs.Symbol.{isPivotable}
 use Rattle.layout.specs.Layout.{symbolOf}
-use Rattle.choose.specs.Choose.{Within, placeOf, rowOf, cellAt, heldOf, betterOf, leavingOf, positiveOf, dummyRowOf, externalRowOf, markerLeavingOf, negativeOf, subjectOf, isBelowOf}
+use Rattle.choose.specs.Choose.{Within, placeOf, heldOf, betterOf, leavingOf, positiveOf, dummyRowOf, externalRowOf, markerLeavingOf, negativeOf, subjectOf}
 use Rattle.choose.specs.declared.Found.{Found}
 use Rattle.choose.specs.declared.Found.the-variants.{At, Nothing}
 use Rattle.choose.specs.declared.Want.the-variants.{External}
@@ -77,12 +77,3 @@ module _ (marker other : ℕ) (h : List ℕ) (row : List Float) {f : Found} (qf 
     pub subject-other : {o : Found} → m ≡ Nothing → eqb other 0 ≡ false → o ≡ negativeOf other h row → o ≡ subjectOf marker other h row
     unfolding subjectOf
     subject-other e t qo = rw (← qf, nf, ← qm, e, t) qo
-
-module _ (id : ℕ) (h : List ℕ) (w : List (List Float)) {f : Found} (qf : f ≡ rowOf id h) where
-  pub below-absent : f ≡ Nothing → false ≡ isBelowOf id h w
-  unfolding isBelowOf
-  below-absent e = rw (← qf, e)
-
-  pub below-found : {i : ℕ} → f ≡ At i → belowZero (cellAt w 0 i) ≡ isBelowOf id h w
-  unfolding isBelowOf
-  below-found e = rw (← qf, e)

@@ -1,5 +1,5 @@
 -- What is chosen, over the tables' places. A place is a row's cell or a row of the table, from 1 on: place p of a row has the symbol whose code
--- is at 15 + p of the head, row i the basic symbol whose code is at 145 + i, and entry j of the infeasible list is at 195 + j.
+-- is at 15 + p of the head, row i the basic symbol whose code is at 145 + i.
 use Prim.Native.Nat.{ℕ, _+_, _/_, _≤_}
 use mathlib.Core.Bool.{Bool, true, false, not, _&&_, cond}
 use mathlib.Core.List.{List, []}
@@ -91,10 +91,14 @@ unfoldable pub positiveOf : ℕ → List ℕ → List (List Float) → Found
 positiveOf at h w =
     smallestOf (λ i. isRestricted (basicAt h i) && lt zero64 (cellAt w at i)) (λ i. cellAt w 0 i /₆₄ cellAt w at i) (getD h 2 0)
 
--- "the non-dummy positive cell with strictly smallest objective cell / cell"
+-- "the non-dummy positive cell with strictly smallest objective cell / cell, the lowest id on a tie"
 unfoldable pub dualEnteringOf : List ℕ → List Float → List Float → Found
 dualEnteringOf h row objective =
     smallestOf (λ p. not (isDummy (symbolAt h p)) && lt zero64 (getD row p nan)) (λ p. getD objective p nan /₆₄ getD row p nan) (getD h 1 0)
+
+-- "the restricted row below 0 with the lowest id": the first, since rows stand by ascending id
+unfoldable pub dualLeavingOf : List ℕ → List (List Float) → Found
+dualLeavingOf h w = first (λ i. isRestricted (basicAt h i) && belowZero (cellAt w 0 i)) At Nothing 1 (1 + getD h 2 0)
 
 -- ---- removal's ranks
 
@@ -123,12 +127,3 @@ negativeOf code h row =
 unfoldable pub subjectOf : ℕ → ℕ → List ℕ → List Float → Found
 subjectOf marker other h row =
     orElse (heldOf External h row) (orElse (negativeOf marker h row) (cond (eqb other 0) Nothing (negativeOf other h row)))
-
--- ---- the infeasible list
-
-unfoldable pub isBelowOf : ℕ → List ℕ → List (List Float) → Bool
-isBelowOf id h w = onFound (λ i. belowZero (cellAt w 0 i)) false (rowOf id h)
-
--- "pop the last entry; skip it unless that row exists and is below 0"
-unfoldable pub popBelowOf : List ℕ → List (List Float) → Found
-popBelowOf h w = back (λ j. isBelowOf (getD h (195 + j) 0) h w) At Nothing (getD h 3 0)

@@ -14,13 +14,13 @@ use Rattle.steps.specs.Symbol.{Symbol, isSymbol, isExternal, isRestricted, isDu
 use Rattle.steps.specs.Row.{Row}
 use Rattle.steps.specs.State.{Basic}
 use Rattle.steps.specs.Work.{findRow}
-use Rattle.steps.specs.Optimise.{Candidate, smallestRatio, negativeRatios, dualRatios}
+use Rattle.steps.specs.Optimise.{Candidate, smallestRatio, negativeRatios, getDualLeavingRow, dualRatios}
 use Rattle.steps.specs.Remove.{cellIn, firstDummyRow, positiveRatios, lastExternalRow}
 use Rattle.laws.specs.Loops.{first}
 use Rattle.laws.specs.Lists.{tab, listOf}
 use Rattle.layout.specs.Layout.{symbolOf, cellsOf, basicOf}
-use Rattle.choose.specs.Reading.{symbolsIn, basicsIn, rowIn}
-use Rattle.choose.specs.Choose.{onFound, symbolAt, basicAt, cellAt, idAt, placeOf, rowOf, enteringOf, wants, heldOf, leavingOf, positiveOf, dualEnteringOf, dummyRowOf, externalRowOf}
+use Rattle.choose.specs.Reading.{symbolsIn, basicsIn, rowIn, namedRow}
+use Rattle.choose.specs.Choose.{onFound, symbolAt, basicAt, cellAt, idAt, placeOf, rowOf, enteringOf, wants, heldOf, leavingOf, positiveOf, dualEnteringOf, dualLeavingOf, dummyRowOf, externalRowOf}
 use Rattle.choose.specs.Walk.{first-walk, last-walk, tab-snoc, smallest-walk}
 use Rattle.choose.specs.declared.Found.{Found}
 use Rattle.choose.specs.declared.Found.the-variants.{At, Nothing}
@@ -106,6 +106,18 @@ module _ (h : List ℕ) where
       let a : 16 + i ≡ 15 + suc i = omega arith in
       let b : 1 + i ≡ suc i = omega arith in
       rw (a, b) (as-cond (not (isDummy (symbolAt h (suc i))) && lt zero64 (getD row (suc i) nan)) (record { symbol = symbolAt h (suc i); ratio = r (suc i) } ∷ look (suc i) k) (look (suc i) k)))
+
+  pub dual-leaving-chosen : (w : List (List Float)) → getDualLeavingRow (basicsIn h w) ≡ onFound (λ i. some (namedRow h w i)) none (dualLeavingOf h w)
+  unfolding dualLeavingOf basicsIn listOf basicOf tab getDualLeavingRow
+  dual-leaving-chosen w =
+      let look : ℕ → ℕ → Option Basic = λ i k. getDualLeavingRow (basics w i k) in
+      first-walk (λ i. isRestricted (basicAt h i) && belowZero (cellAt w 0 i)) (λ i. some (namedRow h w i)) none look
+      (λ i. refl)
+      (λ i k.
+      let a : 146 + i ≡ 145 + suc i = omega arith in
+      let b : 1 + i ≡ suc i = omega arith in
+      rw (a, b) (as-cond (isRestricted (basicAt h (suc i)) && belowZero (cellAt w 0 (suc i))) (some (namedRow h w (suc i))) (look (suc i) k)))
+      (getD h 2 0)
 
   -- the symbol s is at place `at`
   module _ (s at : ℕ) (found : placeOf s h ≡ At at) where

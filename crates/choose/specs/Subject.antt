@@ -1,23 +1,24 @@
--- Add's subject, the two passes' choices and the whole of a dual choice, on what the tables read as.
+-- Add's subject and the two passes' choices, on what the tables read as.
 -- Assumes nothing.
-use Prim.Native.Nat.{ℕ, _+_, _-_, _/_}
+use Prim.Native.Nat.{ℕ, _/_}
 use mathlib.Core.Path.{_≡_, refl, sym, ap, _∙_}
 use mathlib.Core.Bool.{Bool, true, false, _&&_, cond}
-use mathlib.Core.List.{List, [], reverse, reverse-reverse}
+use mathlib.Core.List.{List, []}
 use mathlib.Core.Option.{Option, none, some}
 use lib.Dec.{eqb}
 use lib.ListN.{getD}
 use lib.Ieee.{Float, nan, ofBits, lt}
 use Rattle.steps.specs.Number.{zero64, belowZero}
 use Rattle.steps.specs.Symbol.{Symbol, isPivotable, coefficientFor}
+use Rattle.steps.specs.State.{Basic}
 use Rattle.steps.specs.Work.{Work}
 use Rattle.steps.specs.CreateRow.{Created, negativeTag, chooseSubject, allDummies}
-use Rattle.steps.specs.Optimise.{Popped, allPopped, popped, Choice, ended, stuck, pivotOn, choosePivot, Goal, getEnteringSymbol, getLeavingRow, DualChoice, feasible, noEntering, dualPivotOn, chooseDualPivot, getDualEnteringSymbol}
+use Rattle.steps.specs.Optimise.{Choice, ended, stuck, pivotOn, choosePivot, Goal, getEnteringSymbol, getLeavingRow, chooseDualPivot, getDualEnteringSymbol}
 use Rattle.layout.specs.Layout.{symbolOf, otherOf, cellsOf}
-use Rattle.choose.specs.Reading.{symbolsIn, rowIn, tableauIn}
-use Rattle.choose.specs.Choose.{Within, onFound, symbolAt, basicAt, placeOf, rowOf, enteringOf, wants, heldOf, isNothing, leavingOf, dualEnteringOf, negativeOf, subjectOf, popBelowOf}
+use Rattle.choose.specs.Reading.{symbolsIn, rowIn, namedRow, tableauIn}
+use Rattle.choose.specs.Choose.{Within, onFound, symbolAt, basicAt, placeOf, enteringOf, wants, heldOf, isNothing, leavingOf, dualEnteringOf, dualLeavingOf, negativeOf, subjectOf}
 use Rattle.choose.specs.Chosen.{cell-of, held-chosen}
-use Rattle.choose.specs.Steps.{picked, on-some, entries, poppedAt, leaving-is, dual-entering-is, dual-pop-is}
+use Rattle.choose.specs.Steps.{picked, on-some, leaving-is, dual-leaving-is, dual-entering-is}
 use Rattle.choose.specs.Own.{first-within, Ascends, own-place}
 use Rattle.choose.specs.declared.Found.{Found}
 use Rattle.choose.specs.declared.Found.the-variants.{At, Nothing}
@@ -105,11 +106,9 @@ module _ (h : List ℕ) (w : List (List Float)) where
   unfoldable pub pivotChoiceOf : List Float → Choice
   pivotChoiceOf goal = onFound (λ p. onFound (λ i. pivotOn (basicAt h i) (symbolAt h p)) stuck (leavingOf p h w)) ended (enteringOf h goal)
 
-  -- "Dual pass: pop the last entry ..; entering ..; pivot"
-  unfoldable pub dualChoiceOf : DualChoice
-  dualChoiceOf =
-      onFound (λ j. onFound (λ i. onFound (λ p. dualPivotOn (getD h (195 + j) 0) (entries h w (j - 1)) (symbolAt h p)) noEntering (dualEnteringOf h (getD w i []) (getD w 0 []))) noEntering (rowOf (getD h (195 + j) 0) h))
-      feasible (popBelowOf h w)
+  -- "Dual pass: leaving ..; none ends the pass. Entering ..; pivot."
+  unfoldable pub dualChoiceOf : Choice
+  dualChoiceOf = onFound (λ i. onFound (λ p. pivotOn (basicAt h i) (symbolAt h p)) stuck (dualEnteringOf h (getD w i []) (getD w 0 []))) ended (dualLeavingOf h w)
 
   module _ (v : Work) (reads : v .tableau ≡ tableauIn h w) where
     abbrev leavingFor : Symbol → Choice
@@ -130,28 +129,19 @@ module _ (h : List ℕ) (w : List (List Float)) where
             ap (λ (o : Option Symbol). picked (λ (l : Symbol). pivotOn l (symbolAt h p)) stuck o) (leaving-is h w v reads (symbolAt h p) p (own-place 15 (getD h 1 0) h up p (r .0) (r .1)))
             ∙ on-some (λ (l : Symbol). pivotOn l (symbolAt h p)) stuck (λ i. basicAt h i) (leavingOf p h w)
 
-    abbrev enteringFor : ℕ → List ℕ → DualChoice
-    enteringFor s rest = picked (λ (e : Symbol). dualPivotOn s (reverse rest) e) noEntering (getDualEnteringSymbol s v)
-
-    abbrev poppedTo : Popped → DualChoice
-    poppedTo o = elim o [ allPopped ↦ feasible | popped s rest ↦ enteringFor s rest ]
+    abbrev enteringFor : Basic → Choice
+    enteringFor b = picked (λ (e : Symbol). pivotOn (b .symbol) e) stuck (getDualEnteringSymbol (b .row) v)
 
     pub dual-choice-is : chooseDualPivot v ≡ dualChoiceOf
     unfolding chooseDualPivot dualChoiceOf
-    dual-choice-is = ap poppedTo (dual-pop-is h w v reads) ∙ by (popBelowOf h w)
+    dual-choice-is =
+        ap (λ (o : Option Basic). picked enteringFor ended o) (dual-leaving-is h w v reads)
+        ∙ on-some enteringFor ended (λ i. namedRow h w i) (dualLeavingOf h w)
+        ∙ by (dualLeavingOf h w)
       where
-        at-row : (s : ℕ) (l : List ℕ) (f : Found)
-            → picked (λ (e : Symbol). dualPivotOn s l e) noEntering (onFound (λ i. onFound (λ p. some (symbolAt h p)) none (dualEnteringOf h (getD w i []) (getD w 0 []))) none f)
-            ≡ onFound (λ i. onFound (λ p. dualPivotOn s l (symbolAt h p)) noEntering (dualEnteringOf h (getD w i []) (getD w 0 []))) noEntering f
-        at-row s l (At i) = on-some (λ (e : Symbol). dualPivotOn s l e) noEntering (λ p. symbolAt h p) (dualEnteringOf h (getD w i []) (getD w 0 []))
-        at-row s l Nothing = refl
-
         by : (f : Found)
-            → poppedTo (onFound (poppedAt h w) allPopped f)
-            ≡ onFound (λ j. onFound (λ i. onFound (λ p. dualPivotOn (getD h (195 + j) 0) (entries h w (j - 1)) (symbolAt h p)) noEntering (dualEnteringOf h (getD w i []) (getD w 0 []))) noEntering (rowOf (getD h (195 + j) 0) h)) feasible f
+            → onFound (λ i. enteringFor (namedRow h w i)) ended f ≡ onFound (λ i. onFound (λ p. pivotOn (basicAt h i) (symbolAt h p)) stuck (dualEnteringOf h (getD w i []) (getD w 0 []))) ended f
         by Nothing = refl
-        by (At j) =
-            let s : ℕ = getD h (195 + j) 0 in
-            ap (λ (o : Option Symbol). picked (λ (e : Symbol). dualPivotOn s (reverse (reverse (entries h w (j - 1)))) e) noEntering o) (dual-entering-is h w v reads s)
-            ∙ ap (λ (l : List ℕ). picked (λ (e : Symbol). dualPivotOn s l e) noEntering (onFound (λ i. onFound (λ p. some (symbolAt h p)) none (dualEnteringOf h (getD w i []) (getD w 0 []))) none (rowOf s h))) (reverse-reverse (entries h w (j - 1)))
-            ∙ at-row s (entries h w (j - 1)) (rowOf s h)
+        by (At i) =
+            ap (λ (o : Option Symbol). picked (λ (e : Symbol). pivotOn (basicAt h i) e) stuck o) (dual-entering-is h w v reads (getD w i []))
+            ∙ on-some (λ (e : Symbol). pivotOn (basicAt h i) e) stuck (λ p. symbolAt h p) (dualEnteringOf h (getD w i []) (getD w 0 []))

@@ -1,5 +1,5 @@
 // Which symbol or row a step takes: functions that read the tables and answer a place.
-pub mod list;
+pub mod dual;
 pub mod subject;
 
 ghost use mathlib.Core.Path.{_≡_};
@@ -13,7 +13,7 @@ ghost use Rattle.layout.specs.Layout.{symbolOf};
 ghost use Rattle.choose.specs.declared.Want.the-variants.{Pivotable, NonDummy, Any};
 ghost use Rattle.choose.specs.Choose.{Within, idAt, placeOf, rowOf, enteringOf, wants, heldOf, isNothing, noBest, betterOf, foundOf, leavingOf, positiveOf, dualEnteringOf, dummyRowOf, externalRowOf, markerLeavingOf};
 
-// A place: of a cell in its row, of a row in the table or of an entry in the infeasible list, each from 1 on; or of a record in `names`, from 0 on.
+// A place: of a cell in its row or of a row in the table, each from 1 on; or of a record in `names`, from 0 on.
 pub enum Found {
     At(usize),
     Nothing,
@@ -39,7 +39,7 @@ fn find_id(head: &[u64], base: usize, n: usize, id: u64) -> Found
 }
 
 pub fn place_of(head: &[u64], id: u64) -> Found
-    requires { ⌜ length (now head) ≡ 326 ⌝ }
+    requires { ⌜ length (now head) ≡ 196 ⌝ }
     requires { ⌜ getD (now head) 1 0 ≤ 129 ⌝ }
     ensures { λ r. ⌜ r ≡ placeOf id (now (head .entry)) ⌝ }
     ensures { λ r. ⌜ Within (getD (now (head .entry)) 1 0) r ⌝ }
@@ -53,7 +53,7 @@ pub fn place_of(head: &[u64], id: u64) -> Found
 }
 
 pub fn row_of(head: &[u64], id: u64) -> Found
-    requires { ⌜ length (now head) ≡ 326 ⌝ }
+    requires { ⌜ length (now head) ≡ 196 ⌝ }
     requires { ⌜ getD (now head) 2 0 ≤ 49 ⌝ }
     ensures { λ r. ⌜ r ≡ rowOf id (now (head .entry)) ⌝ }
     ensures { λ r. ⌜ Within (getD (now (head .entry)) 2 0) r ⌝ }
@@ -75,7 +75,7 @@ fn can_enter(code: u64, x: f64) -> bool
 }
 
 pub fn get_entering_symbol(head: &[u64], objective: &[f64; 130]) -> Found
-    requires { ⌜ length (now head) ≡ 326 ⌝ }
+    requires { ⌜ length (now head) ≡ 196 ⌝ }
     requires { ⌜ getD (now head) 1 0 ≤ 129 ⌝ }
     ensures { λ r. ⌜ r ≡ enteringOf (now (head .entry)) (now (objective .entry)) ⌝ }
     ensures { λ r. ⌜ Within (getD (now (head .entry)) 1 0) r ⌝ }
@@ -118,7 +118,7 @@ fn is_held(want: Want, code: u64, x: f64) -> bool
 }
 
 fn first_held(want: Want, head: &[u64], row: &[f64; 130]) -> Found
-    requires { ⌜ length (now head) ≡ 326 ⌝ }
+    requires { ⌜ length (now head) ≡ 196 ⌝ }
     requires { ⌜ getD (now head) 1 0 ≤ 129 ⌝ }
     ensures { λ r. ⌜ r ≡ heldOf want (now (head .entry)) (now (row .entry)) ⌝ }
     ensures { λ r. ⌜ Within (getD (now (head .entry)) 1 0) r ⌝ }
@@ -135,7 +135,7 @@ fn first_held(want: Want, head: &[u64], row: &[f64; 130]) -> Found
 }
 
 pub fn any_pivotable_symbol(head: &[u64], row: &[f64; 130]) -> Found
-    requires { ⌜ length (now head) ≡ 326 ⌝ }
+    requires { ⌜ length (now head) ≡ 196 ⌝ }
     requires { ⌜ getD (now head) 1 0 ≤ 129 ⌝ }
     ensures { λ r. ⌜ r ≡ heldOf Pivotable (now (head .entry)) (now (row .entry)) ⌝ }
     ensures { λ r. ⌜ Within (getD (now (head .entry)) 1 0) r ⌝ }
@@ -153,7 +153,7 @@ fn is_nothing(f: Found) -> bool
 }
 
 pub fn is_empty_row(head: &[u64], row: &[f64; 130]) -> bool
-    requires { ⌜ length (now head) ≡ 326 ⌝ }
+    requires { ⌜ length (now head) ≡ 196 ⌝ }
     requires { ⌜ getD (now head) 1 0 ≤ 129 ⌝ }
     ensures { λ r. ⌜ r ≡ isNothing (heldOf Any (now (head .entry)) (now (row .entry))) ⌝ }
 {
@@ -161,7 +161,7 @@ pub fn is_empty_row(head: &[u64], row: &[f64; 130]) -> bool
 }
 
 pub fn all_dummies(head: &[u64], row: &[f64; 130]) -> bool
-    requires { ⌜ length (now head) ≡ 326 ⌝ }
+    requires { ⌜ length (now head) ≡ 196 ⌝ }
     requires { ⌜ getD (now head) 1 0 ≤ 129 ⌝ }
     ensures { λ r. ⌜ r ≡ isNothing (heldOf NonDummy (now (head .entry)) (now (row .entry))) ⌝ }
 {
@@ -222,7 +222,7 @@ fn negative_better(i: usize, code: u64, cell: f64, constant: f64, b: Best) -> Be
 
 // "the restricted row with a negative cell there and the smallest -constant/cell"
 pub fn get_leaving_row(head: &[u64], rows: &[[f64; 130]], at: usize) -> Found
-    requires { ⌜ length (now head) ≡ 326 ⌝ }
+    requires { ⌜ length (now head) ≡ 196 ⌝ }
     requires { ⌜ getD (now head) 2 0 ≤ 49 ⌝ }
     requires { ⌜ length (now rows) ≡ 51 ⌝ }
     requires { ⌜ at < 130 ⌝ }
@@ -251,7 +251,7 @@ fn positive_better(i: usize, code: u64, cell: f64, constant: f64, b: Best) -> Be
 
 // "restricted with positive cell, smallest constant/cell"
 fn get_positive_row(head: &[u64], rows: &[[f64; 130]], at: usize) -> Found
-    requires { ⌜ length (now head) ≡ 326 ⌝ }
+    requires { ⌜ length (now head) ≡ 196 ⌝ }
     requires { ⌜ getD (now head) 2 0 ≤ 49 ⌝ }
     requires { ⌜ length (now rows) ≡ 51 ⌝ }
     requires { ⌜ at < 130 ⌝ }
@@ -278,9 +278,9 @@ fn dual_better(p: usize, code: u64, cell: f64, objective: f64, b: Best) -> Best
     }
 }
 
-// "the non-dummy positive cell with strictly smallest objective cell / cell"
+// "the non-dummy positive cell with strictly smallest objective cell / cell, the lowest id on a tie"
 pub fn get_dual_entering_symbol(head: &[u64], row: &[f64; 130], objective: &[f64; 130]) -> Found
-    requires { ⌜ length (now head) ≡ 326 ⌝ }
+    requires { ⌜ length (now head) ≡ 196 ⌝ }
     requires { ⌜ getD (now head) 1 0 ≤ 129 ⌝ }
     ensures { λ r. ⌜ r ≡ dualEnteringOf (now (head .entry)) (now (row .entry)) (now (objective .entry)) ⌝ }
     ensures { λ r. ⌜ Within (getD (now (head .entry)) 1 0) r ⌝ }
@@ -304,7 +304,7 @@ fn holds_as_dummy(code: u64, x: f64) -> bool
 }
 
 fn first_dummy_row(head: &[u64], rows: &[[f64; 130]], at: usize) -> Found
-    requires { ⌜ length (now head) ≡ 326 ⌝ }
+    requires { ⌜ length (now head) ≡ 196 ⌝ }
     requires { ⌜ getD (now head) 2 0 ≤ 49 ⌝ }
     requires { ⌜ length (now rows) ≡ 51 ⌝ }
     requires { ⌜ at < 130 ⌝ }
@@ -329,7 +329,7 @@ fn holds_as_external(code: u64, x: f64) -> bool
 }
 
 fn last_external_row(head: &[u64], rows: &[[f64; 130]], at: usize) -> Found
-    requires { ⌜ length (now head) ≡ 326 ⌝ }
+    requires { ⌜ length (now head) ≡ 196 ⌝ }
     requires { ⌜ getD (now head) 2 0 ≤ 49 ⌝ }
     requires { ⌜ length (now rows) ≡ 51 ⌝ }
     requires { ⌜ at < 130 ⌝ }
@@ -348,7 +348,7 @@ fn last_external_row(head: &[u64], rows: &[[f64; 130]], at: usize) -> Found
 
 // "the leaving row is, in rank: .."
 pub fn get_marker_leaving_row(head: &[u64], rows: &[[f64; 130]], at: usize) -> Found
-    requires { ⌜ length (now head) ≡ 326 ⌝ }
+    requires { ⌜ length (now head) ≡ 196 ⌝ }
     requires { ⌜ getD (now head) 2 0 ≤ 49 ⌝ }
     requires { ⌜ length (now rows) ≡ 51 ⌝ }
     requires { ⌜ at < 130 ⌝ }

@@ -18,7 +18,7 @@ fn negative_pivotable(code: u64, x: f64) -> bool
 }
 
 fn negative_tag(head: &[u64], row: &[f64; 130], code: u64) -> Found
-    requires { ⌜ length (now head) ≡ 326 ⌝ }
+    requires { ⌜ length (now head) ≡ 196 ⌝ }
     requires { ⌜ getD (now head) 1 0 ≤ 129 ⌝ }
     ensures { λ r. ⌜ r ≡ negativeOf code (now (head .entry)) (now (row .entry)) ⌝ }
     ensures { λ r. ⌜ Within (getD (now (head .entry)) 1 0) r ⌝ }
@@ -35,7 +35,7 @@ fn negative_tag(head: &[u64], row: &[f64; 130], code: u64) -> Found
 
 // "first External; else marker if slack or Error with negative cell; else other likewise"; 0 is no other.
 pub fn choose_subject(head: &[u64], row: &[f64; 130], marker: u64, other: u64) -> Found
-    requires { ⌜ length (now head) ≡ 326 ⌝ }
+    requires { ⌜ length (now head) ≡ 196 ⌝ }
     requires { ⌜ getD (now head) 1 0 ≤ 129 ⌝ }
     ensures { λ r. ⌜ r ≡ subjectOf marker other (now (head .entry)) (now (row .entry)) ⌝ }
     ensures { λ r. ⌜ Within (getD (now (head .entry)) 1 0) r ⌝ }

@@ -139,11 +139,15 @@ pub fn put_head(head: &mut [u64], whead: &[u64])
 {
     let k = whead[layout::SYMBOL_COUNT] as usize;
     let r = whead[layout::ROW_COUNT] as usize;
-    let q = whead[layout::ENTRY_COUNT] as usize;
-    put_span(head, whead, 0, 9);
+    put_span(head, whead, 0, layout::HEADING_END);
+    put_span(
+        head,
+        whead,
+        layout::VARIABLE_COUNT,
+        layout::RECORD_COUNTS_END,
+    );
     put_span(head, whead, layout::SYMBOLS, layout::SYMBOLS + k);
     put_span(head, whead, layout::ROWS, layout::ROWS + r);
-    put_span(head, whead, layout::LIST, layout::LIST + q);
 }
 
 pub fn put_all_names(names: &mut [[u64; 20]], wnames: &[[u64; 20]], whead: &[u64])

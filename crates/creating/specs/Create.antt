@@ -52,17 +52,17 @@ createRowIn item real constant relation a d =
 
 -- ---- the counts after a tag
 
-symbol-count : (kind : ℕ) (k : Float) (f : Frame) → length (f .head) ≡ 326 → getD (f .head) 1 0 < 129
-    → (length (addSymbolIn kind k f .head) ≡ 326) × (getD (addSymbolIn kind k f .head) 1 0 ≡ getD (f .head) 1 0 + 1)
+symbol-count : (kind : ℕ) (k : Float) (f : Frame) → length (f .head) ≡ 196 → getD (f .head) 1 0 < 129
+    → (length (addSymbolIn kind k f .head) ≡ 196) × (getD (addSymbolIn kind k f .head) 1 0 ≡ getD (f .head) 1 0 + 1)
 unfolding addSymbolIn insertAtPlace appendIn
 symbol-count kind k f len fit = (appended-length (board (f .head) (f .rows)) len kind fit, appended-symbols (board (f .head) (f .rows)) len kind fit)
 
-error-count : (k strength : Float) (f : Frame) → length (f .head) ≡ 326 → getD (f .head) 1 0 < 129
-    → (length (addErrorIn k strength f .head) ≡ 326) × (getD (addErrorIn k strength f .head) 1 0 ≡ getD (f .head) 1 0 + 1)
+error-count : (k strength : Float) (f : Frame) → length (f .head) ≡ 196 → getD (f .head) 1 0 < 129
+    → (length (addErrorIn k strength f .head) ≡ 196) × (getD (addErrorIn k strength f .head) 1 0 ≡ getD (f .head) 1 0 + 1)
 unfolding addErrorIn insertInObjectiveAt
 error-count k strength f len fit = symbol-count 2 k f len fit
 
-module _ (f : Frame) (len : length (f .head) ≡ 326) (fit : getD (f .head) 1 0 < 128) where
+module _ (f : Frame) (len : length (f .head) ≡ 196) (fit : getD (f .head) 1 0 < 128) where
   abbrev Few : Tags → Type 0
   Few t = getD (t .frame .head) 1 0 ≤ 129
 

@@ -14,7 +14,6 @@ use Rattle.steps.specs.CreateRow.{Building, Created, insertTerms, addTag, creat
 use Rattle.laws.specs.Loops.{mapIn}
 use Rattle.laws.specs.Lists.{listOf, length-tab}
 use Rattle.laws.specs.Places.{length-mapIn}
-use Rattle.keeps.specs.Along.{ids}
 use Rattle.keeps.specs.Cells.{Fine}
 use Rattle.keeps.specs.RowOps.{bare-ok}
 use Rattle.keeps.specs.Fits.{IsBasic, FitsW}
@@ -22,8 +21,7 @@ use Rattle.keeps.specs.Building.{Built}
 use Rattle.keeps.specs.Terms.{insertTerms-length}
 use Rattle.keeps.specs.Creating.{createRow-tagged}
 use Rattle.layout.specs.Layout.{Tables, termCount, symbolsOf, variablesOf, read}
-use Rattle.choose.specs.Reading.{symbolsIn, entriesIn, rowIn}
-use Rattle.moves.specs.Room.{Held}
+use Rattle.choose.specs.Reading.{symbolsIn, rowIn}
 use Rattle.tableau.specs.Working.{workOf}
 use Rattle.standing.specs.Standing.{Standing, Beside}
 use Rattle.standing.specs.Opening.{newIn, Opening}
@@ -36,7 +34,7 @@ use Rattle.creating.specs.StartRead.{started-read, turned, close-read}
 use Rattle.tags.specs.TagsRead.{readTags}
 use Rattle.creating.specs.NewRead.{readDesk}
 use Rattle.creating.specs.Left.{Leaves, FrameLeft, closed-left}
-use Rattle.creating.specs.Stands.{tablesOf, held-left, stands-left, beside-left}
+use Rattle.creating.specs.Stands.{tablesOf, stands-left, beside-left}
 use Rattle.creating.specs.Live.{uses-spare}
 use Rattle.creating.specs.TermRead.{stage-open}
 use Rattle.creating.specs.LoopRead.{Going, readBuild, terms-read}
@@ -67,7 +65,7 @@ module _ (a : Mark) (d : Desk) (item : List ℕ) (real : List Float) (constant :
   roomy = (omega (arith, o .few-ids), omega (arith, o .few-symbols), omega (arith, o .few-rows), omega (arith, o .few-variables, variables-count))
 
   -- what the code asks for
-  pub opens : (length h ≡ 326) × ((Roomy h) × ((length (d .names) ≡ 128) × ((length (d .reals) ≡ 128) × ((length (d .rows) ≡ 51) × (termCount item ≤ 16)))))
+  pub opens : (length h ≡ 196) × ((Roomy h) × ((length (d .names) ≡ 128) × ((length (d .reals) ≡ 128) × ((length (d .rows) ≡ 51) × (termCount item ≤ 16)))))
   opens =
       let l = o .standing .lengths in
       (l .0, (roomy, (l .1, (l .2, (l .3, few-terms)))))
@@ -88,7 +86,7 @@ module _ (a : Mark) (d : Desk) (item : List ℕ) (real : List Float) (constant :
     start-left : Leaves t 4294900000 started
     start-left =
         record {
-          head = record { long = s .lengths .0; more = omega arith; below = λ m p q r. refl; past = λ m p. refl };
+          head = record { long = s .lengths .0; more = omega arith; below = λ m p q r. refl };
           items = record {
             names-stand = s .lengths .1;
             reals-stand = s .lengths .2;
@@ -128,7 +126,7 @@ module _ (a : Mark) (d : Desk) (item : List ℕ) (real : List Float) (constant :
     unfolding readFrame workIn read
     final-count = insertTerms-length (termsIn item real) (readDesk 0 started a)
 
-    start-going : Going a t s (o .entries) (o .K) (length (w .tableau .rows)) F (omega (arith, o .few-symbols, variables-count)) (o .few-variables) (termCount item) (termsIn item real) (build started a)
+    start-going : Going a t s (o .K) (length (w .tableau .rows)) F (omega (arith, o .few-symbols, variables-count)) (o .few-variables) (termCount item) (termsIn item real) (build started a)
     start-going =
         record {
           U = o .U;
@@ -150,8 +148,8 @@ module _ (a : Mark) (d : Desk) (item : List ℕ) (real : List Float) (constant :
     abbrev b : Build
     b = insertTermsIn item real (build started a)
 
-    abbrev inserted : (Going a t s (o .entries) (o .K) (length (w .tableau .rows)) F (omega (arith, o .few-symbols, variables-count)) (o .few-variables) 0 [] b) × (readBuild b ≡ insertTerms (termsIn item real) (readBuild (build started a)))
-    inserted = terms-read a t s (o .entries) (o .K) (length (w .tableau .rows)) F (omega (arith, o .few-symbols, variables-count)) (o .few-variables) item real (build started a) start-going
+    abbrev inserted : (Going a t s (o .K) (length (w .tableau .rows)) F (omega (arith, o .few-symbols, variables-count)) (o .few-variables) 0 [] b) × (readBuild b ≡ insertTerms (termsIn item real) (readBuild (build started a)))
+    inserted = terms-read a t s (o .K) (length (w .tableau .rows)) F (omega (arith, o .few-symbols, variables-count)) (o .few-variables) item real (build started a) start-going
 
     abbrev f : Frame
     f = frame (b .desk .head) (b .desk .rows) (b .desk .row) (b .mark)
@@ -165,7 +163,7 @@ module _ (a : Mark) (d : Desk) (item : List ℕ) (real : List Float) (constant :
       unfolding createRowIn createRow readTags readFrame workIn workOf tagBy
       created-read =
           let g = inserted .0 in
-          close-read 0 (b .desk .names) (b .desk .reals) relation f (stage-open a t s (o .entries) (g .most) (o .K) (g .U) (length (w .tableau .rows)) (b .desk) (b .mark) (g .stage)) (omega (arith, g .stage .few-symbols))
+          close-read 0 (b .desk .names) (b .desk .reals) relation f (stage-open a t s (g .most) (o .K) (g .U) (length (w .tableau .rows)) (b .desk) (b .mark) (g .stage)) (omega (arith, g .stage .few-symbols))
           ∙ ap (λ (x : Building). turned (addTag relation x)) (inserted .1 ∙ ap (insertTerms (termsIn item real)) start-read)
 
       -- ---- what the tables are then
@@ -190,9 +188,6 @@ module _ (a : Mark) (d : Desk) (item : List ℕ) (real : List Float) (constant :
       unfolding createRowIn
       few-ids = omega (arith, closed .ids, inserted .0 .ids)
 
-      made-held : Held (entriesIn (made .desk .head)) (ids (symbolsIn (made .desk .head)))
-      made-held = held-left h (made .desk .head) (made-left .head) (o .entries)
-
       few-variables : getD (made .desk .head) 4 0 ≤ 32
       unfolding createRowIn
       few-variables = rw (closed .variables) (inserted .0 .stage .few-variables)
@@ -203,10 +198,10 @@ module _ (a : Mark) (d : Desk) (item : List ℕ) (real : List Float) (constant :
           subst FitsW (ap (λ (c : Created). c .work) (sym created-read)) (q .good .fits)
 
       made-stands : Standing false (made .mark) (tablesOf (made .desk))
-      made-stands = stands-left a t s (o .entries) (inserted .0 .most) (made .desk) made-left (omega (arith, few-symbols)) few-variables (made .mark) made-fits
+      made-stands = stands-left a t s (inserted .0 .most) (made .desk) made-left (omega (arith, few-symbols)) few-variables (made .mark) made-fits
 
       made-beside : Beside t (tablesOf (made .desk))
-      made-beside = beside-left a t s (o .entries) (inserted .0 .most) (made .desk) made-left
+      made-beside = beside-left a t s (inserted .0 .most) (made .desk) made-left
 
       -- all that the steps' caller is told of what was made
       abbrev pub Comes : Made → Type 0
@@ -215,8 +210,7 @@ module _ (a : Mark) (d : Desk) (item : List ℕ) (real : List Float) (constant :
           × (((Standing false (m .mark) (tablesOf (m .desk))) × (Beside t (tablesOf (m .desk))))
           × ((getD (m .desk .head) 1 0 ≤ 128)
           × ((getD (m .desk .head) 2 0 ≤ 47)
-          × ((getD (m .desk .head) 0 0 ≤ 4294900018)
-          × (Held (entriesIn (m .desk .head)) (ids (symbolsIn (m .desk .head))))))))
+          × (getD (m .desk .head) 0 0 ≤ 4294900018))))
 
       pub create-calls : {m : Made} → m ≡ made → Comes m
-      create-calls e = subst Comes (sym e) (created-read, ((made-stands, made-beside), (few-symbols, (few-rows, (few-ids, made-held)))))
+      create-calls e = subst Comes (sym e) (created-read, ((made-stands, made-beside), (few-symbols, (few-rows, few-ids))))

@@ -19,17 +19,16 @@ use Rattle.moves.specs.Moves.{Board, board, appendedHead, clearedColumn}
 use Rattle.moves.specs.Counts.{appended-length, appended-same, appended-symbols}
 use Rattle.moves.specs.Close.{opened}
 use Rattle.moves.specs.Moved.{opened-before, opened-at, opened-inside, opened-after, length-opened}
-use Rattle.moves.specs.Room.{by-eqb}
+use Rattle.standing.specs.Places.{by-eqb}
 use Rattle.records.specs.Records.{variableItem, variableReal, moreUses, usedOnce, countedUse}
 
 -- ---- the parts
 
--- the symbols that were there, the rows' symbols, the list, and all counts and flags but three
+-- the symbols that were there, and all counts and flags but three
 pub record HeadLeft (g h : List ℕ) : Type 0 where
-  pub long : length h ≡ 326
+  pub long : length h ≡ 196
   pub more : getD g 1 0 ≤ getD h 1 0
   pub below : (m : ℕ) → 1 < m → (m ≡ 4 → ⊥) → m < 16 + getD g 1 0 → getD h m 0 ≡ getD g m 0
-  pub past : (m : ℕ) → 146 ≤ m → getD h m 0 ≡ getD g m 0
 
 -- the constraints and the edits; k variables stand, used at most b times each
 pub record ItemsLeft (t : Tables) (k b : ℕ) (n : List (List ℕ)) (r : List (List Float)) : Type 0 where
@@ -60,7 +59,6 @@ module _ (g h : List ℕ) (w : List (List Float)) (l : HeadLeft g h) (kind : ℕ
         long = appended-length b (l .long) kind room;
         more = omega (arith, l .more, appended-symbols b (l .long) kind room);
         below = λ m p q s. appended-same b (l .long) kind room m p (λ e. omega (arith, e, s, l .more)) ∙ l .below m p q s;
-        past = λ m p. appended-same b (l .long) kind room m (omega (arith, p)) (λ e. omega (arith, e, p, room)) ∙ l .past m p;
       }
 
 pub symbol-rows-left : (w : List (List Float)) (row : List Float) (p e : ℕ) → RowsLeft w row → RowsLeft (clearedColumn p e w) (set row p zero64)
@@ -91,7 +89,6 @@ variable-head-left g h x l =
       long = length-set h 4 x ∙ l .long;
       more = rw (getD-set-other h 4 1 x 0 (λ e. omega (arith, e))) (l .more);
       below = λ m p q s. getD-set-other h 4 m x 0 q ∙ l .below m p q s;
-      past = λ m p. getD-set-other h 4 m x 0 (λ e. omega (arith, e, p)) ∙ l .past m p;
     }
 
 -- each place up to the one that was free has the new element or one that was there

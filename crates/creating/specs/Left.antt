@@ -45,7 +45,7 @@ module _ (t : Tables) (b : ℕ) (d : Desk) (l : Leaves t b d) (n : ℕ) (room : 
   same-four : getD h₁ 4 0 ≡ getD h 4 0
   same-four = appended-same (board h (d .rows)) (l .head .long) 0 room 4 (omega arith) (λ e. omega (arith, e))
 
-  length-one : length h₁ ≡ 326
+  length-one : length h₁ ≡ 196
   length-one = appended-length (board h (d .rows)) (l .head .long) 0 room
 
   new-head : newVariableIn n d .head ≡ set h₁ 4 (getD h₁ 4 0 + 1)

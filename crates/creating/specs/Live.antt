@@ -19,7 +19,7 @@ use Rattle.keeps.specs.Uses.{usesOf}
 use Rattle.keeps.specs.Reads.{varCode}
 use Rattle.keeps.specs.Good.{Good}
 use Rattle.layout.specs.Layout.{Tables, variableOf, variablesOf, usesOf as usesAt}
-use Rattle.moves.specs.Room.{by-eqb}
+use Rattle.standing.specs.Places.{by-eqb}
 use Rattle.creating.specs.Created.{Spare}
 
 -- a part is at most the whole

@@ -15,11 +15,8 @@ use Rattle.steps.specs.CreateRow.{Building, insertTerm, insertTerms}
 use Rattle.steps.specs.Tests.{keptTerms, member, newVariables}
 use Rattle.laws.specs.Loops.{turns, run}
 use Rattle.laws.specs.Lists.{tab, listOf, length-tab}
-use Rattle.keeps.specs.Along.{ids}
 use Rattle.keeps.specs.Terms.{insertTerms-length}
 use Rattle.layout.specs.Layout.{Tables, termOf, termCount}
-use Rattle.choose.specs.Reading.{symbolsIn, entriesIn}
-use Rattle.moves.specs.Room.{Held}
 use Rattle.standing.specs.Standing.{Standing}
 use Rattle.creating.specs.Terms.{Build, insertTermIn, insertKeptIn, insertTermsIn}
 use Rattle.creating.specs.NewRead.{readDesk}
@@ -43,7 +40,7 @@ one-more term b near new =
     subst by-found new (subst by-near near (insertTerms-length (term ∷ []) b))
 
 -- m terms are left, and F variables will stand
-module _ (a₀ : Mark) (t : Tables) (s : Standing false a₀ t) (held : Held (entriesIn (t .head)) (ids (symbolsIn (t .head)))) (K : ℕ → ℕ) (N F : ℕ)
+module _ (a₀ : Mark) (t : Tables) (s : Standing false a₀ t) (K : ℕ → ℕ) (N F : ℕ)
     (few : getD (t .head) 1 0 + F ≤ 126 + getD (t .head) 4 0) (few₁ : F ≤ 32) where
   pub record Going (m : ℕ) (ts : List Term) (b : Build) : Type 0 where
     pub U : ℕ → ℕ
@@ -67,11 +64,11 @@ module _ (a₀ : Mark) (t : Tables) (s : Standing false a₀ t) (held : Held (en
       unfolding insertTerms
       left-over near e = subst (λ (x : Bool). count (insertTerms ts (turned x)) ≡ F) e (g .final)
 
-      has-room : nearZero (term .coefficient) ≡ false → Room a₀ t s held (g .most) K (g .U) N (b .desk) (b .mark) (g .stage) (term .variable)
+      has-room : nearZero (term .coefficient) ≡ false → Room a₀ t s (g .most) K (g .U) N (b .desk) (b .mark) (g .stage) (term .variable)
       has-room near e =
-          let new = one-more term (readBuild b) near (new-found a₀ t s held (g .most) K (g .U) N (b .desk) (b .mark) (g .stage) (term .variable) e) in
+          let new = one-more term (readBuild b) near (new-found a₀ t s (g .most) K (g .U) N (b .desk) (b .mark) (g .stage) (term .variable) e) in
           let more = insertTerms-length ts (insertTerm term (readBuild b)) in
-          let now : count (readBuild b) ≡ getD (b .desk .head) 4 0 = ap length (variables-of a₀ t s held (g .most) K (g .U) N (b .desk) (b .mark) (g .stage)) ∙ length-tab _ 0 (getD (b .desk .head) 4 0) in
+          let now : count (readBuild b) ≡ getD (b .desk .head) 4 0 = ap length (variables-of a₀ t s (g .most) K (g .U) N (b .desk) (b .mark) (g .stage)) ∙ length-tab _ 0 (getD (b .desk .head) 4 0) in
           (omega (arith, g .ids), omega (arith, g .grown, new, more, now, left-over false near, few), omega (arith, new, more, now, left-over false near, few₁))
 
       -- "near-zero coefficients skipped"
@@ -84,13 +81,13 @@ module _ (a₀ : Mark) (t : Tables) (s : Standing false a₀ t) (held : Held (en
       inserted near =
           let room = has-room near in
           let small : g .most < 4294967295 = omega (arith, g .uses) in
-          let reads = term-read a₀ t s held (g .most) K (g .U) N (b .desk) (b .mark) (g .stage) term room small in
-          let ids = term-ids a₀ t s held (g .most) K (g .U) N (b .desk) (b .mark) (g .stage) term room small in
-          let grown = term-grown a₀ t s held (g .most) K (g .U) N (b .desk) (b .mark) (g .stage) term room small in (
+          let reads = term-read a₀ t s (g .most) K (g .U) N (b .desk) (b .mark) (g .stage) term room small in
+          let ids = term-ids a₀ t s (g .most) K (g .U) N (b .desk) (b .mark) (g .stage) term room small in
+          let grown = term-grown a₀ t s (g .most) K (g .U) N (b .desk) (b .mark) (g .stage) term room small in (
             record {
               U = _;
               most = g .most + 1;
-              stage = term-stage a₀ t s held (g .most) K (g .U) N (b .desk) (b .mark) (g .stage) term room small;
+              stage = term-stage a₀ t s (g .most) K (g .U) N (b .desk) (b .mark) (g .stage) term room small;
               uses = omega (arith, g .uses);
               ids = omega (arith, g .ids, ids);
               grown = omega (arith, g .grown, grown);

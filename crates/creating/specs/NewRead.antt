@@ -33,7 +33,7 @@ abbrev pub readDesk : ℕ → Desk → Mark → Building
 readDesk v d a = readFrame v (d .names) (d .reals) (frameOf d a)
 
 -- a variable comes into the work
-kept-work : (a : Mark) (v : ℕ) (h : List ℕ) (n : List (List ℕ)) (r w : List (List Float)) (number code : ℕ) → length h ≡ 326 → length n ≡ 128 → length r ≡ 128 → getD h 4 0 < 32
+kept-work : (a : Mark) (v : ℕ) (h : List ℕ) (n : List (List ℕ)) (r w : List (List Float)) (number code : ℕ) → length h ≡ 196 → length n ≡ 128 → length r ≡ 128 → getD h 4 0 < 32
     → workIn a v (tables (keptVariable number code (items h n r) .head) (keptVariable number code (items h n r) .names) (keptVariable number code (items h n r) .reals) w)
     ≡ withVariables (keepVariable (variableOf (variableItem number code) variableReal) (workIn a v (tables h n r w) .changes .variables)) (workIn a v (tables h n r w))
 unfolding workIn withVariables withChanges keptVariable

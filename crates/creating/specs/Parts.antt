@@ -37,7 +37,7 @@ room-for h e =
 
 -- ---- a new variable
 
-module _ (d : Desk) (len : length (d .head) ≡ 326) (fit : getD (d .head) 1 0 < 126) where
+module _ (d : Desk) (len : length (d .head) ≡ 196) (fit : getD (d .head) 1 0 < 126) where
   abbrev b : Board
   b = board (d .head) (d .rows)
 

@@ -20,7 +20,6 @@ use Rattle.steps.specs.CreateRow.{Building, addVariable, countUse, insertVariab
 use Rattle.laws.specs.Lists.{tab, listOf}
 use Rattle.laws.specs.Places.{mapIn-at}
 use Rattle.keeps.specs.Lists.{same}
-use Rattle.keeps.specs.Along.{ids}
 use Rattle.keeps.specs.Fits.{FitsW}
 use Rattle.keeps.specs.Building.{Built, addVariable-built}
 use Rattle.keeps.specs.Terms.{live-none, insertTerm-built}
@@ -28,8 +27,7 @@ use Rattle.layout.specs.Layout.{Tables, numberOf, usesOf, symbolCode, symbolOf,
 use Rattle.choose.specs.declared.Found.{Found}
 use Rattle.choose.specs.declared.Found.the-variants.{At, Nothing}
 use Rattle.choose.specs.Choose.{onFound, placeOf}
-use Rattle.choose.specs.Reading.{symbolsIn, entriesIn}
-use Rattle.moves.specs.Room.{Held}
+use Rattle.choose.specs.Reading.{symbolsIn}
 use Rattle.tableau.specs.Working.{workOf}
 use Rattle.standing.specs.Standing.{Standing}
 use Rattle.standing.specs.Places.{Lives, lives-found, fits-parts, all-places, place-of-found, code-lives}
@@ -53,7 +51,7 @@ pub record Stage (t : Tables) (b : ℕ) (K U : ℕ → ℕ) (N : ℕ) (d : Desk)
   pub few-symbols : getD (d .head) 1 0 ≤ 126
   pub few-variables : getD (d .head) 4 0 ≤ 32
 
-module _ (a₀ : Mark) (t : Tables) (s : Standing false a₀ t) (held : Held (entriesIn (t .head)) (ids (symbolsIn (t .head)))) (b : ℕ) (K U : ℕ → ℕ) (N : ℕ) where
+module _ (a₀ : Mark) (t : Tables) (s : Standing false a₀ t) (b : ℕ) (K U : ℕ → ℕ) (N : ℕ) where
   module _ (d : Desk) (a : Mark) (g : Stage t b K U N d a) where
     abbrev h : List ℕ
     h = d .head
@@ -63,7 +61,7 @@ module _ (a₀ : Mark) (t : Tables) (s : Standing false a₀ t) (held : Held (en
     fits-of = g .built .good .fits
 
     pub stage-stands : Standing false a (tablesOf d)
-    stage-stands = stands-left a₀ t s held b d (g .left) (omega (arith, g .few-symbols)) (g .few-variables) a fits-of
+    stage-stands = stands-left a₀ t s b d (g .left) (omega (arith, g .few-symbols)) (g .few-variables) a fits-of
 
     fresh-of : (i : ℕ) → i < getD h 1 0 → getD h (16 + i) 0 / 4 < getD h 0 0
     unfolding symbolsIn listOf symbolOf

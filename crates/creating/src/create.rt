@@ -4,10 +4,7 @@ ghost use mathlib.Core.Bool.{false};
 ghost use Prim.Native.Nat.{_<_, _≤_};
 ghost use lib.ListN.{getD, length};
 ghost use Rattle.steps.specs.CreateRow.{createRow};
-ghost use Rattle.keeps.specs.Along.{ids};
 ghost use Rattle.layout.specs.Layout.{tables};
-ghost use Rattle.choose.specs.Reading.{symbolsIn, entriesIn};
-ghost use Rattle.moves.specs.Room.{Held};
 ghost use Rattle.tableau.specs.Working.{workOf};
 ghost use Rattle.standing.specs.Standing.{Standing, Beside};
 ghost use Rattle.standing.specs.Opening.{Opening};
@@ -54,7 +51,7 @@ fn close_row(
     relation: Relation,
     past: Wrote,
 ) -> Tagged
-    requires { ⌜ length (now head) ≡ 326 ⌝ }
+    requires { ⌜ length (now head) ≡ 196 ⌝ }
     requires { ⌜ getD (now head) 0 0 < 4294967295 ⌝ }
     requires { ⌜ getD (now head) 1 0 < 128 ⌝ }
     requires { ⌜ getD (now head) 2 0 ≤ 49 ⌝ }
@@ -79,7 +76,7 @@ fn make_row(
     relation: Relation,
     before: Wrote,
 ) -> Tagged
-    requires { ⌜ length (now head) ≡ 326 ⌝ }
+    requires { ⌜ length (now head) ≡ 196 ⌝ }
     requires { ⌜ Roomy (now head) ⌝ }
     requires { ⌜ length (now names) ≡ 128 ⌝ }
     requires { ⌜ length (now reals) ≡ 128 ⌝ }
@@ -123,7 +120,6 @@ pub fn create_row(
     ensures { λ _. ⌜ getD (now (head .exit)) 1 0 ≤ 128 ⌝ }
     ensures { λ _. ⌜ getD (now (head .exit)) 2 0 ≤ 47 ⌝ }
     ensures { λ _. ⌜ getD (now (head .exit)) 0 0 ≤ 4294900018 ⌝ }
-    ensures { λ _. ⌜ Held (entriesIn (now (head .exit))) (ids (symbolsIn (now (head .exit)))) ⌝ }
 {
     width(row);
     make_row(

@@ -18,7 +18,7 @@ use rows::row::insert_symbol;
 
 // Ids, symbols and variables have room for one more, and two symbols for the tag.
 fn has_room(head: &[u64]) -> bool
-    requires { ⌜ length (now head) ≡ 326 ⌝ }
+    requires { ⌜ length (now head) ≡ 196 ⌝ }
     ensures { λ r. ⌜ r ≡ hasRoom (now (head .entry)) ⌝ }
 {
     (head[layout::NEXT_ID] < 4294900016)
@@ -35,7 +35,7 @@ fn new_variable(
     row: &mut [f64; 130],
     n: u64,
 )
-    requires { ⌜ length (now head) ≡ 326 ⌝ }
+    requires { ⌜ length (now head) ≡ 196 ⌝ }
     requires { ⌜ getD (now head) 0 0 < 4294900016 ⌝ }
     requires { ⌜ getD (now head) 1 0 < 126 ⌝ }
     requires { ⌜ getD (now head) 2 0 ≤ 49 ⌝ }
@@ -59,7 +59,7 @@ fn know_variable(
     row: &mut [f64; 130],
     n: u64,
 )
-    requires { ⌜ length (now head) ≡ 326 ⌝ }
+    requires { ⌜ length (now head) ≡ 196 ⌝ }
     requires { ⌜ Roomy (now head) ⌝ }
     requires { ⌜ length (now names) ≡ 128 ⌝ }
     requires { ⌜ length (now reals) ≡ 128 ⌝ }
@@ -78,7 +78,7 @@ fn know_variable(
 
 // The symbol with this id, in the row with k.
 fn insert_place(head: &[u64], row: &mut [f64; 130], id: u64, k: f64, past: Wrote) -> Wrote
-    requires { ⌜ length (now head) ≡ 326 ⌝ }
+    requires { ⌜ length (now head) ≡ 196 ⌝ }
     requires { ⌜ getD (now head) 1 0 ≤ 126 ⌝ }
     ensures { λ r. ⌜ marked (now (row .exit)) (markOf r) ≡ insertPlaceIn id k (now (head .entry)) (marked (now (row .entry)) (markOf past)) ⌝ }
 {
@@ -99,7 +99,7 @@ fn insert_variable(
     k: f64,
     past: Wrote,
 ) -> Wrote
-    requires { ⌜ length (now head) ≡ 326 ⌝ }
+    requires { ⌜ length (now head) ≡ 196 ⌝ }
     requires { ⌜ getD (now head) 1 0 ≤ 126 ⌝ }
     requires { ⌜ getD (now head) 2 0 ≤ 49 ⌝ }
     requires { ⌜ length (now rows) ≡ 51 ⌝ }
@@ -123,7 +123,7 @@ fn insert_known(
     k: f64,
     past: Wrote,
 ) -> Wrote
-    requires { ⌜ length (now head) ≡ 326 ⌝ }
+    requires { ⌜ length (now head) ≡ 196 ⌝ }
     requires { ⌜ getD (now head) 1 0 ≤ 126 ⌝ }
     requires { ⌜ getD (now head) 2 0 ≤ 49 ⌝ }
     requires { ⌜ getD (now head) 4 0 ≤ 32 ⌝ }
@@ -149,7 +149,7 @@ fn insert_term(
     k: f64,
     past: Wrote,
 ) -> Wrote
-    requires { ⌜ length (now head) ≡ 326 ⌝ }
+    requires { ⌜ length (now head) ≡ 196 ⌝ }
     requires { ⌜ Roomy (now head) ⌝ }
     requires { ⌜ length (now names) ≡ 128 ⌝ }
     requires { ⌜ length (now reals) ≡ 128 ⌝ }
@@ -172,7 +172,7 @@ fn insert_kept(
     k: f64,
     past: Wrote,
 ) -> Wrote
-    requires { ⌜ length (now head) ≡ 326 ⌝ }
+    requires { ⌜ length (now head) ≡ 196 ⌝ }
     requires { ⌜ Roomy (now head) ⌝ }
     requires { ⌜ length (now names) ≡ 128 ⌝ }
     requires { ⌜ length (now reals) ≡ 128 ⌝ }
@@ -197,7 +197,7 @@ pub fn insert_terms(
     real: &[f64; 17],
     past: Wrote,
 ) -> Wrote
-    requires { ⌜ length (now head) ≡ 326 ⌝ }
+    requires { ⌜ length (now head) ≡ 196 ⌝ }
     requires { ⌜ Roomy (now head) ⌝ }
     requires { ⌜ length (now names) ≡ 128 ⌝ }
     requires { ⌜ length (now reals) ≡ 128 ⌝ }

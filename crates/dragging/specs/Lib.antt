@@ -1,7 +1,6 @@
 -- What the contracts of `dragging` cite, and the laws that its definitions read as the steps' suggestion.
 pub mod Shifting
 pub mod ShiftRead
-pub mod PushRead
 pub mod Suggest
 pub mod Stands
 pub mod Suggested

@@ -1,8 +1,8 @@
 -- A suggestion's shift over tables reads as the steps' shift of what was read.
 -- Assumes nothing.
-use Prim.Native.Nat.{ℕ, suc, _+_, _-_, _≤_, _<_}
+use Prim.Native.Nat.{ℕ, suc, _+_, _-_, _<_}
 use mathlib.Core.Path.{_≡_, refl, sym, ap, _∙_}
-use mathlib.Core.Bool.{Bool, false}
+use mathlib.Core.Bool.{Bool}
 use mathlib.Core.List.{List, []}
 use mathlib.Core.Option.{Option}
 use native.Mathlib.Nat.{zero-add}
@@ -14,31 +14,22 @@ use Rattle.laws.specs.Lists.{tab, listOf, tab-ext, map-tab}
 use Rattle.steps.specs.Number.{Mark, worse}
 use Rattle.steps.specs.Row.{Written}
 use Rattle.steps.specs.State.{Basic}
-use Rattle.steps.specs.Work.{Work, withTableau, withRows, withInfeasible, withChanges, marking}
+use Rattle.steps.specs.Work.{Work, withTableau, withRows, withChanges, marking}
 use Rattle.steps.specs.Changes.{allChanged}
-use Rattle.steps.specs.Substitute.{Substituted, rowsOf, marksOf, notedOf, pushBelow}
-use Rattle.steps.specs.Edit.{shiftOf, shiftRows, shifted, shiftConstants}
+use Rattle.steps.specs.Substitute.{Substituted, rowsOf, marksOf, notedOf}
+use Rattle.steps.specs.Edit.{shiftOf, shiftRows, shiftConstants}
 use Rattle.layout.specs.Layout.{tables, symbolOf, cellsOf, basicOf}
-use Rattle.choose.specs.Reading.{symbolsIn, basicsIn, entriesIn}
+use Rattle.choose.specs.Reading.{symbolsIn, basicsIn}
 use Rattle.rows.specs.Reading.{rowOf}
-use Rattle.moves.specs.Room.{Held}
 use Rattle.tableau.specs.Notes.{Noted, noted}
 use Rattle.tableau.specs.NotesRead.{changesIn}
-use Rattle.tableau.specs.NotesKept.{ItemsKept, items-then, items-by, items-same, note-kept}
-use Rattle.tableau.specs.Working.{workOf, work, artificialIn, work-parts, symbols-same, entries-same, basics-same, artificial-by, list-changed, Ready}
+use Rattle.tableau.specs.NotesKept.{ItemsKept, items-then, items-same, note-kept}
+use Rattle.tableau.specs.Working.{workOf, work, artificialIn, work-parts, symbols-same, basics-same, artificial-by, Ready}
 use Rattle.drags.specs.declared.drag.Drag.{Drag}
 use Rattle.drags.specs.Drag.{dragOf}
 use Rattle.drags.specs.DragRead.{tagFrom, shift-is}
-use Rattle.dragging.specs.Shifting.{shiftRowIn, noteShift, noteShifts, Dragged, Shifting, shifting, shiftRowsOf, pushShifts, draggedBy, shiftConstantsIn}
+use Rattle.dragging.specs.Shifting.{shiftRowIn, noteShift, noteShifts, Shifting, shifting, shiftRowsOf, draggedBy, shiftConstantsIn}
 use Rattle.dragging.specs.ShiftRead.{row, gotten, basic, shiftedAt, rows-tab, written-at, Left, left, Notes, notes-left}
-use Rattle.dragging.specs.PushRead.{Roomy, Pushed, pushed}
-
--- what a shift leaves: the head but for the list and the notes, the list's entries among the ids seen, the stored items, the rows' lengths
-pub record Around (h : List ℕ) (n : List (List ℕ)) (w : List (List Float)) (seen : List ℕ) (u : Dragged) : Type 0 where
-  pub same : (q : ℕ) → (q ≡ 3 → ⊥) → (q ≡ 7 → ⊥) → q < 196 → getD (u .head) q 0 ≡ getD h q 0
-  pub held : Held (entriesIn (u .head)) seen
-  pub items : ItemsKept (noted h n) (noted (u .head) (u .names))
-  pub lengths : (i : ℕ) → length (getD (u .rows) i []) ≡ length (getD w i [])
 
 note-shifts-kept : (d : Drag) (count : ℕ) (rows : List (List Float)) (s : Noted) → ItemsKept s (noteShifts d count rows s)
 unfolding noteShifts noteShift
@@ -114,12 +105,12 @@ module _ (h : List ℕ) (n : List (List ℕ)) (reals w : List (List Float)) (rea
   unfolding artificialIn
   artificial-after art a = rw (rows-are a .after 50 (omega (arith, ready .few-rows))) refl
 
-  abbrev result : List ℕ → Bool → Mark → ℕ → Work
-  result entries art a v =
-      work (symbolsIn h) (getD h 0 0) (rowsOf (tab sub 0 count)) (cellsOf k (getD w 0 [])) entries
+  abbrev result : Bool → Mark → ℕ → Work
+  result art a v =
+      work (symbolsIn h) (getD h 0 0) (rowsOf (tab sub 0 count)) (cellsOf k (getD w 0 []))
       (allChanged (notedOf (tab sub 0 count)) (changesIn reals (noted h n))) (artificialIn art h w) (worse a (marksOf (tab sub 0 count))) v
 
-  after : (art : Bool) (a : Mark) (v : ℕ) → workOf art (rows a .mark) v (tables g (notes .names) reals (rows a .rows)) ≡ result (entriesIn h) art a v
+  after : (art : Bool) (a : Mark) (v : ℕ) → workOf art (rows a .mark) v (tables g (notes .names) reals (rows a .rows)) ≡ result art a v
   after art a v =
       work-parts art (rows a .mark) v g (notes .names) reals (rows a .rows)
       ∙ rw (
@@ -129,67 +120,32 @@ module _ (h : List ℕ) (n : List (List ℕ)) (reals w : List (List Float)) (rea
         basics-after a,
         same 1 (λ e. omega (arith, e)),
         objective-after a,
-        entries-same g h same,
         notes-are .changed reals,
         artificial-by art g h (rows a .rows) (same 1 (λ e. omega (arith, e))),
         artificial-after art a,
         rows-are a .marked,
       ) refl
 
-  -- ---- with the pushes
+  -- ---- tables that were dragged in can be worked in again
 
-  module _ (shift : Basic → Option Float) (given : (i : ℕ) → shift (basic k count code d w i) ≡ gotten k count code d w i) (roomy : Roomy h) where
-    abbrev pushes : Mark → List ℕ
-    pushes a = pushShifts d count (rows a .rows) g
-
-    pushes-are : (a : Mark) → Pushed k count code d w stand wide (ready .few-rows) shift given (rows a .rows) (moved a) (roomy .seen) (roomy .few) (roomy .basic) 0 count g (pushes a)
-    unfolding pushShifts run
-    pushes-are a =
-        rw turns-of
-        (pushed k count code d w stand wide (ready .few-rows) shift given (rows a .rows) (moved a) (roomy .seen) (roomy .few) (roomy .basic) count 0 g
-        (notes-are .heads .codes) (notes-are .long ∙ ready .head-long) (omega arith) (rw (entries-same g h same) (roomy .held)))
-
-    pushed-after : (art : Bool) (a : Mark) (v : ℕ)
-        → workOf art (draggedBy d count a (noted h n) w .mark) v (tables (draggedBy d count a (noted h n) w .head) (draggedBy d count a (noted h n) w .names) reals (draggedBy d count a (noted h n) w .rows))
-        ≡ result (pushBelow (rowsOf (shiftRows shift (shifted shift (tab (basic k count code d w) 0 count)))) (entriesIn h)) art a v
-    unfolding draggedBy withInfeasible withTableau
-    pushed-after art a v =
-        let few : getD g 1 0 ≤ 129 = rw (same 1 (λ e. omega (arith, e))) (ready .few-symbols) in
-        let few₁ : getD g 2 0 ≤ 49 = rw (same 2 (λ e. omega (arith, e))) (ready .few-rows) in
-        list-changed art (rows a .mark) v (pushes a) g (notes .names) reals (rows a .rows) few few₁ (pushes-are a .same)
-        ∙ ap (withInfeasible (entriesIn (pushes a))) (after art a v)
-        ∙ ap (λ (l : List ℕ). result l art a v) (pushes-are a .entries ∙ ap (pushBelow (rowsOf (shiftRows shift (shifted shift (tab (basic k count code d w) 0 count))))) (entries-same g h same))
-
-    -- ---- tables that were dragged in can be worked in again
-
-    pub ready-after : (a : Mark) → Ready (draggedBy d count a (noted h n) w .head) (draggedBy d count a (noted h n) w .names) (draggedBy d count a (noted h n) w .rows)
-    unfolding draggedBy
-    ready-after a = record {
-      head-long = pushes-are a .long;
-      few-symbols = rw (pushes-are a .same 1 (λ e. omega (arith, e)) (omega arith) ∙ same 1 (λ e. omega (arith, e))) (ready .few-symbols);
-      few-rows = rw (pushes-are a .same 2 (λ e. omega (arith, e)) (omega arith) ∙ same 2 (λ e. omega (arith, e))) (ready .few-rows);
-      rows-stand = rows-are a .long ∙ ready .rows-stand;
-      rows-wide = λ i b. rows-are a .lengths i ∙ ready .rows-wide i b;
-      flags = rw (pushes-are a .same 4 (λ e. omega (arith, e)) (omega arith)) (notes-are .heads .flags);
-    }
-
-    pub around-after : (a : Mark) → Around h n w (roomy .seen) (draggedBy d count a (noted h n) w)
-    unfolding draggedBy
-    around-after a = record {
-      same = λ q c e l. pushes-are a .same q c l ∙ same q e;
-      held = pushes-are a .held;
-      items = items-then (note-shifts-kept d count w (noted h n)) (items-by g (pushes a) (notes .names) (λ q b c. pushes-are a .same q (λ e. omega (arith, b, e)) (omega (arith, c))));
-      lengths = rows-are a .lengths;
-    }
+  ready-after : (a : Mark) → Ready g (notes .names) (rows a .rows)
+  ready-after a = record {
+    head-long = notes-are .long ∙ ready .head-long;
+    few-symbols = rw (same 1 (λ e. omega (arith, e))) (ready .few-symbols);
+    few-rows = rw (same 2 (λ e. omega (arith, e))) (ready .few-rows);
+    rows-stand = rows-are a .long ∙ ready .rows-stand;
+    rows-wide = λ i b. rows-are a .lengths i ∙ ready .rows-wide i b;
+    flags = notes-are .heads .flags;
+  }
 
 -- ---- the theorem
 
-module _ (h : List ℕ) (n : List (List ℕ)) (reals w : List (List Float)) (ready : Ready h n w) (roomy : Roomy h) (marker other : ℕ) (delta : Float) where
+module _ (h : List ℕ) (n : List (List ℕ)) (reals w : List (List Float)) (ready : Ready h n w) (marker other : ℕ) (delta : Float) where
   abbrev drag : Drag
   drag = dragOf marker other delta h
 
   abbrev start : Bool → Mark → ℕ → Work
-  start art a v = work (symbolsIn h) (getD h 0 0) (basicsIn h w) (cellsOf (getD h 1 0) (getD w 0 [])) (entriesIn h) (changesIn reals (noted h n)) (artificialIn art h w) a v
+  start art a v = work (symbolsIn h) (getD h 0 0) (basicsIn h w) (cellsOf (getD h 1 0) (getD w 0 [])) (changesIn reals (noted h n)) (artificialIn art h w) a v
 
   abbrev by : Bool → Mark → ℕ → Basic → Option Float
   by art a v = shiftOf (tagFrom marker other) delta (start art a v)
@@ -201,31 +157,22 @@ module _ (h : List ℕ) (n : List (List ℕ)) (reals w : List (List Float)) (rea
   unfolding basicsIn listOf
   rows-stepped art a v = rows-tab (getD h 1 0) (getD h 2 0) (λ i. getD h (146 + i) 0) drag w (by art a v) (by-is art a v) 0 (getD h 2 0)
 
-  steps-are : (art : Bool) (a : Mark) (v : ℕ)
-      → shiftConstants (tagFrom marker other) delta (start art a v)
-      ≡ result h n reals w ready drag (pushBelow (rowsOf (shiftRows (by art a v) (shifted (by art a v) (basicsIn h w)))) (entriesIn h)) art a v
-  unfolding shiftConstants withTableau withRows withInfeasible withChanges marking
+  steps-are : (art : Bool) (a : Mark) (v : ℕ) → shiftConstants (tagFrom marker other) delta (start art a v) ≡ result h n reals w ready drag art a v
+  unfolding shiftConstants withTableau withRows withChanges marking
   steps-are art a v = rw (rows-stepped art a v) refl
-
-  basics-are : basicsIn h w ≡ tab (basic (getD h 1 0) (getD h 2 0) (λ i. getD h (146 + i) 0) drag w) 0 (getD h 2 0)
-  unfolding basicsIn listOf
-  basics-are = refl
 
   pub shift-constants-read : (art : Bool) (a : Mark) (v : ℕ)
       → workOf art (shiftConstantsIn marker other delta a (noted h n) w .mark) v
       (tables (shiftConstantsIn marker other delta a (noted h n) w .head) (shiftConstantsIn marker other delta a (noted h n) w .names) reals (shiftConstantsIn marker other delta a (noted h n) w .rows))
       ≡ shiftConstants (tagFrom marker other) delta (workOf art a v (tables h n reals w))
-  unfolding shiftConstantsIn
-  shift-constants-read art a v =
-      pushed-after h n reals w ready drag (by art a v) (by-is art a v) roomy art a v
-      ∙ ap (λ (l : List Basic). result h n reals w ready drag (pushBelow (rowsOf (shiftRows (by art a v) (shifted (by art a v) l))) (entriesIn h)) art a v) (sym basics-are)
-      ∙ sym (ap (shiftConstants (tagFrom marker other) delta) (work-parts art a v h n reals w) ∙ steps-are art a v)
+  unfolding shiftConstantsIn draggedBy
+  shift-constants-read art a v = after h n reals w ready drag art a v ∙ sym (ap (shiftConstants (tagFrom marker other) delta) (work-parts art a v h n reals w) ∙ steps-are art a v)
 
   pub ready-dragged : (a : Mark)
       → Ready (shiftConstantsIn marker other delta a (noted h n) w .head) (shiftConstantsIn marker other delta a (noted h n) w .names) (shiftConstantsIn marker other delta a (noted h n) w .rows)
-  unfolding shiftConstantsIn
-  ready-dragged a = ready-after h n reals w ready drag (by false a 0) (by-is false a 0) roomy a
+  unfolding shiftConstantsIn draggedBy
+  ready-dragged a = ready-after h n reals w ready drag a
 
-  pub around-dragged : (a : Mark) → Around h n w (roomy .seen) (shiftConstantsIn marker other delta a (noted h n) w)
-  unfolding shiftConstantsIn
-  around-dragged a = around-after h n reals w ready drag (by false a 0) (by-is false a 0) roomy a
+  pub items-dragged : (a : Mark) → ItemsKept (noted h n) (noted (shiftConstantsIn marker other delta a (noted h n) w .head) (shiftConstantsIn marker other delta a (noted h n) w .names))
+  unfolding shiftConstantsIn draggedBy
+  items-dragged a = note-shifts-kept (dragOf marker other delta h) (getD h 2 0) w (noted h n)

@@ -1,4 +1,4 @@
-// The shift of the constants that a suggestion moves, with the notes and the pushes that it leaves.
+// The shift of the constants that a suggestion moves, with the notes that it leaves.
 ghost use mathlib.Core.Path.{_≡_};
 ghost use mathlib.Core.Bool.{_&&_};
 ghost use Prim.Native.Nat.{_<_, _≤_};
@@ -8,12 +8,11 @@ ghost use Rattle.layout.specs.Layout.{symbolOf};
 ghost use Rattle.rows.specs.Marks.{markOf};
 ghost use Rattle.tableau.specs.Notes.{noted};
 ghost use Rattle.drags.specs.Drag.{optional};
-ghost use Rattle.dragging.specs.Shifting.{Keeps, changesBy, pushesBy, shiftRowIn, shiftRowMark, noteShifts, shifting, shiftRowsOf, pushShifts, dragged, shiftConstantsIn};
+ghost use Rattle.dragging.specs.Shifting.{changesBy, shiftRowIn, shiftRowMark, noteShifts, shifting, shiftRowsOf, dragged, shiftConstantsIn};
 use drags::drag::Drag;
 use drags::drag::Shift;
 use drags::drag::drag_of;
 use drags::drag::shift_of;
-use moves::push_if;
 use rows::number::Wrote;
 use rows::number::joined;
 use rows::number::nothing;
@@ -34,14 +33,12 @@ fn note_shifts(
     count: usize,
     d: Drag,
 )
-    requires { ⌜ length (now head) ≡ 326 ⌝ }
+    requires { ⌜ length (now head) ≡ 196 ⌝ }
     requires { ⌜ getD (now head) 4 0 ≤ length (now names) ⌝ }
     requires { ⌜ count < 50 ⌝ }
     requires { ⌜ count < length (now rows) ⌝ }
     requires { ⌜ d .at < 130 ⌝ }
     ensures { λ _. ⌜ noted (now (head .exit)) (now (names .exit)) ≡ noteShifts d count (now (rows .entry)) (noted (now (head .entry)) (now (names .entry))) ⌝ }
-    ensures { λ _. ⌜ getD (now (head .exit)) 3 0 ≡ getD (now (head .entry)) 3 0 ⌝ }
-    ensures { λ _. ⌜ Keeps (now (head .exit)) (now (head .entry)) ⌝ }
 {
     let mut i = 1;
     while i <= count {
@@ -66,7 +63,7 @@ fn shift_row(row: &mut [f64; 130], s: Shift) -> Wrote
 
 // In the rows 1 to `count`; the mark is that of what was written so far and of these.
 fn shift_rows(head: &[u64], rows: &mut [[f64; 130]], count: usize, d: Drag, before: Wrote) -> Wrote
-    requires { ⌜ length (now head) ≡ 326 ⌝ }
+    requires { ⌜ length (now head) ≡ 196 ⌝ }
     requires { ⌜ count < 50 ⌝ }
     requires { ⌜ count < length (now rows) ⌝ }
     requires { ⌜ d .at < 130 ⌝ }
@@ -83,32 +80,6 @@ fn shift_rows(head: &[u64], rows: &mut [[f64; 130]], count: usize, d: Drag, befo
     w
 }
 
-fn is_pushed(code: u64, s: Shift, constant: f64) -> bool
-    ensures { λ r. ⌜ r ≡ pushesBy (optional s) code constant ⌝ }
-{
-    s.on & (code % 4 != 0) & (constant < 0.0)
-}
-
-// "Of these, restricted rows now below 0 are pushed": a shifted row's cells are those it had, so it is known by them.
-fn push_shifts(head: &mut [u64], rows: &[[f64; 130]], count: usize, d: Drag)
-    requires { ⌜ length (now head) ≡ 326 ⌝ }
-    requires { ⌜ getD (now head) 3 0 ≤ 130 ⌝ }
-    requires { ⌜ count < 50 ⌝ }
-    requires { ⌜ count < length (now rows) ⌝ }
-    requires { ⌜ d .at < 130 ⌝ }
-    ensures { λ _. ⌜ now (head .exit) ≡ pushShifts d count (now (rows .entry)) (now (head .entry)) ⌝ }
-    ensures { λ _. ⌜ getD (now (head .exit)) 3 0 ≤ 130 ⌝ }
-    ensures { λ _. ⌜ Keeps (now (head .exit)) (now (head .entry)) ⌝ }
-{
-    let mut i = 1;
-    while i <= count {
-        let code = head[layout::BEFORE_ROWS + i];
-        let s = shift_of(d, code, &rows[i]);
-        push_if(is_pushed(code, s, rows[i][0]), head, code / 4);
-        i += 1;
-    }
-}
-
 pub fn shift_constants(
     head: &mut [u64],
     names: &mut [[u64; 20]],
@@ -118,20 +89,15 @@ pub fn shift_constants(
     delta: f64,
     before: Wrote,
 ) -> Wrote
-    requires { ⌜ length (now head) ≡ 326 ⌝ }
+    requires { ⌜ length (now head) ≡ 196 ⌝ }
     requires { ⌜ getD (now head) 1 0 ≤ 129 ⌝ }
     requires { ⌜ getD (now head) 2 0 ≤ 49 ⌝ }
-    requires { ⌜ getD (now head) 3 0 ≤ 130 ⌝ }
     requires { ⌜ getD (now head) 4 0 ≤ length (now names) ⌝ }
     requires { ⌜ length (now rows) ≡ 51 ⌝ }
     ensures { λ r. ⌜ dragged (now (head .exit)) (now (names .exit)) (now (rows .exit)) (markOf r) ≡ shiftConstantsIn marker other delta (markOf before) (noted (now (head .entry)) (now (names .entry))) (now (rows .entry)) ⌝ }
-    ensures { λ _. ⌜ getD (now (head .exit)) 3 0 ≤ 130 ⌝ }
-    ensures { λ _. ⌜ Keeps (now (head .exit)) (now (head .entry)) ⌝ }
 {
     let d = drag_of(head, marker, other, delta);
     let count = head[layout::ROW_COUNT] as usize;
     note_shifts(head, names, rows, count, d);
-    let w = shift_rows(head, rows, count, d, before);
-    push_shifts(head, rows, count, d);
-    w
+    shift_rows(head, rows, count, d, before)
 }

@@ -32,7 +32,7 @@ fn is_found(f: Found) -> bool
 }
 
 fn is_basic(head: &[u64], code: u64) -> bool
-    requires { ⌜ length (now head) ≡ 326 ⌝ }
+    requires { ⌜ length (now head) ≡ 196 ⌝ }
     requires { ⌜ getD (now head) 2 0 ≤ 49 ⌝ }
     ensures { λ r. ⌜ r ≡ isFound (rowOf (code / 4) (now (head .entry))) ⌝ }
 {
@@ -41,7 +41,7 @@ fn is_basic(head: &[u64], code: u64) -> bool
 
 // 0 is no other.
 fn is_basic_other(head: &[u64], code: u64) -> bool
-    requires { ⌜ length (now head) ≡ 326 ⌝ }
+    requires { ⌜ length (now head) ≡ 196 ⌝ }
     requires { ⌜ getD (now head) 2 0 ≤ 49 ⌝ }
     ensures { λ r. ⌜ r ≡ otherFound code (now (head .entry)) ⌝ }
 {
@@ -49,7 +49,7 @@ fn is_basic_other(head: &[u64], code: u64) -> bool
 }
 
 fn place_or_zero(head: &[u64], id: u64) -> usize
-    requires { ⌜ length (now head) ≡ 326 ⌝ }
+    requires { ⌜ length (now head) ≡ 196 ⌝ }
     requires { ⌜ getD (now head) 1 0 ≤ 129 ⌝ }
     ensures { λ r. ⌜ r ≡ placeOr (placeOf id (now (head .entry))) ⌝ }
     ensures { λ r. ⌜ r < 130 ⌝ }
@@ -63,7 +63,7 @@ fn place_or_zero(head: &[u64], id: u64) -> usize
 
 // "Marker basic: add -delta; else other basic: add delta; else every row holding the marker gets delta times that cell."
 pub fn drag_of(head: &[u64], marker: u64, other: u64, delta: f64) -> Drag
-    requires { ⌜ length (now head) ≡ 326 ⌝ }
+    requires { ⌜ length (now head) ≡ 196 ⌝ }
     requires { ⌜ getD (now head) 1 0 ≤ 129 ⌝ }
     requires { ⌜ getD (now head) 2 0 ≤ 49 ⌝ }
     ensures { λ r. ⌜ r ≡ dragOf marker other delta (now (head .entry)) ⌝ }

@@ -16,13 +16,13 @@ use Rattle.steps.specs.Changes.{varChanged, note}
 use Rattle.steps.specs.Remove.{noteLeaving}
 use Rattle.layout.specs.Layout.{tables, symbolOf, cellsOf}
 use Rattle.choose.specs.Choose.{onFound, basicAt, rowOf}
-use Rattle.choose.specs.Reading.{symbolsIn, basicsIn, entriesIn, rowIn}
+use Rattle.choose.specs.Reading.{symbolsIn, basicsIn, rowIn}
 use Rattle.choose.specs.Chosen.{row-found}
 use Rattle.choose.specs.declared.Found.{Found}
 use Rattle.choose.specs.declared.Found.the-variants.{At}
 use Rattle.tableau.specs.Notes.{Noted, noted, varChangedIf, changed-if-head}
 use Rattle.tableau.specs.NotesRead.{changesIn, changed-if-read}
-use Rattle.tableau.specs.Working.{workOf, work, artificialIn, work-parts, symbols-same, entries-same, basics-same, artificial-by, Ready}
+use Rattle.tableau.specs.Working.{workOf, work, artificialIn, work-parts, symbols-same, basics-same, artificial-by, Ready}
 use Rattle.effects.specs.Effects.{noteLeavingIn}
 
 module _ (h : List ℕ) (n : List (List ℕ)) (reals w : List (List Float)) (ready : Ready h n w) where
@@ -39,15 +39,14 @@ module _ (h : List ℕ) (n : List (List ℕ)) (reals w : List (List Float)) (rea
         same 0 (λ e. omega (arith, e)),
         basics-same (s .head) h same w,
         same 1 (λ e. omega (arith, e)),
-        entries-same (s .head) h same,
         changed-if-read on id reals (noted h n) (omega (arith, ready .head-long)) (ready .flags),
         artificial-by art (s .head) h w (same 1 (λ e. omega (arith, e))),
       ) (go on)
       ∙ sym (ap (λ (x : Work). cond on (note id x) x) (work-parts art a v h n reals w))
     where
       go : (b : Bool)
-          → work (symbolsIn h) (getD h 0 0) (basicsIn h w) (cellsOf (getD h 1 0) (getD w 0 [])) (entriesIn h) (cond b (varChanged id (changesIn reals (noted h n))) (changesIn reals (noted h n))) (artificialIn art h w) a v
-          ≡ cond b (note id (work (symbolsIn h) (getD h 0 0) (basicsIn h w) (cellsOf (getD h 1 0) (getD w 0 [])) (entriesIn h) (changesIn reals (noted h n)) (artificialIn art h w) a v)) (work (symbolsIn h) (getD h 0 0) (basicsIn h w) (cellsOf (getD h 1 0) (getD w 0 [])) (entriesIn h) (changesIn reals (noted h n)) (artificialIn art h w) a v)
+          → work (symbolsIn h) (getD h 0 0) (basicsIn h w) (cellsOf (getD h 1 0) (getD w 0 [])) (cond b (varChanged id (changesIn reals (noted h n))) (changesIn reals (noted h n))) (artificialIn art h w) a v
+          ≡ cond b (note id (work (symbolsIn h) (getD h 0 0) (basicsIn h w) (cellsOf (getD h 1 0) (getD w 0 [])) (changesIn reals (noted h n)) (artificialIn art h w) a v)) (work (symbolsIn h) (getD h 0 0) (basicsIn h w) (cellsOf (getD h 1 0) (getD w 0 [])) (changesIn reals (noted h n)) (artificialIn art h w) a v)
       go true = refl
       go false = refl
 

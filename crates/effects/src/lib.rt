@@ -46,7 +46,7 @@ fn insert_in_objective(
     k: f64,
     before: Wrote,
 ) -> Wrote
-    requires { ⌜ length (now head) ≡ 326 ⌝ }
+    requires { ⌜ length (now head) ≡ 196 ⌝ }
     requires { ⌜ getD (now head) 1 0 ≤ 129 ⌝ }
     requires { ⌜ length (now rows) ≡ 51 ⌝ }
     ensures { λ r. ⌜ effected (now (rows .exit)) (markOf r) ≡ inObjective id k (now (head .entry)) (effected (now (rows .entry)) (markOf before)) ⌝ }
@@ -67,7 +67,7 @@ fn remove_marker_effects(
     strength: f64,
     before: Wrote,
 ) -> Wrote
-    requires { ⌜ length (now head) ≡ 326 ⌝ }
+    requires { ⌜ length (now head) ≡ 196 ⌝ }
     requires { ⌜ getD (now head) 1 0 ≤ 129 ⌝ }
     requires { ⌜ getD (now head) 2 0 ≤ 49 ⌝ }
     requires { ⌜ length (now rows) ≡ 51 ⌝ }
@@ -98,7 +98,7 @@ pub fn remove_constraint_effects(
     strength: f64,
     before: Wrote,
 ) -> Wrote
-    requires { ⌜ length (now head) ≡ 326 ⌝ }
+    requires { ⌜ length (now head) ≡ 196 ⌝ }
     requires { ⌜ getD (now head) 1 0 ≤ 129 ⌝ }
     requires { ⌜ getD (now head) 2 0 ≤ 49 ⌝ }
     requires { ⌜ length (now rows) ≡ 51 ⌝ }
@@ -110,7 +110,7 @@ pub fn remove_constraint_effects(
 
 // "the last External row holding it, noted if its constant isn't zero": of the leaving row i.
 pub fn note_leaving(head: &mut [u64], names: &mut [[u64; 20]], rows: &[[f64; 130]], i: usize)
-    requires { ⌜ length (now head) ≡ 326 ⌝ }
+    requires { ⌜ length (now head) ≡ 196 ⌝ }
     requires { ⌜ getD (now head) 4 0 ≤ length (now names) ⌝ }
     requires { ⌜ i ≤ 49 ⌝ }
     requires { ⌜ length (now rows) ≡ 51 ⌝ }

@@ -19,7 +19,7 @@ use Rattle.steps.specs.Readable.{readable}
 use Rattle.steps.proofs.Queries.{second-fetch}
 use Rattle.keeps.specs.Keeps.{fetch-reads}
 use Rattle.layout.specs.Laying.{laid-nil}
-use Rattle.layout.specs.Layout.{Tables, constraintsAt, nextIdOf, symbolCount, entryCount, variableCount, constraintCount, clearFlag, wholeFlag, numberOf, changedFlag, read, over, write}
+use Rattle.layout.specs.Layout.{Tables, constraintsAt, nextIdOf, symbolCount, variableCount, constraintCount, clearFlag, wholeFlag, numberOf, changedFlag, read, over, write}
 use Rattle.layout.specs.Rooms.{lengthsRight, lengths-right, Wide, Fits, both}
 use Rattle.layout.specs.ReadBack.{read-write}
 use Rattle.layout.specs.Copied.{read-fits, write-counts, write-coded, write-lengths}
@@ -46,7 +46,7 @@ news-few rows (v ∷ vs) = go (isNews rows v) (news-few rows vs)
 pub fetch-room : (t : Tables) → reads t ≡ true → fetchIn t .count ≤ places
 unfolding fetchIn fetchChanges
 fetch-room t ok =
-    let few : variableCount (t .head) ≤ 32 = reads-counts t ok .3 in
+    let few : variableCount (t .head) ≤ 32 = reads-counts t ok .2 in
     omega (arith, news-few (read t .tableau .rows) (cleared t (reads-coded t ok) few), cleared-count t (reads-coded t ok) few, few-read t (reads-coded t ok) few)
 
 -- ---- the tables that it leaves
@@ -73,7 +73,7 @@ module _ (t : Tables) (ok : reads t ≡ true) (w : Wide t) where
   left = write after t
 
   few : variableCount (t .head) ≤ 32
-  few = reads-counts t ok .3
+  few = reads-counts t ok .2
 
   fits : Fits after
   unfolding fetchChanges
@@ -82,7 +82,6 @@ module _ (t : Tables) (ok : reads t ≡ true) (w : Wide t) where
       record {
         symbols = f .symbols;
         rows = f .rows;
-        entries = f .entries;
         variables = rw (same-count t (reads-coded t ok) few) (f .variables);
         constraints = f .constraints;
         edits = f .edits;
@@ -144,13 +143,12 @@ module _ (t : Tables) (ok : reads t ≡ true) (w : Wide t) where
   codes-left =
       let n = write-counts after t fits (reads-lengths t ok) w in
       let q = write-coded after t fits (reads-lengths t ok) w in
-      let c₆ = both _ _ codes in
-      let c₅ = both _ _ (c₆ .0) in
+      let c₅ = both _ _ codes in
       let c₄ = both _ _ (c₅ .0) in
       let c₃ = both _ _ (c₄ .0) in
       let c₂ = both _ _ (c₃ .0) in
       let c₁ = both _ _ (c₂ .0) in
-      rw (next-left (c₁ .0), le-leb (symbolCount (left .head)) 129 (n .0), le-leb (entryCount (left .head)) 130 (n .2), le-leb (clearFlag (left .head)) 1 (q .0), le-leb (wholeFlag (left .head)) 1 (q .1), variables-left (c₅ .1), constraints-left (c₆ .1)) refl
+      rw (next-left (c₁ .0), le-leb (symbolCount (left .head)) 129 (n .0), le-leb (clearFlag (left .head)) 1 (q .0), le-leb (wholeFlag (left .head)) 1 (q .1), variables-left (c₄ .1), constraints-left (c₅ .1)) refl
 
   left-reads : reads left ≡ true
   unfolding reads

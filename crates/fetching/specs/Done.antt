@@ -1,10 +1,10 @@
 -- What the code of a fetch leaves is the state after it, written into the tables, and its list.
 -- Assumes nothing.
-use Prim.Native.Nat.{ℕ, zero, suc, _-_, _≤_, _<_}
+use Prim.Native.Nat.{ℕ, zero, suc, _+_, _-_, _≤_, _<_}
 use mathlib.Core.Path.{_≡_, refl, sym, ap, _∙_}
 use mathlib.Core.Bool.{Bool, true, false, not, _&&_, cond}
-use mathlib.Core.List.{List, [], map}
-use native.Mathlib.Nat.{not-suc-le-zero, le-of-suc-le-suc, zero-add}
+use mathlib.Core.List.{List, [], _∷_, map}
+use native.Mathlib.Nat.{not-suc-le-zero, le-of-suc-le-suc, zero-add, suc-add}
 use native.Mathlib.Omega.{arith}
 use lib.Dec.{eqb}
 use lib.ListN.{length, getD, set, replicate, length-map, length-replicate}
@@ -15,7 +15,7 @@ use Rattle.steps.specs.State.{Basic, Variable, State}
 use Rattle.steps.specs.Changes.{withFlag, clearChanged, reported, fetchChanges}
 use Rattle.laws.specs.Loops.{mapIn}
 use Rattle.laws.specs.Lists.{listOf, laid}
-use Rattle.layout.specs.Layout.{Tables, tables, symbolsAt, rowsAt, listAt, constraintsAt, editsAt, variableCount, clearFlag, bitOf, basicsOf, variablesOf, variableOf, heading, read, over, variableNames, variableReals, constraintNames, constraintReals, editNames, editReals, writeHead, writeNames, writeReals, writeRows, write}
+use Rattle.layout.specs.Layout.{Tables, tables, symbolsAt, rowsAt, recordCountsAt, constraintsAt, editsAt, variableCount, clearFlag, bitOf, basicsOf, variablesOf, variableOf, heading, recordCounts, read, over, variableNames, variableReals, constraintNames, constraintReals, editNames, editReals, writeHead, writeNames, writeReals, writeRows, write}
 use Rattle.layout.specs.Rooms.{Coded, both}
 use Rattle.layout.specs.Written.{write-read}
 use Rattle.layout.specs.Copied.{length-listOf}
@@ -40,15 +40,21 @@ over-again : {A : Type 0} (k l m : List A) → length k ≤ length l → over 0 
 unfolding over
 over-again k l m h = laid-again (λ x _. x) k l m h (λ b c y. refl)
 
--- another number in place 7 of the head
-head-set : (es bs ss hs h : List ℕ) (x : ℕ) → 7 < length hs → over listAt es (over rowsAt bs (over symbolsAt ss (over 0 (set hs 7 x) h))) ≡ set (over listAt es (over rowsAt bs (over symbolsAt ss (over 0 hs h)))) 7 x
+-- a list laid from place a on, with another element at one place
+put-from : (a : ℕ) (l m : List ℕ) (j x : ℕ) → j < length l → laid (λ y _. y) a (set l j x) m ≡ set (laid (λ y _. y) a l m) (a + j) x
+unfolding laid
+put-from zero l m j x h = rw (zero-add j) (put-set l m j x h)
+put-from (suc a) l [] j x h = refl
+put-from (suc a) l (y ∷ m) j x h = rw (suc-add a j) (ap (λ (r : List ℕ). y ∷ r) (put-from a l m j x h))
+
+-- another number in place 7 of the head, the fourth of the records' counts and flags
+head-set : (bs ss hs h : List ℕ) (x : ℕ) → 3 < length hs → over rowsAt bs (over symbolsAt ss (over recordCountsAt (set hs 3 x) h)) ≡ set (over rowsAt bs (over symbolsAt ss (over recordCountsAt hs h))) 7 x
 unfolding over
-head-set es bs ss hs h x k =
+head-set bs ss hs h x k =
     rw (
-      put-set hs h 7 x k,
-      laid-set (λ y _. y) symbolsAt ss (laid (λ y _. y) 0 hs h) 7 x (omega arith),
-      laid-set (λ y _. y) rowsAt bs (laid (λ y _. y) symbolsAt ss (laid (λ y _. y) 0 hs h)) 7 x (omega arith),
-      laid-set (λ y _. y) listAt es (laid (λ y _. y) rowsAt bs (laid (λ y _. y) symbolsAt ss (laid (λ y _. y) 0 hs h))) 7 x (omega arith),
+      put-from recordCountsAt hs h 3 x k,
+      laid-set (λ y _. y) symbolsAt ss (laid (λ y _. y) recordCountsAt hs h) 7 x (omega arith),
+      laid-set (λ y _. y) rowsAt bs (laid (λ y _. y) symbolsAt ss (laid (λ y _. y) recordCountsAt hs h)) 7 x (omega arith),
     ) refl
 
 module _ (t : Tables) (q : Coded t) (few : variableCount (t .head) ≤ 32) where
@@ -86,9 +92,9 @@ module _ (t : Tables) (q : Coded t) (few : variableCount (t .head) ≤ 32) where
   pub same-count : length (map (reported rows) cleared) ≡ length vs
   same-count = length-map cleared (reported rows) ∙ cleared-count
 
-  heading-after : heading after ≡ set (heading s) 7 (bitOf (not clear))
-  unfolding heading fetchChanges
-  heading-after = rw same-count refl
+  counts-after : recordCounts after ≡ set (recordCounts s) 3 (bitOf (not clear))
+  unfolding recordCounts fetchChanges
+  counts-after = rw same-count refl
 
   -- what was read, written once more
   written : write s t ≡ t
@@ -111,9 +117,9 @@ module _ (t : Tables) (q : Coded t) (few : variableCount (t .head) ≤ 32) where
   rows-after = ap (λ (x : Tables). x .rows) written
 
   pub head-after : writeHead after (t .head) ≡ set (t .head) 7 (1 - clearFlag (t .head))
-  unfolding writeHead fetchChanges heading read
+  unfolding writeHead fetchChanges heading recordCounts read
   head-after =
-      rw heading-after (head-set _ _ _ (heading s) (t .head) (bitOf (not clear)) (omega arith))
+      rw counts-after (head-set _ _ (recordCounts s) (over 0 (heading s) (t .head)) (bitOf (not clear)) (omega arith))
       ∙ ap (λ (h : List ℕ). set h 7 (bitOf (not clear))) head-written
       ∙ ap (λ (x : ℕ). set (t .head) 7 x) (toggled (clearFlag (t .head)) (q .0))
 
@@ -182,7 +188,7 @@ pub fetch-done : (t : Tables) {h : List ℕ} {n : List (List ℕ)} {r : List (Li
 unfolding fetchIn write fetchChanges read basicsOf basicsIn
 fetch-done t {h} {n} {r} {ns} {ms} {vs} {us} {c} ok wide z₁ z₂ e₁ e₂ e₃ =
     let q : Coded t = reads-coded t ok in
-    let few : variableCount (t .head) ≤ 32 = reads-counts t ok .3 in
+    let few : variableCount (t .head) ≤ 32 = reads-counts t ok .2 in
     let l = reads-lengths t ok in
     let made = (rw (z₁, z₂) at e₂) ∙ listed (basicsIn (t .head) (t .rows)) n (variableCount (t .head)) (t .reals) (replicate places 0) (replicate places zero64) in
     let vars : listOf (variableCount (t .head)) (λ j. variableOf (getD n j []) (getD (t .reals) j [])) ≡ cleared t q few = rw e₁ (loop-reads t q few wide (omega arith)) in

@@ -19,22 +19,20 @@ use Rattle.steps.specs.Tests.{findConstraint, findEdit, newVariables}
 use Rattle.steps.specs.Calls.{begin}
 use Rattle.steps.specs.Readable.{concat, code, tagSymbols, tags, owned, usesIn}
 use Rattle.laws.specs.Lists.{listOf, length-tab}
-use Rattle.keeps.specs.Lists.{All, total, member-in, member-out, distinct-out}
+use Rattle.keeps.specs.Lists.{All, total, same, Same?, is, isnt, same?, times}
 use Rattle.keeps.specs.Uses.{usesOf}
 use Rattle.keeps.specs.Keys.{drop-total, findConstraint-is, findEdit-is}
-use Rattle.keeps.specs.Along.{ids, Mem}
-use Rattle.keeps.specs.Codes.{codes, codes-mem, mem-codes, codes-once}
+use Rattle.keeps.specs.Along.{Mem}
+use Rattle.keeps.specs.Codes.{codes, codes-mem, mem-codes}
 use Rattle.keeps.specs.Reads.{Reads, conNumber, editNumber, tagCode, ownedBy, usedBy, tags-length, owned-total}
 use Rattle.keeps.specs.Tested.{reads-in}
 use Rattle.keeps.specs.Good.{Good, tagsBy, begin-good}
-use Rattle.layout.specs.Layout.{Tables, nextIdOf, wholeFlag, symbolCount, rowCount, entryCount, variableCount, constraintCount, editCount, symbolsOf, basicsOf, entriesOf, variablesOf, constraintsOf, editsOf, read}
+use Rattle.layout.specs.Layout.{Tables, nextIdOf, wholeFlag, symbolCount, rowCount, variableCount, constraintCount, editCount, symbolsOf, basicsOf, variablesOf, constraintsOf, editsOf, read}
 use Rattle.layout.specs.Rooms.{Wide}
 use Rattle.rows.specs.declared.number.Wrote.{Wrote}
 use Rattle.rows.specs.Marks.{markOf}
-use Rattle.choose.specs.Reading.{symbolsIn, entriesIn}
-use Rattle.moves.specs.Room.{Held, no-more}
-use Rattle.tableau.specs.Working.{workOf, length-symbols}
-use Rattle.standing.specs.Standing.{Listed, Standing}
+use Rattle.tableau.specs.Working.{workOf}
+use Rattle.standing.specs.Standing.{Standing}
 use Rattle.standing.specs.Opening.{Opening, newIn}
 use Rattle.terms.specs.declared.Pack.{Pack}
 use Rattle.terms.specs.Terms.{keptOf, termsOf}
@@ -55,6 +53,36 @@ begin-is t = refl
 -- the code holds it as what was written
 pub begun-is : (t : Tables) (before : Wrote) → markOf before ≡ storedMark (t .head) → workOf false (markOf before) 0 t ≡ begin (read t)
 begun-is t before e = rw (e, ← begin-is t) refl
+
+-- ---- a list that has no number more often than another is no longer
+
+-- ys with x, which it has, taken out once
+record Taken (x : ℕ) (ys : List ℕ) : Type 0 where
+  rest : List ℕ
+  shorter : suc (length rest) ≡ length ys
+  others : (n : ℕ) → times n ys ≡ same n x + times n rest
+
+taken : (x : ℕ) (ys : List ℕ) → 1 ≤ times x ys → Taken x ys
+unfolding times
+taken x [] h = absurd (omega arith)
+taken x (y ∷ ys) h = go (same? x y) (taken x ys)
+  where
+    go : Same? x y → (1 ≤ times x ys → Taken x ys) → Taken x (y ∷ ys)
+    go (is a b c) on = record { rest = ys; shorter = refl; others = λ n. rw b refl }
+    go (isnt a b c) on =
+        let t = on (omega (arith, h, c)) in
+        record { rest = y ∷ t .rest; shorter = ap suc (t .shorter); others = λ n. omega (arith, t .others n) }
+
+has-itself : (x : ℕ) → Same? x x → same x x ≡ 1
+has-itself x (is a b c) = c
+has-itself x (isnt a b c) = absurd (b refl)
+
+no-longer : (xs ys : List ℕ) → ((n : ℕ) → times n xs ≤ times n ys) → length xs ≤ length ys
+unfolding times
+no-longer [] ys h = omega arith
+no-longer (x ∷ xs) ys h =
+    let t = taken x ys (omega (arith, h x, has-itself x (same? x x))) in
+    omega (arith, no-longer xs (t .rest) (λ n. omega (arith, h n, t .others n)), t .shorter)
 
 -- ---- how many symbols are live: one for each variable, and at most two for each tag
 
@@ -89,8 +117,7 @@ few-symbols s r =
       arith,
       owned-short s,
       length-map (s .tableau .symbols) code,
-      no-more (codes (s .tableau .symbols)) (owned s) (distinct-out (codes (s .tableau .symbols)) (λ n. codes-once 1 n (s .tableau .symbols) (r .fits .up)))
-          (λ n h. member-out n (owned s) (rw (owned-total n s, r .owns n) (member-in n (codes (s .tableau .symbols)) h))),
+      no-longer (codes (s .tableau .symbols)) (owned s) (λ n. omega (arith, owned-total n s, r .owns n)),
     )
 
 -- ---- how often a variable is used: once in each term, each constraint and edit counted
@@ -139,10 +166,6 @@ pub rows-count : (t : Tables) → length (basicsOf t) ≡ rowCount (t .head)
 unfolding basicsOf listOf
 rows-count t = length-tab _ 0 (rowCount (t .head))
 
-pub entries-count : (t : Tables) → length (entriesOf t) ≡ entryCount (t .head)
-unfolding entriesOf listOf
-entries-count t = length-tab _ 0 (entryCount (t .head))
-
 -- ---- the steps' tables
 
 module _ (t : Tables) (ready : Ready t) where
@@ -152,23 +175,6 @@ module _ (t : Tables) (ready : Ready t) where
   pub good-at-start : Good (λ n. tagsBy n (constraintsOf t) (editsOf t)) (λ n. usedBy n (constraintsOf t) (editsOf t)) (workOf false (storedMark (t .head)) 0 t)
   unfolding read
   good-at-start = subst (λ (w : Work). Good (λ n. tagsBy n (constraintsOf t) (editsOf t)) (λ n. usedBy n (constraintsOf t) (editsOf t)) w) (begin-is t) (begin-good (read t) reads-at-start)
-
-  -- the live symbols' ids
-  held-at-start : Held (entriesIn (t .head)) (ids (symbolsIn (t .head)))
-  unfolding read symbolsOf entriesOf symbolsIn entriesIn
-  held-at-start = (
-    distinct-out (entriesIn (t .head)) (reads-at-start .once),
-    λ x h. member-out x (ids (symbolsIn (t .head))) (reads-at-start .listed x (member-in x (entriesIn (t .head)) h)),
-  )
-
-  listed-at-start : Listed (t .head)
-  listed-at-start =
-      record {
-        seen = ids (symbolsIn (t .head));
-        few = omega (arith, ready .1, length-map (symbolsIn (t .head)) (λ (x : Symbol). x .id), length-symbols (t .head));
-        held = held-at-start;
-        live = λ x h. h;
-      }
 
   -- "rows are no more than constraints"
   pub rows-at-start : rowCount (t .head) ≤ constraintCount (t .head) + editCount (t .head)
@@ -190,13 +196,11 @@ module _ (t : Tables) (ready : Ready t) where
         wide = wide;
         few-symbols = ready .1 .0;
         few-rows = omega (arith, rows-at-start, tags-at-start);
-        few-entries = ready .1 .2;
-        few-variables = ready .1 .3;
-        few-constraints = ready .1 .4;
-        few-edits = ready .1 .5;
+        few-variables = ready .1 .2;
+        few-constraints = ready .1 .3;
+        few-edits = ready .1 .4;
         coded = ready .2;
         fits = good-at-start .fits;
-        listed = listed-at-start;
       }
 
   -- with the room that the tests of Add and of Add edit leave
@@ -209,7 +213,6 @@ module _ (t : Tables) (ready : Ready t) where
         K = λ n. tagsBy n (constraintsOf t) (editsOf t);
         U = λ n. usedBy n (constraintsOf t) (editsOf t);
         good = good-at-start;
-        entries = held-at-start;
         finite = finite;
         few-terms = few;
         few-rows = omega (arith, rows-at-start);

@@ -7,25 +7,22 @@ use mathlib.Core.List.{List, []}
 use native.Mathlib.Nat.{not-suc-le-zero, le-of-suc-le-suc, add-zero}
 use native.Mathlib.Omega.{arith}
 use lib.Dec.{eqb}
-use lib.ListN.{length, getD, length-map}
+use lib.ListN.{length, getD}
 use borrow.Author.Tests.{eqb-true, eq-eqb, ne-eqb}
 use Rattle.laws.specs.Given.{Then, then-given}
 use Rattle.laws.specs.Lists.{tab, listOf, length-tab}
 use Rattle.steps.specs.Number.{Mark, saysWhole}
-use Rattle.steps.specs.Symbol.{Symbol}
 use Rattle.steps.specs.State.{Tag, Constraint, Edit, State}
 use Rattle.steps.specs.Work.{Work, Outcome, refused, going}
 use Rattle.steps.specs.Add.{Added}
 use Rattle.steps.specs.Calls.{Answer, Result, finish, refusedBy, acceptedAs, conclude, concludeAdd}
 use Rattle.steps.specs.Readable.{readable}
-use Rattle.keeps.specs.Lists.{All, member-in, member-out, distinct-out}
-use Rattle.keeps.specs.Along.{ids}
+use Rattle.keeps.specs.Lists.{All}
 use Rattle.keeps.specs.Reads.{Reads}
 use Rattle.keeps.specs.Tested.{reads-in}
 use Rattle.layout.specs.Layout.{Tables, wholeFlag, constraintCount, termCount, constraintsAt, constraintsOf, constraintOf, termOf, read}
 use Rattle.layout.specs.Rooms.{Counts}
 use Rattle.rows.specs.Marks.{markOf}
-use Rattle.moves.specs.Room.{no-more}
 use Rattle.tableau.specs.Working.{workOf}
 use Rattle.standing.specs.declared.Ended.{Ended}
 use Rattle.standing.specs.Standing.{Standing, Beside}
@@ -34,7 +31,7 @@ use Rattle.finishing.specs.Closing.{Flagged}
 use Rattle.finishing.specs.Stored.{Ends}
 use Rattle.shell.specs.declared.Answer as code
 use Rattle.shell.specs.Shell.{answerOf, refused18, Ready, Left}
-use Rattle.finishing.specs.Begin.{few-symbols, symbols-count, rows-count, entries-count, variables-count, constraints-count, edits-count}
+use Rattle.finishing.specs.Begin.{few-symbols, symbols-count, rows-count, variables-count, constraints-count, edits-count}
 
 -- ---- what a call's steps ensure, f being the steps' call
 
@@ -83,25 +80,14 @@ terms-few t h j low =
         let e : i + suc j ≡ suc i + j = omega arith in
         rw e (all-tab P g (suc i) k (h .1) j (le-of-suc-le-suc l))
 
-entries-few : (s : State) → Reads s → length (s .tableau .infeasible) ≤ length (s .tableau .symbols)
-entries-few s r =
-    omega (
-      arith,
-      length-map (s .tableau .symbols) (λ (x : Symbol). x .id),
-      no-more (s .tableau .infeasible) (ids (s .tableau .symbols)) (distinct-out (s .tableau .infeasible) (r .once))
-          (λ n h. member-out n (ids (s .tableau .symbols)) (r .listed n (member-in n (s .tableau .infeasible) h))),
-    )
-
 counts-of : (t : Tables) → Reads (read t) → Counts (t .head)
 unfolding read
 counts-of t r =
     let a = few-symbols (read t) r in
-    let b = entries-few (read t) r in
     let c = r .few-tags in
     let d = r .few-variables in (
       omega (arith, symbols-count t, variables-count t, constraints-count t, edits-count t),
       omega (arith, r .few-rows, rows-count t, constraints-count t, edits-count t),
-      omega (arith, symbols-count t, entries-count t, variables-count t, constraints-count t, edits-count t),
       omega (arith, variables-count t),
       omega (arith, constraints-count t, edits-count t),
       omega (arith, constraints-count t, edits-count t),

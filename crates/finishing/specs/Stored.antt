@@ -1,4 +1,4 @@
--- The records that an accepted call stores, after the list is pruned and the mark stored: the tables read as `finish` with them.
+-- The records that an accepted call stores, after the mark is stored: the tables read as `finish` with them.
 -- Assumes nothing.
 use Prim.Native.Nat.{ℕ, _+_, _-_, _≤_, _<_}
 use mathlib.Core.Path.{_≡_, refl, sym, ap, _∙_}
@@ -12,7 +12,7 @@ use Rattle.laws.specs.Lists.{listOf}
 use Rattle.steps.specs.State.{Constraint, Edit, State}
 use Rattle.steps.specs.Tests.{keepConstraint, dropConstraint, keepEdit, dropEdit}
 use Rattle.steps.specs.Calls.{finish}
-use Rattle.layout.specs.Layout.{Tables, tables, numberOf, clearFlag, wholeFlag, variableCount, constraintsOf, editsOf, variableOf, constraintOf, editOf, read}
+use Rattle.layout.specs.Layout.{Tables, tables, headSize, numberOf, clearFlag, wholeFlag, variableCount, constraintsOf, editsOf, variableOf, constraintOf, editOf, read}
 use Rattle.layout.specs.Rooms.{Lengths}
 use Rattle.rows.specs.declared.number.Wrote.{Wrote}
 use Rattle.rows.specs.Marks.{markOf}
@@ -30,7 +30,7 @@ use Rattle.drags.specs.declared.record.EditRecord.{EditRecord}
 use Rattle.drags.specs.Record.{taggedRow, suggestedRow, withRecord, edits-put}
 use Rattle.tableau.specs.Working.{workOf}
 use Rattle.standing.specs.Standing.{Standing}
-use Rattle.finishing.specs.Closing.{closedHead, Flagged, closed-same, closed-length, closed-read, closed-flagged}
+use Rattle.finishing.specs.Closing.{markedHead, Flagged, marked-same, marked-length, marked-read, marked-flagged}
 
 abbrev tablesOf : Items → List (List Float) → Tables
 tablesOf t w = tables (t .head) (t .names) (t .reals) w
@@ -90,14 +90,14 @@ module _ (wrote : Wrote) (h : List ℕ) (n : List (List ℕ)) (r w : List (List 
   t = tables h n r w
 
   abbrev h₁ : List ℕ
-  h₁ = closedHead wrote w h
+  h₁ = markedHead wrote h
 
   -- what the call leaves with these constraints and edits
   abbrev left : List Constraint → List Edit → State
   left cs es = finish (workOf false (markOf wrote) 0 t) cs es
 
   same : (m : ℕ) → 4 ≤ m → m ≤ 6 → getD h₁ m 0 ≡ getD h m 0
-  same m a b = closed-same wrote h n r w st m (omega arith) (omega arith) (omega arith)
+  same m a b = marked-same wrote h n r w st m (omega arith)
 
   four : getD h₁ 4 0 ≤ 32
   four = rw (same 4 (omega arith) (omega arith)) (st .few-variables)
@@ -108,23 +108,23 @@ module _ (wrote : Wrote) (h : List ℕ) (n : List (List ℕ)) (r w : List (List 
   six : getD h₁ 6 0 ≤ 48
   six = rw (same 6 (omega arith) (omega arith)) (st .few-edits)
 
-  long : length h₁ ≡ 326
-  long = closed-length wrote h n r w st
+  long : length h₁ ≡ headSize
+  long = marked-length wrote h n r w st
 
   flagged : Flagged (tables h₁ n r w)
-  flagged = closed-flagged wrote h n r w st
+  flagged = marked-flagged wrote h n r w st
 
   with-constraints : (g : List Constraint → List Constraint) {s : State} → s ≡ withConstraintsIn (g (read (tables h₁ n r w) .constraints)) (read (tables h₁ n r w)) → s ≡ left (g (constraintsOf t)) (editsOf t)
   unfolding finish
-  with-constraints g e = e ∙ ap (λ (x : State). withConstraintsIn (g (x .constraints)) x) (closed-read wrote h n r w st)
+  with-constraints g e = e ∙ ap (λ (x : State). withConstraintsIn (g (x .constraints)) x) (marked-read wrote h n r w st)
 
   with-edits : (g : List Edit → List Edit) {s : State} → s ≡ withEditsIn (g (read (tables h₁ n r w) .edits)) (read (tables h₁ n r w)) → s ≡ left (constraintsOf t) (g (editsOf t))
   unfolding finish
-  with-edits g e = e ∙ ap (λ (x : State). withEditsIn (g (x .edits)) x) (closed-read wrote h n r w st)
+  with-edits g e = e ∙ ap (λ (x : State). withEditsIn (g (x .edits)) x) (marked-read wrote h n r w st)
 
-  -- the head after the close, for the records' calls
-  pub closed-counts : {g : List ℕ} → g ≡ h₁ → (length g ≡ 326) × (getD g 5 0 ≡ getD h 5 0) × (getD g 6 0 ≡ getD h 6 0)
-  closed-counts q = rw q (long, same 5 (omega arith) (omega arith), same 6 (omega arith) (omega arith))
+  -- the head with the mark, for the records' calls
+  pub marked-counts : {g : List ℕ} → g ≡ h₁ → (length g ≡ headSize) × (getD g 5 0 ≡ getD h 5 0) × (getD g 6 0 ≡ getD h 6 0)
+  marked-counts q = rw q (long, same 5 (omega arith) (omega arith), same 6 (omega arith) (omega arith))
 
   pub constraint-came : (item : List ℕ) (real : List Float) {z : Items} {g : List ℕ} → getD h 5 0 < 48 → g ≡ h₁ → z ≡ keptItem 5 32 item real (items g n r)
       → Ends wrote t (keepConstraint (constraintOf item real) (constraintsOf t)) (editsOf t) (tablesOf z w)

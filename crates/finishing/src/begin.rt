@@ -2,6 +2,7 @@
 ghost use mathlib.Core.Path.{_≡_};
 ghost use Prim.Native.Nat.{_≤_};
 ghost use lib.ListN.{length};
+ghost use Rattle.layout.specs.Layout.{headSize};
 ghost use Rattle.rows.specs.Marks.{markOf};
 ghost use Rattle.shell.specs.Shell.{answerOf};
 ghost use Rattle.finishing.specs.Begin.{storedMark};
@@ -11,7 +12,7 @@ use shell::Answer;
 use standing::Ended;
 
 pub fn stored_mark(head: &[u64]) -> Wrote
-    requires { ⌜ length (now head) ≡ 326 ⌝ }
+    requires { ⌜ length (now head) ≡ headSize ⌝ }
     ensures { λ r. ⌜ markOf r ≡ storedMark (now (head .entry)) ⌝ }
 {
     Wrote {
@@ -22,7 +23,7 @@ pub fn stored_mark(head: &[u64]) -> Wrote
 
 // "A refusal answers the stored mark"
 pub fn by_test(head: &[u64], number: u64) -> Answer
-    requires { ⌜ length (now head) ≡ 326 ⌝ }
+    requires { ⌜ length (now head) ≡ headSize ⌝ }
     requires { ⌜ number ≤ 18 ⌝ }
     ensures { λ r. ⌜ answerOf r ≡ byTest number (now (head .entry)) ⌝ }
 {

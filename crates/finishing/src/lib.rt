@@ -1,17 +1,17 @@
-// What a changing call begins with (`begin`), and the end of an accepted one: the infeasible list is pruned and the mark stored, then the call's record comes, goes or changes.
+// What a changing call begins with (`begin`), and the end of an accepted one: the mark is stored, then the call's record comes, goes or changes.
 pub mod begin;
 
 ghost use mathlib.Core.Path.{_≡_};
 ghost use mathlib.Core.Bool.{false};
 ghost use mathlib.Core.List.{[]};
-ghost use Prim.Native.Nat.{_+_, _<_, _≤_};
+ghost use Prim.Native.Nat.{_+_, _<_};
 ghost use lib.ListN.{getD, length, set};
 ghost use Rattle.steps.specs.Tests.{keepConstraint, dropConstraint, keepEdit, dropEdit};
-ghost use Rattle.layout.specs.Layout.{tables, bitOf, constraintOf, editOf, constraintsOf, editsOf};
+ghost use Rattle.layout.specs.Layout.{tables, headSize, bitOf, constraintOf, editOf, constraintsOf, editsOf};
 ghost use Rattle.rows.specs.Marks.{markOf};
 ghost use Rattle.drags.specs.Record.{withRecord};
 ghost use Rattle.standing.specs.Standing.{Standing};
-ghost use Rattle.finishing.specs.Closing.{saysYes, closedHead};
+ghost use Rattle.finishing.specs.Closing.{saysYes, markedHead};
 ghost use Rattle.finishing.specs.Stored.{Ends};
 use drags::record::EditRecord;
 use rows::number::Wrote;
@@ -28,18 +28,15 @@ fn bit(b: bool) -> u64
     if b { 1 } else { 0 }
 }
 
-// "After any accepted call, list entries whose row is absent or not below 0 go."
-fn close(head: &mut [u64], rows: &[[f64; 130]], wrote: Wrote)
-    requires { ⌜ length (now head) ≡ 326 ⌝ }
-    requires { ⌜ getD (now head) 2 0 ≤ 49 ⌝ }
-    requires { ⌜ getD (now head) 3 0 ≤ 130 ⌝ }
-    requires { ⌜ length (now rows) ≡ 51 ⌝ }
-    ensures { λ _. ⌜ now (head .exit) ≡ closedHead wrote (now (rows .entry)) (now (head .entry)) ⌝ }
+fn store_mark(head: &mut [u64], wrote: Wrote)
+    requires { ⌜ length (now head) ≡ headSize ⌝ }
+    ensures { λ _. ⌜ now (head .exit) ≡ markedHead wrote (now (head .entry)) ⌝ }
 {
-    moves::prune(head, rows);
     let yes = says_yes(wrote);
     head[layout::WHOLE] = bit(yes);
 }
+
+// ---- the five ends: no row changes, but what the tables read as knows of them
 
 // A constraint comes to its place by ascending number.
 pub fn with_constraint(
@@ -55,7 +52,7 @@ pub fn with_constraint(
     requires { ⌜ getD (now head) 5 0 < 48 ⌝ }
     ensures { λ _. ⌜ Ends wrote (tables (now (head .entry)) (now (names .entry)) (now (reals .entry)) (now (rows .entry))) (keepConstraint (constraintOf (now (item .entry)) (now (real .entry))) (constraintsOf (tables (now (head .entry)) (now (names .entry)) (now (reals .entry)) (now (rows .entry))))) (editsOf (tables (now (head .entry)) (now (names .entry)) (now (reals .entry)) (now (rows .entry)))) (tables (now (head .exit)) (now (names .exit)) (now (reals .exit)) (now (rows .entry))) ⌝ }
 {
-    close(head, rows, wrote);
+    store_mark(head, wrote);
     records::keep_constraint(head, names, reals, item, real);
 }
 
@@ -71,7 +68,7 @@ pub fn without_constraint(
     requires { ⌜ Standing false (markOf wrote) (tables (now head) (now names) (now reals) (now rows)) ⌝ }
     ensures { λ _. ⌜ Ends wrote (tables (now (head .entry)) (now (names .entry)) (now (reals .entry)) (now (rows .entry))) (dropConstraint n (constraintsOf (tables (now (head .entry)) (now (names .entry)) (now (reals .entry)) (now (rows .entry))))) (editsOf (tables (now (head .entry)) (now (names .entry)) (now (reals .entry)) (now (rows .entry)))) (tables (now (head .exit)) (now (names .exit)) (now (reals .exit)) (now (rows .entry))) ⌝ }
 {
-    close(head, rows, wrote);
+    store_mark(head, wrote);
     records::drop_constraint(head, names, reals, n);
 }
 
@@ -89,7 +86,7 @@ pub fn with_edit(
     requires { ⌜ getD (now head) 6 0 < 48 ⌝ }
     ensures { λ _. ⌜ Ends wrote (tables (now (head .entry)) (now (names .entry)) (now (reals .entry)) (now (rows .entry))) (constraintsOf (tables (now (head .entry)) (now (names .entry)) (now (reals .entry)) (now (rows .entry)))) (keepEdit (editOf (now (item .entry)) (now (real .entry))) (editsOf (tables (now (head .entry)) (now (names .entry)) (now (reals .entry)) (now (rows .entry))))) (tables (now (head .exit)) (now (names .exit)) (now (reals .exit)) (now (rows .entry))) ⌝ }
 {
-    close(head, rows, wrote);
+    store_mark(head, wrote);
     records::keep_edit(head, names, reals, item, real);
 }
 
@@ -105,7 +102,7 @@ pub fn without_edit(
     requires { ⌜ Standing false (markOf wrote) (tables (now head) (now names) (now reals) (now rows)) ⌝ }
     ensures { λ _. ⌜ Ends wrote (tables (now (head .entry)) (now (names .entry)) (now (reals .entry)) (now (rows .entry))) (constraintsOf (tables (now (head .entry)) (now (names .entry)) (now (reals .entry)) (now (rows .entry)))) (dropEdit n (editsOf (tables (now (head .entry)) (now (names .entry)) (now (reals .entry)) (now (rows .entry))))) (tables (now (head .exit)) (now (names .exit)) (now (reals .exit)) (now (rows .entry))) ⌝ }
 {
-    close(head, rows, wrote);
+    store_mark(head, wrote);
     records::drop_edit(head, names, reals, n);
 }
 
@@ -123,6 +120,6 @@ pub fn with_record(
     requires { ⌜ j < getD (now head) 6 0 ⌝ }
     ensures { λ _. ⌜ Ends wrote (tables (now (head .entry)) (now (names .entry)) (now (reals .entry)) (now (rows .entry))) (constraintsOf (tables (now (head .entry)) (now (names .entry)) (now (reals .entry)) (now (rows .entry)))) (set (editsOf (tables (now (head .entry)) (now (names .entry)) (now (reals .entry)) (now (rows .entry)))) j (withRecord e (editOf (getD (now (names .entry)) (80 + j) []) (getD (now (reals .entry)) (80 + j) [])))) (tables (now (head .exit)) (now (names .exit)) (now (reals .exit)) (now (rows .entry))) ⌝ }
 {
-    close(head, rows, wrote);
+    store_mark(head, wrote);
     drags::record::put_edit_record(names, reals, layout::EDITS + j, e);
 }

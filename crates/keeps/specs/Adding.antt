@@ -221,7 +221,6 @@ module _ (K U : ℕ → ℕ) (N L : ℕ) (c : Created) (h : Tagged K U N L c) (f
   standing-good =
       record {
         fits = standing-fits;
-        once = h .good .once;
         C = h .good .C;
         vars = h .good .vars;
         owns = λ n. omega (arith, codes-append n (c .work .tableau .symbols) temporary, h .good .owns n);
@@ -253,7 +252,6 @@ module _ (K U : ℕ → ℕ) (N L : ℕ) (c : Created) (h : Tagged K U N L c) (f
           record {
             good = record {
               fits = fits-plain (g .fits);
-              once = g .once;
               C = g .C;
               vars = g .vars;
               owns = g .owns;

@@ -127,7 +127,6 @@ append-built K U N b s e h =
       good =
           record {
             fits = append-fits s (b .work) (h .good .fits) (h .plain) e;
-            once = unfold appendSymbol withTableau in h .good .once;
             C = h .good .C;
             vars = unfold appendSymbol withTableau in h .good .vars;
             owns = λ n. unfold appendSymbol withTableau in omega (arith, codes-append n (b .work .tableau .symbols) s, h .good .owns n);
@@ -173,7 +172,6 @@ addVariable-built K U N n b z h =
       good =
           record {
             fits = append-fits s (b .work) (h .good .fits) (h .plain) refl;
-            once = unfold appendSymbol withTableau in h .good .once;
             C = λ m. same m (code s) + h .good .C m;
             vars = unfold appendSymbol withTableau in new-vars n s (h .good .C) U (b .work .changes .variables) (unfold isExternal in refl) z (h .good .vars);
             owns = λ m. unfold appendSymbol withTableau in omega (arith, codes-append m (b .work .tableau .symbols) s, h .good .owns m);

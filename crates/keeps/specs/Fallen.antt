@@ -174,7 +174,6 @@ pub purge-good : (s : Symbol) (K L U : ℕ → ℕ) (w : Work) → Good K U w �
 purge-good s K L U w g plain h =
     record {
       fits = purge-fits (s .id) w (g .fits) plain;
-      once = unfold purge withTableau in g .once;
       C = g .C;
       vars = unfold purge withTableau in g .vars;
       owns = unfold purge withTableau in purge-owns s (λ n. g .C n + L n) (w .tableau .symbols) (g .fits .up) (λ n. omega (arith, g .owns n, h n));
@@ -224,11 +223,10 @@ dropUse-good t K U W w g plain h = go (fallen .gone) refl
 
     go : (o : Option Symbol) → fallen .gone ≡ o → Good K W (after o) × Shrunk w (after o)
     go none e =
-        (record { fits = g .fits; once = g .once; C = λ n. total (varCode n) (fallen .variables); vars = vars; owns = λ n. omega (arith, rw e at (left n)) }, shrunk)
+        (record { fits = g .fits; C = λ n. total (varCode n) (fallen .variables); vars = vars; owns = λ n. omega (arith, rw e at (left n)) }, shrunk)
     go (some s) e = (
       record {
         fits = purge-fits (s .id) v (g .fits) plain;
-        once = unfold purge withTableau in g .once;
         C = λ n. total (varCode n) (fallen .variables);
         vars = unfold purge withTableau in vars;
         owns = unfold purge withTableau in purge-owns s (λ n. total (varCode n) (fallen .variables) + K n) (w .tableau .symbols) (g .fits .up) (λ n. rw e at (left n));

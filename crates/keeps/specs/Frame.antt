@@ -1,36 +1,28 @@
--- What a pivot and its like leave alone: symbols, next id, variables but for their flags, the absence of an artificial objective; and the infeasible list stays distinct. Assumes nothing.
+-- What a pivot and its like leave alone: symbols, next id, variables but for their flags, the absence of an artificial objective. Assumes nothing.
 use mathlib.Core.Path.{_≡_, refl, sym, ap, _∙_}
 use mathlib.Core.List.{List, [], _∷_}
 use mathlib.Core.Option.{Option, none, some}
 use mathlib.Core.Bool.{Bool, true, false, cond, _&&_}
-use Prim.Native.Nat.{ℕ, suc, _+_, _≤_}
-use native.Mathlib.Omega.{arith}
-use lib.Dec.{eqb}
+use Prim.Native.Nat.{ℕ, suc}
 use lib.ListN.{length}
 use lib.Ieee.{ne}
-use Rattle.steps.specs.Number.{zero64, belowZero, Mark}
-use Rattle.steps.specs.Symbol.{Symbol, isExternal, isRestricted}
+use Rattle.steps.specs.Number.{zero64, Mark}
+use Rattle.steps.specs.Symbol.{Symbol, isExternal}
 use Rattle.steps.specs.Row.{Row, Written, solveForSymbols}
 use Rattle.steps.specs.State.{Basic, Variable, Changes}
-use Rattle.steps.specs.Work.{Work, withTableau, withRows, withObjective, withInfeasible, withChanges, withArtificial, marking, findRow, dropRow, keepRow}
+use Rattle.steps.specs.Work.{Work, withTableau, withRows, withObjective, withChanges, withArtificial, marking, findRow, dropRow, keepRow}
 use Rattle.steps.specs.Changes.{withFlag, clearChanged, flagSymbol, varChanged, allChanged, note}
-use Rattle.steps.specs.Substitute.{substituteInRows, rowsOf, notedOf, without, push, pushBelow, substitute, enterBasis, pivot}
-use Rattle.keeps.specs.Lists.{Same?, is, isnt, same, same?, times, times-append}
+use Rattle.steps.specs.Substitute.{substituteInRows, rowsOf, notedOf, substitute, enterBasis, pivot}
 use Rattle.keeps.specs.Keys.{rowId, keepRow-is, keep-length, dropRow-is, drop-length, Row?, no-row, a-row, row?}
-
--- each number at most once
-abbrev pub Once : List ℕ → Type 0
-Once l = (n : ℕ) → times n l ≤ 1
 
 pub record Frame (w v : Work) : Type 0 where
   pub symbols : v .tableau .symbols ≡ w .tableau .symbols
   pub next : v .tableau .nextId ≡ w .tableau .nextId
   pub variables : clearChanged (v .changes .variables) ≡ clearChanged (w .changes .variables)
-  pub list : Once (w .tableau .infeasible) → Once (v .tableau .infeasible)
   pub plain : w .artificial ≡ none → v .artificial ≡ none
 
 pub frame-refl : (w : Work) → Frame w w
-frame-refl w = record { symbols = refl; next = refl; variables = refl; list = λ h. h; plain = λ e. e }
+frame-refl w = record { symbols = refl; next = refl; variables = refl; plain = λ e. e }
 
 pub frame-trans : {w v u : Work} → Frame w v → Frame v u → Frame w u
 frame-trans f g =
@@ -38,7 +30,6 @@ frame-trans f g =
       symbols = g .symbols ∙ f .symbols;
       next = g .next ∙ f .next;
       variables = g .variables ∙ f .variables;
-      list = λ h. g .list (f .list h);
       plain = λ e. g .plain (f .plain e);
     }
 
@@ -67,67 +58,29 @@ unfolding allChanged
 clear-all [] c = refl
 clear-all (s ∷ ss) c = clear-all ss (varChanged s c) ∙ clear-changed s c
 
--- ---- the infeasible list
-
-without-gone : (s : ℕ) (l : List ℕ) → times s l ≤ 1 → times s (without s l) ≡ 0
-unfolding without times
-without-gone s [] h = refl
-without-gone s (x ∷ l) h = go (same? s x) (without-gone s l)
-  where
-    go : Same? s x → (times s l ≤ 1 → times s (without s l) ≡ 0) → times s (elim (eqb s x) [ true ↦ l | false ↦ x ∷ without s l ]) ≡ 0
-    go (is a b c) ih = rw a (omega arith)
-    go (isnt a b c) ih = rw a (omega (arith, ih (omega arith)))
-
-without-less : (n s : ℕ) (l : List ℕ) → times n (without s l) ≤ times n l
-unfolding without times
-without-less n s [] = omega arith
-without-less n s (x ∷ l) = go (eqb s x) (without-less n s l)
-  where
-    go : (t : Bool) → times n (without s l) ≤ times n l → times n (elim t [ true ↦ l | false ↦ x ∷ without s l ]) ≤ same n x + times n l
-    go true ih = omega arith
-    go false ih = omega arith
-
-pub push-once : (s : ℕ) (l : List ℕ) → Once l → Once (push l s)
-unfolding push times
-push-once s l h n = rw times-append (go (same? n s))
-  where
-    go : Same? n s → times n (without s l) + (same n s + 0) ≤ 1
-    go (is a b c) = let z : times n (without s l) ≡ 0 = rw b (without-gone s l (h s)) in omega arith
-    go (isnt a b c) = omega (arith, without-less n s l, h n)
-
-pub pushBelow-once : (bs : List Basic) (l : List ℕ) → Once l → Once (pushBelow bs l)
-unfolding pushBelow
-pushBelow-once [] l h = h
-pushBelow-once (b ∷ bs) l h = pushBelow-once bs _ (go (isRestricted (b .symbol) && belowZero (b .row .constant)))
-  where
-    go : (t : Bool) → Once (cond t (push l (b .symbol .id)) l)
-    go true = push-once (b .symbol .id) l h
-    go false = h
-
 -- ---- substitute, enter, pivot
 
 pub substitute-frame : (s : ℕ) (r : Row) (w : Work) → Frame w (substitute s r w)
-unfolding substitute marking withArtificial withChanges withInfeasible withObjective withRows withTableau
+unfolding substitute marking withArtificial withChanges withObjective withRows withTableau
 substitute-frame s r w =
     record {
       symbols = refl;
       next = refl;
       variables = clear-all (notedOf (substituteInRows s (w .tableau .symbols) r (w .tableau .rows))) (w .changes);
-      list = λ h. pushBelow-once (rowsOf (substituteInRows s (w .tableau .symbols) r (w .tableau .rows))) (w .tableau .infeasible) h;
       plain = λ e. rw e;
     }
 
 pub note-frame : (s : ℕ) (w : Work) → Frame w (note s w)
 unfolding note withChanges
-note-frame s w = record { symbols = refl; next = refl; variables = clear-changed s (w .changes); list = λ h. h; plain = λ e. e }
+note-frame s w = record { symbols = refl; next = refl; variables = clear-changed s (w .changes); plain = λ e. e }
 
 pub rows-frame : (bs : List Basic) (w : Work) → Frame w (withRows bs w)
 unfolding withRows withTableau
-rows-frame bs w = record { symbols = refl; next = refl; variables = refl; list = λ h. h; plain = λ e. e }
+rows-frame bs w = record { symbols = refl; next = refl; variables = refl; plain = λ e. e }
 
 pub mark-frame : (m : Mark) (w : Work) → Frame w (marking m w)
 unfolding marking
-mark-frame m w = record { symbols = refl; next = refl; variables = refl; list = λ h. h; plain = λ e. e }
+mark-frame m w = record { symbols = refl; next = refl; variables = refl; plain = λ e. e }
 
 pub enter-frame : (s : Symbol) (r : Row) (w : Work) → Frame w (enterBasis s r w)
 unfolding enterBasis
@@ -146,7 +99,7 @@ rowsOf-length s xs r [] = refl
 rowsOf-length s xs r (b ∷ bs) = ap suc (rowsOf-length s xs r bs)
 
 pub enter-count : (s : Symbol) (r : Row) (w : Work) → length (enterBasis s r w .tableau .rows) ≡ suc (length (w .tableau .rows))
-unfolding enterBasis substitute marking withArtificial withChanges withInfeasible withObjective withRows withTableau note
+unfolding enterBasis substitute marking withArtificial withChanges withObjective withRows withTableau note
 enter-count s r w = go (isExternal s && ne (r .constant) zero64)
   where
     v : Work

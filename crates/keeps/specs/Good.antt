@@ -1,29 +1,23 @@
 -- The work of a call on a state that reads: the tableau's shape, and the variables, whose symbols with K's are the live ones and whose uses are U. Assumes nothing.
 use mathlib.Core.Path.{_≡_, refl, sym, ap, ap₂, _∙_}
 use mathlib.Core.List.{List, [], _∷_, map}
-use mathlib.Core.Option.{Option, none, some}
-use mathlib.Core.Bool.{Bool, true, false, cond, _||_, true≢false}
+use mathlib.Core.Bool.{true, false, cond, _||_}
 use Prim.Native.Nat.{ℕ, _+_, _≤_}
-use native.Mathlib.Omega.{arith}
 use lib.Dec.{eqb}
 use lib.ListN.{length, length-map}
 use lib.Ieee.{isNan}
-use Rattle.steps.specs.Number.{isFinite, belowZero, allWhole}
+use Rattle.steps.specs.Number.{isFinite, allWhole}
 use Rattle.steps.specs.Symbol.{Symbol, isExternal}
-use Rattle.steps.specs.Row.{Row}
-use Rattle.steps.specs.State.{Basic, Variable, Constraint, Edit, State}
-use Rattle.steps.specs.Work.{Work, findRow}
+use Rattle.steps.specs.State.{Variable, Constraint, Edit, State}
+use Rattle.steps.specs.Work.{Work}
 use Rattle.steps.specs.Changes.{withFlag, clearChanged}
-use Rattle.steps.specs.Optimise.{isBelow}
-use Rattle.steps.specs.Calls.{begin, stillBelow, finish}
+use Rattle.steps.specs.Calls.{begin, finish}
 use Rattle.steps.specs.Readable.{code, constraintFinite, editFinite, tagKinds, editKinds}
-use Rattle.keeps.specs.Lists.{All, all-to, Same?, is, isnt, same, same?, total, times, Up}
-use Rattle.keeps.specs.Keys.{rowId, find-all, find-some, Row?, no-row, a-row, row?}
-use Rattle.keeps.specs.Along.{ids, Mem}
+use Rattle.keeps.specs.Lists.{All, all-to, same, total, times, Up}
 use Rattle.keeps.specs.Cells.{Fine}
 use Rattle.keeps.specs.Fits.{FitsW, fits-mark, fits-plain, all-map}
-use Rattle.keeps.specs.Frame.{Once, Frame}
-use Rattle.keeps.specs.Codes.{codes, mem-ids}
+use Rattle.keeps.specs.Frame.{Frame}
+use Rattle.keeps.specs.Codes.{codes}
 use Rattle.keeps.specs.Uses.{varNumber, usesOf}
 use Rattle.keeps.specs.Reads.{Reads, unmap, conNumber, editNumber, varCode, tagCode, usedBy}
 
@@ -95,7 +89,6 @@ clear-length vs us e = sym (length-map us (withFlag false)) ∙ ap length e ∙ 
 -- the live symbols are the variables', and those that K counts; the uses are those that U counts
 pub record Good (K U : ℕ → ℕ) (w : Work) : Type 0 where
   pub fits : FitsW w
-  pub once : Once (w .tableau .infeasible)
   pub C : ℕ → ℕ
   pub vars : Vars C U (w .changes .variables)
   pub owns : (n : ℕ) → C n + K n ≡ times n (codes (w .tableau .symbols))
@@ -104,7 +97,6 @@ pub good-frame : (K U : ℕ → ℕ) (w v : Work) → Good K U w → FitsW v →
 good-frame K U w v g f h =
     record {
       fits = f;
-      once = h .list (g .once);
       C = g .C;
       vars = vars-flags (g .C) U (w .changes .variables) (v .changes .variables) (h .variables) (g .vars);
       owns = λ n. g .owns n ∙ ap (λ (xs : List Symbol). times n (codes xs)) (sym (h .symbols));
@@ -114,7 +106,6 @@ pub good-to : (K L U W : ℕ → ℕ) (w : Work) → ((n : ℕ) → K n ≡ L n)
 good-to K L U W w k u g =
     record {
       fits = g .fits;
-      once = g .once;
       C = g .C;
       vars = record { up = g .vars .up; symbols = g .vars .symbols; uses = λ n. g .vars .uses n ∙ u n; olds = g .vars .olds; externals = g .vars .externals };
       owns = λ n. ap (λ (a : ℕ). g .C n + a) (sym (k n)) ∙ g .owns n;
@@ -130,48 +121,12 @@ unfolding begin
 begin-good s r =
     record {
       fits = fits-mark (r .fits) _ (λ f. tt);
-      once = r .once;
       C = λ n. total (varCode n) (s .changes .variables);
       vars = record { up = r .variables-up; symbols = λ n. refl; uses = r .uses; olds = r .olds; externals = r .externals };
       owns = r .owns;
     }
 
--- ---- the end: "list entries whose row is absent or not below 0 go"
-
-still-less : (bs : List Basic) (l : List ℕ) (n : ℕ) → times n (stillBelow bs l) ≤ times n l
-unfolding stillBelow times
-still-less bs [] n = omega arith
-still-less bs (x ∷ l) n = go (isBelow x bs) (still-less bs l n)
-  where
-    go : (t : Bool) → times n (stillBelow bs l) ≤ times n l → times n (elim t [ true ↦ x ∷ stillBelow bs l | false ↦ stillBelow bs l ]) ≤ same n x + times n l
-    go true ih = omega arith
-    go false ih = omega arith
-
-below-row : (xs : List Symbol) (bs : List Basic) → All (λ (b : Basic). Mem (b .symbol) xs) bs → (n : ℕ) → isBelow n bs ≡ true → 1 ≤ times n (ids xs)
-unfolding isBelow
-below-row xs bs h n e = go (findRow n bs) (row? n bs) e
-  where
-    below : Option Row → Bool
-    below o = elim o [ none ↦ false | some r ↦ belowZero (r .constant) ]
-
-    go : (o : Option Row) → Row? n bs o → below o ≡ true → 1 ≤ times n (ids xs)
-    go o (no-row q) e = absurd (true≢false (sym e))
-    go o (a-row b q) e = rw (find-some rowId n bs b q) (mem-ids (b .symbol) xs (find-all rowId (λ (b : Basic). Mem (b .symbol) xs) n bs b q h))
-
-still-listed : (xs : List Symbol) (bs : List Basic) → All (λ (b : Basic). Mem (b .symbol) xs) bs → (l : List ℕ) (n : ℕ) → 1 ≤ times n (stillBelow bs l)
-    → 1 ≤ times n (ids xs)
-unfolding stillBelow times
-still-listed xs bs h [] n k = absurd (omega arith)
-still-listed xs bs h (x ∷ l) n k = go (isBelow x bs) refl k (still-listed xs bs h l n)
-  where
-    go : (t : Bool) → isBelow x bs ≡ t → 1 ≤ times n (elim t [ true ↦ x ∷ stillBelow bs l | false ↦ stillBelow bs l ])
-        → (1 ≤ times n (stillBelow bs l) → 1 ≤ times n (ids xs)) → 1 ≤ times n (ids xs)
-    go false e k ih = ih k
-    go true e k ih = by (same? n x)
-      where
-        by : Same? n x → 1 ≤ times n (ids xs)
-        by (is a b c) = rw b (below-row xs bs h x e)
-        by (isnt a b c) = ih (omega arith)
+-- ---- the end
 
 -- what the constraints and edits of a state must be
 pub record Stored (cs : List Constraint) (es : List Edit) : Type 0 where
@@ -209,8 +164,6 @@ finish-reads w cs es g m t few rows =
       constraints-up = t .constraints-up;
       edits-up = t .edits-up;
       fits = fits-mark (fits-plain (g .fits)) allWhole (λ _. m);
-      once = λ n. omega (arith, still-less (w .tableau .rows) (w .tableau .infeasible) n, g .once n);
-      listed = still-listed (w .tableau .symbols) (w .tableau .rows) (g .fits .live) (w .tableau .infeasible);
       few-rows = rows;
       owns = λ n. ap (λ (k : ℕ). k + tagsBy n cs es) (g .vars .symbols n) ∙ g .owns n;
       uses = g .vars .uses;

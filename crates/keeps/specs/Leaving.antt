@@ -11,7 +11,7 @@ use Rattle.steps.specs.Number.{zero64, objectiveBound, _/₆₄_, belowZero, Ma
 use Rattle.steps.specs.Symbol.{Symbol, isExternal, isRestricted, isDummy, isError, holds, coefficientFor}
 use Rattle.steps.specs.Row.{Row, Cell, Written, cellValues, cellMarks, insertSymbol, insertCells, solveForSymbols}
 use Rattle.steps.specs.State.{Basic, Tag}
-use Rattle.steps.specs.Work.{Work, Outcome, refused, going, _>>=_, refuse, checkFinite, withTableau, withRows, withObjective, withInfeasible, withChanges, withArtificial, marking, findRow, dropRow, keepRow}
+use Rattle.steps.specs.Work.{Work, Outcome, refused, going, _>>=_, refuse, checkFinite, withTableau, withRows, withObjective, withChanges, withArtificial, marking, findRow, dropRow, keepRow}
 use Rattle.steps.specs.Changes.{note}
 use Rattle.steps.specs.CreateRow.{insertInObjective}
 use Rattle.steps.specs.Substitute.{substitute, enterBasis, pivot}
@@ -74,7 +74,7 @@ effect s strength w f = go (isError s)
     by o (no-row q) =
         record {
           fits = symbol-objective (s .id) (neg strength) w f (find-none rowId (s .id) (w .tableau .rows) q);
-          frame = unfold insertInObjective marking withObjective withTableau in record { symbols = refl; next = refl; variables = refl; list = λ h. h; plain = λ e. e };
+          frame = unfold insertInObjective marking withObjective withTableau in record { symbols = refl; next = refl; variables = refl; plain = λ e. e };
           rows = unfold insertInObjective marking withObjective withTableau in refl;
         }
     by o (a-row b q) =
@@ -84,7 +84,7 @@ effect s strength w f = go (isError s)
               (find-all rowId (λ (b : Basic). RowOk (IsBasic (w .tableau .rows)) (Fine (w .mark)) (w .tableau .symbols) (b .row)) (s .id) (w .tableau .rows) b q
               (f .rows));
           frame =
-              unfold insertRowInObjective marking withObjective withTableau in record { symbols = refl; next = refl; variables = refl; list = λ h. h; plain = λ e. e };
+              unfold insertRowInObjective marking withObjective withTableau in record { symbols = refl; next = refl; variables = refl; plain = λ e. e };
           rows = unfold insertRowInObjective marking withObjective withTableau in refl;
         }
 
@@ -182,7 +182,7 @@ leaving-all P s w h l e =
 
 -- what a pivot enters is basic
 enter-basic : (s : Symbol) (r : Row) (w : Work) → 1 ≤ times (s .id) (bids (enterBasis s r w .tableau .rows))
-unfolding enterBasis substitute marking withArtificial withChanges withInfeasible withObjective withRows withTableau note
+unfolding enterBasis substitute marking withArtificial withChanges withObjective withRows withTableau note
 enter-basic s r w = go (isExternal s && ne (r .constant) zero64)
   where
     v : Work

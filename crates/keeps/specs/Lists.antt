@@ -1,7 +1,7 @@
 -- The reading test's Booleans as facts, lists as counts of their members, and lists kept by ascending number. Assumes nothing.
 use mathlib.Core.Path.{_≡_, refl, sym, ap, _∙_, subst}
 use mathlib.Core.Logic.{_≢_}
-use mathlib.Core.List.{List, [], _∷_, _++_, map, reverse, reverseAux}
+use mathlib.Core.List.{List, [], _∷_, _++_, map}
 use mathlib.Core.Option.{none, some, Option·none-ne-some, Option·some-injective}
 use mathlib.Core.Bool.{Bool, true, false, not, _&&_, _||_, cond, true≢false}
 use Prim.Native.Nat.{ℕ, zero, suc, _+_, _≤_, _<_}
@@ -226,13 +226,3 @@ up-once i n (x ∷ xs) u = go (same? n x) (up-once (suc x) n xs (u .1))
     go : Same? n x → times n xs ≤ 1 → same n x + times n xs ≤ 1
     go (is a b c) ih = let z : times n xs ≡ 0 = up-none (suc x) n xs (omega arith) (u .1) in omega arith
     go (isnt a b c) ih = omega arith
-
--- ---- reversed
-reverseAux-times : (n : ℕ) (xs ys : List ℕ) → times n (reverseAux xs ys) ≡ times n xs + times n ys
-unfolding times
-reverseAux-times n [] ys = omega arith
-reverseAux-times n (x ∷ xs) ys = omega (arith, reverseAux-times n xs (x ∷ ys))
-
-pub reverse-times : (n : ℕ) (xs : List ℕ) → times n (reverse xs) ≡ times n xs
-unfolding times
-reverse-times n xs = omega (arith, reverseAux-times n xs [])

@@ -27,7 +27,7 @@ others s = countsInRange s && numbersAscend s && symbolsDistinct s && rowsInRang
 fromZero : State
 fromZero =
     record {
-      tableau = record { symbols = []; nextId = 0; rows = []; objective = []; infeasible = [] };
+      tableau = record { symbols = []; nextId = 0; rows = []; objective = [] };
       changes = record { variables = []; shouldClear = false };
       constraints = [];
       edits = [];
@@ -43,7 +43,7 @@ next-above-zero = (refl, refl, refl)
 stale : State
 stale =
     record {
-      tableau = record { symbols = record { id = 1; kind = Dummy } ∷ []; nextId = 2; rows = []; objective = zero64 ∷ []; infeasible = [] };
+      tableau = record { symbols = record { id = 1; kind = Dummy } ∷ []; nextId = 2; rows = []; objective = zero64 ∷ [] };
       changes = record { variables = []; shouldClear = false };
       constraints = record { number = 1; strength = required; terms = x ∷ []; tag = record { marker = record { id = 1; kind = Dummy }; other = none } } ∷ [];
       edits = [];

@@ -1,22 +1,20 @@
 -- The two passes: from a tableau that reads to one that does, with the same symbols, variables and number of rows. Assumes nothing.
 use mathlib.Core.Path.{_≡_, refl, _∙_, subst}
 use mathlib.Core.Logic.{inl, inr}
-use mathlib.Core.List.{List, [], _∷_, reverse}
+use mathlib.Core.List.{List, [], _∷_}
 use mathlib.Core.Option.{Option, none, some}
 use mathlib.Core.Bool.{Bool, true, false, not, cond, _&&_}
-use Prim.Native.Nat.{ℕ, zero, suc, _+_, _≤_}
-use native.Mathlib.Omega.{arith}
+use Prim.Native.Nat.{ℕ, zero, suc}
 use lib.ListN.{length}
 use lib.Ieee.{Float, lt}
 use Rattle.steps.specs.Number.{zero64, _/₆₄_, belowZero, Mark, allWhole, notWhole, notFinite}
-use Rattle.steps.specs.Symbol.{Symbol, isDummy, firstSymbol}
+use Rattle.steps.specs.Symbol.{Symbol, isDummy, isRestricted, firstSymbol}
 use Rattle.steps.specs.Row.{Row}
 use Rattle.steps.specs.State.{Basic}
-use Rattle.steps.specs.Work.{Work, Outcome, refused, going, _>>=_, refuse, checkFinite, withTableau, withInfeasible, countPivot, findRow}
+use Rattle.steps.specs.Work.{Work, Outcome, refused, going, _>>=_, refuse, checkFinite, countPivot}
 use Rattle.steps.specs.Substitute.{pivot}
-use Rattle.steps.specs.Optimise.{Candidate, better, smallestFrom, smallestRatio, Goal, theObjective, theArtificial, goalCells, getEnteringSymbol, getLeavingRow, Choice, ended, stuck, pivotOn, choosePivot, countedPivot, optimise, isBelow, Popped, allPopped, popped, popBelow, dualRatios, getDualEnteringSymbol, DualChoice, feasible, noEntering, dualPivotOn, chooseDualPivot, countedDualPivot, dualOptimise}
-use Rattle.keeps.specs.Lists.{All, same, times, none-of, right, none≢some, some-injective, reverse-times}
-use Rattle.keeps.specs.Keys.{rowId, find-all, Row?, no-row, a-row, row?}
+use Rattle.steps.specs.Optimise.{Candidate, better, smallestFrom, smallestRatio, Goal, theObjective, theArtificial, goalCells, getEnteringSymbol, getLeavingRow, Choice, ended, stuck, pivotOn, choosePivot, countedPivot, optimise, getDualLeavingRow, dualRatios, getDualEnteringSymbol, chooseDualPivot, dualOptimise}
+use Rattle.keeps.specs.Lists.{All, times, none-of, right, none≢some, some-injective}
 use Rattle.keeps.specs.Along.{Along, Mem, Chosen, first-chosen}
 use Rattle.keeps.specs.Cells.{Ok, Fine, below-held, above-held}
 use Rattle.keeps.specs.RowOps.{RowOk}
@@ -79,7 +77,7 @@ counted-ends o w h =
     ends-bind (After w) (After w) o (λ v. going (countPivot v)) h (λ v a. record { fits = a .fits; fine = a .fine; frame = again v (a .frame); count = a .count })
   where
     again : (v : Work) → Frame w v → Frame w (countPivot v)
-    again v f = record { symbols = f .symbols; next = f .next; variables = f .variables; list = f .list; plain = f .plain }
+    again v f = record { symbols = f .symbols; next = f .next; variables = f .variables; plain = f .plain }
 
 -- ---- the optimise pass
 
@@ -105,7 +103,7 @@ entering-free theArtificial w f e h = go (w .artificial) (f .artificial) h
 
 data Picked (w : Work) : Choice → Type 0 where
   at-end : Picked w ended
-  no-leaving : Picked w stuck
+  stays : Picked w stuck
   picked : (l e : Symbol) → Free w e → Picked w (pivotOn l e)
 
 pick : (g : Goal) (w : Work) → FitsW w → Picked w (choosePivot g w)
@@ -120,26 +118,30 @@ pick g w f = go (getEnteringSymbol g w) refl
     go (some e) q = by (getLeavingRow e w)
       where
         by : (l : Option Symbol) → Picked w (choice e l)
-        by none = no-leaving
+        by none = stays
         by (some l) = picked l e (entering-free g w f e q)
 
+-- a turn of either pass, with what it makes of the next work, and the number by which it refuses where it is stuck
+turn-ends : (n : ℕ) (w : Work) (on : Work → Outcome Work) → FitsW w → Fine (w .mark) → (c : Choice) → Picked w c → ((v : Work) → After w v → Ends (After v) (on v))
+    → Ends (After w) (elim c [ ended ↦ going w | stuck ↦ refuse n w | pivotOn l e ↦ countedPivot l e w >>= on ])
+unfolding refuse countedPivot
+turn-ends n w on f m c at-end ih = after-refl w f m
+turn-ends n w on f m c stays ih = tt
+turn-ends n w on f m c (picked l e h) ih =
+    ends-bind (After w) (After w) (countedPivot l e w) on (counted-ends (checkFinite (pivot (l .id) e w)) w (pivot-ends (l .id) e w f h))
+    (λ v a. ends-to (After v) (After w) (on v) (ih v a) (λ u b. after-trans a b))
+
+-- a turn with no budget left
+last-ends : (n : ℕ) (w : Work) → FitsW w → Fine (w .mark) → (c : Choice) → Ends (After w) (elim c [ ended ↦ going w | stuck ↦ refuse n w | pivotOn l e ↦ refuse 14 w ])
+unfolding refuse
+last-ends n w f m ended = after-refl w f m
+last-ends n w f m stuck = tt
+last-ends n w f m (pivotOn l e) = tt
+
 pub optimise-ends : (left : ℕ) (g : Goal) (w : Work) → FitsW w → Fine (w .mark) → Ends (After w) (optimise left g w)
-unfolding optimise refuse countedPivot
-optimise-ends zero g w f m = go (choosePivot g w)
-  where
-    go : (c : Choice) → Ends (After w) (elim c [ ended ↦ going w | stuck ↦ refused 15 (w .pivots) (w .mark) | pivotOn l e ↦ refused 14 (w .pivots) (w .mark) ])
-    go ended = after-refl w f m
-    go stuck = tt
-    go (pivotOn l e) = tt
-optimise-ends (suc left) g w f m = go (choosePivot g w) (pick g w f) (λ v a. optimise-ends left g v (a .fits) (a .fine))
-  where
-    go : (c : Choice) → Picked w c → ((v : Work) → After w v → Ends (After v) (optimise left g v))
-        → Ends (After w) (elim c [ ended ↦ going w | stuck ↦ refused 15 (w .pivots) (w .mark) | pivotOn l e ↦ countedPivot l e w >>= λ v. optimise left g v ])
-    go c at-end ih = after-refl w f m
-    go c no-leaving ih = tt
-    go c (picked l e h) ih =
-        ends-bind (After w) (After w) (countedPivot l e w) (λ v. optimise left g v) (counted-ends (checkFinite (pivot (l .id) e w)) w (pivot-ends (l .id) e w f h))
-        (λ v a. ends-to (After v) (After w) (optimise left g v) (ih v a) (λ u b. after-trans a b))
+unfolding optimise
+optimise-ends zero g w f m = last-ends 15 w f m (choosePivot g w)
+optimise-ends (suc left) g w f m = turn-ends 15 w (λ v. optimise left g v) f m (choosePivot g w) (pick g w f) (λ v a. optimise-ends left g v (a .fits) (a .fine))
 
 -- ---- ratio tests: the winner is among the candidates
 
@@ -182,97 +184,42 @@ dual-free P Q (x ∷ xs) f (c ∷ cs) (o ∷ os) h = go (not (isDummy x) && lt z
     go true e ih = (f x c (inl refl) (right (not (isDummy x)) (lt zero64 c) e) (h .0), ih)
     go false e ih = ih
 
-pub dual-entering : (s : ℕ) (w : Work) → FitsW w → (e : Symbol) → getDualEnteringSymbol s w ≡ some e → Free w e
+-- what holds of all rows holds of the leaving one
+pub dual-leaving : (P : Basic → Type 0) (bs : List Basic) → All P bs → (b : Basic) → getDualLeavingRow bs ≡ some b → P b
+unfolding getDualLeavingRow
+dual-leaving P [] h b e = absurd (none≢some e)
+dual-leaving P (x ∷ bs) h b e = go (isRestricted (x .symbol) && belowZero (x .row .constant)) e (dual-leaving P bs (h .1) b)
+  where
+    go : (t : Bool) → elim t [ true ↦ some x | false ↦ getDualLeavingRow bs ] ≡ some b → (getDualLeavingRow bs ≡ some b → P b) → P b
+    go true q ih = subst P (some-injective q) (h .0)
+    go false q ih = ih q
+
+-- of a row that reads
+pub dual-entering : (r : Row) (w : Work) → FitsW w → RowOk (IsBasic (w .tableau .rows)) (Fine (w .mark)) (w .tableau .symbols) r → (e : Symbol)
+    → getDualEnteringSymbol r w ≡ some e → Free w e
 unfolding getDualEnteringSymbol
-dual-entering s w f e h = go (findRow s (w .tableau .rows)) (row? s (w .tableau .rows)) h
-  where
-    winner : Option Row → Option Symbol
-    winner o = elim o [ none ↦ none | some r ↦ smallestRatio (dualRatios (w .tableau .symbols) (r .cells) (w .tableau .objective)) ]
+dual-entering r w f k e h =
+    smallest-all (Free w) (dualRatios (w .tableau .symbols) (r .cells) (w .tableau .objective))
+    (dual-free (Free w) (Ok (IsBasic (w .tableau .rows)) (Fine (w .mark))) (w .tableau .symbols)
+    (λ x c m l k. record { live = m; free = none-of _ (λ d. above-held c l (k .0 d)) }) (r .cells) (w .tableau .objective) (k .1)) e h
 
-    go : (o : Option Row) → Row? s (w .tableau .rows) o → winner o ≡ some e → Free w e
-    go o (no-row q) h = absurd (none≢some h)
-    go o (a-row b q) h =
-        smallest-all (Free w) (dualRatios (w .tableau .symbols) (b .row .cells) (w .tableau .objective))
-        (dual-free (Free w) (Ok (IsBasic (w .tableau .rows)) (Fine (w .mark))) (w .tableau .symbols)
-        (λ x c m l k. record { live = m; free = none-of _ (λ d. above-held c l (k .0 d)) }) (b .row .cells) (w .tableau .objective)
-        (find-all rowId (λ (b : Basic). RowOk (IsBasic (w .tableau .rows)) (Fine (w .mark)) (w .tableau .symbols) (b .row)) s (w .tableau .rows) b q (f .rows) .1)) e h
-
-pop-less : (bs : List Basic) (l : List ℕ) (s : ℕ) (rest : List ℕ) → popBelow bs l ≡ popped s rest → (n : ℕ) → times n rest ≤ times n l
-unfolding popBelow times
-pop-less bs [] s rest e n = let z : _≡_ {A = ℕ} 0 1 = cc in omega arith
-pop-less bs (x ∷ l) s rest e n = go (isBelow x bs) e (λ q. pop-less bs l s rest q n)
-  where
-    go : (t : Bool) → elim t [ true ↦ popped x l | false ↦ popBelow bs l ] ≡ popped s rest → (popBelow bs l ≡ popped s rest → times n rest ≤ times n l)
-        → times n rest ≤ same n x + times n l
-    go true q ih = let z : l ≡ rest = cc in rw (← z) (omega arith)
-    go false q ih = omega (arith, ih q)
-
-data DualPicked (w : Work) : DualChoice → Type 0 where
-  all-above : DualPicked w feasible
-  no-symbol : DualPicked w noEntering
-  dual-picked : (s : ℕ) (l : List ℕ) (e : Symbol) → Free w e → ((n : ℕ) → times n l ≤ times n (w .tableau .infeasible)) → DualPicked w (dualPivotOn s l e)
-
-dual-pick : (w : Work) → FitsW w → DualPicked w (chooseDualPivot w)
+dual-pick : (w : Work) → FitsW w → Picked w (chooseDualPivot w)
 unfolding chooseDualPivot
-dual-pick w f = go (popBelow (w .tableau .rows) (reverse (w .tableau .infeasible))) refl
+dual-pick w f = go (getDualLeavingRow (w .tableau .rows)) refl
   where
-    choice : ℕ → List ℕ → Option Symbol → DualChoice
-    choice s rest o = elim o [ none ↦ noEntering | some e ↦ dualPivotOn s (reverse rest) e ]
+    choice : Basic → Option Symbol → Choice
+    choice b o = elim o [ none ↦ stuck | some entering ↦ pivotOn (b .symbol) entering ]
 
-    go : (p : Popped) → popBelow (w .tableau .rows) (reverse (w .tableau .infeasible)) ≡ p
-        → DualPicked w (elim p [ allPopped ↦ feasible | popped s rest ↦ choice s rest (getDualEnteringSymbol s w) ])
-    go allPopped q = all-above
-    go (popped s rest) q = by (getDualEnteringSymbol s w) refl
+    go : (t : Option Basic) → getDualLeavingRow (w .tableau .rows) ≡ t
+        → Picked w (elim t [ none ↦ ended | some b ↦ choice b (getDualEnteringSymbol (b .row) w) ])
+    go none q = at-end
+    go (some b) q = by (getDualEnteringSymbol (b .row) w) refl
       where
-        by : (o : Option Symbol) → getDualEnteringSymbol s w ≡ o → DualPicked w (choice s rest o)
-        by none r = no-symbol
-        by (some e) r =
-            dual-picked s (reverse rest) e (dual-entering s w f e r)
-            (λ n. omega (
-              arith,
-              reverse-times n rest,
-              reverse-times n (w .tableau .infeasible),
-              pop-less (w .tableau .rows)
-                  (reverse (w .tableau .infeasible)) s rest q n,
-            ))
-
-list-frame : (l : List ℕ) (w : Work) → ((n : ℕ) → times n l ≤ times n (w .tableau .infeasible)) → Frame w (withInfeasible l w)
-unfolding withInfeasible withTableau
-list-frame l w h = record { symbols = refl; next = refl; variables = refl; list = λ o n. omega (arith, h n, o n); plain = λ e. e }
-
--- all are popped
-emptied : (w : Work) → FitsW w → Fine (w .mark) → After w (withInfeasible [] w)
-unfolding withInfeasible withTableau times
-emptied w f m = record { fits = f; fine = m; frame = list-frame [] w (λ n. omega arith); count = refl }
-
-dual-step : (s : ℕ) (l : List ℕ) (e : Symbol) (w : Work) → FitsW w → Free w e → ((n : ℕ) → times n l ≤ times n (w .tableau .infeasible))
-    → Ends (After w) (countedDualPivot s l e w)
-unfolding countedDualPivot withInfeasible withTableau
-dual-step s l e w f h less =
-    counted-ends (checkFinite (pivot s e (withInfeasible l w))) w
-    (ends-to (After (withInfeasible l w)) (After w) (checkFinite (pivot s e (withInfeasible l w)))
-    (pivot-ends s e (withInfeasible l w) f (record { live = h .live; free = h .free }))
-    (λ v a. record { fits = a .fits; fine = a .fine; frame = frame-trans (list-frame l w less) (a .frame); count = a .count }))
+        by : (o : Option Symbol) → getDualEnteringSymbol (b .row) w ≡ o → Picked w (choice b o)
+        by none r = stays
+        by (some e) r = picked (b .symbol) e (dual-entering (b .row) w f (dual-leaving _ (w .tableau .rows) (f .rows) b q) e r)
 
 pub dual-ends : (left : ℕ) (w : Work) → FitsW w → Fine (w .mark) → Ends (After w) (dualOptimise left w)
-unfolding dualOptimise refuse
-dual-ends zero w f m = go (chooseDualPivot w)
-  where
-    go : (c : DualChoice)
-        → Ends (After w) (elim c [ feasible ↦ going (withInfeasible [] w) | noEntering ↦ refused 16 (w .pivots) (w .mark) | dualPivotOn s l e ↦ refused 14 (w .pivots) (w .mark) ])
-    go feasible = emptied w f m
-    go noEntering = tt
-    go (dualPivotOn s l e) = tt
-dual-ends (suc left) w f m = go (chooseDualPivot w) (dual-pick w f) (λ v a. dual-ends left v (a .fits) (a .fine))
-  where
-    go : (c : DualChoice) → DualPicked w c → ((v : Work) → After w v → Ends (After v) (dualOptimise left v))
-        → Ends (After w) (elim c [
-          | feasible ↦ going (withInfeasible [] w)
-          | noEntering ↦ refused 16 (w .pivots) (w .mark)
-          | dualPivotOn s l e ↦ countedDualPivot s l e w >>= λ v. dualOptimise left v
-        ])
-    go c all-above ih = emptied w f m
-    go c no-symbol ih = tt
-    go c (dual-picked s l e h less) ih =
-        ends-bind (After w) (After w) (countedDualPivot s l e w) (λ v. dualOptimise left v) (dual-step s l e w f h less)
-        (λ v a. ends-to (After v) (After w) (dualOptimise left v) (ih v a) (λ u b. after-trans a b))
+unfolding dualOptimise
+dual-ends zero w f m = last-ends 16 w f m (chooseDualPivot w)
+dual-ends (suc left) w f m = turn-ends 16 w (λ v. dualOptimise left v) f m (chooseDualPivot w) (dual-pick w f) (λ v a. dual-ends left v (a .fits) (a .fine))

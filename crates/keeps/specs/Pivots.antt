@@ -11,7 +11,7 @@ use Rattle.steps.specs.Number.{zero64, objectiveBound, Mark, allWhole, worse}
 use Rattle.steps.specs.Symbol.{Symbol, isExternal}
 use Rattle.steps.specs.Row.{Row, cellMarks, Written, solveForSymbols}
 use Rattle.steps.specs.State.{Basic}
-use Rattle.steps.specs.Work.{Work, withTableau, withRows, withObjective, withInfeasible, withChanges, withArtificial, marking, findRow, dropRow, keepRow}
+use Rattle.steps.specs.Work.{Work, withTableau, withRows, withObjective, withChanges, withArtificial, marking, findRow, dropRow, keepRow}
 use Rattle.steps.specs.Changes.{note}
 use Rattle.steps.specs.Substitute.{Substituted, substituteInRow, substituteInCells, substituteInRows, rowsOf, marksOf, substitute, enterBasis, pivot}
 use Rattle.keeps.specs.Lists.{All, Same?, is, isnt, same, same?, times, Up}
@@ -62,7 +62,7 @@ module _ (B C : ℕ → Type 0) (G H : Type 0) (g : H → G) (xs : List Symbol) 
 pub enter-fits : (s : Symbol) (r : Row) (w : Work) → FitsW w → times (s .id) (bids (w .tableau .rows)) ≡ 0 → Mem s (w .tableau .symbols)
     → (C : ℕ → Type 0) → ((i : ℕ) → C i → s .id ≢ i → IsBasic (w .tableau .rows) i) → ((i : ℕ) → 1 ≤ same i (s .id) + times i (bids (w .tableau .rows)) → C i)
     → RowOk C (Fine (w .mark)) (w .tableau .symbols) r → FitsW (enterBasis s r w)
-unfolding enterBasis substitute marking withArtificial withChanges withInfeasible withObjective withRows withTableau note written art-mark art-row
+unfolding enterBasis substitute marking withArtificial withChanges withObjective withRows withTableau note written art-mark art-row
 enter-fits s r w f z l C old new h = go (isExternal s && ne (r .constant) zero64)
   where
     xs : List Symbol

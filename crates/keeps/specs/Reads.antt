@@ -13,9 +13,7 @@ use Rattle.steps.specs.State.{Tag, Variable, Constraint, Edit, State}
 use Rattle.steps.specs.Edit.{editTerms}
 use Rattle.steps.specs.Readable.{concat, code, tagSymbols, tags, owned, storedTerms, usesIn, constraintFinite, editFinite, tagKinds, editKinds}
 use Rattle.keeps.specs.Lists.{All, total, times, times-append, times-map, times-concat, Up, same}
-use Rattle.keeps.specs.Along.{ids}
 use Rattle.keeps.specs.Fits.{Fits}
-use Rattle.keeps.specs.Frame.{Once}
 use Rattle.keeps.specs.Codes.{codes}
 use Rattle.keeps.specs.Uses.{varNumber, usesOf, uses-append, uses-concat}
 
@@ -46,8 +44,6 @@ pub record Reads (s : State) : Type 0 where
   pub constraints-up : Up 0 (map conNumber (s .constraints))
   pub edits-up : Up 0 (map editNumber (s .edits))
   pub fits : Fits (s .tableau .symbols) (s .tableau .nextId) (s .tableau .rows) (s .tableau .objective) none allWhole
-  pub once : Once (s .tableau .infeasible)
-  pub listed : (n : ℕ) → 1 ≤ times n (s .tableau .infeasible) → 1 ≤ times n (ids (s .tableau .symbols))
   pub few-rows : length (s .tableau .rows) ≤ length (s .constraints) + length (s .edits)
   pub owns : (n : ℕ) → ownedBy n (s .changes .variables) (s .constraints) (s .edits) ≡ times n (codes (s .tableau .symbols))
   pub uses : (n : ℕ) → usesOf n (s .changes .variables) ≡ usedBy n (s .constraints) (s .edits)

@@ -11,7 +11,7 @@ use Rattle.steps.specs.Number.{zero64, constantBound, _+₆₄_, _-₆₄_, isF
 use Rattle.steps.specs.Symbol.{Symbol}
 use Rattle.steps.specs.Row.{Row, untouched}
 use Rattle.steps.specs.State.{Tag, Basic, Variable, Constraint, Edit, State}
-use Rattle.steps.specs.Work.{Work, Outcome, refused, going, checkFinite, withTableau, withRows, withInfeasible, withChanges, marking, findRow}
+use Rattle.steps.specs.Work.{Work, Outcome, refused, going, checkFinite, withTableau, withRows, withChanges, marking, findRow}
 use Rattle.steps.specs.Changes.{withFlag, clearChanged, valueOf, isNews, reported, fetchChanges}
 use Rattle.steps.specs.Substitute.{rowsOf, marksOf, notedOf}
 use Rattle.steps.specs.Optimise.{dualOptimise}
@@ -26,7 +26,7 @@ use Rattle.keeps.specs.Cells.{Fine, ok-to, fine-l, fine-r, write-finite,
 use Rattle.keeps.specs.RowOps.{RowOk, row-to}
 use Rattle.keeps.specs.Along.{Mem}
 use Rattle.keeps.specs.Fits.{bids, IsBasic, art-to, FitsW, fits-worse}
-use Rattle.keeps.specs.Frame.{Frame, frame-trans, mark-frame, clear-all, pushBelow-once}
+use Rattle.keeps.specs.Frame.{Frame, frame-trans, mark-frame, clear-all}
 use Rattle.keeps.specs.Passes.{Ends, ends-bind, ends-to, check-ends, After, after-trans, dual-ends}
 use Rattle.keeps.specs.Reads.{Reads, editNumber, varCode, tagCode, usedBy}
 use Rattle.keeps.specs.Good.{Vars, OldOk, vars-map, vars-clear, good-frame, good-to, tagsBy, begin-good, Stored, stored-in, finish-reads, clear-length}
@@ -65,7 +65,7 @@ module _ (shift : Basic → Option Float) where
   )
 
 pub shift-fits : (tag : Tag) (delta : Float) (w : Work) → FitsW w → FitsW (shiftConstants tag delta w)
-unfolding shiftConstants marking withChanges withInfeasible withRows withTableau
+unfolding shiftConstants marking withChanges withRows withTableau
 shift-fits tag delta w f =
     record {
       up = f .up;
@@ -102,18 +102,17 @@ shift-fits tag delta w f =
     before i p = rw (shift-bids shift) at p
 
 pub shift-frame : (tag : Tag) (delta : Float) (w : Work) → Frame w (shiftConstants tag delta w)
-unfolding shiftConstants marking withChanges withInfeasible withRows withTableau
+unfolding shiftConstants marking withChanges withRows withTableau
 shift-frame tag delta w =
     record {
       symbols = refl;
       next = refl;
       variables = clear-all (notedOf (shiftRows (shiftOf tag delta w) (w .tableau .rows))) (w .changes);
-      list = λ h. pushBelow-once _ (w .tableau .infeasible) h;
       plain = λ e. e;
     }
 
 shift-count : (tag : Tag) (delta : Float) (w : Work) → length (shiftConstants tag delta w .tableau .rows) ≡ length (w .tableau .rows)
-unfolding shiftConstants marking withChanges withInfeasible withRows withTableau
+unfolding shiftConstants marking withChanges withRows withTableau
 shift-count tag delta w = shift-length (shiftOf tag delta w) (w .tableau .rows)
 
 -- ---- the steps
@@ -246,8 +245,6 @@ fetch-kept s r =
       constraints-up = r .constraints-up;
       edits-up = r .edits-up;
       fits = r .fits;
-      once = r .once;
-      listed = r .listed;
       few-rows = r .few-rows;
       owns = λ n. ap (λ (k : ℕ). k + tagsBy n (s .constraints) (s .edits)) (vars .symbols n) ∙ r .owns n;
       uses = vars .uses;

@@ -39,7 +39,6 @@ countUse-built K U N n b l h =
       good =
           record {
             fits = h .good .fits;
-            once = h .good .once;
             C = h .good .C;
             vars = once-vars n (h .good .C) U (b .work .changes .variables) l (h .good .vars);
             owns = h .good .owns;

@@ -42,16 +42,16 @@ module _ (s : State) where
       let x = and3 (ascend (numbers s)) (ascend (map conNumber (s .constraints))) (ascend (map editNumber (s .edits))) e in
       (ascend-in (numbers s) (x .0), ascend-in (map conNumber (s .constraints)) (x .1), ascend-in (map editNumber (s .edits)) (x .2))
 
-  distinct-parts : symbolsDistinct s ≡ true → Up 1 (ids xs) × (ascend (basicIds s) ≡ true) × (distinct (owned s) ≡ true) × (distinct (s .tableau .infeasible) ≡ true)
+  distinct-parts : symbolsDistinct s ≡ true → Up 1 (ids xs) × (ascend (basicIds s) ≡ true) × (distinct (owned s) ≡ true)
   unfolding symbolsDistinct liveIds
   distinct-parts e =
-      let x = and4 (ascendFrom 0 (liveIds s)) (ascend (basicIds s)) (distinct (owned s)) (distinct (s .tableau .infeasible)) e in
-      (ascendFrom-in 0 (liveIds s) (x .0), x .1, x .2, x .3)
+      let x = and3 (ascendFrom 0 (liveIds s)) (ascend (basicIds s)) (distinct (owned s)) e in
+      (ascendFrom-in 0 (liveIds s) (x .0), x .1, x .2)
 
   owner-parts : symbolsOwned s ≡ true
-      → (allIn (live s) (owned s) ≡ true) × (allIn (owned s) (live s) ≡ true) × (allIn (basics s) (live s) ≡ true) × (allIn (s .tableau .infeasible) (liveIds s) ≡ true)
+      → (allIn (live s) (owned s) ≡ true) × (allIn (owned s) (live s) ≡ true) × (allIn (basics s) (live s) ≡ true)
   unfolding symbolsOwned
-  owner-parts e = and4 (allIn (live s) (owned s)) (allIn (owned s) (live s)) (allIn (basics s) (live s)) (allIn (s .tableau .infeasible) (liveIds s)) e
+  owner-parts e = and3 (allIn (live s) (owned s)) (allIn (owned s) (live s)) (allIn (basics s) (live s)) e
 
   live-in : allIn (basics s) (live s) ≡ true → All (λ (b : Basic). Mem (b .symbol) xs) bs
   unfolding basics live allIn
@@ -95,10 +95,10 @@ module _ (s : State) where
       even (times n (owned s)) (times n (codes xs)) (distinct-in (owned s) (d .2) n) (codes-once 1 n xs (d .0))
       (allIn-in (owned s) (live s) (o .1) n) (allIn-in (live s) (owned s) (o .0) n)
     where
-      d : Up 1 (ids xs) × (ascend (basicIds s) ≡ true) × (distinct (owned s) ≡ true) × (distinct (s .tableau .infeasible) ≡ true)
+      d : Up 1 (ids xs) × (ascend (basicIds s) ≡ true) × (distinct (owned s) ≡ true)
       d = distinct-parts (c .distincts)
 
-      o : (allIn (live s) (owned s) ≡ true) × (allIn (owned s) (live s) ≡ true) × (allIn (basics s) (live s) ≡ true) × (allIn (s .tableau .infeasible) (liveIds s) ≡ true)
+      o : (allIn (live s) (owned s) ≡ true) × (allIn (owned s) (live s) ≡ true) × (allIn (basics s) (live s) ≡ true)
       o = owner-parts (c .owners)
 
       even : (x y : ℕ) → x ≤ 1 → y ≤ 1 → (1 ≤ x → 1 ≤ y) → (1 ≤ y → 1 ≤ x) → x ≡ y
@@ -141,8 +141,6 @@ module _ (s : State) where
         constraints-up = ups .1;
         edits-up = ups .2;
         fits = fits-in c (finite .0);
-        once = distinct-in (s .tableau .infeasible) (distinct-parts (c .distincts) .3);
-        listed = allIn-in (s .tableau .infeasible) (liveIds s) (owner-parts (c .owners) .3);
         few-rows = omega (arith, tags-length s, leb→le (length bs) (length (tags s)) (so (c .rows)));
         owns = λ n. sym (owned-total n s) ∙ owns-in c n;
         uses = λ n. uses-all (ups .0) (c .uses) n ∙ used-total n s;
@@ -176,10 +174,8 @@ module _ (s : State) where
     symbols-out : symbolsDistinct s ≡ true
     unfolding symbolsDistinct liveIds basicIds
     symbols-out =
-        both
-        (both (both (ascendFrom-out 0 (liveIds s) (r .fits .up)) (ascend-out (basicIds s) (r .fits .rows-up)))
-        (distinct-out (owned s) (λ n. omega (arith, same-symbols n, codes-once 1 n xs (r .fits .up)))))
-        (distinct-out (s .tableau .infeasible) (r .once))
+        both (both (ascendFrom-out 0 (liveIds s) (r .fits .up)) (ascend-out (basicIds s) (r .fits .rows-up)))
+        (distinct-out (owned s) (λ n. omega (arith, same-symbols n, codes-once 1 n xs (r .fits .up))))
 
     below-out : idsBelowNext s ≡ true
     unfolding idsBelowNext liveIds
@@ -207,9 +203,7 @@ module _ (s : State) where
     owners-out : symbolsOwned s ≡ true
     unfolding symbolsOwned live liveIds
     owners-out =
-        both
-        (both (both (allIn-out (live s) (owned s) (λ n l. omega (arith, same-symbols n))) (allIn-out (owned s) (live s) (λ n l. omega (arith, same-symbols n)))) live-out)
-        (allIn-out (s .tableau .infeasible) (liveIds s) (r .listed))
+        both (both (allIn-out (live s) (owned s) (λ n l. omega (arith, same-symbols n))) (allIn-out (owned s) (live s) (λ n l. omega (arith, same-symbols n)))) live-out
 
     counted-out : usesCounted s ≡ true
     unfolding usesCounted numbers

@@ -10,11 +10,11 @@ use Rattle.steps.specs.Number.{zero64}
 use Rattle.steps.specs.Symbol.{Symbol, isExternal, isError}
 use Rattle.steps.specs.Row.{Row}
 use Rattle.steps.specs.State.{Term, Tag, Variable, Edit}
-use Rattle.steps.specs.Work.{Work, Outcome, refused, going, _>>=_, refuse, checkFinite, withTableau, withRows, withObjective, withInfeasible, withChanges, marking, countPivot, findRow, dropRow, purge}
+use Rattle.steps.specs.Work.{Work, Outcome, refused, going, _>>=_, refuse, checkFinite, withTableau, withRows, withObjective, withChanges, marking, countPivot, findRow, dropRow, purge}
 use Rattle.steps.specs.Changes.{withFlag, clearChanged, note}
 use Rattle.steps.specs.CreateRow.{withVariables, insertInObjective}
 use Rattle.steps.specs.Substitute.{pivot}
-use Rattle.steps.specs.Optimise.{Goal, theObjective, Choice, ended, stuck, pivotOn, choosePivot, countedPivot, optimise, DualChoice, feasible, noEntering, dualPivotOn, chooseDualPivot, countedDualPivot, dualOptimise}
+use Rattle.steps.specs.Optimise.{Goal, theObjective, Choice, ended, stuck, pivotOn, choosePivot, countedPivot, optimise, chooseDualPivot, dualOptimise}
 use Rattle.steps.specs.Remove.{insertRowInObjective, removeMarkerEffects, removeConstraintEffects, getMarkerLeavingRow, noteLeaving, dropMarker, purgeTag, Fallen, useLess, dropUse, dropUses, removeSteps}
 use Rattle.steps.specs.Edit.{suggestSteps, shiftConstants}
 use Rattle.keeps.specs.Lists.{All}
@@ -64,46 +64,31 @@ module _ (p : ℕ → Bool) where
   pivots : (l : ℕ) (e : Symbol) (w : Work) → Ends (Near 0 w) (checkFinite (pivot l e w))
   pivots l e w = check-ends (Near 0 w) (pivot l e w) (λ _. near-frame (pivot-frame l e w))
 
-  pub optimise-near : (left : ℕ) (g : Goal) (w : Work) → Ends (Near 0 w) (optimise left g w)
-  unfolding optimise refuse countedPivot
-  optimise-near zero g w = go (choosePivot g w)
-    where
-      go : (c : Choice) → Ends (Near 0 w) (elim c [ ended ↦ going w | stuck ↦ refused 15 (w .pivots) (w .mark) | pivotOn l e ↦ refused 14 (w .pivots) (w .mark) ])
-      go ended = near-refl w
-      go stuck = tt
-      go (pivotOn l e) = tt
-  optimise-near (suc left) g w = go (λ v. optimise-near left g v) (choosePivot g w)
-    where
-      go : ((v : Work) → Ends (Near 0 v) (optimise left g v)) → (c : Choice)
-          → Ends (Near 0 w) (elim c [ ended ↦ going w | stuck ↦ refused 15 (w .pivots) (w .mark) | pivotOn l e ↦ checkFinite (pivot (l .id) e w) >>= (λ v. going (countPivot v)) >>= λ v. optimise left g v ])
-      go ih ended = near-refl w
-      go ih stuck = tt
-      go ih (pivotOn l e) =
-          ends-bind (Near 0 w) (Near 0 w) (checkFinite (pivot (l .id) e w) >>= λ v. going (countPivot v)) (λ v. optimise left g v) (counted (checkFinite (pivot (l .id) e w)) w (pivots (l .id) e w))
-          (λ v a. ends-to (Near 0 v) (Near 0 w) (optimise left g v) (ih v) (λ u b. near-on a b))
+  -- a turn of either pass, with what it makes of the next work, and one with no budget left; n is the number by which it refuses where it is stuck
+  turn-near : (n : ℕ) (w : Work) (on : Work → Outcome Work) → ((v : Work) → Ends (Near 0 v) (on v)) → (c : Choice)
+      → Ends (Near 0 w) (elim c [ ended ↦ going w | stuck ↦ refuse n w | pivotOn l e ↦ countedPivot l e w >>= on ])
+  unfolding refuse countedPivot
+  turn-near n w on ih ended = near-refl w
+  turn-near n w on ih stuck = tt
+  turn-near n w on ih (pivotOn l e) =
+      ends-bind (Near 0 w) (Near 0 w) (countedPivot l e w) on (counted (checkFinite (pivot (l .id) e w)) w (pivots (l .id) e w))
+      (λ v a. ends-to (Near 0 v) (Near 0 w) (on v) (ih v) (λ u b. near-on a b))
 
-  listed : (l : List ℕ) (w : Work) → Near 0 w (withInfeasible l w)
-  unfolding withInfeasible withTableau
-  listed l w = near-same w (withInfeasible l w) refl refl
+  last-near : (n : ℕ) (w : Work) (c : Choice) → Ends (Near 0 w) (elim c [ ended ↦ going w | stuck ↦ refuse n w | pivotOn l e ↦ refuse 14 w ])
+  unfolding refuse
+  last-near n w ended = near-refl w
+  last-near n w stuck = tt
+  last-near n w (pivotOn l e) = tt
+
+  pub optimise-near : (left : ℕ) (g : Goal) (w : Work) → Ends (Near 0 w) (optimise left g w)
+  unfolding optimise
+  optimise-near zero g w = last-near 15 w (choosePivot g w)
+  optimise-near (suc left) g w = turn-near 15 w (λ v. optimise left g v) (λ v. optimise-near left g v) (choosePivot g w)
 
   pub dual-near : (left : ℕ) (w : Work) → Ends (Near 0 w) (dualOptimise left w)
-  unfolding dualOptimise refuse countedDualPivot
-  dual-near zero w = go (chooseDualPivot w)
-    where
-      go : (c : DualChoice) → Ends (Near 0 w) (elim c [ feasible ↦ going (withInfeasible [] w) | noEntering ↦ refused 16 (w .pivots) (w .mark) | dualPivotOn s l e ↦ refused 14 (w .pivots) (w .mark) ])
-      go feasible = listed [] w
-      go noEntering = tt
-      go (dualPivotOn s l e) = tt
-  dual-near (suc left) w = go (λ v. dual-near left v) (chooseDualPivot w)
-    where
-      go : ((v : Work) → Ends (Near 0 v) (dualOptimise left v)) → (c : DualChoice)
-          → Ends (Near 0 w) (elim c [ feasible ↦ going (withInfeasible [] w) | noEntering ↦ refused 16 (w .pivots) (w .mark) | dualPivotOn s l e ↦ checkFinite (pivot s e (withInfeasible l w)) >>= (λ v. going (countPivot v)) >>= λ v. dualOptimise left v ])
-      go ih feasible = listed [] w
-      go ih noEntering = tt
-      go ih (dualPivotOn s l e) =
-          let x : Work = withInfeasible l w in
-          ends-bind (Near 0 x) (Near 0 w) (checkFinite (pivot s e x) >>= λ v. going (countPivot v)) (λ v. dualOptimise left v) (counted (checkFinite (pivot s e x)) x (pivots s e x))
-          (λ v a. ends-to (Near 0 v) (Near 0 w) (dualOptimise left v) (ih v) (λ u b. near-on (near-on (listed l w) a) b))
+  unfolding dualOptimise
+  dual-near zero w = last-near 16 w (chooseDualPivot w)
+  dual-near (suc left) w = turn-near 16 w (λ v. dualOptimise left v) (λ v. dual-near left v) (chooseDualPivot w)
 
   -- ---- suggest
 

@@ -68,9 +68,8 @@ narrow-of t h =
     let e = both _ _ (d .0) in
     let f = both _ _ (e .0) in
     let g = both _ _ (f .0) in
-    let i = both _ _ (g .0) in
     record {
-      next = i .0;
+      next = g .0;
       variables = all-tab _ _ 0 (variableCount (t .head)) (λ j l k. both _ _ (all-at _ 0 (variableCount (t .head)) (d .1) j l (omega (arith, k))) .0);
       constraints = all-tab _ _ 0 (constraintCount (t .head)) (λ j l k. all-at _ 0 (constraintCount (t .head)) (c .1) j l (omega (arith, k)));
     }

@@ -139,13 +139,18 @@ module _ (t : Tables) (long : lengthsRight t ≡ true) (wide : Wide t) where
     pub tables-12 : answers t s ss .number ≡ 12 → None (accepted c (after (callsOf ss) .live))
     tables-12 e = let a = tables-answer s ss h c is in marked-12 c (callsOf ss) (rw a at w) (rw a at e)
 
-    -- ---- demand 3, where the answer says yes, as in a whole run
+    -- ---- demand 3, of adds, removals and suggestions, where the answer says yes, as in a whole run
 
     module _ (b : ℕ) (budget : budgetOf c ≡ some b) where
-      -- "no optimise pass of an add or a removal holds the same set of basic symbols twice", and the rest, of the state that the tables read as
+      -- "no optimise pass of an add or a removal holds the same set of basic symbols twice", "a dual pass then never holds the same basic set twice", and the
+      -- rest, of the state that the tables read as
       pub tables-never-stalls : Demand3 b c (read (tablesAfter t ss))
       tables-never-stalls = rw (tables-hold ss (h .1) .state) (marked-never-stalls (callsOf ss) c b budget (rw (tables-answer s ss h c is) at w))
 
       -- "a budget no smaller than these ways summed over such a call's passes is never the reason for its refusal"
       pub tables-14 : allWays (passesOf c (read (tablesAfter t ss))) ≤ b → answers t s ss .number ≢ 14
       tables-14 l = rw (tables-answer s ss h c is, ← tables-hold ss (h .1) .state) (tables-never-stalls .enough l)
+
+      -- "and 16 is never given"
+      pub tables-16 : answers t s ss .number ≢ 16
+      tables-16 = rw (tables-answer s ss h c is, ← tables-hold ss (h .1) .state) (tables-never-stalls .some-way)

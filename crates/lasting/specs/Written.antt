@@ -6,13 +6,13 @@ use mathlib.Core.List.{List, [], _∷_}
 use mathlib.Core.Option.{Option, none, some}
 use native.Mathlib.Nat.{not-suc-le-zero, le-of-suc-le-suc}
 use native.Mathlib.Omega.{arith}
-use lib.ListN.{length, getD, length-map}
+use lib.ListN.{length, getD}
 use borrow.Author.Tests.{le-leb}
 use Rattle.laws.specs.Lists.{listOf, laid, length-laid}
 use Rattle.steps.specs.Symbol.{Symbol}
 use Rattle.steps.specs.State.{Tag, Variable, Constraint, Edit, State}
 use Rattle.steps.specs.Readable.{code, tagSymbols, readable}
-use Rattle.keeps.specs.Lists.{All, total, times, same?, Same?, is, isnt, Up, up-none, member-in, member-out, distinct-out, both}
+use Rattle.keeps.specs.Lists.{All, total, times, same?, Same?, is, isnt, Up, up-none, both}
 use Rattle.keeps.specs.Along.{ids, along-length}
 use Rattle.keeps.specs.Codes.{codes, codes-mem, mem-ids}
 use Rattle.keeps.specs.Reads.{Reads, tagCode}
@@ -23,7 +23,6 @@ use Rattle.layout.specs.ReadBack.{noVariable, noConstraint, read-write}
 use Rattle.layout.specs.Copied.{length-listOf, getD-listOf, write-counts, write-coded, write-lengths}
 use Rattle.places.specs.Finding.{at-all}
 use Rattle.items.specs.Items.{isU32}
-use Rattle.moves.specs.Room.{no-more}
 use Rattle.reading.specs.Reads.{codesFit, reads}
 use Rattle.finishing.specs.Begin.{few-symbols}
 use Rattle.lasting.specs.Narrow.{Narrow}
@@ -75,12 +74,6 @@ fits-of s r =
     record {
       symbols = omega arith;
       rows = omega (arith, r .few-rows);
-      entries =
-          omega (
-            arith,
-            length-map (s .tableau .symbols) (λ (x : Symbol). x .id),
-            no-more (s .tableau .infeasible) (ids (s .tableau .symbols)) (distinct-out (s .tableau .infeasible) (r .once)) (λ x h. member-out x (ids (s .tableau .symbols)) (r .listed x (member-in x (s .tableau .infeasible) h))),
-          );
       variables = many;
       constraints = omega arith;
       edits = omega arith;
@@ -152,7 +145,7 @@ module _ (s : State) (t : Tables) (r : Reads s) (n : Narrow s) (l : Lengths t) (
   codes-fit =
       let c = write-counts s t (fits-of s r) l w in
       let q = write-coded s t (fits-of s r) l w in
-      both (both (both (both (both (both id-u32 (le-leb _ 129 (c .0))) (le-leb _ 130 (c .2))) (le-leb _ 1 (q .0))) (le-leb _ 1 (q .1)))
+      both (both (both (both (both id-u32 (le-leb _ 129 (c .0))) (le-leb _ 1 (q .0))) (le-leb _ 1 (q .1)))
       (at-all _ 0 (variableCount (u .head)) (λ j a k. both (variable-u32 j k) (le-leb _ 1 (q .2 j k)))))
       (at-all _ 0 (constraintCount (u .head)) (λ j a k. constraint-u32 j k))
 

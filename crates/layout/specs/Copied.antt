@@ -10,12 +10,12 @@ use lib.ListN.{length, getD, length-map}
 use borrow.Author.Tests.{ne-eqb}
 use Rattle.steps.specs.State.{Variable, Constraint, Term, State}
 use Rattle.laws.specs.Lists.{listOf, length-tab, getD-tab, length-laid}
-use Rattle.layout.specs.Layout.{Tables, symbolsAt, rowsAt, listAt, basicsAt, constraintsAt, editsAt, changedFlag, termCount, symbolCount, constraintCount, otherOf, bitOf, tagOf, constraintOf, editOf, cellsOf, basicOf, symbolsOf, entriesOf, basicsOf, variablesOf, constraintsOf, editsOf, read, over, variableNames, constraintNames, editNames, heading, writeHead, writeNames, writeReals, writeRows, write}
+use Rattle.layout.specs.Layout.{Tables, symbolsAt, rowsAt, headingEnd, recordCountsAt, basicsAt, constraintsAt, editsAt, changedFlag, termCount, symbolCount, constraintCount, otherOf, bitOf, tagOf, constraintOf, editOf, cellsOf, basicOf, symbolsOf, basicsOf, variablesOf, constraintsOf, editsOf, read, over, variableNames, constraintNames, editNames, heading, recordCounts, writeHead, writeNames, writeReals, writeRows, write}
 use Rattle.layout.specs.Rooms.{Lengths, Wide, Named, Counts, Coded, Fits}
 use Rattle.layout.specs.Copy.{putOver}
 use Rattle.layout.specs.Written.{written-is, code-read}
 use Rattle.layout.specs.Back.{first-at}
-use Rattle.layout.specs.ReadBack.{noVariable, noConstraint, count-back, variable-written, constraint-written, read-write}
+use Rattle.layout.specs.ReadBack.{noVariable, noConstraint, count-back, record-back, variable-written, constraint-written, read-write}
 
 module _ {A : Type 0} where
   pub length-listOf : (n : ℕ) (g : ℕ → A) → length (listOf n g) ≡ n
@@ -51,15 +51,14 @@ module _ (t : Tables) (q : Coded t) where
   minus-named j = named _
 
   pub read-fits : Counts (t .head) → Fits (read t)
-  unfolding read symbolsOf entriesOf basicsOf variablesOf constraintsOf editsOf cellsOf
+  unfolding read symbolsOf basicsOf variablesOf constraintsOf editsOf cellsOf
   read-fits c =
       record {
         symbols = rw (length-listOf _ _) (c .0);
         rows = rw (length-listOf _ _) (c .1);
-        entries = rw (length-listOf _ _) (c .2);
-        variables = rw (length-listOf _ _) (c .3);
-        constraints = rw (length-listOf _ _) (c .4);
-        edits = rw (length-listOf _ _) (c .5);
+        variables = rw (length-listOf _ _) (c .2);
+        constraints = rw (length-listOf _ _) (c .3);
+        edits = rw (length-listOf _ _) (c .4);
         objective = length-listOf _ _ ∙ sym (length-listOf _ _);
         cells = λ d j k. rw (getD-listOf _ _ j d (rw (length-listOf _ _) at k)) (row-cells j ∙ sym (length-listOf _ _));
         terms = λ d j k. rw (getD-listOf _ _ j d (rw (length-listOf _ _) at k)) (few-terms j (rw (length-listOf _ _) at k));
@@ -76,15 +75,15 @@ bit-small false = omega arith
 
 module _ (s : State) (t : Tables) (fits : Fits s) (l : Lengths t) (w : Wide t) where
   pub write-counts : Counts (write s t .head)
-  unfolding write heading
+  unfolding write heading recordCounts
   write-counts =
-      let e : (i : ℕ) → i < 9 → getD (writeHead s (t .head)) i 0 ≡ getD (heading s) i 0 = count-back s (t .head) (l .0) in (
+      let e : (i : ℕ) → i < headingEnd → getD (writeHead s (t .head)) i 0 ≡ getD (heading s) i 0 = count-back s (t .head) (l .0) in
+      let g : (i : ℕ) → i < 5 → getD (writeHead s (t .head)) (recordCountsAt + i) 0 ≡ getD (recordCounts s) i 0 = record-back s (t .head) (l .0) in (
         rw (e 1 (omega arith)) (fits .symbols),
         rw (e 2 (omega arith)) (fits .rows),
-        rw (e 3 (omega arith)) (fits .entries),
-        rw (e 4 (omega arith)) (fits .variables),
-        rw (e 5 (omega arith)) (fits .constraints),
-        rw (e 6 (omega arith)) (fits .edits),
+        rw (g 0 (omega arith)) (fits .variables),
+        rw (g 1 (omega arith)) (fits .constraints),
+        rw (g 2 (omega arith)) (fits .edits),
       )
 
   flag-written : (j : ℕ) → j < length (s .changes .variables) → changedFlag (getD (writeNames s (t .names)) j []) ≤ 1
@@ -112,19 +111,19 @@ module _ (s : State) (t : Tables) (fits : Fits s) (l : Lengths t) (w : Wide t) w
       ) few
 
   pub write-coded : Coded (write s t)
-  unfolding write heading
+  unfolding write recordCounts
   write-coded =
-      let e : (i : ℕ) → i < 9 → getD (writeHead s (t .head)) i 0 ≡ getD (heading s) i 0 = count-back s (t .head) (l .0) in (
-        rw (e 7 (omega arith)) (bit-small (s .changes .shouldClear)),
-        rw (e 8 (omega arith)) (bit-small (s .whole)),
-        λ j k. flag-written j (rw (e 4 (omega arith)) at k),
-        λ j k. count-written j (rw (e 5 (omega arith)) at k),
+      let g : (i : ℕ) → i < 5 → getD (writeHead s (t .head)) (recordCountsAt + i) 0 ≡ getD (recordCounts s) i 0 = record-back s (t .head) (l .0) in (
+        rw (g 3 (omega arith)) (bit-small (s .changes .shouldClear)),
+        rw (g 4 (omega arith)) (bit-small (s .whole)),
+        λ j k. flag-written j (rw (g 0 (omega arith)) at k),
+        λ j k. count-written j (rw (g 1 (omega arith)) at k),
       )
 
 pub write-lengths : (s : State) (t : Tables) → Lengths t → Lengths (write s t)
 unfolding write writeHead writeNames writeReals writeRows over
 write-lengths s t l = (
-  length-laid _ listAt _ _ ∙ length-laid _ rowsAt _ _ ∙ length-laid _ symbolsAt _ _ ∙ length-laid _ 0 _ (t .head) ∙ l .0,
+  length-laid _ rowsAt _ _ ∙ length-laid _ symbolsAt _ _ ∙ length-laid _ recordCountsAt _ _ ∙ length-laid _ 0 _ (t .head) ∙ l .0,
   length-laid _ editsAt _ _ ∙ length-laid _ constraintsAt _ _ ∙ length-laid _ 0 _ (t .names) ∙ l .1,
   length-laid _ editsAt _ _ ∙ length-laid _ constraintsAt _ _ ∙ length-laid _ 0 _ (t .reals) ∙ l .2,
   length-laid _ basicsAt _ _ ∙ length-laid _ 0 _ (t .rows) ∙ l .3,

@@ -7,7 +7,7 @@ use lib.ListN.{getD, set}
 use lib.Ieee.{Float, nan}
 use Rattle.laws.specs.Loops.{run}
 use Rattle.layout.specs.Laying.{remade}
-use Rattle.layout.specs.Layout.{Tables, tables, symbolsAt, rowsAt, listAt, symbolCount, rowCount, entryCount, variableCount, constraintCount, editCount, constraintsAt, editsAt, termCount, cellsAt, basicsAt}
+use Rattle.layout.specs.Layout.{Tables, tables, symbolsAt, rowsAt, headingEnd, recordCountsAt, recordCountsEnd, symbolCount, rowCount, variableCount, constraintCount, editCount, constraintsAt, editsAt, termCount, cellsAt, basicsAt}
 
 -- a constraint's count of terms, held to the room for them
 unfoldable pub most16 : ℕ → ℕ
@@ -37,7 +37,7 @@ putReals from names a e base counted to = run (remade [] (λ i row. putPart (get
 -- ---- the live part of each table, with the counts of the head g
 
 unfoldable pub headOver : List ℕ → List ℕ → List ℕ
-headOver g h = putSpan g listAt (listAt + entryCount g) (putSpan g rowsAt (rowsAt + rowCount g) (putSpan g symbolsAt (symbolsAt + symbolCount g) (putSpan g 0 9 h)))
+headOver g h = putSpan g rowsAt (rowsAt + rowCount g) (putSpan g symbolsAt (symbolsAt + symbolCount g) (putSpan g recordCountsAt recordCountsEnd (putSpan g 0 headingEnd h)))
 
 unfoldable pub namesOver : List ℕ → List (List ℕ) → List (List ℕ) → List (List ℕ)
 namesOver g from n = putNames from editsAt (editsAt + editCount g) 3 false (putNames from constraintsAt (constraintsAt + constraintCount g) 4 true (putNames from 0 (variableCount g) 4 false n))

@@ -15,7 +15,7 @@ use Rattle.laws.specs.Lists.{listOf, laid}
 -- ---- the tables
 
 pub record Tables : Type 0 where
-  -- the next id, six counts and two flags; then the symbols, the rows' symbols and the ids of the infeasible list
+  -- the next id, five counts and two flags; then the symbols and the rows' symbols; places 3 and 9 to 15 hold nothing
   pub head : List ℕ
   -- rows of 20, an item each: the variables (number, symbol, uses, changed), the constraints (number, marker, other, count of terms, the terms' variables), the edits (variable, marker, other)
   pub names : List (List ℕ)
@@ -30,7 +30,7 @@ tables h n r w = record { head = h; names = n; reals = r; rows = w }
 -- ---- lengths of the tables
 
 abbrev pub headSize : ℕ
-headSize = 326
+headSize = 196
 
 abbrev pub itemsSize : ℕ
 itemsSize = 128
@@ -38,16 +38,13 @@ itemsSize = 128
 abbrev pub rowsSize : ℕ
 rowsSize = 51
 
--- ---- places of the head: room for 130 symbols, 50 rows, 130 entries
+-- ---- places of the head: room for 130 symbols, 50 rows
 
 abbrev pub symbolsAt : ℕ
 symbolsAt = 16
 
 abbrev pub rowsAt : ℕ
 rowsAt = 146
-
-abbrev pub listAt : ℕ
-listAt = 196
 
 abbrev pub nextIdOf : List ℕ → ℕ
 nextIdOf h = getD h 0 0
@@ -58,8 +55,15 @@ symbolCount h = getD h 1 0
 abbrev pub rowCount : List ℕ → ℕ
 rowCount h = getD h 2 0
 
-abbrev pub entryCount : List ℕ → ℕ
-entryCount h = getD h 3 0
+-- the end of these three; where the records' counts and the flags begin, and their end
+abbrev pub headingEnd : ℕ
+headingEnd = 3
+
+abbrev pub recordCountsAt : ℕ
+recordCountsAt = 4
+
+abbrev pub recordCountsEnd : ℕ
+recordCountsEnd = 9
 
 abbrev pub variableCount : List ℕ → ℕ
 variableCount h = getD h 4 0
@@ -174,9 +178,6 @@ symbolsOf t = listOf (symbolCount (t .head)) λ i. symbolOf (getD (t .head) (sym
 unfoldable pub basicsOf : Tables → List Basic
 basicsOf t = listOf (rowCount (t .head)) λ i. basicOf (symbolCount (t .head)) (getD (t .head) (rowsAt + i) 0) (getD (t .rows) (basicsAt + i) [])
 
-unfoldable pub entriesOf : Tables → List ℕ
-entriesOf t = listOf (entryCount (t .head)) λ i. getD (t .head) (listAt + i) 0
-
 unfoldable pub variablesOf : Tables → List Variable
 variablesOf t = listOf (variableCount (t .head)) λ i. variableOf (getD (t .names) i []) (getD (t .reals) i [])
 
@@ -195,7 +196,6 @@ read t =
             nextId = nextIdOf (t .head);
             rows = basicsOf t;
             objective = cellsOf (symbolCount (t .head)) (getD (t .rows) 0 []);
-            infeasible = entriesOf t;
           };
       changes = record { variables = variablesOf t; shouldClear = eqb (clearFlag (t .head)) 1 };
       constraints = constraintsOf t;
@@ -233,21 +233,16 @@ basicRow b = b .row .constant ∷ b .row .cells
 unfoldable pub basicCode : Basic → ℕ
 basicCode b = code (b .symbol)
 
+-- the next id and the tableau's counts, at the head's first places
 unfoldable pub heading : State → List ℕ
-heading s =
-    s .tableau .nextId
-    ∷ length (s .tableau .symbols)
-    ∷ length (s .tableau .rows)
-    ∷ length (s .tableau .infeasible)
-    ∷ length (s .changes .variables)
-    ∷ length (s .constraints)
-    ∷ length (s .edits)
-    ∷ bitOf (s .changes .shouldClear)
-    ∷ bitOf (s .whole)
-    ∷ []
+heading s = s .tableau .nextId ∷ length (s .tableau .symbols) ∷ length (s .tableau .rows) ∷ []
+
+-- the records' counts and the flags
+unfoldable pub recordCounts : State → List ℕ
+recordCounts s = length (s .changes .variables) ∷ length (s .constraints) ∷ length (s .edits) ∷ bitOf (s .changes .shouldClear) ∷ bitOf (s .whole) ∷ []
 
 unfoldable pub writeHead : State → List ℕ → List ℕ
-writeHead s h = over listAt (s .tableau .infeasible) (over rowsAt (map basicCode (s .tableau .rows)) (over symbolsAt (map code (s .tableau .symbols)) (over 0 (heading s) h)))
+writeHead s h = over rowsAt (map basicCode (s .tableau .rows)) (over symbolsAt (map code (s .tableau .symbols)) (over recordCountsAt (recordCounts s) (over 0 (heading s) h)))
 
 unfoldable pub writeNames : State → List (List ℕ) → List (List ℕ)
 writeNames s n =

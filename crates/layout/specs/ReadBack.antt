@@ -14,7 +14,7 @@ use Rattle.steps.specs.State.{Basic, Tag, Variable, Constraint, Edit, State}
 use Rattle.steps.specs.Readable.{code}
 use Rattle.laws.specs.Lists.{listOf-is, laid, laid-in, laid-before, laid-after, length-laid}
 use Rattle.layout.specs.Laying.{getD-map}
-use Rattle.layout.specs.Layout.{Tables, headSize, itemsSize, rowsSize, symbolsAt, rowsAt, listAt, constraintsAt, editsAt, symbolOf, cellsOf, symbolsOf, entriesOf, basicsOf, variablesOf, constraintsOf, editsOf, read, over, variableNames, variableReals, constraintNames, constraintReals, editNames, editReals, basicRow, basicCode, heading, writeHead, writeNames, writeReals, writeRows, write}
+use Rattle.layout.specs.Layout.{Tables, headSize, itemsSize, rowsSize, symbolsAt, rowsAt, headingEnd, recordCountsAt, constraintsAt, editsAt, symbolOf, cellsOf, symbolsOf, basicsOf, variablesOf, constraintsOf, editsOf, read, over, variableNames, variableReals, constraintNames, constraintReals, editNames, editReals, basicRow, basicCode, heading, recordCounts, writeHead, writeNames, writeReals, writeRows, write}
 use Rattle.layout.specs.Rooms.{Lengths, Wide, Fits}
 use Rattle.layout.specs.Back.{symbol-back, bit-back, basic-back, objective-back, variable-back, constraint-back, edit-back}
 
@@ -43,42 +43,44 @@ module _ (s : State) (h : List ℕ) (l : length h ≡ headSize) where
   abbrev first : ℕ → ℕ → ℕ
   first x y = x
 
-  pub count-back : (i : ℕ) → i < 9 → getD (writeHead s h) i 0 ≡ getD (heading s) i 0
+  pub count-back : (i : ℕ) → i < headingEnd → getD (writeHead s h) i 0 ≡ getD (heading s) i 0
   unfolding writeHead over heading
   count-back i k =
-      laid-before first listAt _ _ i 0 (omega arith)
-      ∙ laid-before first rowsAt _ _ i 0 (omega arith)
+      laid-before first rowsAt _ _ i 0 (omega arith)
       ∙ laid-before first symbolsAt _ _ i 0 (omega arith)
+      ∙ laid-before first recordCountsAt _ _ i 0 (omega arith)
       ∙ (rw (zero-add i) at (laid-in first 0 (heading s) h i 0 0 k (omega arith)))
+
+  pub record-back : (i : ℕ) → i < 5 → getD (writeHead s h) (recordCountsAt + i) 0 ≡ getD (recordCounts s) i 0
+  unfolding writeHead over recordCounts
+  record-back i k =
+      laid-before first rowsAt _ _ (recordCountsAt + i) 0 (omega arith)
+      ∙ laid-before first symbolsAt _ _ (recordCountsAt + i) 0 (omega arith)
+      ∙ laid-in first recordCountsAt (recordCounts s) (laid first 0 (heading s) h) i 0 0 k (omega (arith, length-laid first 0 (heading s) h))
+
+  abbrev counted : List ℕ
+  counted = laid first recordCountsAt (recordCounts s) (laid first 0 (heading s) h)
+
+  counted-long : length counted ≡ headSize
+  counted-long = length-laid first recordCountsAt (recordCounts s) (laid first 0 (heading s) h) ∙ length-laid first 0 (heading s) h ∙ l
 
   symbol-written : (j : ℕ) → j < length (s .tableau .symbols) → length (s .tableau .symbols) ≤ 129 → getD (writeHead s h) (symbolsAt + j) 0 ≡ code (getD (s .tableau .symbols) j noSymbol)
   unfolding writeHead over
   symbol-written j k r =
       let m : List ℕ = map code (s .tableau .symbols) in
       let n : length m ≡ length (s .tableau .symbols) = length-map (s .tableau .symbols) code in
-      laid-before first listAt _ _ (symbolsAt + j) 0 (omega arith)
-      ∙ laid-before first rowsAt _ _ (symbolsAt + j) 0 (omega arith)
-      ∙ laid-in first symbolsAt m (laid first 0 (heading s) h) j 0 0 (omega arith) (omega (arith, length-laid first 0 (heading s) h))
+      laid-before first rowsAt _ _ (symbolsAt + j) 0 (omega arith)
+      ∙ laid-in first symbolsAt m counted j 0 0 (omega arith) (omega (arith, counted-long))
       ∙ getD-map code (s .tableau .symbols) j noSymbol 0 k
 
   basic-written : (j : ℕ) → j < length (s .tableau .rows) → length (s .tableau .rows) ≤ 50 → getD (writeHead s h) (rowsAt + j) 0 ≡ code (getD (s .tableau .rows) j noBasic .symbol)
   unfolding writeHead over basicCode
   basic-written j k r =
-      let a : List ℕ = laid first 0 (heading s) h in
-      let b : List ℕ = laid first symbolsAt (map code (s .tableau .symbols)) a in
+      let b : List ℕ = laid first symbolsAt (map code (s .tableau .symbols)) counted in
       let m : List ℕ = map basicCode (s .tableau .rows) in
       let n : length m ≡ length (s .tableau .rows) = length-map (s .tableau .rows) basicCode in
-      let o : length b ≡ headSize = length-laid first symbolsAt (map code (s .tableau .symbols)) a ∙ length-laid first 0 (heading s) h ∙ l in
-      laid-before first listAt _ _ (rowsAt + j) 0 (omega arith) ∙ laid-in first rowsAt m b j 0 0 (omega arith) (omega arith) ∙ getD-map basicCode (s .tableau .rows) j noBasic 0 k
-
-  entry-written : (j : ℕ) → j < length (s .tableau .infeasible) → length (s .tableau .infeasible) ≤ 130 → getD (writeHead s h) (listAt + j) 0 ≡ getD (s .tableau .infeasible) j 0
-  unfolding writeHead over
-  entry-written j k r =
-      let a : List ℕ = laid first 0 (heading s) h in
-      let b : List ℕ = laid first symbolsAt (map code (s .tableau .symbols)) a in
-      let c : List ℕ = laid first rowsAt (map basicCode (s .tableau .rows)) b in
-      let n : length c ≡ headSize = length-laid first rowsAt (map basicCode (s .tableau .rows)) b ∙ length-laid first symbolsAt (map code (s .tableau .symbols)) a ∙ length-laid first 0 (heading s) h ∙ l in
-      laid-in first listAt (s .tableau .infeasible) c j 0 0 k (omega arith)
+      let o : length b ≡ headSize = length-laid first symbolsAt (map code (s .tableau .symbols)) counted ∙ counted-long in
+      laid-in first rowsAt m b j 0 0 (omega arith) (omega arith) ∙ getD-map basicCode (s .tableau .rows) j noBasic 0 k
 
 -- ---- the rows
 
@@ -137,10 +139,6 @@ module _ (s : State) (t : Tables) (fits : Fits s) (l : Lengths t) (w : Wide t) w
       rw (count-back s (t .head) (l .0) 1 (omega arith)) (listOf-is _ (s .tableau .symbols) noSymbol λ j k.
       ap symbolOf (symbol-written s (t .head) (l .0) j k (fits .symbols)) ∙ symbol-back (getD (s .tableau .symbols) j noSymbol))
 
-  entries-back : entriesOf (write s t) ≡ s .tableau .infeasible
-  unfolding entriesOf write heading
-  entries-back = rw (count-back s (t .head) (l .0) 3 (omega arith)) (listOf-is _ (s .tableau .infeasible) 0 λ j k. entry-written s (t .head) (l .0) j k (fits .entries))
-
   basics-back : basicsOf (write s t) ≡ s .tableau .rows
   unfolding basicsOf write heading
   basics-back =
@@ -159,43 +157,42 @@ module _ (s : State) (t : Tables) (fits : Fits s) (l : Lengths t) (w : Wide t) w
       rw (count-back s (t .head) (l .0) 1 (omega arith), objective-written s (t .rows) (l .3), ← e) (objective-back (s .tableau .objective) (getD (t .rows) 0 []) (w .2 0 (omega arith)) (omega arith))
 
   variables-back : variablesOf (write s t) ≡ s .changes .variables
-  unfolding variablesOf write writeNames writeReals heading
+  unfolding variablesOf write writeNames writeReals recordCounts
   variables-back =
-      rw (count-back s (t .head) (l .0) 4 (omega arith)) (listOf-is _ (s .changes .variables) noVariable λ j k.
+      rw (record-back s (t .head) (l .0) 0 (omega arith)) (listOf-is _ (s .changes .variables) noVariable λ j k.
       let r = fits .variables in
       rw (variable-written (λ v m. over 0 (variableNames v) m) (λ c m. over 0 (constraintNames c) m) (λ e m. over 0 (editNames e) m) s (t .names) (l .1) fits j k, variable-written (λ v m. over 0 (variableReals v) m) (λ c m. over 0 (constraintReals c) m) (λ e m. over 0 (editReals e) m) s (t .reals) (l .2) fits j k)
       (variable-back (getD (s .changes .variables) j noVariable) (getD (t .names) j []) (getD (t .reals) j []) (w .0 j (omega arith)) (w .1 j (omega arith))))
 
   constraints-back : constraintsOf (write s t) ≡ s .constraints
-  unfolding constraintsOf write writeNames writeReals heading
+  unfolding constraintsOf write writeNames writeReals recordCounts
   constraints-back =
-      rw (count-back s (t .head) (l .0) 5 (omega arith)) (listOf-is _ (s .constraints) noConstraint λ j k.
+      rw (record-back s (t .head) (l .0) 1 (omega arith)) (listOf-is _ (s .constraints) noConstraint λ j k.
       let r = fits .constraints in
       rw (constraint-written (λ v m. over 0 (variableNames v) m) (λ c m. over 0 (constraintNames c) m) (λ e m. over 0 (editNames e) m) s (t .names) (l .1) fits j k, constraint-written (λ v m. over 0 (variableReals v) m) (λ c m. over 0 (constraintReals c) m) (λ e m. over 0 (editReals e) m) s (t .reals) (l .2) fits j k)
       (constraint-back (getD (s .constraints) j noConstraint) (getD (t .names) (constraintsAt + j) []) (getD (t .reals) (constraintsAt + j) []) (w .0 (constraintsAt + j) (omega arith)) (w .1 (constraintsAt + j) (omega arith)) (fits .terms noConstraint j k) (fits .others noConstraint j k)))
 
   edits-back : editsOf (write s t) ≡ s .edits
-  unfolding editsOf write writeNames writeReals heading
+  unfolding editsOf write writeNames writeReals recordCounts
   edits-back =
-      rw (count-back s (t .head) (l .0) 6 (omega arith)) (listOf-is _ (s .edits) noEdit λ j k.
+      rw (record-back s (t .head) (l .0) 2 (omega arith)) (listOf-is _ (s .edits) noEdit λ j k.
       let r = fits .edits in
       rw (edit-written (λ v m. over 0 (variableNames v) m) (λ c m. over 0 (constraintNames c) m) (λ e m. over 0 (editNames e) m) s (t .names) (l .1) fits j k, edit-written (λ v m. over 0 (variableReals v) m) (λ c m. over 0 (constraintReals c) m) (λ e m. over 0 (editReals e) m) s (t .reals) (l .2) fits j k)
       (edit-back (getD (s .edits) j noEdit) (getD (t .names) (editsAt + j) []) (getD (t .reals) (editsAt + j) []) (w .0 (editsAt + j) (omega arith)) (w .1 (editsAt + j) (omega arith)) (fits .minuses noEdit j k)))
 
   pub read-write : read (write s t) ≡ s
-  unfolding read write heading
+  unfolding read write heading recordCounts
   read-write =
       rw (
         symbols-back,
-        entries-back,
         basics-back,
         cost-back,
         variables-back,
         constraints-back,
         edits-back,
         count-back s (t .head) (l .0) 0 (omega arith),
-        count-back s (t .head) (l .0) 7 (omega arith),
-        count-back s (t .head) (l .0) 8 (omega arith),
+        record-back s (t .head) (l .0) 3 (omega arith),
+        record-back s (t .head) (l .0) 4 (omega arith),
         bit-back (s .changes .shouldClear),
         bit-back (s .whole),
       ) refl

@@ -11,7 +11,7 @@ use mathlib.Core.Option.{Option, none, some}
 use Rattle.steps.specs.Symbol.{Symbol}
 use Rattle.steps.specs.State.{Basic, Constraint, Edit, State}
 use Rattle.steps.specs.Readable.{code}
-use Rattle.layout.specs.Layout.{Tables, headSize, itemsSize, rowsSize, symbolCount, rowCount, entryCount, variableCount, constraintCount, editCount, clearFlag, wholeFlag, changedFlag, termCount, constraintsAt}
+use Rattle.layout.specs.Layout.{Tables, headSize, itemsSize, rowsSize, symbolCount, rowCount, variableCount, constraintCount, editCount, clearFlag, wholeFlag, changedFlag, termCount, constraintsAt}
 
 -- "a lent table has the wrong length"
 unfoldable pub lengthsRight : Tables → Bool
@@ -29,7 +29,7 @@ Wide t = (Widths 20 (t .names)) × (Widths 17 (t .reals)) × (Widths 130 (t .row
 
 -- each count is within the room: a row has 129 cells
 abbrev pub Counts : List ℕ → Type 0
-Counts h = (symbolCount h ≤ 129) × (rowCount h ≤ 50) × (entryCount h ≤ 130) × (variableCount h ≤ 32) × (constraintCount h ≤ 48) × (editCount h ≤ 48)
+Counts h = (symbolCount h ≤ 129) × (rowCount h ≤ 50) × (variableCount h ≤ 32) × (constraintCount h ≤ 48) × (editCount h ≤ 48)
 
 -- flags are 0 or 1, and a constraint has at most 16 terms: tables that a state can have written
 abbrev pub Coded : Tables → Type 0
@@ -48,7 +48,6 @@ Named (some s) = 0 < code s
 pub record Fits (s : State) : Type 0 where
   pub symbols : length (s .tableau .symbols) ≤ 129
   pub rows : length (s .tableau .rows) ≤ 50
-  pub entries : length (s .tableau .infeasible) ≤ 130
   pub variables : length (s .changes .variables) ≤ 32
   pub constraints : length (s .constraints) ≤ 48
   pub edits : length (s .edits) ≤ 48

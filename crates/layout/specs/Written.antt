@@ -14,7 +14,7 @@ use Rattle.steps.specs.State.{Term}
 use Rattle.steps.specs.Readable.{kindCode, code}
 use Rattle.laws.specs.Lists.{tab, listOf, tab-ext, length-tab, map-tab, laid}
 use Rattle.layout.specs.Laying.{laid-nil, laid-cons, tab-from, stretch, run-list, set-same, run-same}
-use Rattle.layout.specs.Layout.{Tables, symbolsAt, rowsAt, listAt, constraintsAt, editsAt, symbolCount, rowCount, entryCount, variableCount, constraintCount, editCount, clearFlag, wholeFlag, changedFlag, termCount, kindOf, symbolOf, otherOf, otherCode, bitOf, variableOf, tagOf, termOf, constraintOf, editOf, cellsOf, basicOf, symbolsOf, entriesOf, variablesOf, constraintsOf, editsOf, basicsOf, read, over, variableNames, variableReals, constraintNames, constraintReals, editNames, editReals, basicRow, basicCode, heading, writeHead, writeNames, writeReals, writeRows, write}
+use Rattle.layout.specs.Layout.{Tables, symbolsAt, rowsAt, headingEnd, recordCountsAt, recordCountsEnd, constraintsAt, editsAt, symbolCount, rowCount, variableCount, constraintCount, editCount, clearFlag, wholeFlag, changedFlag, termCount, kindOf, symbolOf, otherOf, otherCode, bitOf, variableOf, tagOf, termOf, constraintOf, editOf, cellsOf, basicOf, symbolsOf, variablesOf, constraintsOf, editsOf, basicsOf, read, over, variableNames, variableReals, constraintNames, constraintReals, editNames, editReals, basicRow, basicCode, heading, recordCounts, writeHead, writeNames, writeReals, writeRows, write}
 use Rattle.layout.specs.Rooms.{Coded}
 use Rattle.layout.specs.Copy.{most16, headOver, namesOver, realsOver, rowsOver, putOver, putSpan, putPart, putRows, putNames, putReals, putCount, putCounted}
 
@@ -103,14 +103,20 @@ basic-row k c row =
     rw (e, tab-from (λ j. getD row j nan) 1 0 k) refl
 
 module _ (w : Tables) where
-  heading-read : clearFlag (w .head) ≤ 1 → wholeFlag (w .head) ≤ 1 → heading (read w) ≡ tab (λ j. getD (w .head) j 0) 0 9
-  unfolding heading read listOf symbolsOf entriesOf basicsOf variablesOf constraintsOf editsOf tab
-  heading-read f g =
+  heading-read : heading (read w) ≡ tab (λ j. getD (w .head) j 0) 0 headingEnd
+  unfolding heading read listOf symbolsOf basicsOf tab
+  heading-read =
       let h : List ℕ = w .head in
       rw (
         length-tab (λ i. symbolOf (getD h (symbolsAt + i) 0)) 0 (symbolCount h),
         length-tab (λ i. basicOf (symbolCount h) (getD h (rowsAt + i) 0) (getD (w .rows) (1 + i) [])) 0 (rowCount h),
-        length-tab (λ i. getD h (listAt + i) 0) 0 (entryCount h),
+      ) refl
+
+  counts-read : clearFlag (w .head) ≤ 1 → wholeFlag (w .head) ≤ 1 → recordCounts (read w) ≡ tab (λ j. getD (w .head) j 0) recordCountsAt 5
+  unfolding recordCounts read listOf variablesOf constraintsOf editsOf tab
+  counts-read f g =
+      let h : List ℕ = w .head in
+      rw (
         length-tab (λ i. variableOf (getD (w .names) i []) (getD (w .reals) i [])) 0 (variableCount h),
         length-tab (λ i. constraintOf (getD (w .names) (constraintsAt + i) []) (getD (w .reals) (constraintsAt + i) [])) 0 (constraintCount h),
         length-tab (λ i. editOf (getD (w .names) (editsAt + i) []) (getD (w .reals) (editsAt + i) [])) 0 (editCount h),
@@ -132,19 +138,15 @@ module _ (w : Tables) where
       ∙ tab-ext (λ i. code (symbolOf (getD (w .head) (rowsAt + i) 0))) (λ i. getD (w .head) (rowsAt + i) 0) 0 (rowCount (w .head)) (λ j a b. code-read (getD (w .head) (rowsAt + j) 0))
       ∙ tab-from (λ j. getD (w .head) j 0) rowsAt 0 (rowCount (w .head))
 
-  entries-read : read w .tableau .infeasible ≡ tab (λ j. getD (w .head) j 0) listAt (entryCount (w .head))
-  unfolding read entriesOf listOf
-  entries-read = tab-from (λ j. getD (w .head) j 0) listAt 0 (entryCount (w .head))
-
   head-is : clearFlag (w .head) ≤ 1 → wholeFlag (w .head) ≤ 1 → (h : List ℕ) → headOver (w .head) h ≡ writeHead (read w) h
   unfolding headOver writeHead
   head-is f g h =
       rw (
-        span (w .head) (heading (read w)) 0 9 9 h refl (heading-read f g),
-        span (w .head) (map code (read w .tableau .symbols)) symbolsAt (symbolCount (w .head)) (symbolsAt + symbolCount (w .head)) (over 0 (heading (read w)) h) refl symbols-read,
-        span (w .head) (map basicCode (read w .tableau .rows)) rowsAt (rowCount (w .head)) (rowsAt + rowCount (w .head)) (over 16 (map code (read w .tableau .symbols)) (over 0 (heading (read w)) h)) refl basics-read,
+        span (w .head) (heading (read w)) 0 headingEnd headingEnd h refl heading-read,
+        span (w .head) (recordCounts (read w)) recordCountsAt 5 recordCountsEnd (over 0 (heading (read w)) h) refl (counts-read f g),
+        span (w .head) (map code (read w .tableau .symbols)) symbolsAt (symbolCount (w .head)) (symbolsAt + symbolCount (w .head)) (over recordCountsAt (recordCounts (read w)) (over 0 (heading (read w)) h)) refl symbols-read,
       )
-      (span (w .head) (read w .tableau .infeasible) listAt (entryCount (w .head)) (listAt + entryCount (w .head)) _ refl entries-read)
+      (span (w .head) (map basicCode (read w .tableau .rows)) rowsAt (rowCount (w .head)) (rowsAt + rowCount (w .head)) _ refl basics-read)
 
   put-variables : ((j : ℕ) → j < variableCount (w .head) → changedFlag (getD (w .names) j []) ≤ 1) → (n : List (List ℕ)) → putNames (w .names) 0 (variableCount (w .head)) 4 false n ≡ laid (λ v m. over 0 (variableNames v) m) 0 (read w .changes .variables) n
   unfolding putNames read variablesOf putCount
@@ -236,10 +238,10 @@ over-itself t =
     let r : (a e b : ℕ) (c : Bool) → putReals (t .reals) (t .names) a e b c (t .reals) ≡ t .reals = λ a e b c. run-same [] _ a e (t .reals) (λ j. part-same (getD (t .reals) j []) 0 _) in
     let w : (k e : ℕ) → putRows (t .rows) k e (t .rows) ≡ t .rows = λ k e. run-same [] _ 1 (1 + e) (t .rows) (λ j. part-same (getD (t .rows) j []) 0 (1 + k)) in
     rw (
-      s 0 9,
+      s 0 3,
+      s 4 9,
       s 16 (16 + getD h 1 0),
       s 146 (146 + getD h 2 0),
-      s 196 (196 + getD h 3 0),
       n 0 (getD h 4 0) 4 false,
       n 32 (32 + getD h 5 0) 4 true,
       n 80 (80 + getD h 6 0) 3 false,

@@ -1,20 +1,20 @@
 // The places of the lent tables. specs/Layout.antt says what stands there; what else this crate says stands in specs/.
 
 // ---- lengths of the tables
-pub const HEAD_SIZE: usize = 326;
+pub const HEAD_SIZE: usize = 196;
 
 pub const ITEMS_SIZE: usize = 128;
 
 pub const ROWS_SIZE: usize = 51;
 
-// ---- in the head: the next id, the counts, the flags
+// ---- in the head: the next id and the tableau's counts, then the records' counts and the flags; place 3 holds nothing
 pub const NEXT_ID: usize = 0;
 
 pub const SYMBOL_COUNT: usize = 1;
 
 pub const ROW_COUNT: usize = 2;
 
-pub const ENTRY_COUNT: usize = 3;
+pub const HEADING_END: usize = 3;
 
 pub const VARIABLE_COUNT: usize = 4;
 
@@ -26,19 +26,17 @@ pub const SHOULD_CLEAR: usize = 7;
 
 pub const WHOLE: usize = 8;
 
-// ---- in the head: the first symbol, the first row's symbol, the first entry of the infeasible list
+pub const RECORD_COUNTS_END: usize = 9;
+
+// ---- in the head: the first symbol, the first row's symbol
 pub const SYMBOLS: usize = 16;
 
 pub const ROWS: usize = 146;
-
-pub const LIST: usize = 196;
 
 // ---- one place before each, for walks that count from 1
 pub const BEFORE_SYMBOLS: usize = 15;
 
 pub const BEFORE_ROWS: usize = 145;
-
-pub const BEFORE_LIST: usize = 195;
 
 // ---- in names and reals: the first record of each kind
 pub const VARIABLES: usize = 0;

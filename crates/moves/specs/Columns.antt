@@ -30,7 +30,6 @@ use Rattle.moves.specs.Close.{closed}
 use Rattle.moves.specs.Moved.{closed-before, closed-inside}
 use Rattle.moves.specs.Moves.{Board, clearedColumn, appendedHead, closedColumns, closedColumn, closeColumnOf}
 use Rattle.moves.specs.Counts.{less, appended-same, appended-id, appended-symbols, appended-code, column-same, column-past, column-symbols}
-use Rattle.moves.specs.Rows.{entries-same}
 use Rattle.moves.specs.Walk.{drop-walk, absent-walk}
 
 -- the first n rows are as wide as arrays of their type are
@@ -63,7 +62,7 @@ cut s y x = record { symbol = x .symbol; row = record { constant = x .row .const
 
 abbrev pub cutTableau : ℕ → Tableau → Tableau
 cutTableau s t =
-    record { symbols = deleteSymbol s (t .symbols); nextId = t .nextId; rows = map (cut s (t .symbols)) (t .rows); objective = deleteCell s (t .symbols) (t .objective); infeasible = t .infeasible }
+    record { symbols = deleteSymbol s (t .symbols); nextId = t .nextId; rows = map (cut s (t .symbols)) (t .rows); objective = deleteCell s (t .symbols) (t .objective) }
 
 -- ---- a new column, at the end
 
@@ -80,7 +79,7 @@ append-cells row k len fit =
 append-constant : (row : List Float) (k : ℕ) → getD (set row (1 + k) zero64) 0 nan ≡ getD row 0 nan
 append-constant row k = getD-set-other row (1 + k) 0 zero64 nan (λ z. omega arith)
 
-module _ (b : Board) (len : length (b .head) ≡ 326) (size : length (b .rows) ≡ 51) where
+module _ (b : Board) (len : length (b .head) ≡ 196) (size : length (b .rows) ≡ 51) where
   abbrev h : List ℕ
   h = b .head
 
@@ -134,7 +133,6 @@ module _ (b : Board) (len : length (b .head) ≡ 326) (size : length (b .rows) �
           reads,
           appended-symbols-are,
           appended-basics wide,
-          entries-same h h₁ (appended-same b len kind fit 3 (omega arith) (λ z. omega arith)) (λ j a. appended-same b len kind fit (196 + j) (omega arith) (λ z. omega arith)),
           appended-id b len kind fit,
           appended-symbols b len kind fit,
           cleared 0 (omega arith),
@@ -225,7 +223,6 @@ module _ (b : Board) (len : length (b .head) ≡ 326) (size : length (b .rows) �
             rw (
               closed-symbols,
               closed-basics,
-              entries-same h h₂ (column-same b len p fit low high 3 (λ z. omega arith) (omega arith)) (λ j a. column-past b len p fit low high (196 + j) (omega arith)),
               column-same b len p fit low high 0 (λ z. omega arith) (omega arith),
               column-symbols b len p fit low high,
               shut 0 (omega arith),

@@ -1,27 +1,25 @@
 -- What the moves leave of the head as it was, and the counts after them.
 -- Assumes nothing.
 use Prim.Native.Nat.{ℕ, zero, suc, _+_, _-_, _*_, _/_, _≤_, _<_}
-use mathlib.Core.Path.{_≡_, refl, _∙_}
+use mathlib.Core.Path.{_≡_, _∙_}
 use mathlib.Core.Bool.{Bool, true, false, cond}
 use mathlib.Core.List.{List}
 use native.Mathlib.Omega.{arith}
-use lib.Dec.{ltb}
 use lib.ListN.{length, getD, set, length-set}
 use lib.Seq.{getD-set-same, getD-set-other}
 use lib.Ieee.{Float}
-use borrow.Author.Tests.{ltb-true, ltb-false}
 use Rattle.laws.specs.Loops.{seek, first}
 use Rattle.choose.specs.declared.Found.{Found}
 use Rattle.choose.specs.declared.Found.the-variants.{At, Nothing}
 use Rattle.choose.specs.Choose.{Within, onFound, idAt, rowOf}
 use Rattle.choose.specs.Own.{first-within}
 use Rattle.moves.specs.Close.{closed, opened}
-use Rattle.moves.specs.Moved.{closed-before, closed-after, length-closed, opened-before, opened-after, length-opened}
-use Rattle.moves.specs.Moves.{Board, droppedRow, dropRowOf, rowPlace, keptRow, appendedHead, closedColumn, entryAt, pushOf, pushIf, Pruned, keepIf}
+use Rattle.moves.specs.Moved.{closed-before, closed-after, length-closed, opened-before, length-opened}
+use Rattle.moves.specs.Moves.{Board, droppedRow, dropRowOf, rowPlace, keptRow, appendedHead, closedColumn}
 
--- the counts of symbols, rows and list entries are at most these
-abbrev pub Fits : List ℕ → ℕ → ℕ → ℕ → Type 0
-Fits h k r q = (getD h 1 0 ≤ k) × (getD h 2 0 ≤ r) × (getD h 3 0 ≤ q)
+-- the counts of symbols and rows are at most these
+abbrev pub Fits : List ℕ → ℕ → ℕ → Type 0
+Fits h k r = (getD h 1 0 ≤ k) × (getD h 2 0 ≤ r)
 
 -- ---- the first place that passes, or the end
 
@@ -40,15 +38,12 @@ pub first-between : (p : ℕ → Bool) (i e : ℕ) → i ≤ e → (i ≤ first 
 unfolding first
 first-between p i e h = seek-between p e (e - i) i (omega arith)
 
-module _ (b : Board) (len : length (b .head) ≡ 326) where
+module _ (b : Board) (len : length (b .head) ≡ 196) where
   abbrev k : ℕ
   k = getD (b .head) 1 0
 
   abbrev r : ℕ
   r = getD (b .head) 2 0
-
-  abbrev q : ℕ
-  q = getD (b .head) 3 0
 
   -- ---- rows
 
@@ -56,10 +51,10 @@ module _ (b : Board) (len : length (b .head) ≡ 326) where
     abbrev pub shut : List ℕ
     shut = closed 0 (145 + i) (145 + r) (b .head)
 
-    shut-length : length shut ≡ 326
+    shut-length : length shut ≡ 196
     shut-length = length-closed 0 (145 + i) (145 + r) (b .head) (omega arith) (omega arith) 0 ∙ len
 
-    pub dropped-length : length (droppedRow i b .head) ≡ 326
+    pub dropped-length : length (droppedRow i b .head) ≡ 196
     unfolding droppedRow
     dropped-length = length-set shut 2 (r - 1) ∙ shut-length
 
@@ -67,22 +62,17 @@ module _ (b : Board) (len : length (b .head) ≡ 326) where
     unfolding droppedRow
     dropped-same m n h = getD-set-other shut 2 m (r - 1) 0 n ∙ closed-before 0 (145 + i) (145 + r) (b .head) (omega arith) (omega arith) 0 m h
 
-    pub dropped-past : (m : ℕ) → 145 + r < m → getD (droppedRow i b .head) m 0 ≡ getD (b .head) m 0
-    unfolding droppedRow
-    dropped-past m h = getD-set-other shut 2 m (r - 1) 0 (λ e. omega arith) ∙ closed-after 0 (145 + i) (145 + r) (b .head) (omega arith) (omega arith) 0 m h
-
     pub dropped-rows : getD (droppedRow i b .head) 2 0 ≡ r - 1
     unfolding droppedRow
     dropped-rows =
         let n = shut-length in
         getD-set-same shut 2 (r - 1) 0 (omega arith)
 
-    pub dropped-fits : Fits (droppedRow i b .head) k (r - 1) q
+    pub dropped-fits : Fits (droppedRow i b .head) k (r - 1)
     dropped-fits =
         let x = dropped-same 1 (λ e. omega arith) (omega arith) in
-        let y = dropped-same 3 (λ e. omega arith) (omega arith) in
         let z = dropped-rows in
-        (omega arith, omega arith, omega arith)
+        (omega arith, omega arith)
 
   -- the row of this id, if there is one
   module _ (id : ℕ) (fit : r ≤ 49) where
@@ -94,14 +84,14 @@ module _ (b : Board) (len : length (b .head) ≡ 326) where
         go (At i) h = y i (h .0) (h .1)
         go Nothing h = x
 
-    pub drop-of-fits : Fits (dropRowOf id b .head) k r q
+    pub drop-of-fits : Fits (dropRowOf id b .head) k r
     drop-of-fits =
-        row-by (λ x. Fits (x .head) k r q) (omega arith, omega arith, omega arith) λ i l h.
+        row-by (λ x. Fits (x .head) k r) (omega arith, omega arith) λ i l h.
         let f = dropped-fits i fit l h in
-        (omega arith, omega arith, omega arith)
+        (omega arith, omega arith)
 
-    pub drop-of-length : length (dropRowOf id b .head) ≡ 326
-    drop-of-length = row-by (λ x. length (x .head) ≡ 326) len λ i l h. dropped-length i fit l h
+    pub drop-of-length : length (dropRowOf id b .head) ≡ 196
+    drop-of-length = row-by (λ x. length (x .head) ≡ 196) len λ i l h. dropped-length i fit l h
 
   pub row-place-between : (id : ℕ) → (1 ≤ rowPlace id (b .head)) × (rowPlace id (b .head) ≤ 1 + r)
   unfolding rowPlace
@@ -114,12 +104,12 @@ module _ (b : Board) (len : length (b .head) ≡ 326) where
     abbrev pub wide : List ℕ
     wide = opened (145 + p) (146 + r) code (b .head)
 
-    wide-length : length wide ≡ 326
+    wide-length : length wide ≡ 196
     wide-length =
         let a = row-place-between (code / 4) in
         length-opened (145 + p) (146 + r) code (b .head) (omega arith) (omega arith) 0 ∙ len
 
-    pub kept-length : length (keptRow code row b .head) ≡ 326
+    pub kept-length : length (keptRow code row b .head) ≡ 196
     unfolding keptRow
     kept-length = length-set wide 2 (r + 1) ∙ wide-length
 
@@ -129,25 +119,18 @@ module _ (b : Board) (len : length (b .head) ≡ 326) where
         let a = row-place-between (code / 4) in
         getD-set-other wide 2 m (r + 1) 0 n ∙ opened-before (145 + p) (146 + r) code (b .head) (omega arith) (omega arith) 0 m h
 
-    pub kept-past : (m : ℕ) → 146 + r < m → getD (keptRow code row b .head) m 0 ≡ getD (b .head) m 0
-    unfolding keptRow
-    kept-past m h =
-        let a = row-place-between (code / 4) in
-        getD-set-other wide 2 m (r + 1) 0 (λ e. omega arith) ∙ opened-after (145 + p) (146 + r) code (b .head) (omega arith) (omega arith) 0 m h
-
     pub kept-rows : getD (keptRow code row b .head) 2 0 ≡ r + 1
     unfolding keptRow
     kept-rows =
         let n = wide-length in
         getD-set-same wide 2 (r + 1) 0 (omega arith)
 
-    pub kept-fits : Fits (keptRow code row b .head) k (r + 1) q
+    pub kept-fits : Fits (keptRow code row b .head) k (r + 1)
     kept-fits =
         let a = row-place-between (code / 4) in
         let x = kept-same 1 (λ e. omega arith) (omega arith) in
-        let y = kept-same 3 (λ e. omega arith) (omega arith) in
         let z = kept-rows in
-        (omega arith, omega arith, omega arith)
+        (omega arith, omega arith)
 
   -- ---- symbols
 
@@ -158,10 +141,10 @@ module _ (b : Board) (len : length (b .head) ≡ 326) where
     abbrev counted : List ℕ
     counted = set coded 1 (k + 1)
 
-    counted-length : length counted ≡ 326
+    counted-length : length counted ≡ 196
     counted-length = length-set coded 1 (k + 1) ∙ length-set (b .head) (16 + k) (getD (b .head) 0 0 * 4 + kind) ∙ len
 
-    pub appended-length : length (appendedHead kind (b .head)) ≡ 326
+    pub appended-length : length (appendedHead kind (b .head)) ≡ 196
     unfolding appendedHead
     appended-length = length-set counted 0 (getD (b .head) 0 0 + 1) ∙ counted-length
 
@@ -191,21 +174,20 @@ module _ (b : Board) (len : length (b .head) ≡ 326) where
         ∙ getD-set-other coded 1 (16 + k) (k + 1) 0 (λ e. omega arith)
         ∙ getD-set-same (b .head) (16 + k) (getD (b .head) 0 0 * 4 + kind) 0 (omega arith)
 
-    pub appended-fits : Fits (appendedHead kind (b .head)) (k + 1) r q
+    pub appended-fits : Fits (appendedHead kind (b .head)) (k + 1) r
     appended-fits =
         let x = appended-symbols in
         let y = appended-same 2 (omega arith) (λ e. omega arith) in
-        let z = appended-same 3 (omega arith) (λ e. omega arith) in
-        (omega arith, omega arith, omega arith)
+        (omega arith, omega arith)
 
   module _ (p : ℕ) (fit : k ≤ 129) (low : 1 ≤ p) (high : p ≤ k) where
     abbrev pub less : List ℕ
     less = closed 0 (15 + p) (15 + k) (b .head)
 
-    less-length : length less ≡ 326
+    less-length : length less ≡ 196
     less-length = length-closed 0 (15 + p) (15 + k) (b .head) (omega arith) (omega arith) 0 ∙ len
 
-    pub column-length : length (closedColumn p b .head) ≡ 326
+    pub column-length : length (closedColumn p b .head) ≡ 196
     unfolding closedColumn
     column-length = length-set less 1 (k - 1) ∙ less-length
 
@@ -223,86 +205,8 @@ module _ (b : Board) (len : length (b .head) ≡ 326) where
         let n = less-length in
         getD-set-same less 1 (k - 1) 0 (omega arith)
 
-    pub column-fits : Fits (closedColumn p b .head) (k - 1) r q
+    pub column-fits : Fits (closedColumn p b .head) (k - 1) r
     column-fits =
         let x = column-symbols in
         let y = column-same 2 (λ e. omega arith) (omega arith) in
-        let z = column-same 3 (λ e. omega arith) (omega arith) in
-        (omega arith, omega arith, omega arith)
-
--- ---- the infeasible list
-
-module _ (h : List ℕ) (len : length h ≡ 326) (fit : getD h 3 0 ≤ 130) where
-  abbrev n : ℕ
-  n = getD h 3 0
-
-  pub entry-between : (id : ℕ) → (196 ≤ entryAt id h) × (entryAt id h ≤ 196 + n)
-  unfolding entryAt
-  entry-between id = first-between _ 196 (196 + n) (omega arith)
-
-  module _ (id : ℕ) where
-    -- there already, or new with room for it, or new without
-    pub push-by : (P : List ℕ → Type 0)
-        → (entryAt id h < 196 + n → P (set (closed 0 (entryAt id h) (195 + n) h) (195 + n) id))
-        → (196 + n ≤ entryAt id h → n < 130 → P (set (set h (196 + n) id) 3 (n + 1)))
-        → (130 ≤ n → P h)
-        → P (pushOf id h)
-    unfolding pushOf
-    push-by P x y z = go (ltb (entryAt id h) (196 + n)) refl (ltb n 130) refl
-      where
-        go : (a : Bool) → ltb (entryAt id h) (196 + n) ≡ a → (c : Bool) → ltb n 130 ≡ c
-            → P (cond a (set (closed 0 (entryAt id h) (195 + n) h) (195 + n) id) (cond c (set (set h (196 + n) id) 3 (n + 1)) h))
-        go true u c v = x (ltb-true (entryAt id h) (196 + n) u)
-        go false u true v = y (ltb-false (entryAt id h) (196 + n) u) (ltb-true n 130 v)
-        go false u false v = z (ltb-false n 130 v)
-
-    pub push-same : (m : ℕ) → (m ≡ 3 → ⊥) → m < 196 → getD (pushOf id h) m 0 ≡ getD h m 0
-    push-same m ne low =
-        push-by (λ x. getD x m 0 ≡ getD h m 0)
-        (λ a.
-        let z = entry-between id in
-        getD-set-other (closed 0 (entryAt id h) (195 + n) h) (195 + n) m id 0 (λ e. omega arith) ∙ closed-before 0 (entryAt id h) (195 + n) h (omega arith) (omega arith) 0 m (omega arith))
-        (λ a c. getD-set-other (set h (196 + n) id) 3 m (n + 1) 0 ne ∙ getD-set-other h (196 + n) m id 0 (λ e. omega arith))
-        (λ a. refl)
-
-    pub push-length : length (pushOf id h) ≡ 326
-    push-length =
-        push-by (λ x. length x ≡ 326)
-        (λ a.
-        let e = entry-between id in
-        length-set (closed 0 (entryAt id h) (195 + n) h) (195 + n) id ∙ length-closed 0 (entryAt id h) (195 + n) h (omega arith) (omega arith) 0 ∙ len)
-        (λ a c. length-set (set h (196 + n) id) 3 (n + 1) ∙ length-set h (196 + n) id ∙ len)
-        (λ a. len)
-
-    pub push-count : getD (pushOf id h) 3 0 ≤ 130
-    push-count =
-        push-by (λ x. getD x 3 0 ≤ 130)
-        (λ a.
-        let e = entry-between id in
-        let c = getD-set-other (closed 0 (entryAt id h) (195 + n) h) (195 + n) 3 id 0 (λ e. omega arith) ∙ closed-before 0 (entryAt id h) (195 + n) h (omega arith) (omega arith) 0 3 (omega arith) in
-        omega arith)
-        (λ a c.
-        let l = length-set h (196 + n) id in
-        let e = getD-set-same (set h (196 + n) id) 3 (n + 1) 0 (omega arith) in
-        omega arith)
-        (λ a. fit)
-
-    pub push-if-count : (on : Bool) → getD (pushIf on id h) 3 0 ≤ 130
-    unfolding pushIf
-    push-if-count true = push-count
-    push-if-count false = fit
-
-    pub push-if-same : (on : Bool) (m : ℕ) → (m ≡ 3 → ⊥) → m < 196 → getD (pushIf on id h) m 0 ≡ getD h m 0
-    unfolding pushIf
-    push-if-same true m ne low = push-same m ne low
-    push-if-same false m ne low = refl
-
-    pub push-if-length : (on : Bool) → length (pushIf on id h) ≡ 326
-    unfolding pushIf
-    push-if-length true = push-length
-    push-if-length false = len
-
-pub keep-if-same : (on : Bool) (x : ℕ) (s : Pruned) (m : ℕ) → m < 196 → getD (keepIf on x s .head) m 0 ≡ getD (s .head) m 0
-unfolding keepIf
-keep-if-same true x s m h = getD-set-other (s .head) (196 + s .kept) m x 0 (λ e. omega arith)
-keep-if-same false x s m h = refl
+        (omega arith, omega arith)

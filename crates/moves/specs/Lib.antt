@@ -1,4 +1,4 @@
--- Rows, symbols, list entries and items that come and go: over the tables' places, and that the tables then read as the steps say.
+-- Rows and symbols that come and go: over the tables' places, and that the tables then read as the steps say.
 pub mod Close
 pub mod Moved
 pub mod Moves
@@ -8,8 +8,3 @@ pub mod Walk
 pub mod Rows
 pub mod Columns
 pub mod Purge
-pub mod Entries
-pub mod Prune
-pub mod Room
-pub mod Held
-pub mod Listed

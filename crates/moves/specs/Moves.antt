@@ -1,14 +1,12 @@
 -- What the moves make of the head and the rows. The counts are those of the head at entry; a place past a count keeps what it has.
 use Prim.Native.Nat.{ℕ, _+_, _-_, _*_, _/_}
-use mathlib.Core.Bool.{Bool, _&&_, cond}
 use mathlib.Core.List.{List, []}
-use lib.Dec.{eqb, ltb}
+use lib.Dec.{ltb}
 use lib.ListN.{getD, set}
 use lib.Ieee.{Float, nan}
-use Rattle.steps.specs.Number.{zero64, belowZero}
-use Rattle.steps.specs.Symbol.{isRestricted}
-use Rattle.laws.specs.Loops.{run, first, mapIn}
-use Rattle.choose.specs.Choose.{onFound, basicAt, cellAt, placeOf, rowOf, isBelowOf}
+use Rattle.steps.specs.Number.{zero64}
+use Rattle.laws.specs.Loops.{first, mapIn}
+use Rattle.choose.specs.Choose.{onFound, placeOf, rowOf}
 use Rattle.moves.specs.Close.{closed, opened}
 
 -- the two tables that hold the tableau
@@ -65,47 +63,3 @@ closeColumnOf id b = onFound (λ p. closedColumn p b) b (placeOf id (b .head))
 -- "a gone symbol's row, place and cells go"
 unfoldable pub purgeOf : ℕ → Board → Board
 purgeOf id b = closeColumnOf id (dropRowOf id b)
-
--- ---- the infeasible list
-
--- the place of an entry in the head, and that after the last if there is none
-unfoldable pub entryAt : ℕ → List ℕ → ℕ
-entryAt id h = first (λ j. eqb id (getD h j 0)) (λ j. j) (196 + getD h 3 0) 196 (196 + getD h 3 0)
-
--- "pushed on the infeasible list (one already there moves to the end)"
-unfoldable pub pushOf : ℕ → List ℕ → List ℕ
-pushOf id h =
-    cond (ltb (entryAt id h) (196 + getD h 3 0))
-    (set (closed 0 (entryAt id h) (195 + getD h 3 0) h) (195 + getD h 3 0) id)
-    (cond (ltb (getD h 3 0) 130) (set (set h (196 + getD h 3 0) id) 3 (getD h 3 0 + 1)) h)
-
-unfoldable pub pushIf : Bool → ℕ → List ℕ → List ℕ
-pushIf on id h = cond on (pushOf id h) h
-
--- "a restricted row below 0 is pushed", by ascending id
-unfoldable pub pushRow : List (List Float) → ℕ → List ℕ → List ℕ
-pushRow w i h = pushIf (isRestricted (basicAt h i) && belowZero (cellAt w 0 i)) (getD h (145 + i) 0 / 4) h
-
-unfoldable pub pushBelowOf : List (List Float) → List ℕ → List ℕ
-pushBelowOf w h = run (pushRow w) 1 (1 + getD h 2 0) h
-
--- the head, and how many entries are kept so far
-pub record Pruned : Type 0 where
-  pub head : List ℕ
-  pub kept : ℕ
-
-abbrev pub pruned : List ℕ → ℕ → Pruned
-pruned h n = record { head = h; kept = n }
-
-unfoldable pub keepIf : Bool → ℕ → Pruned → Pruned
-keepIf on x s = cond on (pruned (set (s .head) (196 + s .kept) x) (s .kept + 1)) s
-
-unfoldable pub pruneTurn : List (List Float) → ℕ → Pruned → Pruned
-pruneTurn w j s = keepIf (isBelowOf (getD (s .head) (195 + j) 0) (s .head) w) (getD (s .head) (195 + j) 0) s
-
-unfoldable pub countKept : Pruned → List ℕ
-countKept s = set (s .head) 3 (s .kept)
-
--- "list entries whose row is absent or not below 0 go"
-unfoldable pub pruneOf : List (List Float) → List ℕ → List ℕ
-pruneOf w h = countKept (run (pruneTurn w) 1 (1 + getD h 3 0) (pruned h 0))

@@ -16,7 +16,7 @@ use Rattle.moves.specs.Counts.{row-by, dropped-rows, drop-of-fits, drop-
 use Rattle.moves.specs.Rows.{withRowsIn, drop-of-tableau}
 use Rattle.moves.specs.Columns.{Wide, cutTableau, column-of-tableau}
 
-module _ (b : Board) (len : length (b .head) ≡ 326) (size : length (b .rows) ≡ 51) where
+module _ (b : Board) (len : length (b .head) ≡ 196) (size : length (b .rows) ≡ 51) where
   abbrev k : ℕ
   k = getD (b .head) 1 0
 

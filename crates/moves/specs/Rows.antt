@@ -18,10 +18,10 @@ use Rattle.choose.specs.declared.Found.the-variants.{At, Nothing}
 use Rattle.choose.specs.Choose.{Within, onFound, idAt, rowOf}
 use Rattle.choose.specs.Own.{first-within}
 use Rattle.choose.specs.Chosen.{as-cond}
-use Rattle.choose.specs.Reading.{symbolsIn, basicsIn, entriesIn, tableauIn}
+use Rattle.choose.specs.Reading.{symbolsIn, basicsIn, tableauIn}
 use Rattle.moves.specs.Moved.{closed-before, closed-inside, opened-before, opened-at, opened-inside}
 use Rattle.moves.specs.Moves.{Board, droppedRow, dropRowOf, rowPlace, keptRow}
-use Rattle.moves.specs.Counts.{shut, dropped-same, dropped-past, dropped-rows, wide, row-place-between, kept-same, kept-past, kept-rows}
+use Rattle.moves.specs.Counts.{shut, dropped-same, dropped-rows, wide, row-place-between, kept-same, kept-rows}
 use Rattle.moves.specs.Walk.{keep-walk, drop-walk, absent-walk}
 
 -- ---- the parts that a move leaves alone
@@ -30,18 +30,14 @@ pub symbols-same : (h h′ : List ℕ) → getD h′ 1 0 ≡ getD h 1 0 → ((j 
 unfolding symbolsIn listOf
 symbols-same h h′ k q = rw k (tab-ext _ _ 0 (getD h 1 0) λ j a b. ap symbolOf (q j (omega arith)))
 
-pub entries-same : (h h′ : List ℕ) → getD h′ 3 0 ≡ getD h 3 0 → ((j : ℕ) → j < getD h 3 0 → getD h′ (196 + j) 0 ≡ getD h (196 + j) 0) → entriesIn h′ ≡ entriesIn h
-unfolding entriesIn listOf
-entries-same h h′ k q = rw k (tab-ext _ _ 0 (getD h 3 0) λ j a b. q j (omega arith))
-
 -- a tableau with other rows
 abbrev pub withRowsIn : List Basic → Tableau → Tableau
-withRowsIn rs t = record { symbols = t .symbols; nextId = t .nextId; rows = rs; objective = t .objective; infeasible = t .infeasible }
+withRowsIn rs t = record { symbols = t .symbols; nextId = t .nextId; rows = rs; objective = t .objective }
 
 abbrev pub basicIn : List ℕ → List (List Float) → ℕ → Basic
 basicIn h w j = basicOf (getD h 1 0) (getD h (146 + j) 0) (getD w (1 + j) [])
 
-module _ (b : Board) (len : length (b .head) ≡ 326) (size : length (b .rows) ≡ 51) where
+module _ (b : Board) (len : length (b .head) ≡ 196) (size : length (b .rows) ≡ 51) where
   abbrev h : List ℕ
   h = b .head
 
@@ -127,7 +123,6 @@ module _ (b : Board) (len : length (b .head) ≡ 326) (size : length (b .rows) �
         rw (
           kept-basics,
           symbols-same h h₁ one (λ j a. same (16 + j) (λ z. omega arith) (omega arith)),
-          entries-same h h₁ (same 3 (λ z. omega arith) (omega arith)) (λ j a. kept-past b len code row fit (196 + j) (omega arith)),
           one,
           same 0 (λ z. omega arith) (omega arith),
           kept-row-before 0 (omega arith),
@@ -185,7 +180,6 @@ module _ (b : Board) (len : length (b .head) ≡ 326) (size : length (b .rows) �
         rw (
           dropped-basics id found,
           symbols-same h h₂ one (λ j a. same (16 + j) (λ z. omega arith) (omega arith)),
-          entries-same h h₂ (same 3 (λ z. omega arith) (omega arith)) (λ j a. dropped-past b len i fit low high (196 + j) (omega arith)),
           one,
           same 0 (λ z. omega arith) (omega arith),
           dropped-row-before 0 (omega arith),

@@ -1,23 +1,18 @@
 -- What the code's calls and branches come to: each move put together from what its parts ensure.
 -- Assumes nothing.
-use Prim.Native.Nat.{ℕ, _+_, _-_, _*_, _/_, _≤_, _<_}
+use Prim.Native.Nat.{ℕ, _+_, _-_, _*_, _/_}
 use mathlib.Core.Path.{_≡_}
-use mathlib.Core.Bool.{Bool, true, false, _&&_}
 use mathlib.Core.List.{List, []}
 use lib.ListN.{getD, set}
 use lib.Ieee.{Float}
-use borrow.Author.Tests.{lt-ltb, le-ltb}
-use Rattle.steps.specs.Number.{belowZero}
-use Rattle.steps.specs.Symbol.{isRestricted}
-use Rattle.layout.specs.Layout.{symbolOf}
 use Rattle.choose.specs.declared.Found.{Found}
 use Rattle.choose.specs.declared.Found.the-variants.{At, Nothing}
-use Rattle.choose.specs.Choose.{cellAt, rowOf, placeOf, isBelowOf}
+use Rattle.choose.specs.Choose.{rowOf, placeOf}
 use Rattle.moves.specs.Close.{closed, opened}
 use Rattle.moves.specs.Counts.{Fits}
-use Rattle.moves.specs.Moves.{Board, board, droppedRow, dropRowOf, rowPlace, keptRow, appendedHead, clearedColumn, appendedSymbol, closedColumns, closedColumn, closeColumnOf, purgeOf, entryAt, pushOf, pushIf, pushRow, Pruned, pruned, keepIf, pruneTurn}
+use Rattle.moves.specs.Moves.{Board, board, droppedRow, dropRowOf, rowPlace, keptRow, appendedHead, clearedColumn, appendedSymbol, closedColumns, closedColumn, closeColumnOf, purgeOf}
 
-pub fits-of : {x y : Board} {a b c : ℕ} → x ≡ y → Fits (y .head) a b c → Fits (x .head) a b c
+pub fits-of : {x y : Board} {a b : ℕ} → x ≡ y → Fits (y .head) a b → Fits (x .head) a b
 fits-of e f = rw e f
 
 module _ (b : Board) where
@@ -65,45 +60,3 @@ module _ (id : ℕ) (b : Board) {f : Found} where
 pub purge-is : (id : ℕ) (b : Board) {x y : Board} → x ≡ dropRowOf id b → y ≡ closeColumnOf id x → y ≡ purgeOf id b
 unfolding purgeOf
 purge-is id b p q = rw (q, p)
-
-abbrev n : List ℕ → ℕ
-n h = getD h 3 0
-
-module _ (id : ℕ) (h : List ℕ) {p : ℕ} (e : p ≡ entryAt id h) where
-  pub push-there : {l : List ℕ} → p < 196 + n h → l ≡ closed 0 p (195 + n h) h → set l (195 + n h) id ≡ pushOf id h
-  unfolding pushOf
-  push-there a q = rw (q, ← e, lt-ltb _ _ a)
-
-  pub push-new : 196 + n h ≤ p → n h < 130 → set (set h (196 + n h) id) 3 (n h + 1) ≡ pushOf id h
-  unfolding pushOf
-  push-new a c = rw (← e, le-ltb _ _ a, lt-ltb _ _ c)
-
-  pub push-full : 196 + n h ≤ p → 130 ≤ n h → h ≡ pushOf id h
-  unfolding pushOf
-  push-full a c = rw (← e, le-ltb _ _ a, le-ltb _ _ c)
-
-module _ (id : ℕ) (h : List ℕ) {on : Bool} where
-  pub push-on : {l : List ℕ} → on ≡ true → l ≡ pushOf id h → l ≡ pushIf on id h
-  unfolding pushIf
-  push-on t q = rw t q
-
-  pub push-off : on ≡ false → h ≡ pushIf on id h
-  unfolding pushIf
-  push-off t = rw t
-
-pub push-turn : (h : List ℕ) {on : Bool} (w : List (List Float)) (i : ℕ) {l : List ℕ} → on ≡ isRestricted (symbolOf (getD h (145 + i) 0)) && belowZero (cellAt w 0 i) → l ≡ pushIf on (getD h (145 + i) 0 / 4) h → l ≡ pushRow w i h
-unfolding pushRow
-push-turn h w i p q = rw (← p) q
-
-module _ (x : ℕ) (h : List ℕ) (n : ℕ) {on : Bool} where
-  pub kept-on : on ≡ true → pruned (set h (196 + n) x) (n + 1) ≡ keepIf on x (pruned h n)
-  unfolding keepIf
-  kept-on t = rw t
-
-  pub kept-off : on ≡ false → pruned h n ≡ keepIf on x (pruned h n)
-  unfolding keepIf
-  kept-off t = rw t
-
-pub prune-step : (w : List (List Float)) (h : List ℕ) (n j : ℕ) {on : Bool} {s : Pruned} → on ≡ isBelowOf (getD h (195 + j) 0) h w → s ≡ keepIf on (getD h (195 + j) 0) (pruned h n) → s ≡ pruneTurn w j (pruned h n)
-unfolding pruneTurn
-prune-step w h n j p q = rw (← p) q

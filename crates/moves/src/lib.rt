@@ -1,16 +1,13 @@
-// Rows, symbols, list entries and items that come and go in the lent tables. The counts in the head follow.
+// Rows and symbols that come and go in the lent tables. The counts in the head follow.
 ghost use mathlib.Core.Path.{_≡_};
 ghost use mathlib.Core.List.{[]};
 ghost use Prim.Native.Nat.{_+_, _-_, _*_, _<_, _≤_};
 ghost use lib.ListN.{getD, length, set};
 ghost use lib.Ieee.{nan};
-ghost use mathlib.Core.Bool.{_&&_};
-ghost use Rattle.steps.specs.Number.{zero64, belowZero};
-ghost use Rattle.steps.specs.Symbol.{isRestricted};
-ghost use Rattle.layout.specs.Layout.{symbolOf};
+ghost use Rattle.steps.specs.Number.{zero64};
 ghost use Rattle.moves.specs.Close.{closed, opened};
 ghost use Rattle.moves.specs.Counts.{Fits};
-ghost use Rattle.moves.specs.Moves.{board, droppedRow, dropRowOf, rowPlace, keptRow, clearedColumn, appendedSymbol, closedColumns, closedColumn, closeColumnOf, purgeOf, entryAt, pushOf, pushIf, pushBelowOf, pruned, keepIf, pruneOf};
+ghost use Rattle.moves.specs.Moves.{board, droppedRow, dropRowOf, rowPlace, keptRow, clearedColumn, appendedSymbol, closedColumns, closedColumn, closeColumnOf, purgeOf};
 use choose::Found;
 
 // ---- by one place
@@ -93,13 +90,13 @@ fn open_rows(rows: &mut [[f64; 130]], i: usize, e: usize, row: &[f64; 130])
 
 // Row i goes.
 pub fn drop_row(head: &mut [u64], rows: &mut [[f64; 130]], i: usize)
-    requires { ⌜ length (now head) ≡ 326 ⌝ }
+    requires { ⌜ length (now head) ≡ 196 ⌝ }
     requires { ⌜ getD (now head) 2 0 ≤ 49 ⌝ }
     requires { ⌜ length (now rows) ≡ 51 ⌝ }
     requires { ⌜ 1 ≤ i ⌝ }
     requires { ⌜ i ≤ getD (now head) 2 0 ⌝ }
     ensures { λ _. ⌜ board (now (head .exit)) (now (rows .exit)) ≡ droppedRow i (board (now (head .entry)) (now (rows .entry))) ⌝ }
-    ensures { λ _. ⌜ Fits (now (head .exit)) (getD (now (head .entry)) 1 0) (getD (now (head .entry)) 2 0 - 1) (getD (now (head .entry)) 3 0) ⌝ }
+    ensures { λ _. ⌜ Fits (now (head .exit)) (getD (now (head .entry)) 1 0) (getD (now (head .entry)) 2 0 - 1) ⌝ }
 {
     let r = head[layout::ROW_COUNT];
     let e = r as usize;
@@ -110,11 +107,11 @@ pub fn drop_row(head: &mut [u64], rows: &mut [[f64; 130]], i: usize)
 
 // The row of the symbol with this id goes, if it is basic.
 pub fn drop_row_of(head: &mut [u64], rows: &mut [[f64; 130]], id: u64)
-    requires { ⌜ length (now head) ≡ 326 ⌝ }
+    requires { ⌜ length (now head) ≡ 196 ⌝ }
     requires { ⌜ getD (now head) 2 0 ≤ 49 ⌝ }
     requires { ⌜ length (now rows) ≡ 51 ⌝ }
     ensures { λ _. ⌜ board (now (head .exit)) (now (rows .exit)) ≡ dropRowOf id (board (now (head .entry)) (now (rows .entry))) ⌝ }
-    ensures { λ _. ⌜ Fits (now (head .exit)) (getD (now (head .entry)) 1 0) (getD (now (head .entry)) 2 0) (getD (now (head .entry)) 3 0) ⌝ }
+    ensures { λ _. ⌜ Fits (now (head .exit)) (getD (now (head .entry)) 1 0) (getD (now (head .entry)) 2 0) ⌝ }
 {
     let f = choose::row_of(head, id);
     let Found::At(i) = f else {
@@ -125,7 +122,7 @@ pub fn drop_row_of(head: &mut [u64], rows: &mut [[f64; 130]], id: u64)
 
 // Where a row of this id stands by ascending id.
 fn row_place(head: &[u64], id: u64) -> usize
-    requires { ⌜ length (now head) ≡ 326 ⌝ }
+    requires { ⌜ length (now head) ≡ 196 ⌝ }
     requires { ⌜ getD (now head) 2 0 ≤ 49 ⌝ }
     ensures { λ r. ⌜ r ≡ rowPlace id (now (head .entry)) ⌝ }
     ensures { λ r. ⌜ 1 ≤ r ⌝ }
@@ -144,11 +141,11 @@ fn row_place(head: &[u64], id: u64) -> usize
 
 // A row comes to its place by ascending id.
 pub fn keep_row(head: &mut [u64], rows: &mut [[f64; 130]], code: u64, row: &[f64; 130])
-    requires { ⌜ length (now head) ≡ 326 ⌝ }
+    requires { ⌜ length (now head) ≡ 196 ⌝ }
     requires { ⌜ getD (now head) 2 0 < 49 ⌝ }
     requires { ⌜ length (now rows) ≡ 51 ⌝ }
     ensures { λ _. ⌜ board (now (head .exit)) (now (rows .exit)) ≡ keptRow code (now (row .entry)) (board (now (head .entry)) (now (rows .entry))) ⌝ }
-    ensures { λ _. ⌜ Fits (now (head .exit)) (getD (now (head .entry)) 1 0) (getD (now (head .entry)) 2 0 + 1) (getD (now (head .entry)) 3 0) ⌝ }
+    ensures { λ _. ⌜ Fits (now (head .exit)) (getD (now (head .entry)) 1 0) (getD (now (head .entry)) 2 0 + 1) ⌝ }
 {
     let r = head[layout::ROW_COUNT];
     let e = r as usize;
@@ -179,7 +176,7 @@ pub fn append_symbol(
     row: &mut [f64; 130],
     kind: u64,
 ) -> u64
-    requires { ⌜ length (now head) ≡ 326 ⌝ }
+    requires { ⌜ length (now head) ≡ 196 ⌝ }
     requires { ⌜ getD (now head) 0 0 ≤ 4294967295 ⌝ }
     requires { ⌜ getD (now head) 1 0 < 129 ⌝ }
     requires { ⌜ getD (now head) 2 0 ≤ 49 ⌝ }
@@ -188,7 +185,7 @@ pub fn append_symbol(
     ensures { λ c. ⌜ c ≡ getD (now (head .entry)) 0 0 * 4 + kind ⌝ }
     ensures { λ _. ⌜ now (row .exit) ≡ set (now (row .entry)) (1 + getD (now (head .entry)) 1 0) zero64 ⌝ }
     ensures { λ _. ⌜ board (now (head .exit)) (now (rows .exit)) ≡ appendedSymbol kind (board (now (head .entry)) (now (rows .entry))) ⌝ }
-    ensures { λ _. ⌜ Fits (now (head .exit)) (getD (now (head .entry)) 1 0 + 1) (getD (now (head .entry)) 2 0) (getD (now (head .entry)) 3 0) ⌝ }
+    ensures { λ _. ⌜ Fits (now (head .exit)) (getD (now (head .entry)) 1 0 + 1) (getD (now (head .entry)) 2 0) ⌝ }
 {
     let id = head[layout::NEXT_ID];
     let k = head[layout::SYMBOL_COUNT];
@@ -217,14 +214,14 @@ fn close_columns(rows: &mut [[f64; 130]], n: usize, p: usize, e: usize)
 
 // The symbol at place p goes, with its cells.
 fn close_column(head: &mut [u64], rows: &mut [[f64; 130]], p: usize)
-    requires { ⌜ length (now head) ≡ 326 ⌝ }
+    requires { ⌜ length (now head) ≡ 196 ⌝ }
     requires { ⌜ getD (now head) 1 0 ≤ 129 ⌝ }
     requires { ⌜ getD (now head) 2 0 ≤ 49 ⌝ }
     requires { ⌜ length (now rows) ≡ 51 ⌝ }
     requires { ⌜ 1 ≤ p ⌝ }
     requires { ⌜ p ≤ getD (now head) 1 0 ⌝ }
     ensures { λ _. ⌜ board (now (head .exit)) (now (rows .exit)) ≡ closedColumn p (board (now (head .entry)) (now (rows .entry))) ⌝ }
-    ensures { λ _. ⌜ Fits (now (head .exit)) (getD (now (head .entry)) 1 0 - 1) (getD (now (head .entry)) 2 0) (getD (now (head .entry)) 3 0) ⌝ }
+    ensures { λ _. ⌜ Fits (now (head .exit)) (getD (now (head .entry)) 1 0 - 1) (getD (now (head .entry)) 2 0) ⌝ }
 {
     let k = head[layout::SYMBOL_COUNT];
     let r = head[layout::ROW_COUNT] as usize;
@@ -235,12 +232,12 @@ fn close_column(head: &mut [u64], rows: &mut [[f64; 130]], p: usize)
 }
 
 fn close_column_of(head: &mut [u64], rows: &mut [[f64; 130]], id: u64)
-    requires { ⌜ length (now head) ≡ 326 ⌝ }
+    requires { ⌜ length (now head) ≡ 196 ⌝ }
     requires { ⌜ getD (now head) 1 0 ≤ 129 ⌝ }
     requires { ⌜ getD (now head) 2 0 ≤ 49 ⌝ }
     requires { ⌜ length (now rows) ≡ 51 ⌝ }
     ensures { λ _. ⌜ board (now (head .exit)) (now (rows .exit)) ≡ closeColumnOf id (board (now (head .entry)) (now (rows .entry))) ⌝ }
-    ensures { λ _. ⌜ Fits (now (head .exit)) (getD (now (head .entry)) 1 0) (getD (now (head .entry)) 2 0) (getD (now (head .entry)) 3 0) ⌝ }
+    ensures { λ _. ⌜ Fits (now (head .exit)) (getD (now (head .entry)) 1 0) (getD (now (head .entry)) 2 0) ⌝ }
 {
     let f = choose::place_of(head, id);
     let Found::At(p) = f else {
@@ -251,122 +248,13 @@ fn close_column_of(head: &mut [u64], rows: &mut [[f64; 130]], id: u64)
 
 // A gone symbol's row, place and cells go.
 pub fn purge(head: &mut [u64], rows: &mut [[f64; 130]], id: u64)
-    requires { ⌜ length (now head) ≡ 326 ⌝ }
+    requires { ⌜ length (now head) ≡ 196 ⌝ }
     requires { ⌜ getD (now head) 1 0 ≤ 129 ⌝ }
     requires { ⌜ getD (now head) 2 0 ≤ 49 ⌝ }
     requires { ⌜ length (now rows) ≡ 51 ⌝ }
     ensures { λ _. ⌜ board (now (head .exit)) (now (rows .exit)) ≡ purgeOf id (board (now (head .entry)) (now (rows .entry))) ⌝ }
-    ensures { λ _. ⌜ Fits (now (head .exit)) (getD (now (head .entry)) 1 0) (getD (now (head .entry)) 2 0) (getD (now (head .entry)) 3 0) ⌝ }
+    ensures { λ _. ⌜ Fits (now (head .exit)) (getD (now (head .entry)) 1 0) (getD (now (head .entry)) 2 0) ⌝ }
 {
     drop_row_of(head, rows, id);
     close_column_of(head, rows, id);
-}
-
-// ---- the infeasible list
-
-// The place of an entry in the head, and that after the last if there is none.
-fn entry_at(head: &[u64], id: u64) -> usize
-    requires { ⌜ length (now head) ≡ 326 ⌝ }
-    requires { ⌜ getD (now head) 3 0 ≤ 130 ⌝ }
-    ensures { λ r. ⌜ r ≡ entryAt id (now (head .entry)) ⌝ }
-    ensures { λ r. ⌜ 196 ≤ r ⌝ }
-{
-    let e = layout::LIST + head[layout::ENTRY_COUNT] as usize;
-    let mut j = layout::LIST;
-    while j < e {
-        if id == head[j] {
-            return j;
-        }
-        j += 1;
-    }
-    e
-}
-
-// Pushes an id; one that is already there moves to the end.
-fn push(head: &mut [u64], id: u64)
-    requires { ⌜ length (now head) ≡ 326 ⌝ }
-    requires { ⌜ getD (now head) 3 0 ≤ 130 ⌝ }
-    ensures { λ _. ⌜ now (head .exit) ≡ pushOf id (now (head .entry)) ⌝ }
-    ensures { λ _. ⌜ Fits (now (head .exit)) (getD (now (head .entry)) 1 0) (getD (now (head .entry)) 2 0) 130 ⌝ }
-{
-    let q = head[layout::ENTRY_COUNT];
-    let e = q as usize;
-    let p = entry_at(head, id);
-    if p < layout::LIST + e {
-        close_head(head, p, layout::BEFORE_LIST + e);
-        head[layout::BEFORE_LIST + e] = id;
-        return;
-    }
-    if q < 130 {
-        head[layout::LIST + e] = id;
-        head[layout::ENTRY_COUNT] = q + 1;
-    }
-}
-
-pub fn push_if(on: bool, head: &mut [u64], id: u64)
-    requires { ⌜ length (now head) ≡ 326 ⌝ }
-    requires { ⌜ getD (now head) 3 0 ≤ 130 ⌝ }
-    ensures { λ _. ⌜ now (head .exit) ≡ pushIf on id (now (head .entry)) ⌝ }
-    ensures { λ _. ⌜ Fits (now (head .exit)) (getD (now (head .entry)) 1 0) (getD (now (head .entry)) 2 0) 130 ⌝ }
-{
-    if on {
-        push(head, id);
-    }
-}
-
-fn is_low(code: u64, constant: f64) -> bool
-    ensures { λ r. ⌜ r ≡ isRestricted (symbolOf code) && belowZero constant ⌝ }
-{
-    (code % 4 != 0) & (constant < 0.0)
-}
-
-// Pushes each restricted row below 0, by ascending id.
-pub fn push_below(head: &mut [u64], rows: &[[f64; 130]])
-    requires { ⌜ length (now head) ≡ 326 ⌝ }
-    requires { ⌜ getD (now head) 2 0 ≤ 49 ⌝ }
-    requires { ⌜ getD (now head) 3 0 ≤ 130 ⌝ }
-    requires { ⌜ length (now rows) ≡ 51 ⌝ }
-    ensures { λ _. ⌜ now (head .exit) ≡ pushBelowOf (now (rows .entry)) (now (head .entry)) ⌝ }
-    ensures { λ _. ⌜ Fits (now (head .exit)) (getD (now (head .entry)) 1 0) (getD (now (head .entry)) 2 0) 130 ⌝ }
-{
-    let n = head[layout::ROW_COUNT] as usize;
-    let mut i = 1;
-    while i <= n {
-        let code = head[layout::BEFORE_ROWS + i];
-        push_if(is_low(code, rows[i][0]), head, code / 4);
-        i += 1;
-    }
-}
-
-fn keep_if(on: bool, head: &mut [u64], n: usize, x: u64) -> usize
-    requires { ⌜ length (now head) ≡ 326 ⌝ }
-    requires { ⌜ n < 130 ⌝ }
-    ensures { λ r. ⌜ pruned (now (head .exit)) r ≡ keepIf on x (pruned (now (head .entry)) n) ⌝ }
-    ensures { λ r. ⌜ r ≤ n + 1 ⌝ }
-{
-    if on {
-        head[layout::LIST + n] = x;
-        return n + 1;
-    }
-    n
-}
-
-// List entries whose row is absent or not below 0 go.
-pub fn prune(head: &mut [u64], rows: &[[f64; 130]])
-    requires { ⌜ length (now head) ≡ 326 ⌝ }
-    requires { ⌜ getD (now head) 2 0 ≤ 49 ⌝ }
-    requires { ⌜ getD (now head) 3 0 ≤ 130 ⌝ }
-    requires { ⌜ length (now rows) ≡ 51 ⌝ }
-    ensures { λ _. ⌜ now (head .exit) ≡ pruneOf (now (rows .entry)) (now (head .entry)) ⌝ }
-    ensures { λ _. ⌜ Fits (now (head .exit)) (getD (now (head .entry)) 1 0) (getD (now (head .entry)) 2 0) (getD (now (head .entry)) 3 0) ⌝ }
-{
-    let q = head[layout::ENTRY_COUNT] as usize;
-    let mut n = 0;
-    let mut j = 1;
-    while j <= q {
-        let x = head[layout::BEFORE_LIST + j];
-        n = keep_if(choose::list::is_below(head, rows, x), head, n, x);
-        j += 1;
-    }
-    head[layout::ENTRY_COUNT] = n as u64;
 }

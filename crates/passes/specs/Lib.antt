@@ -1,5 +1,6 @@
 -- The two passes over tables.
 pub mod Turn
 pub mod Pivots
+pub mod Chosen
 pub mod Optimising
 pub mod Dual

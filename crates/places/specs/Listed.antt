@@ -2,7 +2,7 @@
 -- Assumes nothing.
 use Prim.Native.Nat.{ℕ, zero, suc, _+_, _-_, _<_}
 use mathlib.Core.Path.{_≡_, refl, sym, ap, _∙_}
-use mathlib.Core.Bool.{Bool, true, false, not, _&&_, _||_, cond}
+use mathlib.Core.Bool.{Bool, true, false, _&&_, _||_, cond}
 use mathlib.Core.List.{map}
 use native.Mathlib.Nat.{sub-zero}
 use native.Mathlib.Omega.{arith}
@@ -89,38 +89,3 @@ pub list-from : (n : ℕ) (g : ℕ → ℕ) → allIn (λ i. ltb (g (i - 1)) (g 
 unfolding steps.ascendFrom steps.ascend listOf tab
 list-from zero g h k = refl
 list-from (suc n) g h k = join (lt-ltb 0 (g 0) (k (omega arith))) (ascend-list (suc n) g ∙ h)
-
--- ---- distinct: each differs from those after it
-
-differ-tab : (g : ℕ → ℕ) (x i n : ℕ) → not (member x (tab g i n)) ≡ allFrom (λ j. not (eqb x (g j))) i n
-unfolding member tab allFrom
-differ-tab g x i zero = refl
-differ-tab g x i (suc n) = go (eqb x (g i)) (differ-tab g x (suc i) n)
-  where
-    go : (b : Bool) → not (member x (tab g (suc i) n)) ≡ allFrom (λ j. not (eqb x (g j))) (suc i) n → not (b || member x (tab g (suc i) n)) ≡ not b && allFrom (λ j. not (eqb x (g j))) (suc i) n
-    go true r = refl
-    go false r = r
-
-distinct-tab : (g : ℕ → ℕ) (e i n : ℕ) → i + n ≡ e → steps.distinct (tab g i n) ≡ allFrom (λ j. allIn (λ l. not (eqb (g j) (g l))) (j + 1) e) i n
-unfolding steps.distinct tab allFrom allIn
-distinct-tab g e i zero q = refl
-distinct-tab g e i (suc n) q =
-    let d : e - (i + 1) ≡ n = omega arith in
-    let s : i + 1 ≡ suc i = omega arith in
-    rw (d, s, differ-tab g (g i) (suc i) n) (ap (λ (b : Bool). allFrom (λ l. not (eqb (g i) (g l))) (suc i) n && b) (distinct-tab g e (suc i) n (omega arith)))
-
-all-whole : (p : ℕ → Bool) (n : ℕ) → allFrom p 0 n ≡ allIn p 0 n
-unfolding allIn
-all-whole p n = rw (sub-zero n) refl
-
-pub distinct-list : (n : ℕ) (g : ℕ → ℕ) → steps.distinct (listOf n g) ≡ allIn (λ j. allIn (λ l. not (eqb (g j) (g l))) (j + 1) n) 0 n
-unfolding listOf
-distinct-list n g = distinct-tab g n 0 n (omega arith) ∙ all-whole _ n
-
-pub member-differs : (n : ℕ) (g : ℕ → ℕ) (x : ℕ) → member x (listOf n g) ≡ not (allIn (λ j. not (eqb x (g j))) 0 n)
-unfolding listOf allIn
-member-differs n g x = rw (sub-zero n) (flip (member x (tab g 0 n)) _ (differ-tab g x 0 n))
-  where
-    flip : (a b : Bool) → not a ≡ b → a ≡ not b
-    flip true b h = ap not h
-    flip false b h = ap not h

@@ -31,7 +31,7 @@ module _ (t : Tables) (h : reads t ≡ true) where
   reads-counts =
       let c = reads-counted in
       let r = few-rows c in
-      (c .symbols, omega arith, c .entries, c .variables, c .constraints, c .edits)
+      (c .symbols, omega arith, c .variables, c .constraints, c .edits)
 
   pub reads-coded : Coded t
   reads-coded =

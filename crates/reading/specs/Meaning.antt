@@ -15,18 +15,18 @@ use Rattle.steps.specs.Symbol.{isExternal}
 use Rattle.steps.specs.State.{Tag, Variable, Constraint, Edit}
 use Rattle.steps.specs.Readable as steps
 use Rattle.laws.specs.Lists.{listOf, allIn}
-use Rattle.layout.specs.Layout.{Tables, symbolsAt, rowsAt, constraintsAt, editsAt, cellsAt, nextIdOf, symbolCount, rowCount, entryCount, variableCount, constraintCount, editCount, clearFlag, wholeFlag, numberOf, changedFlag, tagOf, variableOf, constraintOf, editOf, basicsOf, variablesOf, constraintsOf, editsOf, read}
+use Rattle.layout.specs.Layout.{Tables, symbolsAt, rowsAt, constraintsAt, editsAt, cellsAt, nextIdOf, symbolCount, rowCount, variableCount, constraintCount, editCount, clearFlag, wholeFlag, numberOf, changedFlag, tagOf, variableOf, constraintOf, editOf, basicsOf, variablesOf, constraintsOf, editsOf, read}
 use Rattle.layout.specs.Rooms.{lengthsRight, both}
 use Rattle.layout.specs.Laying.{list-ext}
 use Rattle.layout.specs.Copied.{length-listOf}
 use Rattle.places.specs.Listed.{join, same, map-list, ascend-list}
 use Rattle.places.specs.Shares.{finiteIn}
-use Rattle.symbols.specs.Symbols.{idsAscend, idsBounded, ownedFit, basicsFit, rowsFinite, entriesFit, tableauFits}
+use Rattle.symbols.specs.Symbols.{idsAscend, idsBounded, ownedFit, basicsFit, rowsFinite, tableauFits}
 use Rattle.items.specs.Items.{isU32, numbersAscend, variablesFit, constraintsFit, editsFit, usesFit, itemsFit}
 use Rattle.reading.specs.Reads.{codesFit, reads}
 use Rattle.reading.specs.Tested.{roomFor, countsFit, Counted, counted, inOrder, contentFits, tested}
 use Rattle.reading.specs.Owners.{tags-are, fit-owns, owns-fit, uses-counted, counted-uses}
-use Rattle.reading.specs.Tableau.{basics-ascend, bounded-order, order-bounded, entries-mean, meant-entries, finite-means, means-finite, columns-mean, mean-columns}
+use Rattle.reading.specs.Tableau.{basics-ascend, bounded-order, order-bounded, finite-means, means-finite, columns-mean, mean-columns}
 use Rattle.reading.specs.Kinds.{variables-mean, mean-variables, constraints-mean, mean-constraints, edits-mean, mean-edits, terms-few}
 
 -- ---- counts
@@ -85,7 +85,6 @@ pub record Parts (t : Tables) : Type 0 where
   pub basics : basicsFit (t .head) (t .rows) (symbolCount (t .head)) (rowCount (t .head)) ≡ true
   pub objective : finiteIn (getD (t .rows) 0 []) cellsAt (symbolCount (t .head)) ≡ true
   pub rows : rowsFinite (t .rows) (symbolCount (t .head)) (rowCount (t .head)) ≡ true
-  pub entries : entriesFit (t .head) (symbolCount (t .head)) (entryCount (t .head)) ≡ true
   pub constraintsUp : numbersAscend (t .names) constraintsAt (constraintCount (t .head)) ≡ true
   pub editsUp : numbersAscend (t .names) editsAt (editCount (t .head)) ≡ true
   pub variables : variablesFit (t .names) (t .reals) (variableCount (t .head)) ≡ true
@@ -106,7 +105,6 @@ parts t h =
     let w₁ = both _ _ (e .1) in
     let w₂ = both _ _ (w₁ .0) in
     let w₃ = both _ _ (w₂ .0) in
-    let w₄ = both _ _ (w₃ .0) in
     let i₁ = both _ _ (d .1) in
     let i₂ = both _ _ (i₁ .0) in
     let i₃ = both _ _ (i₂ .0) in
@@ -119,11 +117,10 @@ parts t h =
       numbers = o .1;
       bounded = f .0;
       owned = f .1;
-      rowsUp = w₄ .0;
-      basics = w₄ .1;
-      objective = w₃ .1;
-      rows = w₂ .1;
-      entries = w₁ .1;
+      rowsUp = w₃ .0;
+      basics = w₃ .1;
+      objective = w₂ .1;
+      rows = w₁ .1;
       constraintsUp = i₅ .0;
       editsUp = i₅ .1;
       variables = i₄ .1;
@@ -136,7 +133,7 @@ joined : (t : Tables) → Parts t → tested t ≡ true
 unfolding tested inOrder contentFits tableauFits itemsFit
 joined t p =
     join (p .lengths) (join (p .counts) (join (join (p .up) (p .numbers)) (join (join (join (p .bounded) (p .owned))
-    (join (join (join (join (p .rowsUp) (p .basics)) (p .objective)) (p .rows)) (p .entries)))
+    (join (join (join (p .rowsUp) (p .basics)) (p .objective)) (p .rows)))
     (join (join (join (join (join (p .constraintsUp) (p .editsUp)) (p .variables)) (p .constraints)) (p .edits)) (p .uses)))))
 
 -- ---- the code's test gives the state's
@@ -154,7 +151,7 @@ module _ (t : Tables) (p : Parts t) where
       let v = variables-mean t (p .variables) in
       let w = constraints-mean t (p .constraints) in
       let m = c in
-      join (join (join (join (join (join (m .next) (le-leb _ _ (m .symbols))) (le-leb _ _ (m .entries))) (le-leb _ _ (m .clear))) (le-leb _ _ (m .whole))) (v .0)) (w .0)
+      join (join (join (join (join (m .next) (le-leb _ _ (m .symbols))) (le-leb _ _ (m .clear))) (le-leb _ _ (m .whole))) (v .0)) (w .0)
 
   counts-in-range : steps.countsInRange (read t) ≡ true
   unfolding steps.countsInRange read
@@ -170,7 +167,7 @@ module _ (t : Tables) (p : Parts t) where
   unfolding steps.symbolsDistinct
   symbols-distinct =
       let m = c in
-      join (join (join (bounded-order t (p .up) (p .bounded) .0) (basics-ascend t ∙ p .rowsUp)) (fit-owns t (p .up) (m .symbols) (p .owned) .0)) (entries-mean t (p .entries) .0)
+      join (join (bounded-order t (p .up) (p .bounded) .0) (basics-ascend t ∙ p .rowsUp)) (fit-owns t (p .up) (m .symbols) (p .owned) .0)
 
   ids-below-next : steps.idsBelowNext (read t) ≡ true
   unfolding steps.idsBelowNext read
@@ -185,7 +182,7 @@ module _ (t : Tables) (p : Parts t) where
   symbols-owned =
       let m = c in
       let o = fit-owns t (p .up) (m .symbols) (p .owned) in
-      join (join (join (o .1) (o .2)) (columns-mean t (p .up) (p .basics) .0)) (entries-mean t (p .entries) .1)
+      join (join (o .1) (o .2)) (columns-mean t (p .up) (p .basics) .0)
 
   uses-mean : steps.usesCounted (read t) ≡ true
   uses-mean = let m = c in uses-counted t (terms-few t (constraints-mean t (p .constraints) .1)) (p .numbers) (m .variables) (p .uses)
@@ -249,7 +246,7 @@ clauses t q =
     }
 
 module _ (t : Tables) (q : Clauses t) where
-  codes-of : (isU32 (nextIdOf (t .head)) ≡ true) × (leb (symbolCount (t .head)) 129 ≡ true) × (leb (entryCount (t .head)) 130 ≡ true) × (leb (clearFlag (t .head)) 1 ≡ true) × (leb (wholeFlag (t .head)) 1 ≡ true)
+  codes-of : (isU32 (nextIdOf (t .head)) ≡ true) × (leb (symbolCount (t .head)) 129 ≡ true) × (leb (clearFlag (t .head)) 1 ≡ true) × (leb (wholeFlag (t .head)) 1 ≡ true)
       × (allIn (λ i. isU32 (numberOf (getD (t .names) i [])) && leb (changedFlag (getD (t .names) i [])) 1) 0 (variableCount (t .head)) ≡ true)
       × (allIn (λ i. isU32 (numberOf (getD (t .names) (constraintsAt + i) []))) 0 (constraintCount (t .head)) ≡ true)
   unfolding codesFit
@@ -259,8 +256,7 @@ module _ (t : Tables) (q : Clauses t) where
       let d = both _ _ (b .0) in
       let e = both _ _ (d .0) in
       let f = both _ _ (e .0) in
-      let g = both _ _ (f .0) in
-      (g .0, g .1, f .1, e .1, d .1, b .1, a .1)
+      (f .0, f .1, e .1, d .1, b .1, a .1)
 
   ranges-of : (variableCount (t .head) ≤ 32) × (constraintCount (t .head) + editCount (t .head) ≤ 48) × (steps.all (λ (c : Constraint). leb (length (c .terms)) 16) (constraintsOf t) ≡ true)
   unfolding steps.countsInRange read
@@ -276,13 +272,12 @@ module _ (t : Tables) (q : Clauses t) where
       let b = both _ _ (a .0) in
       (b .0, b .1, a .1)
 
-  distinct-of : (steps.ascendFrom 0 (steps.liveIds (read t)) ≡ true) × (steps.ascend (steps.basicIds (read t)) ≡ true) × (steps.distinct (steps.owned (read t)) ≡ true) × (steps.distinct (read t .tableau .infeasible) ≡ true)
+  distinct-of : (steps.ascendFrom 0 (steps.liveIds (read t)) ≡ true) × (steps.ascend (steps.basicIds (read t)) ≡ true) × (steps.distinct (steps.owned (read t)) ≡ true)
   unfolding steps.symbolsDistinct
   distinct-of =
       let a = both _ _ (q .distinct) in
       let b = both _ _ (a .0) in
-      let d = both _ _ (b .0) in
-      (d .0, d .1, b .1, a .1)
+      (b .0, b .1, a .1)
 
   below-of : (ltb 0 (read t .tableau .nextId) ≡ true) × (steps.all (λ n. ltb n (read t .tableau .nextId)) (steps.liveIds (read t)) ≡ true)
   unfolding steps.idsBelowNext
@@ -292,13 +287,12 @@ module _ (t : Tables) (q : Clauses t) where
   unfolding read
   above-zero = below-of .0
 
-  owned-of : (steps.allIn (steps.live (read t)) (steps.owned (read t)) ≡ true) × (steps.allIn (steps.owned (read t)) (steps.live (read t)) ≡ true) × (steps.allIn (steps.basics (read t)) (steps.live (read t)) ≡ true) × (steps.allIn (read t .tableau .infeasible) (steps.liveIds (read t)) ≡ true)
+  owned-of : (steps.allIn (steps.live (read t)) (steps.owned (read t)) ≡ true) × (steps.allIn (steps.owned (read t)) (steps.live (read t)) ≡ true) × (steps.allIn (steps.basics (read t)) (steps.live (read t)) ≡ true)
   unfolding steps.symbolsOwned
   owned-of =
       let a = both _ _ (q .owned) in
       let b = both _ _ (a .0) in
-      let d = both _ _ (b .0) in
-      (d .0, d .1, b .1, a .1)
+      (b .0, b .1, a .1)
 
   finite-of : (steps.tableauFinite (read t) ≡ true) × (steps.all (λ (v : Variable). isFinite (v .old) || isNan (v .old)) (variablesOf t) ≡ true) × (steps.all steps.constraintFinite (constraintsOf t) ≡ true) × (steps.all steps.editFinite (editsOf t) ≡ true)
   unfolding steps.numbersFinite read
@@ -327,7 +321,7 @@ module _ (t : Tables) (q : Clauses t) where
       let r = b .1 in
       let x : constraintCount (t .head) ≤ 48 = omega arith in
       let y : editCount (t .head) ≤ 48 = omega arith in
-      join (join (join (join (join (join (join (a .0) above-zero) (a .1)) (a .2)) (le-leb _ _ (b .0))) (a .3)) (a .4)) (join (le-leb _ _ x) (join (le-leb _ _ y) (join (le-leb _ _ r) (le-leb _ _ few-rows))))
+      join (join (join (join (join (join (a .0) above-zero) (a .1)) (le-leb _ _ (b .0))) (a .2)) (a .3)) (join (le-leb _ _ x) (join (le-leb _ _ y) (join (le-leb _ _ r) (le-leb _ _ few-rows))))
 
   reads-tested : tested t ≡ true
   reads-tested =
@@ -341,7 +335,7 @@ module _ (t : Tables) (q : Clauses t) where
       let b = order-bounded t (d .0) (below-of .1) in
       let m = leb-true _ _ (a .1) in
       let w = means-finite t (f .0) in
-      let cs = mean-constraints t (a .6, r .2, k .1, f .2) in
+      let cs = mean-constraints t (a .5, r .2, k .1, f .2) in
       let numbers = sym (variables-ascend t) ∙ n .0 in
       joined t (record {
         lengths = q .lengths;
@@ -354,10 +348,9 @@ module _ (t : Tables) (q : Clauses t) where
         basics = mean-columns t (b .0) (o .2) (q .cells);
         objective = w .0;
         rows = w .1;
-        entries = meant-entries t (d .3) (o .3);
         constraintsUp = sym (constraints-ascend t) ∙ n .1;
         editsUp = sym (edits-ascend t) ∙ n .2;
-        variables = mean-variables t (a .5, k .0, f .1);
+        variables = mean-variables t (a .4, k .0, f .1);
         constraints = cs;
         edits = mean-edits t (k .2, f .3);
         uses = counted-uses t (terms-few t (r .2)) numbers (r .0) (q .uses);

@@ -6,18 +6,17 @@ use lib.Dec.{leb}
 use lib.ListN.{getD}
 use Rattle.steps.specs.Readable.{readable}
 use Rattle.laws.specs.Lists.{allIn}
-use Rattle.layout.specs.Layout.{Tables, read, nextIdOf, symbolCount, entryCount, variableCount, constraintCount, clearFlag, wholeFlag, constraintsAt, numberOf, changedFlag}
+use Rattle.layout.specs.Layout.{Tables, read, nextIdOf, symbolCount, variableCount, constraintCount, clearFlag, wholeFlag, constraintsAt, numberOf, changedFlag}
 use Rattle.layout.specs.Rooms.{lengthsRight}
 use Rattle.items.specs.Items.{isU32}
 
--- What the layout adds to the state's own test: the symbols and the list are within the room, flags are 0 or 1, numbers are u32.
+-- What the layout adds to the state's own test: the symbols are within the room, flags are 0 or 1, numbers are u32.
 -- The other counts are tested in range, and a term's variable is a live one.
 unfoldable pub codesFit : Tables → Bool
 codesFit t =
     let h : List ℕ = t .head in
     isU32 (nextIdOf h)
     && leb (symbolCount h) 129
-    && leb (entryCount h) 130
     && leb (clearFlag h) 1
     && leb (wholeFlag h) 1
     && allIn (λ i. isU32 (numberOf (getD (t .names) i [])) && leb (changedFlag (getD (t .names) i [])) 1) 0 (variableCount h)

@@ -1,8 +1,8 @@
--- The tableau's test over places is the state's: order, ids below the next, no basic cell, finite numbers, the list.
+-- The tableau's test over places is the state's: order, ids below the next, no basic cell, finite numbers.
 -- Assumes nothing.
 use Prim.Native.Nat.{ℕ, zero, suc, _+_, _-_, _/_, _≤_, _<_}
 use mathlib.Core.Path.{_≡_, refl, sym, ap, _∙_}
-use mathlib.Core.Bool.{Bool, true, false, not, _&&_}
+use mathlib.Core.Bool.{Bool, true, false, _&&_}
 use mathlib.Core.List.{List, []}
 use native.Mathlib.Nat.{zero-add}
 use native.Mathlib.Omega.{arith}
@@ -16,15 +16,15 @@ use Rattle.steps.specs.State.{Basic}
 use Rattle.steps.specs.Tests.{member}
 use Rattle.steps.specs.Readable as steps
 use Rattle.laws.specs.Lists.{tab, listOf, allIn}
-use Rattle.layout.specs.Layout.{Tables, symbolsAt, rowsAt, listAt, cellsAt, basicsAt, nextIdOf, symbolCount, rowCount, entryCount, symbolOf, cellsOf, basicOf, symbolsOf, basicsOf, entriesOf, read}
+use Rattle.layout.specs.Layout.{Tables, symbolsAt, rowsAt, cellsAt, basicsAt, nextIdOf, symbolCount, rowCount, symbolOf, cellsOf, basicOf, symbolsOf, basicsOf, read}
 use Rattle.layout.specs.Rooms.{both}
 use Rattle.layout.specs.Laying.{list-ext}
 use Rattle.layout.specs.Written.{code-read}
 use Rattle.layout.specs.Copied.{length-listOf}
 use Rattle.places.specs.Finding.{placeIn, Apart, all-at, at-all, place-is, rising-lt, rising-apart, never}
-use Rattle.places.specs.Listed.{join, map-list, all-list, listed-at, at-listed, member-list, member-differs, ascend-list, from-list, list-from, distinct-list}
+use Rattle.places.specs.Listed.{join, map-list, all-list, listed-at, at-listed, member-list, ascend-list, from-list, list-from}
 use Rattle.places.specs.Shares.{finiteIn}
-use Rattle.symbols.specs.Symbols.{idsAscend, idsBounded, placeOf, columnClear, basicFits, basicsFit, rowFinite, rowsFinite, entriesDiffer, idsDiffer, entriesFit}
+use Rattle.symbols.specs.Symbols.{idsAscend, idsBounded, placeOf, columnClear, basicFits, basicsFit, rowFinite, rowsFinite}
 use Rattle.symbols.specs.Order.{ids-rise}
 
 -- ---- a symbol's cell is the one at its place
@@ -67,9 +67,6 @@ module _ (t : Tables) where
   abbrev basicAt : ℕ → ℕ
   basicAt j = getD (t .head) (rowsAt + j) 0
 
-  abbrev entryAt : ℕ → ℕ
-  entryAt j = getD (t .head) (listAt + j) 0
-
   abbrev rowAt : ℕ → List Float
   rowAt j = getD (t .rows) (basicsAt + j) []
 
@@ -88,10 +85,6 @@ module _ (t : Tables) where
   pub basic-ids-are : steps.basicIds (read t) ≡ listOf r λ j. basicAt j / 4
   unfolding steps.basicIds read basicsOf basicOf symbolOf
   basic-ids-are = map-list (λ (b : Basic). b .symbol .id) r (λ i. basicOf k (basicAt i) (rowAt i))
-
-  pub entries-are : read t .tableau .infeasible ≡ listOf (entryCount (t .head)) entryAt
-  unfolding read entriesOf
-  entries-are = refl
 
   -- ---- order
 
@@ -128,25 +121,6 @@ module _ (t : Tables) where
           let e : 0 + suc j ≡ suc j = zero-add (suc j) in
           let m : codeAt 0 / 4 < codeAt (suc j) / 4 = rw e at l in
           omega arith
-
-  -- ---- the list
-
-  pub entries-mean : entriesFit (t .head) k (entryCount (t .head)) ≡ true → (steps.distinct (read t .tableau .infeasible) ≡ true) × (steps.allIn (read t .tableau .infeasible) (steps.liveIds (read t)) ≡ true)
-  unfolding entriesFit entriesDiffer idsDiffer steps.allIn
-  entries-mean q =
-      let n : ℕ = entryCount (t .head) in
-      let f : (j : ℕ) → j < n → (entriesDiffer (t .head) (j + 1) n (entryAt j) ≡ true) × (not (idsDiffer (t .head) k (entryAt j)) ≡ true) = λ j u. both (entriesDiffer (t .head) (j + 1) n (entryAt j)) (not (idsDiffer (t .head) k (entryAt j))) (all-at _ 0 n q j (omega arith) u) in (
-        ap steps.distinct entries-are ∙ distinct-list n entryAt ∙ at-all _ 0 n (λ j u w. f j w .0),
-        ap (steps.all (λ x. member x (steps.liveIds (read t)))) entries-are ∙ at-listed (λ x. member x (steps.liveIds (read t))) n entryAt (λ j u. ap (member (entryAt j)) ids-are ∙ member-differs k (λ j. codeAt j / 4) (entryAt j) ∙ f j u .1),
-      )
-
-  pub meant-entries : steps.distinct (read t .tableau .infeasible) ≡ true → steps.allIn (read t .tableau .infeasible) (steps.liveIds (read t)) ≡ true → entriesFit (t .head) k (entryCount (t .head)) ≡ true
-  unfolding entriesFit entriesDiffer idsDiffer steps.allIn
-  meant-entries d m =
-      let n : ℕ = entryCount (t .head) in
-      let d₁ = sym (ap steps.distinct entries-are ∙ distinct-list n entryAt) ∙ d in
-      let m₁ = sym (ap (steps.all (λ x. member x (steps.liveIds (read t)))) entries-are) ∙ m in
-      at-all _ 0 n λ j u w. join (all-at _ 0 n d₁ j u w) (sym (ap (member (entryAt j)) ids-are ∙ member-differs k (λ j. codeAt j / 4) (entryAt j)) ∙ listed-at (λ x. member x (steps.liveIds (read t))) n entryAt m₁ j w)
 
   -- ---- finite numbers
 

@@ -7,7 +7,7 @@ use mathlib.Core.List.{List}
 use native.Mathlib.Omega.{arith}
 use lib.Dec.{leb, ltb}
 use borrow.Author.Tests.{leb-true}
-use Rattle.layout.specs.Layout.{Tables, nextIdOf, symbolCount, rowCount, entryCount, variableCount, constraintCount, editCount, clearFlag, wholeFlag, symbolsAt}
+use Rattle.layout.specs.Layout.{Tables, nextIdOf, symbolCount, rowCount, variableCount, constraintCount, editCount, clearFlag, wholeFlag, symbolsAt}
 use Rattle.layout.specs.Rooms.{lengthsRight, both}
 use Rattle.symbols.specs.Symbols.{idsAscend, idsBounded, ownedFit, tableauFits}
 use Rattle.items.specs.Items.{isU32, numbersAscend, itemsFit}
@@ -21,7 +21,6 @@ countsFit h =
     isU32 (nextIdOf h)
     && ltb 0 (nextIdOf h)
     && leb (symbolCount h) 129
-    && leb (entryCount h) 130
     && leb (variableCount h) 32
     && leb (clearFlag h) 1
     && leb (wholeFlag h) 1
@@ -35,7 +34,7 @@ contentFits t =
     let h : List ℕ = t .head in
     idsBounded h (symbolCount h) (nextIdOf h)
     && ownedFit h (t .names) (symbolCount h) (variableCount h) (constraintCount h) (editCount h)
-    && tableauFits h (t .rows) (symbolCount h) (rowCount h) (entryCount h)
+    && tableauFits h (t .rows) (symbolCount h) (rowCount h)
     && itemsFit (t .names) (t .reals) (variableCount h) (constraintCount h) (editCount h)
 
 unfoldable pub tested : Tables → Bool
@@ -47,7 +46,6 @@ pub record Counted (h : List ℕ) : Type 0 where
   pub next : isU32 (nextIdOf h) ≡ true
   pub above : ltb 0 (nextIdOf h) ≡ true
   pub symbols : symbolCount h ≤ 129
-  pub entries : entryCount h ≤ 130
   pub variables : variableCount h ≤ 32
   pub clear : clearFlag h ≤ 1
   pub whole : wholeFlag h ≤ 1
@@ -65,15 +63,13 @@ counted h q =
     let d = both _ _ (c .0) in
     let e = both _ _ (d .0) in
     let f = both _ _ (e .0) in
-    let g = both _ _ (f .0) in
     let r₁ = both _ _ (a .1) in
     let r₂ = both _ _ (r₁ .1) in
     let r₃ = both _ _ (r₂ .1) in
     record {
-      next = g .0;
-      above = g .1;
-      symbols = leb-true _ _ (f .1);
-      entries = leb-true _ _ (e .1);
+      next = f .0;
+      above = f .1;
+      symbols = leb-true _ _ (e .1);
       variables = leb-true _ _ (d .1);
       clear = leb-true _ _ (c .1);
       whole = leb-true _ _ (b .1);

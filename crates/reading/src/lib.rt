@@ -42,7 +42,6 @@ fn counts_fit(head: &[u64]) -> bool
     items::is_u32(head[layout::NEXT_ID])
         & (0 < head[layout::NEXT_ID])
         & (head[layout::SYMBOL_COUNT] <= 129)
-        & (head[layout::ENTRY_COUNT] <= 130)
         & (head[layout::VARIABLE_COUNT] <= 32)
         & (head[layout::SHOULD_CLEAR] <= 1)
         & (head[layout::WHOLE] <= 1)
@@ -76,7 +75,6 @@ fn content_fits(head: &[u64], names: &[[u64; 20]], reals: &[[f64; 17]], rows: &[
 {
     let k = head[layout::SYMBOL_COUNT] as usize;
     let r = head[layout::ROW_COUNT] as usize;
-    let q = head[layout::ENTRY_COUNT] as usize;
     let v = head[layout::VARIABLE_COUNT] as usize;
     let c = head[layout::CONSTRAINT_COUNT] as usize;
     let e = head[layout::EDIT_COUNT] as usize;
@@ -86,7 +84,7 @@ fn content_fits(head: &[u64], names: &[[u64; 20]], reals: &[[f64; 17]], rows: &[
     items::fill_numbers(&mut numbers, names, v);
     symbols::ids_bounded(head, k, head[layout::NEXT_ID])
         & symbols::owned_fit(&slots, head, names, k, v, c, e)
-        & symbols::tableau_fits(&slots, head, rows, k, r, q)
+        & symbols::tableau_fits(&slots, head, rows, k, r)
         & items::items_fit(&numbers, names, reals, v, c, e)
 }
 

@@ -39,7 +39,7 @@ at-between a k number n =
     let e : a + k - a ≡ k = omega arith in
     rw e (seek-found (λ j. eqb number (numberOf (getD n j []))) k a a (a + k) (omega arith) (omega arith))
 
-module _ (h : List ℕ) (n : List (List ℕ)) (r w : List (List Float)) (len : length h ≡ 326) (size : length n ≡ 128) (size₁ : length r ≡ 128) where
+module _ (h : List ℕ) (n : List (List ℕ)) (r w : List (List Float)) (len : length h ≡ 196) (size : length n ≡ 128) (size₁ : length r ≡ 128) where
   abbrev s : State
   s = read (tables h n r w)
 

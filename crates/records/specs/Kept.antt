@@ -39,7 +39,7 @@ pub new-variable : (number code : ℕ) → variableOf (variableItem number code)
 unfolding variableOf variableItem variableReal
 new-variable number code = refl
 
-module _ (h : List ℕ) (n : List (List ℕ)) (r w : List (List Float)) (len : length h ≡ 326) (size : length n ≡ 128) (size₁ : length r ≡ 128) (item : List ℕ) (real : List Float) where
+module _ (h : List ℕ) (n : List (List ℕ)) (r w : List (List Float)) (len : length h ≡ 196) (size : length n ≡ 128) (size₁ : length r ≡ 128) (item : List ℕ) (real : List Float) where
   abbrev s : State
   s = read (tables h n r w)
 
@@ -47,7 +47,7 @@ module _ (h : List ℕ) (n : List (List ℕ)) (r w : List (List Float)) (len : l
   same : (c x m : ℕ) → (m ≡ c → ⊥) → getD (set h c x) m 0 ≡ getD h m 0
   same c x m q = getD-set-other h c m x 0 q
 
-  grown : (c : ℕ) → c < 326 → getD (set h c (getD h c 0 + 1)) c 0 ≡ suc (getD h c 0)
+  grown : (c : ℕ) → c < 196 → getD (set h c (getD h c 0 + 1)) c 0 ≡ suc (getD h c 0)
   grown c q = getD-set-same h c (getD h c 0 + 1) 0 (omega arith) ∙ add-one (getD h c 0)
 
   pub kept-variable : getD h 4 0 < 32 → readItems (keptItem 4 0 item real (items h n r)) w ≡ withVariablesIn (keepVariable (variableOf item real) (s .changes .variables)) s

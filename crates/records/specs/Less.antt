@@ -128,7 +128,7 @@ readLost w l = record { state = readItems (l .items) w; gone = goneOf (l .gone) 
 abbrev pub fellTo : State → Fallen → Read
 fellTo s f = record { state = withVariablesIn (f .variables) s; gone = f .gone }
 
-module _ (h : List ℕ) (n : List (List ℕ)) (r w : List (List Float)) (len : length h ≡ 326) (size : length n ≡ 128) (size₁ : length r ≡ 128) (few : getD h 4 0 ≤ 32) (number : ℕ)
+module _ (h : List ℕ) (n : List (List ℕ)) (r w : List (List Float)) (len : length h ≡ 196) (size : length n ≡ 128) (size₁ : length r ≡ 128) (few : getD h 4 0 ≤ 32) (number : ℕ)
     (wide : (j : ℕ) → j < getD h 4 0 → 3 < length (getD n j [])) where
   abbrev s : State
   s = read (tables h n r w)

@@ -12,11 +12,11 @@ use lib.Seq.{getD-set-other}
 use lib.Ieee.{Float}
 use Rattle.steps.specs.State.{Tableau, Variable, Constraint, Edit, State}
 use Rattle.laws.specs.Lists.{listOf, tab-ext}
-use Rattle.layout.specs.Layout.{tables, basicOf, variableOf, constraintOf, editOf, symbolsOf, basicsOf, entriesOf, variablesOf, constraintsOf, editsOf, read}
-use Rattle.choose.specs.Reading.{symbolsIn, basicsIn, entriesIn, tableauIn}
+use Rattle.layout.specs.Layout.{tables, basicOf, variableOf, constraintOf, editOf, symbolsOf, basicsOf, variablesOf, constraintsOf, editsOf, read}
+use Rattle.choose.specs.Reading.{symbolsIn, basicsIn, tableauIn}
 use Rattle.moves.specs.Close.{closed, opened}
 use Rattle.moves.specs.Moved.{closed-before, closed-after, opened-before, opened-after}
-use Rattle.moves.specs.Rows.{symbols-same, entries-same}
+use Rattle.moves.specs.Rows.{symbols-same}
 use Rattle.records.specs.Region.{regionOf}
 
 -- ---- the lists as regions
@@ -40,7 +40,7 @@ stateOf t clear whole vs cs es = record { tableau = t; changes = record { variab
 
 pub read-regions : (h : List ℕ) (n : List (List ℕ)) (r w : List (List Float))
     → read (tables h n r w) ≡ stateOf (tableauIn h w) (eqb (getD h 7 0) 1) (eqb (getD h 8 0) 1) (regionOf variableOf 0 (getD h 4 0) n r) (regionOf constraintOf 32 (getD h 5 0) n r) (regionOf editOf 80 (getD h 6 0) n r)
-unfolding read symbolsOf basicsOf entriesOf tableauIn symbolsIn basicsIn entriesIn
+unfolding read symbolsOf basicsOf tableauIn symbolsIn basicsIn
 read-regions h n r w = rw (← variables-region h n r w, ← constraints-region h n r w, ← edits-region h n r w) refl
 
 -- ---- what a move leaves alone
@@ -52,7 +52,6 @@ tableau-same h w c x low high =
     let same : (m : ℕ) → (m ≡ c → ⊥) → getD (set h c x) m 0 ≡ getD h m 0 = λ m q. getD-set-other h c m x 0 q in
     rw (
       symbols-same h (set h c x) (same 1 (λ z. omega arith)) (λ j a. same (16 + j) (λ z. omega arith)),
-      entries-same h (set h c x) (same 3 (λ z. omega arith)) (λ j a. same (196 + j) (λ z. omega arith)),
       same 0 (λ z. omega arith),
       same 1 (λ z. omega arith),
       same 2 (λ z. omega arith),

@@ -51,7 +51,7 @@ fn number_place(names: &[[u64; 20]], a: usize, e: usize, n: u64) -> usize
 }
 
 pub fn find_variable(head: &[u64], names: &[[u64; 20]], n: u64) -> Found
-    requires { ⌜ length (now head) ≡ 326 ⌝ }
+    requires { ⌜ length (now head) ≡ 196 ⌝ }
     requires { ⌜ getD (now head) 4 0 ≤ 32 ⌝ }
     requires { ⌜ length (now names) ≡ 128 ⌝ }
     ensures { λ r. ⌜ r ≡ numberAt 0 (getD (now (head .entry)) 4 0) n (now (names .entry)) ⌝ }
@@ -61,7 +61,7 @@ pub fn find_variable(head: &[u64], names: &[[u64; 20]], n: u64) -> Found
 }
 
 fn find_constraint(head: &[u64], names: &[[u64; 20]], n: u64) -> Found
-    requires { ⌜ length (now head) ≡ 326 ⌝ }
+    requires { ⌜ length (now head) ≡ 196 ⌝ }
     requires { ⌜ getD (now head) 5 0 ≤ 48 ⌝ }
     requires { ⌜ length (now names) ≡ 128 ⌝ }
     ensures { λ r. ⌜ r ≡ numberAt 32 (32 + getD (now (head .entry)) 5 0) n (now (names .entry)) ⌝ }
@@ -76,7 +76,7 @@ fn find_constraint(head: &[u64], names: &[[u64; 20]], n: u64) -> Found
 }
 
 fn find_edit(head: &[u64], names: &[[u64; 20]], n: u64) -> Found
-    requires { ⌜ length (now head) ≡ 326 ⌝ }
+    requires { ⌜ length (now head) ≡ 196 ⌝ }
     requires { ⌜ getD (now head) 6 0 ≤ 48 ⌝ }
     requires { ⌜ length (now names) ≡ 128 ⌝ }
     ensures { λ r. ⌜ r ≡ numberAt 80 (80 + getD (now (head .entry)) 6 0) n (now (names .entry)) ⌝ }
@@ -211,7 +211,7 @@ pub fn keep_variable(
     n: u64,
     code: u64,
 )
-    requires { ⌜ length (now head) ≡ 326 ⌝ }
+    requires { ⌜ length (now head) ≡ 196 ⌝ }
     requires { ⌜ getD (now head) 4 0 < 32 ⌝ }
     requires { ⌜ length (now names) ≡ 128 ⌝ }
     requires { ⌜ length (now reals) ≡ 128 ⌝ }
@@ -241,7 +241,7 @@ fn use_once(item: &mut [u64; 20], n: u64)
 
 // One use of the variable more.
 pub fn count_use(head: &[u64], names: &mut [[u64; 20]], n: u64)
-    requires { ⌜ length (now head) ≡ 326 ⌝ }
+    requires { ⌜ length (now head) ≡ 196 ⌝ }
     requires { ⌜ getD (now head) 4 0 ≤ length (now names) ⌝ }
     ensures { λ _. ⌜ now (names .exit) ≡ countedUse n (getD (now (head .entry)) 4 0) (now (names .entry)) ⌝ }
 {
@@ -266,7 +266,7 @@ pub enum Gone {
 }
 
 fn lose_use(head: &mut [u64], names: &mut [[u64; 20]], reals: &mut [[f64; 17]], i: usize) -> Gone
-    requires { ⌜ length (now head) ≡ 326 ⌝ }
+    requires { ⌜ length (now head) ≡ 196 ⌝ }
     requires { ⌜ getD (now head) 4 0 ≤ 32 ⌝ }
     requires { ⌜ i < getD (now head) 4 0 ⌝ }
     requires { ⌜ length (now names) ≡ 128 ⌝ }
@@ -285,7 +285,7 @@ fn lose_use(head: &mut [u64], names: &mut [[u64; 20]], reals: &mut [[f64; 17]], 
 
 // One use of the variable less: at its last use it goes.
 pub fn use_less(head: &mut [u64], names: &mut [[u64; 20]], reals: &mut [[f64; 17]], n: u64) -> Gone
-    requires { ⌜ length (now head) ≡ 326 ⌝ }
+    requires { ⌜ length (now head) ≡ 196 ⌝ }
     requires { ⌜ getD (now head) 4 0 ≤ 32 ⌝ }
     requires { ⌜ length (now names) ≡ 128 ⌝ }
     requires { ⌜ length (now reals) ≡ 128 ⌝ }
@@ -307,7 +307,7 @@ pub fn keep_constraint(
     item: &[u64; 20],
     real: &[f64; 17],
 )
-    requires { ⌜ length (now head) ≡ 326 ⌝ }
+    requires { ⌜ length (now head) ≡ 196 ⌝ }
     requires { ⌜ getD (now head) 5 0 < 48 ⌝ }
     requires { ⌜ length (now names) ≡ 128 ⌝ }
     requires { ⌜ length (now reals) ≡ 128 ⌝ }
@@ -331,7 +331,7 @@ pub fn keep_edit(
     item: &[u64; 20],
     real: &[f64; 17],
 )
-    requires { ⌜ length (now head) ≡ 326 ⌝ }
+    requires { ⌜ length (now head) ≡ 196 ⌝ }
     requires { ⌜ getD (now head) 6 0 < 48 ⌝ }
     requires { ⌜ length (now names) ≡ 128 ⌝ }
     requires { ⌜ length (now reals) ≡ 128 ⌝ }
@@ -341,7 +341,7 @@ pub fn keep_edit(
 }
 
 pub fn drop_constraint(head: &mut [u64], names: &mut [[u64; 20]], reals: &mut [[f64; 17]], n: u64)
-    requires { ⌜ length (now head) ≡ 326 ⌝ }
+    requires { ⌜ length (now head) ≡ 196 ⌝ }
     requires { ⌜ getD (now head) 5 0 ≤ 48 ⌝ }
     requires { ⌜ length (now names) ≡ 128 ⌝ }
     requires { ⌜ length (now reals) ≡ 128 ⌝ }
@@ -355,7 +355,7 @@ pub fn drop_constraint(head: &mut [u64], names: &mut [[u64; 20]], reals: &mut [[
 }
 
 pub fn drop_edit(head: &mut [u64], names: &mut [[u64; 20]], reals: &mut [[f64; 17]], n: u64)
-    requires { ⌜ length (now head) ≡ 326 ⌝ }
+    requires { ⌜ length (now head) ≡ 196 ⌝ }
     requires { ⌜ getD (now head) 6 0 ≤ 48 ⌝ }
     requires { ⌜ length (now names) ≡ 128 ⌝ }
     requires { ⌜ length (now reals) ≡ 128 ⌝ }

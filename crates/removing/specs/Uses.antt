@@ -25,14 +25,12 @@ use Rattle.choose.specs.declared.Found.the-variants.{At, Nothing}
 use Rattle.choose.specs.Choose.{onFound}
 use Rattle.moves.specs.Close.{closed}
 use Rattle.moves.specs.Moved.{closed-before, closed-inside, closed-after, length-closed}
-use Rattle.moves.specs.Rows.{symbols-same, entries-same}
 use Rattle.records.specs.declared.Gone.the-variants.{Symbol as goes, Stays}
 use Rattle.records.specs.Records.{Between, Items, items, numberAt, droppedItem, lessUse, Lost, lost, lostUse, useLessOf}
 use Rattle.records.specs.Dropped.{at-between}
 use Rattle.records.specs.Less.{Read, goneOf, readLost, fellTo, use-less-read}
 use Rattle.tableau.specs.Working.{workOf}
 use Rattle.standing.specs.Standing.{Standing, Beside}
-use Rattle.standing.specs.Kept.{listed-same}
 use Rattle.removing.specs.Removing.{withItems}
 
 -- what is left of the records: one variable fewer at most, all else in its place
@@ -68,7 +66,7 @@ unfolding closed
 closed-widths k i e l low room f j b =
     every-at (wideAs k) (closed [] i e l) [] (every-insertAt (wideAs k) e (getD l e []) _ (f e room) (every-delete (wideAs k) i l (at-every (wideAs k) l [] f))) j b
 
-module _ (t : Items) (head-long : length (t .head) ≡ 326) (names-stand : length (t .names) ≡ 128) (reals-stand : length (t .reals) ≡ 128) (few : getD (t .head) 4 0 ≤ 32) where
+module _ (t : Items) (head-long : length (t .head) ≡ 196) (names-stand : length (t .names) ≡ 128) (reals-stand : length (t .reals) ≡ 128) (few : getD (t .head) 4 0 ≤ 32) where
   abbrev k : ℕ
   k = getD (t .head) 4 0
 
@@ -175,7 +173,6 @@ module _ (a : Mark) (h : List ℕ) (n : List (List ℕ)) (reals w : List (List F
         wide = (left .names-wide (s .wide .0), left .reals-wide (s .wide .1), s .wide .2);
         few-symbols = rw (at 1 (omega arith)) (s .few-symbols);
         few-rows = rw (at 2 (omega arith)) (s .few-rows);
-        few-entries = rw (at 3 (omega arith)) (s .few-entries);
         few-variables = omega (arith, left .fewer, few);
         few-constraints = rw (at 5 (omega arith)) (s .few-constraints);
         few-edits = rw (at 6 (omega arith)) (s .few-edits);
@@ -186,7 +183,6 @@ module _ (a : Mark) (h : List ℕ) (n : List (List ℕ)) (reals w : List (List F
           (λ j q. rw (left .past (32 + j) (omega arith)) (s .coded .3 j (omega (arith, q, at 5 (omega arith))))),
         );
         fits = subst FitsW (sym (less-reads 0)) less-fits;
-        listed = listed-same h (out .items .head) (s .listed) (entries-same h (out .items .head) (at 3 (omega arith)) (λ j b. at (196 + j) (omega arith))) (symbols-same h (out .items .head) (at 1 (omega arith)) (λ j b. at (16 + j) (omega arith)));
       }
 
   pub less-beside : Beside (tables h n reals w) (withItems out w)

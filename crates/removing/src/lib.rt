@@ -50,12 +50,12 @@ fn take_effects(
 
 // 0 is no other symbol.
 fn purge_other(head: &mut [u64], rows: &mut [[f64; 130]], other: u64)
-    requires { ⌜ length (now head) ≡ 326 ⌝ }
+    requires { ⌜ length (now head) ≡ 196 ⌝ }
     requires { ⌜ getD (now head) 1 0 ≤ 129 ⌝ }
     requires { ⌜ getD (now head) 2 0 ≤ 49 ⌝ }
     requires { ⌜ length (now rows) ≡ 51 ⌝ }
     ensures { λ _. ⌜ board (now (head .exit)) (now (rows .exit)) ≡ cond (eqb other 0) (board (now (head .entry)) (now (rows .entry))) (purgeOf (other / 4) (board (now (head .entry)) (now (rows .entry)))) ⌝ }
-    ensures { λ _. ⌜ Fits (now (head .exit)) (getD (now (head .entry)) 1 0) (getD (now (head .entry)) 2 0) (getD (now (head .entry)) 3 0) ⌝ }
+    ensures { λ _. ⌜ Fits (now (head .exit)) (getD (now (head .entry)) 1 0) (getD (now (head .entry)) 2 0) ⌝ }
 {
     if other != 0 {
         purge(head, rows, other / 4);
@@ -64,7 +64,7 @@ fn purge_other(head: &mut [u64], rows: &mut [[f64; 130]], other: u64)
 
 // "drop the other's row if it's basic, then remove cells of both tag symbols"
 fn purge_tag(head: &mut [u64], rows: &mut [[f64; 130]], marker: u64, other: u64)
-    requires { ⌜ length (now head) ≡ 326 ⌝ }
+    requires { ⌜ length (now head) ≡ 196 ⌝ }
     requires { ⌜ getD (now head) 1 0 ≤ 129 ⌝ }
     requires { ⌜ getD (now head) 2 0 ≤ 49 ⌝ }
     requires { ⌜ length (now rows) ≡ 51 ⌝ }

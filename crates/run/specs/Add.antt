@@ -29,7 +29,7 @@ use Rattle.run.specs.Suggest.{unchanged, changed}
 use Rattle.run.specs.AddEnds.{Unmet, ArtificialEnds}
 use Rattle.run.specs.AddMarks.{markAdded, createdOf, placedAndRested, addedBy}
 use Rattle.run.specs.AddSteps.{Finished, Final}
-use Rattle.run.specs.AddInv.{W, B, room, idle, ends, none-meet, after-add}
+use Rattle.run.specs.AddInv.{W, B, room, ends, none-meet, after-add}
 
 -- ---- tests
 pub passed : (t : Test) (ts : List Test) → firstRefusal (t ∷ ts) ≡ none → (t .fails ≡ false) × (firstRefusal ts ≡ none)
@@ -107,10 +107,10 @@ module _ (art : ArtificialEnds) (m : Moment) (I : Inv m) (d : Demand) (budget : 
   c = createdOf (d .terms) (d .constant) (d .relation) (begin (m .state))
 
   abbrev FinalIn : Outcome Work → Type 0
-  FinalIn = Final art columns (I .kind) (I .table) (I .held) d (marking (wholeIf (wholeInputs (d .terms) (d .constant) (d .relation))) (begin (m .state))) c (B art m I d budget up few low steps-whole) (lit< tt) (room art m I d budget up few low steps-whole) (idle art m I d budget up few low steps-whole) budget
+  FinalIn = Final art columns (I .kind) (I .table) (I .held) d (marking (wholeIf (wholeInputs (d .terms) (d .constant) (d .relation))) (begin (m .state))) c (B art m I d budget up few low steps-whole) (lit< tt) (room art m I d budget up few low steps-whole) budget
 
   abbrev FinishedIn : Work → Type 0
-  FinishedIn = Finished art columns (I .kind) (I .table) (I .held) d (marking (wholeIf (wholeInputs (d .terms) (d .constant) (d .relation))) (begin (m .state))) c (B art m I d budget up few low steps-whole) (lit< tt) (room art m I d budget up few low steps-whole) (idle art m I d budget up few low steps-whole) budget
+  FinishedIn = Finished art columns (I .kind) (I .table) (I .held) d (marking (wholeIf (wholeInputs (d .terms) (d .constant) (d .relation))) (begin (m .state))) c (B art m I d budget up few low steps-whole) (lit< tt) (room art m I d budget up few low steps-whole) budget
 
   -- the call's answer, from how its steps end
   made : (t : Outcome Work) → placedAndRested budget c ≡ t → make call (m .state) ≡ concludeAdd (m .state) (addedBy (c .tag) t) f

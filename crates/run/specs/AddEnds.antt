@@ -1,7 +1,7 @@
 -- How Add's steps 4 to 6 end in a whole run: the new row is in the tableau, which models one demand more; or 12, and nothing meets the demands; or 14. Definitions only.
 use Prim.Native.Nat.{ℕ, _+_, _-_, _≤_, _<_}
 use mathlib.Core.Path.{_≡_}
-use mathlib.Core.Logic.{_⊎_, _≢_}
+use mathlib.Core.Logic.{_⊎_}
 use mathlib.Core.Bool.{true, false}
 use mathlib.Core.List.{List, [], _∷_, _++_, map}
 use mathlib.Core.Option.{none}
@@ -10,7 +10,7 @@ use Rattle.simplex.specs.Ord.{0ℤ}
 use Rattle.simplex.specs.Lin.{Vec}
 use Rattle.simplex.specs.At.{at}
 use Rattle.simplex.specs.Choose.{All}
-use Rattle.simplex.specs.Opt.{Kind as KindZ, external}
+use Rattle.simplex.specs.Opt.{Kind as KindZ}
 use Rattle.simplex.specs.Pass.{State as StateZ, Good}
 use Rattle.simplex.specs.Problem.{Con, Meets, Models}
 use Rattle.steps.specs.Number.{allWhole}
@@ -37,7 +37,6 @@ pub record Placed (n : ℕ) (kind : ℕ → KindZ) (cs : List Con) (ways : ℕ) 
   pub above : w .tableau .nextId ≤ x .tableau .nextId
   pub next : x .tableau .nextId ≤ w .tableau .nextId + 1
   pub variables : clearChanged (x .changes .variables) ≡ clearChanged (w .changes .variables)
-  pub listed : All (λ j. kind j ≢ external) (x .tableau .infeasible)
   pub made : ℕ
   pub count : x .pivots ≡ w .pivots + made
   pub fewer : made < ways
@@ -57,6 +56,6 @@ artificialWays c S = waysOf (c .work .tableau .symbols ++ (newSymbol Slack (c .w
 -- step 6, as it is to be shown: without a subject, and with a symbol that is no dummy in the row
 abbrev pub ArtificialEnds : Type 0
 ArtificialEnds =
-    (n : ℕ) (old : ℕ → KindZ) (S : StateZ) (held : List Held) (d : Demand) (w : Work) (c : Created) (B : Built n old S held d w c) → c .work .tableau .nextId < n → c .work .tableau .infeasible ≡ []
+    (n : ℕ) (old : ℕ → KindZ) (S : StateZ) (held : List Held) (d : Demand) (w : Work) (c : Created) (B : Built n old S held d w c) → c .work .tableau .nextId < n
     → chooseSubject c ≡ none → allDummies c ≡ false → (budget : ℕ) → markOf (addWithArtificialVariable budget c) ≡ allWhole
     → Ends n (B .kind) (map (conOf (B .column)) (newHeld d c ∷ held)) (artificialWays c S) budget (c .work) (addWithArtificialVariable budget c)

@@ -33,7 +33,6 @@ use Rattle.run.specs.Inv.{columns, Held, exprOf, otherId, conOf, formOf,
 use Rattle.run.specs.Words.{Agrees, meets-from}
 use Rattle.run.specs.Vars.{Same, same-kept, at-same, known-same, known-back}
 use Rattle.run.specs.Perm.{found-hit, found-miss}
-use Rattle.run.specs.Passes.{none-below}
 use Rattle.run.specs.Inputs.{inputs-z}
 use Rattle.run.specs.Build.{KnownIn, newHeld, Built}
 use Rattle.run.specs.BuildRow.{built}
@@ -79,14 +78,8 @@ module _ (art : ArtificialEnds) (m : Moment) (I : Inv m) (d : Demand) (budget : 
   pub room : c .work .tableau .nextId < columns
   room = omega (arith, few, low, B .next, start-next)
 
-  pub idle : c .work .tableau .infeasible ≡ []
-  idle = B .list ∙ listed
-    where
-      listed : w .tableau .infeasible ≡ []
-      listed = unfold begin marking in I .idle
-
-  pub ends : Final art columns (I .kind) (I .table) (I .held) d w c B (lit< tt) room idle budget (placedAndRested budget c)
-  ends = final art columns (I .kind) (I .table) (I .held) d w c B (lit< tt) room idle budget (W .middle) (W .last)
+  pub ends : Final art columns (I .kind) (I .table) (I .held) d w c B (lit< tt) room budget (placedAndRested budget c)
+  ends = final art columns (I .kind) (I .table) (I .held) d w c B (lit< tt) room budget (W .middle) (W .last)
 
   -- ---- the demand as it lives: a number of the same worth for its constant
   module _ (k : Float) (same : val k ≡ val (d .constant)) (inputs : wholeInputs (d .terms) k (d .relation) ≡ true) where
@@ -132,18 +125,18 @@ module _ (art : ArtificialEnds) (m : Moment) (I : Inv m) (d : Demand) (budget : 
             (subst (λ (z : ℤ). Meets (map (λ (h : Held). h .demand) (new ∷ I .held)) z x) (sym (at-here 0 a (λ j. x (B .name j)))) (subst (λ (l : List Demand). Meets (e ∷ l) a x) (I .live) M))
 
     -- ---- accepted
-    module _ (x : Work) (F : Finished art columns (I .kind) (I .table) (I .held) d w c B (lit< tt) room idle budget x) (mark : x .mark ≡ allWhole) where
+    module _ (x : Work) (F : Finished art columns (I .kind) (I .table) (I .held) d w c B (lit< tt) room budget x) (mark : x .mark ≡ allWhole) where
       abbrev v : Work
       v = F .middle
 
       symbols : x .tableau .symbols ≡ c .work .tableau .symbols
-      symbols = F .rested .steady .kept .symbols ∙ F .placed .symbols
+      symbols = F .rested .kept .symbols ∙ F .placed .symbols
 
       vars : Same (c .work .changes .variables) (x .changes .variables)
-      vars = same-kept (c .work .changes .variables) (x .changes .variables) (F .rested .steady .kept .variables ∙ F .placed .variables)
+      vars = same-kept (c .work .changes .variables) (x .changes .variables) (F .rested .kept .variables ∙ F .placed .variables)
 
       next-is : x .tableau .nextId ≡ v .tableau .nextId
-      next-is = F .rested .steady .kept .nextId
+      next-is = F .rested .kept .nextId
 
       pub after-add : findHeld (d .key) (I .held) ≡ none → (cs : List Constraint) (es : List Edit) → ((j : ℕ) → ConstraintAt (findConstraint j cs) (findHeld (ofConstraint j) (new ∷ I .held)))
           → ((j : ℕ) → EditAt j (findEdit j es) (findHeld (ofEdit j) (new ∷ I .held))) → Inv (record { state = finish x cs es; live = e ∷ m .live })
@@ -169,7 +162,6 @@ module _ (art : ArtificialEnds) (m : Moment) (I : Inv m) (d : Demand) (budget : 
           beyond = F .rested .reads .beyond;
           artificial = tt;
         };
-        idle = none-below columns (B .kind) x (F .rested .table) (λ _. 0ℤ) (F .rested .good) (F .rested .reads) (x .tableau .infeasible) (F .rested .steady .calm .listed);
         first = omega (arith, next-is, F .placed .above, B .first);
         room = omega (arith, next-is, F .placed .next, room);
         ids = λ j i. omega (arith, next-is, F .placed .above, B .ids j (subst (In j) symbols i));

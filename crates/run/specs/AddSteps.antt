@@ -4,7 +4,7 @@ use native.Mathlib.Omega.{arith}
 use mathlib.Core.Path.{_≡_, refl, subst}
 use mathlib.Core.Logic.{_⊎_, inl, inr}
 use mathlib.Core.Bool.{Bool, true, false}
-use mathlib.Core.List.{List, [], _∷_, map}
+use mathlib.Core.List.{List, _∷_, map}
 use mathlib.Core.Option.{Option, none, some}
 use Rattle.simplex.specs.Ord.{0ℤ}
 use Rattle.simplex.specs.Opt.{Kind as KindZ}
@@ -33,7 +33,7 @@ unfoldable pub createdWays : Created → StateZ → ℕ
 createdWays c S = elim (chooseSubject c) [ some s ↦ 1 | none ↦ elim (allDummies c) [ true ↦ 1 | false ↦ artificialWays c S ] ]
 
 module _ (art : ArtificialEnds) (n : ℕ) (old : ℕ → KindZ) (S : StateZ) (held : List Held) (d : Demand) (w : Work) (c : Created) (B : Built n old S held d w c) (in-n : 0 < n) (room : c .work .tableau .nextId < n)
-    (idle : c .work .tableau .infeasible ≡ []) (budget : ℕ) where
+    (budget : ℕ) where
   abbrev cs : List Con
   cs = map (conOf (B .column)) (newHeld d c ∷ held)
 
@@ -47,14 +47,14 @@ module _ (art : ArtificialEnds) (n : ℕ) (old : ℕ → KindZ) (S : StateZ) (he
       by-dummies : chooseSubject c ≡ none → (b : Bool) → allDummies c ≡ b → Dummies n old S held d w c B b
           → markOf (elim b as (λ _. Outcome Work) [ false ↦ addWithArtificialVariable budget c | true ↦ elim (nearZero (c .row .constant)) as (λ _. Outcome Work) [ false ↦ refuse 12 (c .work) | true ↦ addWithSubject (c .tag .marker) c ] ]) ≡ allWhole
           → EndsIn (elim b [ true ↦ 1 | false ↦ artificialWays c S ]) (elim b [ false ↦ addWithArtificialVariable budget c | true ↦ elim (nearZero (c .row .constant)) [ false ↦ refuse 12 (c .work) | true ↦ addWithSubject (c .tag .marker) c ] ])
-      by-dummies s false e v m = art n old S held d w c B room idle s e budget m
-      by-dummies s true e v m = flat n old S held d w c B idle in-n (omega (arith, room)) budget v (nearZero (c .row .constant)) refl m
+      by-dummies s false e v m = art n old S held d w c B room s e budget m
+      by-dummies s true e v m = flat n old S held d w c B in-n (omega (arith, room)) budget v (nearZero (c .row .constant)) refl m
 
       by-subject : (o : Option Symbol) → chooseSubject c ≡ o → Subjected n old S held d w c B o
           → markOf (elim o as (λ _. Outcome Work) [ some s ↦ addWithSubject s c | none ↦ elim (allDummies c) as (λ _. Outcome Work) [ false ↦ addWithArtificialVariable budget c | true ↦ elim (nearZero (c .row .constant)) as (λ _. Outcome Work) [ false ↦ refuse 12 (c .work) | true ↦ addWithSubject (c .tag .marker) c ] ] ]) ≡ allWhole
           → EndsIn (elim o [ some s ↦ 1 | none ↦ elim (allDummies c) [ true ↦ 1 | false ↦ artificialWays c S ] ])
           (elim o [ some s ↦ addWithSubject s c | none ↦ elim (allDummies c) [ false ↦ addWithArtificialVariable budget c | true ↦ elim (nearZero (c .row .constant)) [ false ↦ refuse 12 (c .work) | true ↦ addWithSubject (c .tag .marker) c ] ] ])
-      by-subject (some s) e v m = chosen n old S held d w c B idle in-n (omega (arith, room)) budget s v m
+      by-subject (some s) e v m = chosen n old S held d w c B in-n (omega (arith, room)) budget s v m
       by-subject none e v m = by-dummies e (allDummies c) refl (dummies n old S held d w c B) m
 
   -- ---- step 7
@@ -86,4 +86,4 @@ module _ (art : ArtificialEnds) (n : ℕ) (old : ℕ → KindZ) (S : StateZ) (he
       go (refused k p t) (inr e) m = inr (e .0, first-pass (e .1))
       go (going v) P m =
           later v P (optimise (budget - v .pivots) theObjective v)
-          (optimised n (B .kind) v (P .table) (λ _. 0ℤ) cs in-n (λ j i. omega (arith, room, B .ids j (subst (In j) (P .symbols) i))) (P .good) (P .models) (P .reads) (P .artificial) (P .listed) (budget - v .pivots) m)
+          (optimised n (B .kind) v (P .table) (λ _. 0ℤ) cs in-n (λ j i. omega (arith, room, B .ids j (subst (In j) (P .symbols) i))) (P .good) (P .models) (P .reads) (P .artificial) (budget - v .pivots) m)

@@ -132,7 +132,3 @@ module _ (n : ℕ) (kind : ℕ → KindZ) (S : State) (G : Good n kind S) (rest 
 
   pub aimed-no-var : (j : ℕ) → kind j ≡ external → A .o j ≡ 0ℤ
   aimed-no-var j e = A .same-o j (not-0 const≢external j e) ∙ G .no-var j e
-
-  -- a row that gets nothing stays feasible
-  pub unshifted : (j : ℕ) → d j ≡ 0ℤ → A .R j 0 ≡ S .R j 0
-  unshifted j e = sym (A .rows j 0) ∙ ap (λ (t : ℤ). S .R j 0 +ℤ t *ℤ δ 0 0) e ∙ ring (S .R j 0 ∷ δ 0 0 ∷ []) (v 0 ⊞ κ 0ℤ ⊠ v 1) (v 0) tt

@@ -2,7 +2,7 @@
 use mathlib.Core.Path.{_≡_, refl, sym, _∙_, subst}
 use mathlib.Core.Logic.{inl, inr, _≢_}
 use mathlib.Core.Bool.{Bool, true, false}
-use mathlib.Core.List.{List, [], _∷_, map}
+use mathlib.Core.List.{List, _∷_, map}
 use mathlib.Core.Option.{Option, none, some}
 use Prim.Native.Nat.{ℕ, _-_, _<_}
 use native.Mathlib.Omega.{arith}
@@ -63,7 +63,7 @@ left-mark x t true m = go (findRow (t .id) (x .tableau .rows)) m
     go none m = m
     go (some r) m = empty r (isEmptyRow r (withArtificial none x)) m
 
-module _ (n : ℕ) (old : ℕ → KindZ) (S : StateZ) (held : List Held) (d : Demand) (w : Work) (c : Created) (Q : Built n old S held d w c) (room : c .work .tableau .nextId < n) (L : c .work .tableau .infeasible ≡ [])
+module _ (n : ℕ) (old : ℕ → KindZ) (S : StateZ) (held : List Held) (d : Demand) (w : Work) (c : Created) (Q : Built n old S held d w c) (room : c .work .tableau .nextId < n)
     (no-subject : chooseSubject c ≡ none) (some-cell : allDummies c ≡ false) where
   in-n : 0 < n
   in-n = omega (arith, room)
@@ -78,7 +78,7 @@ module _ (n : ℕ) (old : ℕ → KindZ) (S : StateZ) (held : List Held) (d : De
   Result budget = Ends n (Q .kind) (map (conOf (Q .column)) (newHeld d c ∷ held)) (artificialWays c S) budget (c .work)
 
   -- is the artificial objective's constant near zero? It is a whole number: is it 0?
-  near-is : (left : ℕ) (x : Work) (P : Passed n old S held d w c Q in-n room plain L left x) → artificialConstantNearZero x ≡ eqZb (P .T .o 0) (pos 0)
+  near-is : (left : ℕ) (x : Work) (P : Passed n old S held d w c Q in-n room plain left x) → artificialConstantNearZero x ≡ eqZb (P .T .o 0) (pos 0)
   unfolding artificialConstantNearZero
   near-is left x P = go (x .artificial) (P .reads .artificial) (P .stands)
     where
@@ -95,25 +95,25 @@ module _ (n : ℕ) (old : ℕ → KindZ) (S : StateZ) (held : List Held) (d : De
   pivots-same = refl
 
   -- after an accepted pass
-  after-pass : (budget left : ℕ) (x : Work) → Passed n old S held d w c Q in-n room plain L left x → (b : Bool) → artificialConstantNearZero x ≡ b
+  after-pass : (budget left : ℕ) (x : Work) → Passed n old S held d w c Q in-n room plain left x → (b : Bool) → artificialConstantNearZero x ≡ b
       → markOf (elim b [ false ↦ refuse 12 x | true ↦ removeTemporary (newSymbol Slack (c .work)) (withArtificial none x) ]) ≡ allWhole
       → Result budget (elim b [ false ↦ refuse 12 x | true ↦ removeTemporary (newSymbol Slack (c .work)) (withArtificial none x) ])
   unfolding refuse begun Ending Rattle.run.specs.TempLeaves.begun
-  after-pass budget left x P false e m = inl (refl, unmet n old S held d w c Q in-n room plain L left x P (λ z. subst T (sym (near-is left x P) ∙ e) (≡→eqZb z)))
+  after-pass budget left x P false e m = inl (refl, unmet n old S held d w c Q in-n room plain left x P (λ z. subst T (sym (near-is left x P) ∙ e) (≡→eqZb z)))
   after-pass budget left x P true e m =
       let s = some-slack n old S held d w c Q no-subject some-cell in
-      let f = leaves-all n old S held d w c Q in-n room plain L (s .0 .id) (s .2) (Q .ids (s .0 .id) (s .1 .0)) (s .3) left x P (eqZb→ (P .T .o 0) (pos 0) (subst T (sym (sym (near-is left x P) ∙ e)) tt)) m in
+      let f = leaves-all n old S held d w c Q in-n room plain (s .0 .id) (s .2) (Q .ids (s .0 .id) (s .1 .0)) (s .3) left x P (eqZb→ (P .T .o 0) (pos 0) (subst T (sym (sym (near-is left x P) ∙ e)) tt)) m in
       ended (removeTemporary (newSymbol Slack (c .work)) (withArtificial none x)) (s .0 .id) (s .2) (Q .ids (s .0 .id) (s .1 .0)) (s .3) (eqZb→ (P .T .o 0) (pos 0) (subst T (sym (sym (near-is left x P) ∙ e)) tt)) f
     where
-      ended : (t : Outcome Work) (j : ℕ) (s : Q .kind j ≡ slack) (i : j < c .work .tableau .nextId) (r : Q .r j ≢ 0ℤ) (f : P .T .o 0 ≡ 0ℤ) → Ending n old S held d w c Q in-n room plain L j s i r left x P f t → Result budget t
+      ended : (t : Outcome Work) (j : ℕ) (s : Q .kind j ≡ slack) (i : j < c .work .tableau .nextId) (r : Q .r j ≢ 0ℤ) (f : P .T .o 0 ≡ 0ℤ) → Ending n old S held d w c Q in-n room plain j s i r left x P f t → Result budget t
       ended (refused k p m) j s i r f h = absurd h
       ended (going z) j s i r f h = subst (λ (k : ℕ). Placed n (Q .kind) (map (conOf (Q .column)) (newHeld d c ∷ held)) k (c .work) z) ways-same h
 
   pub ends : (budget : ℕ) → markOf (addWithArtificialVariable budget c) ≡ allWhole → Result budget (addWithArtificialVariable budget c)
   unfolding addWithArtificialVariable _>>=_ begun markOf
-  ends budget = go (optimise (budget - begun .pivots) theArtificial begun) (passes n old S held d w c Q in-n room plain L (budget - begun .pivots))
+  ends budget = go (optimise (budget - begun .pivots) theArtificial begun) (passes n old S held d w c Q in-n room plain (budget - begun .pivots))
     where
-      go : (t : Outcome Work) → (markOf t ≡ allWhole → PassEnds n old S held d w c Q in-n room plain L (budget - begun .pivots) t)
+      go : (t : Outcome Work) → (markOf t ≡ allWhole → PassEnds n old S held d w c Q in-n room plain (budget - begun .pivots) t)
           → markOf (t >>= λ w. elim (artificialConstantNearZero w) [ false ↦ refuse 12 w | true ↦ removeTemporary (newSymbol Slack (c .work)) (withArtificial none w) ]) ≡ allWhole
           → Result budget (t >>= λ w. elim (artificialConstantNearZero w) [ false ↦ refuse 12 w | true ↦ removeTemporary (newSymbol Slack (c .work)) (withArtificial none w) ])
       go (refused k p q) f m = let h = f m in inr (h .0, subst (λ (b : ℕ). budget - b < artificialWays c S) pivots-same (subst (λ (k : ℕ). budget - begun .pivots < k) ways-same (h .1)))
@@ -124,4 +124,4 @@ module _ (n : ℕ) (old : ℕ → KindZ) (S : StateZ) (held : List Held) (d : De
 
 -- STEP 6
 pub artificial-ends : ArtificialEnds
-artificial-ends n old S held d w c Q room L s a budget = ends n old S held d w c Q room L s a budget
+artificial-ends n old S held d w c Q room s a budget = ends n old S held d w c Q room s a budget

@@ -74,7 +74,6 @@ pub record Built (n : ℕ) (old : ℕ → KindZ) (S : StateZ) (held : List Held)
   -- ---- the rest of the work
   pub artificial : c .work .artificial ≡ none
   pub pivots : c .work .pivots ≡ w .pivots
-  pub list : c .work .tableau .infeasible ≡ w .tableau .infeasible
   pub first : 0 < c .work .tableau .nextId
   pub next : c .work .tableau .nextId ≤ w .tableau .nextId + length (d .terms) + 2
   pub ids : (j : ℕ) → In j (c .work .tableau .symbols) → j < c .work .tableau .nextId

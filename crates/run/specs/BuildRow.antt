@@ -251,7 +251,6 @@ module _ (n : ℕ) (old : ℕ → KindZ) (S : StateZ) (column₀ name₀ : ℕ �
         other = λ s e. turned s (T .other s e);
         artificial = T .stage .artificial;
         pivots = grown .pivots;
-        list = grown .list;
         first = T .stage .first;
         next = omega (arith, grown .next);
         ids = T .stage .ids;

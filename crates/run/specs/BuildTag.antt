@@ -59,7 +59,7 @@ module _ (n : ℕ) (kind : ℕ → KindZ) (S : StateZ) (name : ℕ → ℕ) (b :
 
   pub symbol-grew : (k : Float) → Grew 1 (b .work) (addSymbol (newSymbol κ (b .work)) k b .work)
   unfolding addSymbol insertInto newSymbol appendTo appendSymbol withTableau written marking
-  symbol-grew k = record { vars = stays-refl (b .work .changes .variables); next = omega arith; pivots = refl; list = refl }
+  symbol-grew k = record { vars = stays-refl (b .work .changes .variables); next = omega arith; pivots = refl }
 
   pub symbol-in : (k : Float) → In t (addSymbol (newSymbol κ (b .work)) k b .work .tableau .symbols)
   unfolding addSymbol insertInto newSymbol appendTo appendSymbol withTableau written marking
@@ -121,7 +121,7 @@ priced-mark s k w m = worse-l (w .mark) _ m
 
 pub priced-grew : (s : ℕ) (k : Float) (w : Work) → Grew 0 w (insertInObjective s k w)
 unfolding insertInObjective marking withObjective withTableau
-priced-grew s k w = record { vars = stays-refl (w .changes .variables); next = omega arith; pivots = refl; list = refl }
+priced-grew s k w = record { vars = stays-refl (w .changes .variables); next = omega arith; pivots = refl }
 
 pub priced-symbols : (s : ℕ) (k : Float) (w : Work) → insertInObjective s k w .tableau .symbols ≡ w .tableau .symbols
 unfolding insertInObjective marking withObjective withTableau

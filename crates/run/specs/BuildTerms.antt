@@ -63,21 +63,19 @@ pub record Grew (k : ℕ) (w x : Work) : Type 0 where
   pub vars : StaysAll (w .changes .variables) (x .changes .variables)
   pub next : x .tableau .nextId ≤ w .tableau .nextId + k
   pub pivots : x .pivots ≡ w .pivots
-  pub list : x .tableau .infeasible ≡ w .tableau .infeasible
 
 pub grew-refl : (w : Work) → Grew 0 w w
-grew-refl w = record { vars = stays-refl (w .changes .variables); next = omega arith; pivots = refl; list = refl }
+grew-refl w = record { vars = stays-refl (w .changes .variables); next = omega arith; pivots = refl }
 
 pub grew-trans : (j k : ℕ) (u w x : Work) → Grew j u w → Grew k w x → Grew (j + k) u x
 grew-trans j k u w x a b = record {
   vars = stays-trans (u .changes .variables) (w .changes .variables) (x .changes .variables) (a .vars) (b .vars);
   next = omega (arith, a .next, b .next);
   pivots = b .pivots ∙ a .pivots;
-  list = b .list ∙ a .list;
 }
 
 pub grew-more : (j k : ℕ) (u w : Work) → j ≤ k → Grew j u w → Grew k u w
-grew-more j k u w l a = record { vars = a .vars; next = omega (arith, a .next, l); pivots = a .pivots; list = a .list }
+grew-more j k u w l a = record { vars = a .vars; next = omega (arith, a .next, l); pivots = a .pivots }
 
 pub not-const : (κ : Kind) → kindOf κ ≢ const
 not-const External e = let z : _≡_ {A = ℕ} 0 1 = cc in omega arith
@@ -199,7 +197,7 @@ module _ (n : ℕ) (kind : ℕ → KindZ) (S : StateZ) (name : ℕ → ℕ) (w :
 
     pub variable-grew : Grew 1 w (addVariable m (record { work = w; row = row }) .work)
     unfolding addVariable appendTo withVariables withChanges newSymbol appendSymbol withTableau
-    variable-grew = record { vars = stays-kept fresh (w .changes .variables) new; next = omega arith; pivots = refl; list = refl }
+    variable-grew = record { vars = stays-kept fresh (w .changes .variables) new; next = omega arith; pivots = refl }
 
     pub variable-found : findVariable m (addVariable m (record { work = w; row = row }) .work .changes .variables) ≢ none
     unfolding addVariable appendTo withVariables withChanges newSymbol appendSymbol withTableau
@@ -225,7 +223,7 @@ module _ (n : ℕ) (kind : ℕ → KindZ) (S : StateZ) (name : ℕ → ℕ) (w :
 
   pub use-grew : (m : ℕ) → Grew 0 w (countUse m (record { work = w; row = row }) .work)
   unfolding countUse withVariables withChanges
-  use-grew m = record { vars = stays-used m (w .changes .variables); next = omega arith; pivots = refl; list = refl }
+  use-grew m = record { vars = stays-used m (w .changes .variables); next = omega arith; pivots = refl }
 
   -- ---- a variable's row, or its symbol, is inserted
   abbrev insertion : Symbol → Float → Written
@@ -260,7 +258,7 @@ module _ (n : ℕ) (kind : ℕ → KindZ) (S : StateZ) (name : ℕ → ℕ) (w :
 
   pub written-grew : (y : Written) → Grew 0 w (written y w .work)
   unfolding written marking
-  written-grew y = record { vars = stays-refl (w .changes .variables); next = omega arith; pivots = refl; list = refl }
+  written-grew y = record { vars = stays-refl (w .changes .variables); next = omega arith; pivots = refl }
 
   pub written-marks : (y : Written) → written y w .work .mark ≡ allWhole → (w .mark ≡ allWhole) × (y .mark ≡ allWhole)
   unfolding written marking

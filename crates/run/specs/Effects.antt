@@ -213,32 +213,6 @@ marks-same s k w = go (isError s)
     go true = by (findRow (s .id) (w .tableau .rows))
     go false = λ m. m
 
--- neither the infeasible list nor the count of pivots moves
-still-one : (s : Symbol) (k : Float) (w : Work) → (removeMarkerEffects s k w .tableau .infeasible ≡ w .tableau .infeasible) × (removeMarkerEffects s k w .pivots ≡ w .pivots)
-unfolding removeMarkerEffects insertInObjective insertRowInObjective marking withObjective withTableau
-still-one s k w = go (isError s)
-  where
-    Still : Work → Type 0
-    Still x = (x .tableau .infeasible ≡ w .tableau .infeasible) × (x .pivots ≡ w .pivots)
-
-    by : (t : Option Row) → Still (elim t as (λ x. Work) [ none ↦ insertInObjective (s .id) (neg k) w | some r ↦ insertRowInObjective r (neg k) w ])
-    by none = (refl, refl)
-    by (some r) = (refl, refl)
-
-    go : (b : Bool) → Still (elim b as (λ x. Work) [ false ↦ w | true ↦ elim (findRow (s .id) (w .tableau .rows)) as (λ x. Work) [ none ↦ insertInObjective (s .id) (neg k) w | some r ↦ insertRowInObjective r (neg k) w ] ])
-    go true = by (findRow (s .id) (w .tableau .rows))
-    go false = (refl, refl)
-
-pub effects-still : (tag : Tag) (k : Float) (w : Work) → (removeConstraintEffects tag k w .tableau .infeasible ≡ w .tableau .infeasible) × (removeConstraintEffects tag k w .pivots ≡ w .pivots)
-effects-still tag k w = go (tag .other) refl
-  where
-    go : (t : Option Symbol) → tag .other ≡ t → (removeConstraintEffects tag k w .tableau .infeasible ≡ w .tableau .infeasible) × (removeConstraintEffects tag k w .pivots ≡ w .pivots)
-    go none e = let a = still-one (tag .marker) k w in (ap (λ (x : Work). x .tableau .infeasible) (one-symbol tag k w e) ∙ a .0, ap (λ (x : Work). x .pivots) (one-symbol tag k w e) ∙ a .1)
-    go (some o) e =
-        let a = still-one (tag .marker) k w in
-        let b = still-one o k (removeMarkerEffects (tag .marker) k w) in
-        (ap (λ (x : Work). x .tableau .infeasible) (two-symbols tag k w o e) ∙ b .0 ∙ a .0, ap (λ (x : Work). x .pivots) (two-symbols tag k w o e) ∙ b .1 ∙ a .1)
-
 pub kept-effects : (tag : Tag) (k : Float) (w : Work) → Kept w (removeConstraintEffects tag k w)
 kept-effects tag k w = go (tag .other) refl
   where

@@ -129,7 +129,6 @@ pub record Inv (m : Moment) : Type 0 where
   -- ---- the state reads as the theory's tableau
   pub whole : m .state .whole ≡ true
   pub reads : ReadsWork kind (begin (m .state)) (table .B) (table .R) (table .o) (λ _. 0ℤ)
-  pub idle : m .state .tableau .infeasible ≡ []
   pub first : 0 < m .state .tableau .nextId
   pub room : m .state .tableau .nextId ≤ columns
   pub ids : (j : ℕ) → In j (m .state .tableau .symbols) → j < m .state .tableau .nextId

@@ -2,21 +2,19 @@
 use mathlib.Core.Path.{_≡_, refl, sym, ap, _∙_, subst}
 use mathlib.Core.Logic.{_⊎_, inl, inr, _≢_}
 use mathlib.Core.List.{List, [], _∷_, map}
-use mathlib.Core.Option.{Option, none, some}
+use mathlib.Core.Option.{Option, none}
 use Prim.Native.Nat.{ℕ, _+_, _≤_, _<_}
 use native.Mathlib.Nat.{le-refl}
 use native.Mathlib.Omega.{arith}
 use mathlib.Core.Bool.{Bool, true, false, not, true≢false}
-use lib.Dec.{T}
 use lib.ListN.{length}
-use lib.Signed.{ltZ, ltZ-yes}
 use Rattle.laws.specs.Z.{_≼_}
-use Rattle.simplex.specs.Ord.{0ℤ, clash, ≼-of-eq}
+use Rattle.simplex.specs.Ord.{0ℤ}
 use Rattle.simplex.specs.Lin.{Vec}
 use Rattle.simplex.specs.Choose.{All, Distinct, choose, trues, all-map}
 use Rattle.simplex.specs.Basis.{Mask}
-use Rattle.simplex.specs.Opt.{Kind as KindZ, const, external, slack, dummy, slack≢external, slack≢const}
-use Rattle.simplex.specs.Pass.{State as StateZ, Good, differ}
+use Rattle.simplex.specs.Opt.{Kind as KindZ, const, external, slack, slack≢external}
+use Rattle.simplex.specs.Pass.{State as StateZ, Good}
 use Rattle.simplex.specs.Bland.{Pass, good}
 use Rattle.simplex.specs.Bound.{Mem}
 use Rattle.simplex.specs.Search.{Asc}
@@ -24,20 +22,18 @@ use Rattle.simplex.specs.Count.{asc-distinct}
 use Rattle.simplex.specs.Look.{done, look, after, lv, ev, Looked, at-rest, looked, pass, enough}
 use Rattle.simplex.specs.Problem.{Con, Models}
 use Rattle.simplex.specs.Final.{models-pass}
-use Rattle.steps.specs.Number.{belowZero, allWhole}
+use Rattle.steps.specs.Number.{allWhole}
 use Rattle.steps.specs.Symbol.{Kind, External, Slack, Error, Dummy, Symbol, isExternal, isRestricted}
 use Rattle.steps.specs.Row.{Row}
 use Rattle.steps.specs.State.{Basic}
-use Rattle.steps.specs.Work.{Work, Outcome, refused, going, findRow}
-use Rattle.steps.specs.Optimise.{theObjective, optimise, isBelow}
-use Rattle.steps.specs.Calls.{stillBelow}
-use Rattle.bridge.specs.Nums.{belowZero-z}
-use Rattle.bridge.specs.Rows.{In, NotIn, Up}
-use Rattle.bridge.specs.Table.{kindOf, RowAt, ArtAt, ReadsWork, found-in}
-use Rattle.bridge.specs.Looks.{in-or-not}
+use Rattle.steps.specs.Work.{Work, Outcome, refused, going}
+use Rattle.steps.specs.Optimise.{theObjective, optimise}
+use Rattle.bridge.specs.Rows.{In, Up}
+use Rattle.bridge.specs.Table.{kindOf, ArtAt, ReadsWork, of-basic}
+use Rattle.bridge.specs.Looks.{slack-in}
 use Rattle.bridge.specs.Runs.{markOf, carried, Ran, rests, run}
 use Rattle.bridge.specs.Ends.{Verdict, optimise-whole}
-use Rattle.run.specs.Steady.{Kinded, Calm, Steady, IfGoing, optimise-steady}
+use Rattle.run.specs.Steady.{Kinded, Kept, IfGoing, optimise-kept}
 
 -- ---- the ids of the live symbols, and of the restricted ones: demand 3's n is how many these are
 unfoldable pub idsOf : List Symbol → List ℕ
@@ -105,35 +101,6 @@ in-restricted kind j (x ∷ xs) a m n = go (isRestricted x) refl (external-or x)
     go false e (inr t) (inl p) ih = absurd (n (ap kind p ∙ a .0 ∙ t))
     go false e (inr t) (inr m) ih = ih m
 
--- ---- list entries whose row is absent or not below 0 go: all of them
-module _ (n : ℕ) (kind : ℕ → KindZ) (w : Work) (S : StateZ) (z : Vec) (G : Good n kind S) (H : ReadsWork kind w (S .B) (S .R) (S .o) z) where
-  not-below : (j : ℕ) → kind j ≢ external → isBelow j (w .tableau .rows) ≡ false
-  unfolding isBelow
-  not-below j ne = go (findRow j (w .tableau .rows)) (H .rows j)
-    where
-      nonneg : S .B j ≡ true → (t : KindZ) → kind j ≡ t → 0ℤ ≼ S .R j 0
-      nonneg b const k = absurd (true≢false (sym b ∙ ap (S .B) (G .consts j k) ∙ G .shape .const))
-      nonneg b external k = absurd (ne k)
-      nonneg b slack k = G .feasible j b k
-      nonneg b dummy k = ≼-of-eq (sym (G .still-dummies j k))
-
-      by : (r : Row) (b : Bool) → belowZero (r .constant) ≡ b → belowZero (r .constant) ≡ ltZ (S .R j 0) 0ℤ → 0ℤ ≼ S .R j 0 → b ≡ false
-      by r true e q l = absurd (clash (ltZ-yes (subst T (sym (sym q ∙ e)) tt)) l)
-      by r false e q l = refl
-
-      go : (t : Option Row) → RowAt (w .tableau .symbols) t (S .B j) (S .R j) → elim t as (λ x. Bool) [ none ↦ false | some r ↦ belowZero (r .constant) ] ≡ false
-      go none h = refl
-      go (some r) h = by r (belowZero (r .constant)) refl (belowZero-z (h .1 .constant .isz)) (nonneg (h .0) (kind j) refl)
-
-  pub none-below : (l : List ℕ) → All (λ j. kind j ≢ external) l → stillBelow (w .tableau .rows) l ≡ []
-  unfolding stillBelow
-  none-below [] a = refl
-  none-below (j ∷ l) a = go (isBelow j (w .tableau .rows)) (not-below j (a .0)) (none-below l (a .1))
-    where
-      go : (b : Bool) → b ≡ false → stillBelow (w .tableau .rows) l ≡ [] → _≡_ {A = List ℕ} (elim b [ true ↦ j ∷ stillBelow (w .tableau .rows) l | false ↦ stillBelow (w .tableau .rows) l ]) []
-      go true e ih = absurd (true≢false e)
-      go false e ih = ih
-
 -- ---- the pass
 pub record Rested (n : ℕ) (kind : ℕ → KindZ) (cs : List Con) (left ways : ℕ) (w x : Work) : Type 0 where
   pub table : StateZ
@@ -141,7 +108,7 @@ pub record Rested (n : ℕ) (kind : ℕ → KindZ) (cs : List Con) (left ways : 
   pub rest : (j : ℕ) → kind j ≡ slack → 0ℤ ≼ table .o j
   pub models : Models n kind (table .B) (table .R) (table .o) cs
   pub reads : ReadsWork kind x (table .B) (table .R) (table .o) (λ _. 0ℤ)
-  pub steady : Steady kind w x
+  pub kept : Kept w x
   -- how many pivots it took
   pub made : ℕ
   pub count : x .pivots ≡ w .pivots + made
@@ -172,25 +139,14 @@ other-artificial kind w B R o a b e H = record {
 
 -- ---- the columns of a tableau that a pass moves among
 module _ (n : ℕ) (kind : ℕ → KindZ) (w : Work) (B : Mask) (R : ℕ → Vec) (o a : Vec) (zero : kind 0 ≡ const) (H : ReadsWork kind w B R o a) (inside : (j : ℕ) → In j (w .tableau .symbols) → j < n) where
-  pub slack-in : (j : ℕ) → kind j ≡ slack → In j (w .tableau .symbols)
-  slack-in j s = go (in-or-not j (w .tableau .symbols))
-    where
-      go : In j (w .tableau .symbols) ⊎ NotIn j (w .tableau .symbols) → In j (w .tableau .symbols)
-      go (inl m) = m
-      go (inr m) = absurd (slack≢external (sym s ∙ H .unknown j (differ slack≢const kind j 0 s zero) m))
-
   pub basic-in : (j : ℕ) → B j ≡ true → In j (w .tableau .symbols)
-  basic-in j b = go (findRow j (w .tableau .rows)) refl (H .rows j)
-    where
-      go : (t : Option Row) → findRow j (w .tableau .rows) ≡ t → RowAt (w .tableau .symbols) t (B j) (R j) → In j (w .tableau .symbols)
-      go none q h = absurd (true≢false (sym b ∙ h))
-      go (some r) q h = found-in (λ i. In i (w .tableau .symbols)) j (w .tableau .rows) r (all-map (λ (b : Basic) h. h .0) (w .tableau .rows) (H .rows-live)) q
+  basic-in = of-basic kind (w .tableau .symbols) (w .tableau .rows) (w .tableau .objective) (w .artificial) B R o a H (λ j. In j (w .tableau .symbols)) (all-map (λ (b : Basic) h. h .0) (w .tableau .rows) (H .rows-live))
 
   pub live-asc : Asc (idsOf (w .tableau .symbols))
   live-asc = ids-up 0 (w .tableau .symbols) (H .up) .1
 
   pub live-cover : (j : ℕ) → kind j ≡ slack → Mem j (idsOf (w .tableau .symbols))
-  live-cover j s = in-mem j (w .tableau .symbols) (slack-in j s)
+  live-cover j s = in-mem j (w .tableau .symbols) (slack-in kind (w .tableau .symbols) zero (H .unknown) j s)
 
   pub live-inside : (j : ℕ) → Mem j (idsOf (w .tableau .symbols)) → j < n
   live-inside j m = inside j (mem-in j (w .tableau .symbols) m)
@@ -202,10 +158,10 @@ module _ (n : ℕ) (kind : ℕ → KindZ) (w : Work) (B : Mask) (R : ℕ → Vec
   live-basics j b ne = in-restricted kind j (w .tableau .symbols) (H .kinds) (basic-in j b) ne
 
   pub live-slacks : (j : ℕ) → kind j ≡ slack → Mem j (restrictedIds (w .tableau .symbols))
-  live-slacks j s = in-restricted kind j (w .tableau .symbols) (H .kinds) (slack-in j s) (λ e. slack≢external (sym s ∙ e))
+  live-slacks j s = in-restricted kind j (w .tableau .symbols) (H .kinds) (slack-in kind (w .tableau .symbols) zero (H .unknown) j s) (λ e. slack≢external (sym s ∙ e))
 
 module _ (n : ℕ) (kind : ℕ → KindZ) (w : Work) (S : StateZ) (z : Vec) (cs : List Con) (in-n : 0 < n) (inside : (j : ℕ) → In j (w .tableau .symbols) → j < n) (G : Good n kind S)
-    (D : Models n kind (S .B) (S .R) (S .o) cs) (H : ReadsWork kind w (S .B) (S .R) (S .o) z) (no-art : w .artificial ≡ none) (L : All (λ j. kind j ≢ external) (w .tableau .infeasible)) where
+    (D : Models n kind (S .B) (S .R) (S .o) cs) (H : ReadsWork kind w (S .B) (S .R) (S .o) z) (no-art : w .artificial ≡ none) where
   abbrev ids : List ℕ
   ids = idsOf (w .tableau .symbols)
 
@@ -230,19 +186,16 @@ module _ (n : ℕ) (kind : ℕ → KindZ) (w : Work) (S : StateZ) (z : Vec) (cs 
   slacks : (j : ℕ) → kind j ≡ slack → Mem j rs
   slacks = live-slacks n kind w (S .B) (S .R) (S .o) z (G .zero) H inside
 
-  calm : Calm kind w
-  calm = record { listed = L; kinds = H .kinds; basics = all-map (λ (b : Basic) h. h .1) (w .tableau .rows) (H .rows-live) }
-
   module _ (left : ℕ) (m : markOf (optimise left theObjective w) ≡ allWhole) where
-    rested : (x : Work) → Ran n kind ids asc cover in-ids theObjective left w S z (going x) → Steady kind w x → Rested n kind cs left (waysOf (w .tableau .symbols) (S .B)) w x
+    rested : (x : Work) → Ran n kind ids asc cover in-ids theObjective left w S z (going x) → Kept w x → Rested n kind cs left (waysOf (w .tableau .symbols) (S .B)) w x
     unfolding waysOf after
     rested x (rests k l f d y r q) st = record {
       table = after kind ids S k;
       good = GT;
       rest = resting kind ids (after kind ids S k) (subst (Looked kind ids (after kind ids S k)) d (looked kind ids asc cover n (after kind ids S k) GT));
       models = models-pass n kind cs k (after kind ids S) (λ i. lv (look kind ids (after kind ids S i))) (λ i. ev (look kind ids (after kind ids S i))) Q D k (le-refl k);
-      reads = other-artificial kind x ((after kind ids S k) .B) ((after kind ids S k) .R) ((after kind ids S k) .o) (carried kind ids S z k) (λ _. 0ℤ) (st .kept .artificial no-art) r;
-      steady = st;
+      reads = other-artificial kind x ((after kind ids S k) .B) ((after kind ids S k) .R) ((after kind ids S k) .o) (carried kind ids S z k) (λ _. 0ℤ) (st .artificial no-art) r;
+      kept = st;
       made = k;
       count = q;
       within = l;
@@ -259,10 +212,10 @@ module _ (n : ℕ) (kind : ℕ → KindZ) (w : Work) (S : StateZ) (z : Vec) (cs 
     pub optimised : Optimised n kind cs left (waysOf (w .tableau .symbols) (S .B)) w (optimise left theObjective w)
     unfolding waysOf
     optimised =
-        go (optimise left theObjective w) (run n kind ids asc cover in-ids left theObjective w S z G H m) (optimise-steady kind left theObjective w calm)
+        go (optimise left theObjective w) (run n kind ids asc cover in-ids left theObjective w S z G H m) (optimise-kept left theObjective w)
         (optimise-whole n kind ids asc cover in-ids left w S z cs rs in-n once basics slacks G D H m)
       where
-        go : (t : Outcome Work) → Ran n kind ids asc cover in-ids theObjective left w S z t → IfGoing (Steady kind w) t → Verdict n kind ids asc cover in-ids left S cs rs t
+        go : (t : Outcome Work) → Ran n kind ids asc cover in-ids theObjective left w S z t → IfGoing (Kept w) t → Verdict n kind ids asc cover in-ids left S cs rs t
             → Optimised n kind cs left (waysOf (w .tableau .symbols) (S .B)) w t
         go (going x) r st v = rested x r st
         go (refused k p t) r st v = v

@@ -9,7 +9,7 @@ use lib.IntN.{ℤ, _*ℤ_}
 use Rattle.laws.specs.Z.{_≼_, _≺_}
 use Rattle.simplex.specs.Ord.{0ℤ, 1ℤ, ≼-antisym, ≺-irrefl, ≺-or-≼}
 use Rattle.simplex.specs.Lin.{Vec, δ-other}
-use Rattle.simplex.specs.Choose.{All, all-zip}
+use Rattle.simplex.specs.Choose.{All}
 use Rattle.simplex.specs.Basis.{Mask}
 use Rattle.simplex.specs.Opt.{Kind as KindZ, const, external, slack, dummy, slack≢external, slack≢dummy}
 use Rattle.simplex.specs.Pass.{State as StateZ, Good}
@@ -25,7 +25,7 @@ use Rattle.bridge.specs.Nums.{absent-yes}
 use Rattle.bridge.specs.Finds.{none≢some}
 use Rattle.bridge.specs.Rows.{ReadsRow, row-cell}
 use Rattle.bridge.specs.Table.{kindOf, RowAt, Live, ReadsWork, found-in}
-use Rattle.bridge.specs.Chosen.{restricted-is, listed, Leaves, Leaving, leaving-is}
+use Rattle.bridge.specs.Chosen.{restricted-is, known, Leaves, Leaving, leaving-is}
 use Rattle.bridge.specs.Looks.{minus-one}
 use Rattle.bridge.specs.Ranks.{Leaves as LeavesUp, Leaving as LeavingUp, positive-is}
 use Rattle.bridge.specs.Duals.{one-of}
@@ -155,10 +155,6 @@ module _ (n : ℕ) (kind : ℕ → KindZ) (w : Work) (S : StateZ) (a : Vec) (G :
 
   abbrev bs : List Basic
   bs = w .tableau .rows
-
-  known : All (λ (b : Basic). Live kind xs (b .symbol) × ((S .B (b .symbol .id) ≡ true) × ReadsRow xs (b .row) (S .R (b .symbol .id)))) bs
-  known =
-      all-zip {P = λ (b : Basic). Live kind xs (b .symbol)} {Q = λ (b : Basic). (S .B (b .symbol .id) ≡ true) × ReadsRow xs (b .row) (S .R (b .symbol .id))} (λ b x y. (x, y)) bs (H .rows-live) (listed xs (S .B) (S .R) 0 bs (H .rows-up) (λ j _. H .rows j))
 
   -- a fact of the rows of a kind, by column
   empty : (t : KindZ) → All (λ (b : Basic). kind (b .symbol .id) ≡ t → S .R (b .symbol .id) e ≡ 0ℤ) bs → (j : ℕ) → kind j ≡ t → j ≢ e → S .R j e ≡ 0ℤ
@@ -292,13 +288,13 @@ module _ (n : ℕ) (kind : ℕ → KindZ) (w : Work) (S : StateZ) (a : Vec) (G :
 
       by-positive : (t : Option Symbol) → LeavingUp kind xs bs (w .tableau .objective) (w .artificial) (S .B) (S .R) (S .o) a H e e≢0 t
           → Found (elim t [ some b ↦ some b | none ↦ lastExternalRow e xs none bs ])
-      by-positive none h = by-last h (lastExternalRow e xs none bs) (last-external kind xs (S .B) (S .R) e e≢0 none tt bs known)
+      by-positive none h = by-last h (lastExternalRow e xs none bs) (last-external kind xs (S .B) (S .R) e e≢0 none tt bs (known kind xs bs (w .tableau .objective) (w .artificial) (S .B) (S .R) (S .o) a H))
       by-positive (some l) h = at-positive l h
 
   -- "the leaving row is, in rank: .."
   pub marker-row : Found (getMarkerLeavingRow e w)
   unfolding getMarkerLeavingRow
-  marker-row = ranks (firstDummyRow e xs bs) (smallestRatio (negativeRatios e xs bs)) (first-dummy kind xs (S .B) (S .R) e e≢0 bs known) (leaving-is kind xs bs (w .tableau .objective) (w .artificial) (S .B) (S .R) (S .o) a H e e≢0)
+  marker-row = ranks (firstDummyRow e xs bs) (smallestRatio (negativeRatios e xs bs)) (first-dummy kind xs (S .B) (S .R) e e≢0 bs (known kind xs bs (w .tableau .objective) (w .artificial) (S .B) (S .R) (S .o) a H)) (leaving-is kind xs bs (w .tableau .objective) (w .artificial) (S .B) (S .R) (S .o) a H e e≢0)
     where
       ranks : (t u : Option Symbol) → FirstDummy kind xs (S .B) (S .R) e e≢0 bs t → Leaving kind xs bs (w .tableau .objective) (w .artificial) (S .B) (S .R) (S .o) a H e e≢0 u
           → Found (elim t [ some b ↦ some b | none ↦ elim u [ some b ↦ some b | none ↦ elim (smallestRatio (positiveRatios e xs bs)) [ some b ↦ some b | none ↦ lastExternalRow e xs none bs ] ] ])

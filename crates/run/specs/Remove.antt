@@ -7,7 +7,6 @@ use mathlib.Core.Option.{Option, none, some}
 use Prim.Native.Nat.{ℕ, _+_, _<_}
 use lib.Dec.{eqb}
 use lib.Ieee.{Float}
-use Rattle.simplex.specs.Ord.{0ℤ}
 use Rattle.steps.specs.Number.{allWhole, saysWhole}
 use Rattle.steps.specs.State.{Term, strengthOf, Tag, Constraint, Edit}
 use Rattle.steps.specs.Work.{Work, Outcome, refused, going}
@@ -23,8 +22,7 @@ use Rattle.keeps.specs.Reads.{Reads, usedBy}
 use Rattle.keeps.specs.Tested.{reads-in}
 use Rattle.bridge.specs.Runs.{markOf}
 use Rattle.run.specs.Demand.{Key, ofConstraint, ofEdit, Demand, Call, removes, removesEdit, make, accepted, without, Moment, next}
-use Rattle.run.specs.Inv.{columns, Held, formOf, Shaped, findHeld, ConstraintAt, EditAt, WholeDemand, Inv}
-use Rattle.run.specs.Passes.{none-below}
+use Rattle.run.specs.Inv.{Held, formOf, Shaped, findHeld, ConstraintAt, EditAt, WholeDemand, Inv}
 use Rattle.run.specs.Suggest.{unchanged, changed}
 use Rattle.run.specs.Perm.{withoutHeld, without-is, all-out, once-out}
 use Rattle.run.specs.RemoveUses.{Unnamed}
@@ -70,7 +68,6 @@ module _ (m : Moment) (I : Inv m) (k : Key) (h : Held) (found : findHeld k (I .h
           beyond = H .beyond;
           artificial = tt;
         };
-        idle = none-below columns (E .kind′) x (E .table) (λ _. 0ℤ) (U .read .good) H (x .tableau .infeasible) (U .listed);
         first = subst (λ (i : ℕ). 0 < i) (sym (E .nextId)) (I .first);
         room = U .room;
         ids = U .ids;

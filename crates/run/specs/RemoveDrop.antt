@@ -1,21 +1,16 @@
 -- A removal's second step: the marker's row is dropped, after a pivot where the marker is not basic. 13 and 17 are not given. Assumes nothing.
 use mathlib.Core.Path.{_≡_, refl, sym, ap, _∙_, subst}
 use mathlib.Core.Logic.{inl, inr, _≢_}
-use mathlib.Core.List.{List, [], _∷_}
+use mathlib.Core.List.{List}
 use mathlib.Core.Option.{Option, none, some}
 use Prim.Native.Nat.{ℕ, _<_}
-use mathlib.Core.Bool.{Bool, true, false, _&&_, cond, true≢false}
-use lib.Dec.{T, ltb}
-use lib.IntN.{ℤ}
-use lib.Signed.{ltZ, ltZ-yes}
-use lib.Ieee.{Float}
-use Rattle.laws.specs.Z.{_≼_}
-use Rattle.simplex.specs.Ord.{0ℤ, ≼-of-eq, clash}
-use Rattle.simplex.specs.Lin.{Vec}
+use mathlib.Core.Bool.{true, false, true≢false}
+use lib.Dec.{T}
+use Rattle.simplex.specs.Ord.{0ℤ}
 use Rattle.simplex.specs.At.{at}
-use Rattle.simplex.specs.Choose.{All, all-zip}
+use Rattle.simplex.specs.Choose.{all-zip}
 use Rattle.simplex.specs.Basis.{swap, Swapped, enters, leaves, stays, swapped}
-use Rattle.simplex.specs.Opt.{Kind as KindZ, const, external, slack, dummy}
+use Rattle.simplex.specs.Opt.{Kind as KindZ, external}
 use Rattle.simplex.specs.Form.{soft}
 use Rattle.simplex.specs.Problem.{Con, Sound, Apart, Models, sounds-all}
 use Rattle.simplex.specs.Tab.{pivoted, pivot as pivotZ}
@@ -23,88 +18,21 @@ use Rattle.simplex.specs.Change.{dropped}
 use Rattle.simplex.specs.Pass.{State as StateZ, Good}
 use Rattle.simplex.specs.Remove.{Rank, drop-good, remove-good, free-of-marker}
 use Rattle.simplex.specs.Gone.{Halfway, half-pivot, half-drop, marker-held, tag-kind, not-variable}
-use Rattle.steps.specs.Number.{belowZero, Mark, allWhole, notWhole, notFinite}
-use Rattle.steps.specs.Symbol.{Symbol, isSymbol, isRestricted}
-use Rattle.steps.specs.Row.{Row, solveForSymbols}
-use Rattle.steps.specs.State.{Basic, Tableau}
-use Rattle.steps.specs.Work.{Work, refused, going, _>>=_, refuse, checkFinite, marking, withRows, withTableau, findRow, dropRow, keepRow}
-use Rattle.steps.specs.Substitute.{substituteInRows, rowsOf, push, pushBelow, pivot}
+use Rattle.steps.specs.Number.{Mark, allWhole, notWhole, notFinite}
+use Rattle.steps.specs.Symbol.{Symbol}
+use Rattle.steps.specs.Row.{Row}
+use Rattle.steps.specs.State.{Tableau}
+use Rattle.steps.specs.Work.{Work, refused, going, _>>=_, refuse, checkFinite, withRows, withTableau, findRow, dropRow}
+use Rattle.steps.specs.Substitute.{pivot}
 use Rattle.steps.specs.Remove.{getMarkerLeavingRow, noteLeaving, dropMarker}
-use Rattle.bridge.specs.Nums.{belowZero-z, finite≢}
-use Rattle.bridge.specs.Rows.{Sym?, is, isnt, sym?, ReadsRow}
-use Rattle.bridge.specs.Finds.{none≢some, find-hit, find-miss, find-drop-other, after-sub, find-sub}
-use Rattle.bridge.specs.Table.{RowAt, Live, ReadsTable, ReadsWork, in-nonzero, enter-parts, pivot-z, row-of}
-use Rattle.bridge.specs.Chosen.{listed}
+use Rattle.bridge.specs.Nums.{finite≢}
+use Rattle.bridge.specs.Table.{RowAt, Live, ReadsTable, ReadsWork, in-nonzero, pivot-z}
 use Rattle.bridge.specs.Runs.{markOf, pivot-pivots}
 use Rattle.bridge.specs.Ranks.{drop-z, Goes}
-use Rattle.bridge.specs.Drags.{enter-list, pivot-is}
-use Rattle.run.specs.Steady.{restricted-kind, Kept, kept-trans, pivot-kept}
+use Rattle.run.specs.Steady.{Kept, kept-trans, pivot-kept}
 use Rattle.run.specs.Passes.{other-artificial}
 use Rattle.run.specs.RemoveFrame.{kept-rows, Noted, noted}
 use Rattle.run.specs.RanksIs.{Ranked, Found, marker-row}
-
--- ---- no restricted row is below 0, so none is pushed
-pushed-none : (bs : List Basic) (l : List ℕ) → All (λ (b : Basic). isRestricted (b .symbol) ≡ true → belowZero (b .row .constant) ≡ false) bs → pushBelow bs l ≡ l
-unfolding pushBelow
-pushed-none [] l a = refl
-pushed-none (b ∷ bs) l a = ap (pushBelow bs) (go (isRestricted (b .symbol)) (belowZero (b .row .constant)) (a .0)) ∙ pushed-none bs l (a .1)
-  where
-    go : (r c : Bool) → (r ≡ true → c ≡ false) → cond (r && c) (push l (b .symbol .id)) l ≡ l
-    go true true f = absurd (true≢false (f refl))
-    go true false f = refl
-    go false c f = refl
-
-good-rows : (n : ℕ) (kind : ℕ → KindZ) (xs : List Symbol) (bs : List Basic) (cs : List Float) (art : Option Row) (S : StateZ) (a : Vec) → Good n kind S → ReadsTable kind xs bs cs art (S .B) (S .R) (S .o) a
-    → All (λ (b : Basic). isRestricted (b .symbol) ≡ true → belowZero (b .row .constant) ≡ false) bs
-good-rows n kind xs bs cs art S a G H =
-    all-zip {P = λ (b : Basic). Live kind xs (b .symbol)} {Q = λ (b : Basic). (S .B (b .symbol .id) ≡ true) × ReadsRow xs (b .row) (S .R (b .symbol .id))} one bs (H .rows-live) (listed xs (S .B) (S .R) 0 bs (H .rows-up) (λ j _. H .rows j))
-  where
-    nonneg : (j : ℕ) → kind j ≢ external → S .B j ≡ true → (t : KindZ) → kind j ≡ t → 0ℤ ≼ S .R j 0
-    nonneg j ne b const k = absurd (true≢false (sym b ∙ ap (S .B) (G .consts j k) ∙ G .shape .const))
-    nonneg j ne b external k = absurd (ne k)
-    nonneg j ne b slack k = G .feasible j b k
-    nonneg j ne b dummy k = ≼-of-eq (sym (G .still-dummies j k))
-
-    by : (b : Bool) (z : ℤ) → b ≡ ltZ z 0ℤ → 0ℤ ≼ z → b ≡ false
-    by true z q l = absurd (clash (ltZ-yes (subst T q tt)) l)
-    by false z q l = refl
-
-    one : (b : Basic) → Live kind xs (b .symbol) → (S .B (b .symbol .id) ≡ true) × ReadsRow xs (b .row) (S .R (b .symbol .id)) → isRestricted (b .symbol) ≡ true → belowZero (b .row .constant) ≡ false
-    one b v h r =
-        by (belowZero (b .row .constant)) (S .R (b .symbol .id) 0) (belowZero-z (h .1 .constant .isz))
-        (nonneg (b .symbol .id) (restricted-kind kind (b .symbol) (v .1) r) (h .0) (kind (b .symbol .id)) refl)
-
--- a row that is kept and dropped again
-drop-keep : (r : Basic) (bs : List Basic) → findRow (r .symbol .id) bs ≡ none → dropRow (r .symbol .id) (keepRow r bs) ≡ bs
-unfolding dropRow keepRow
-drop-keep r [] f = go (sym? (r .symbol .id) (r .symbol))
-  where
-    go : Sym? (r .symbol .id) (r .symbol) → _≡_ {A = List Basic} (elim (isSymbol (r .symbol .id) (r .symbol)) [ true ↦ [] | false ↦ r ∷ [] ]) []
-    go (is e p d) = ap (λ (t : Bool). elim t as (λ x. List Basic) [ true ↦ [] | false ↦ r ∷ [] ]) e
-    go (isnt e p d) = absurd (p refl)
-drop-keep r (b ∷ bs) f = go (ltb (r .symbol .id) (b .symbol .id)) (sym? (r .symbol .id) (r .symbol)) (sym? (r .symbol .id) (b .symbol)) (drop-keep r bs)
-  where
-    go : (t : Bool) → Sym? (r .symbol .id) (r .symbol) → Sym? (r .symbol .id) (b .symbol) → (findRow (r .symbol .id) bs ≡ none → dropRow (r .symbol .id) (keepRow r bs) ≡ bs)
-        → dropRow (r .symbol .id) (elim t [ true ↦ r ∷ b ∷ bs | false ↦ b ∷ keepRow r bs ]) ≡ b ∷ bs
-    go true (is e p d) y ih = ap (λ (t : Bool). elim t as (λ x. List Basic) [ true ↦ b ∷ bs | false ↦ r ∷ dropRow (r .symbol .id) (b ∷ bs) ]) e
-    go true (isnt e p d) y ih = absurd (p refl)
-    go false x (is e p d) ih = absurd (none≢some (sym f ∙ find-hit (r .symbol .id) b bs e))
-    go false x (isnt e p d) ih =
-        ap (λ (t : Bool). elim t as (λ x. List Basic) [ true ↦ keepRow r bs | false ↦ b ∷ dropRow (r .symbol .id) (keepRow r bs) ]) e ∙ ap (λ (l : List Basic). b ∷ l) (ih (sym (find-miss (r .symbol .id) b bs e) ∙ f))
-
--- ---- the infeasible list after a pivot
--- what is pushed are rows that stay when the entering one is dropped
-pub pivot-list : (l : ℕ) (e : Symbol) (w : Work) (row : Row) → findRow l (w .tableau .rows) ≡ some row → findRow (e .id) (w .tableau .rows) ≡ none → l ≢ e .id
-    → pivot l e w .tableau .infeasible ≡ pushBelow (dropRow (e .id) (pivot l e w .tableau .rows)) (w .tableau .infeasible)
-unfolding marking withRows withTableau after-sub
-pivot-list l e w row q absent apart =
-    let s : Row = solveForSymbols l (e .id) (w .tableau .symbols) row .row in
-    let v : Work = marking (solveForSymbols l (e .id) (w .tableau .symbols) row .mark) (withRows (dropRow l (w .tableau .rows)) w) in
-    let bs : List Basic = rowsOf (substituteInRows (e .id) (w .tableau .symbols) s (dropRow l (w .tableau .rows))) in
-    let gone : findRow (e .id) bs ≡ none = find-sub (e .id) (w .tableau .symbols) s (e .id) (dropRow l (w .tableau .rows)) ∙ ap (after-sub (e .id) (w .tableau .symbols) s) (find-drop-other (e .id) l (w .tableau .rows) (λ p. apart (sym p)) ∙ absent) in
-    let rows : pivot l e w .tableau .rows ≡ keepRow (record { symbol = e; row = s }) bs = ap (λ (x : Work). x .tableau .rows) (pivot-is l e w row q) ∙ enter-parts e s v .rows in
-    ap (λ (x : Work). x .tableau .infeasible) (pivot-is l e w row q) ∙ enter-list e s v
-    ∙ ap (λ (b : List Basic). pushBelow b (w .tableau .infeasible)) (sym (ap (dropRow (e .id)) rows ∙ drop-keep (record { symbol = e; row = s }) bs gone))
 
 -- ---- what the step leaves
 pub record Dropped (n : ℕ) (kind : ℕ → KindZ) (cs : List Con) (w x : Work) : Type 0 where
@@ -113,7 +41,6 @@ pub record Dropped (n : ℕ) (kind : ℕ → KindZ) (cs : List Con) (w x : Work)
   pub models : Models n kind (table .B) (table .R) (table .o) cs
   pub reads : ReadsWork kind x (table .B) (table .R) (table .o) (λ _. 0ℤ)
   pub kept : Kept w x
-  pub list : x .tableau .infeasible ≡ w .tableau .infeasible
   pub pivots : x .pivots ≡ w .pivots
 
 module _ (n : ℕ) (kind : ℕ → KindZ) (w : Work) (S : StateZ) (c : Con) (cs : List Con) (G : Good n kind S) (D : Halfway n kind (S .B) (S .R) (S .o) c cs)
@@ -133,7 +60,6 @@ module _ (n : ℕ) (kind : ℕ → KindZ) (w : Work) (S : StateZ) (c : Con) (cs 
     models = subst (λ (p : ℕ). Models n kind (at p false (S .B)) (dropped p (S .R)) (S .o) cs) own (half-drop n kind (S .B) (S .R) (S .o) c cs D (ap (S .B) own ∙ basic));
     reads = drop-z kind w (S .B) (S .R) (S .o) (λ _. 0ℤ) H (m .id);
     kept = kept-rows (dropRow (m .id) (w .tableau .rows)) w;
-    list = refl;
     pivots = refl;
   }
 
@@ -172,16 +98,6 @@ module _ (n : ℕ) (kind : ℕ → KindZ) (w : Work) (S : StateZ) (c : Con) (cs 
         go (leaves p t) = absurd (true≢false (sym (L .basic) ∙ ap (S .B) (sym p) ∙ free))
         go (stays p q t) = absurd (p refl)
 
-    l≢m : l .id ≢ m .id
-    l≢m q = true≢false (sym (L .basic) ∙ ap (S .B) q ∙ free)
-
-    no-m : findRow (m .id) (v .tableau .rows) ≡ none
-    no-m = go (findRow (m .id) (v .tableau .rows)) refl (Hv .rows (m .id))
-      where
-        go : (t : Option Row) → findRow (m .id) (v .tableau .rows) ≡ t → RowAt (v .tableau .symbols) t (S .B (m .id)) (S .R (m .id)) → findRow (m .id) (v .tableau .rows) ≡ none
-        go none q h = q
-        go (some r) q h = absurd (true≢false (sym (h .0) ∙ free))
-
     abbrev x : Work
     x = pivot (l .id) m v
 
@@ -198,7 +114,6 @@ module _ (n : ℕ) (kind : ℕ → KindZ) (w : Work) (S : StateZ) (c : Con) (cs 
         let art : x .artificial ≡ none = kept-x .artificial bare in
         let HT = drop-z kind x (swap (l .id) (m .id) (S .B)) (pivotZ (l .id) (m .id) (S .R)) (pivoted (l .id) (m .id) (S .R) (S .o)) (λ _. 0ℤ)
         (other-artificial kind x (swap (l .id) (m .id) (S .B)) (pivotZ (l .id) (m .id) (S .R)) (pivoted (l .id) (m .id) (S .R) (S .o)) (pivoted (l .id) (m .id) (S .R) (λ _. 0ℤ)) (λ _. 0ℤ) art (t .2)) (m .id) in
-        let row = row-of kind v (S .B) (S .R) (S .o) (λ _. 0ℤ) Hv (l .id) m (L .basic) free live-v (G .shape .unit (m .id) free) in
         record {
           table = T;
           good = GT;
@@ -206,9 +121,6 @@ module _ (n : ℕ) (kind : ℕ → KindZ) (w : Work) (S : StateZ) (c : Con) (cs 
               (half-drop n kind (swap (l .id) (m .id) (S .B)) (pivotZ (l .id) (m .id) (S .R)) (pivoted (l .id) (m .id) (S .R) (S .o)) c cs P (ap (swap (l .id) (m .id) (S .B)) own ∙ basic-m));
           reads = HT;
           kept = kept-trans w x (withRows (dropRow (m .id) (x .tableau .rows)) x) kept-x (kept-rows (dropRow (m .id) (x .tableau .rows)) x);
-          list = pivot-list (l .id) m v (row .0) (row .1) no-m l≢m
-              ∙ pushed-none (dropRow (m .id) (x .tableau .rows)) (v .tableau .infeasible) (good-rows n kind (x .tableau .symbols) (dropRow (m .id) (x .tableau .rows)) (x .tableau .objective) (x .artificial) T (λ _. 0ℤ) GT HT)
-              ∙ ap (λ (t : Tableau). t .infeasible) (N .tableau);
           pivots = pivot-pivots (l .id) m v ∙ N .pivots;
         }
 

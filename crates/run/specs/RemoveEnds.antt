@@ -55,11 +55,11 @@ module _ (m : Moment) (I : Inv m) (k : Key) (h : Held) (found : findHeld k (I .h
 
     names-kept : clearChanged (x .changes .variables) ≡ clearChanged (m .state .changes .variables)
     unfolding begin
-    names-kept = r .steady .kept .variables ∙ ap (λ (c : Changes). clearChanged (c .variables)) (B .cleared .cuts .changes) ∙ B .kept .variables
+    names-kept = r .kept .variables ∙ ap (λ (c : Changes). clearChanged (c .variables)) (B .cleared .cuts .changes) ∙ B .kept .variables
 
     next-kept : x .tableau .nextId ≡ m .state .tableau .nextId
     unfolding begin
-    next-kept = r .steady .kept .nextId ∙ B .cleared .cuts .nextId ∙ B .kept .nextId
+    next-kept = r .kept .nextId ∙ B .cleared .cuts .nextId ∙ B .kept .nextId
 
     same : Same (m .state .changes .variables) (x .changes .variables)
     same = same-kept (m .state .changes .variables) (x .changes .variables) names-kept
@@ -74,7 +74,7 @@ module _ (m : Moment) (I : Inv m) (k : Key) (h : Held) (found : findHeld k (I .h
     at-column (some u) c a = (
       a .0,
       a .1,
-      subst (In c) (back (r .steady .kept .symbols)) (B .cleared .cuts .stays c (no-tag c (a .3)) (subst (In c) (back (B .kept .symbols)) (a .2))),
+      subst (In c) (back (r .kept .symbols)) (B .cleared .cuts .stays c (no-tag c (a .3)) (subst (In c) (back (B .kept .symbols)) (a .2))),
       B .cleared .variables c (a .3),
     )
 
@@ -86,11 +86,10 @@ module _ (m : Moment) (I : Inv m) (k : Key) (h : Held) (found : findHeld k (I .h
 
     starts : Using (I .sym) (I .name) (withoutHeld k (I .held)) K (r .table) kind′ terms x
     starts = record {
-      read = record { good = r .good; models = r .models; reads = r .reads; bare = r .steady .kept .artificial (B .cleared .read .bare) };
+      read = record { good = r .good; models = r .models; reads = r .reads; bare = r .kept .artificial (B .cleared .read .bare) };
       rest = r .rest;
-      listed = r .steady .calm .listed;
       room = subst (λ (i : ℕ). i ≤ columns) (back next-kept) (I .room);
-      ids = λ j i. subst (λ (n : ℕ). j < n) (back next-kept) (I .ids j (old-symbol m I k h found v B j (subst (In j) (r .steady .kept .symbols) i)));
+      ids = λ j i. subst (λ (n : ℕ). j < n) (back next-kept) (I .ids j (old-symbol m I k h found v B j (subst (In j) (r .kept .symbols) i)));
       vars = λ z. at-column (findVariable z (x .changes .variables)) (I .sym z) (at-same (I .kind) (m .state .tableau .symbols) (findVariable z vs) (findVariable z (x .changes .variables)) (I .sym z) (same z) (I .vars z));
       names = λ z n. I .names z (known-back (findVariable z vs) (findVariable z (x .changes .variables)) (same z) n);
       single = single-kept vs (x .changes .variables) names-kept (single-up 0 vs up);

@@ -45,7 +45,6 @@ pub record Cut (Q : ℕ → Type 0) (w x : Work) : Type 0 where
   pub nextId : x .tableau .nextId ≡ w .tableau .nextId
   pub changes : x .changes ≡ w .changes
   pub artificial : x .artificial ≡ w .artificial
-  pub list : x .tableau .infeasible ≡ w .tableau .infeasible
   pub mark : x .mark ≡ w .mark
   pub pivots : x .pivots ≡ w .pivots
 
@@ -57,7 +56,6 @@ cut s w = record {
   nextId = refl;
   changes = refl;
   artificial = refl;
-  list = refl;
   mark = refl;
   pivots = refl;
 }
@@ -69,7 +67,6 @@ cut-trans P Q u v w a b = record {
   nextId = b .nextId ∙ a .nextId;
   changes = b .changes ∙ a .changes;
   artificial = b .artificial ∙ a .artificial;
-  list = b .list ∙ a .list;
   mark = b .mark ∙ a .mark;
   pivots = b .pivots ∙ a .pivots;
 }
@@ -190,7 +187,6 @@ module _ (n : ℕ) (kind : ℕ → KindZ) (S : StateZ) (c : Con) (cs : List Con)
       nextId = t .nextId;
       changes = t .changes;
       artificial = t .artificial;
-      list = t .list;
       mark = t .mark;
       pivots = t .pivots;
     };
@@ -201,7 +197,7 @@ module _ (n : ℕ) (kind : ℕ → KindZ) (S : StateZ) (c : Con) (cs : List Con)
   untagged = go (tag .other) refl
     where
       whole : Cut (λ j. ⊥) w w
-      whole = record { old = λ j m. m; stays = λ j n m. m; nextId = refl; changes = refl; artificial = refl; list = refl; mark = refl; pivots = refl }
+      whole = record { old = λ j m. m; stays = λ j n m. m; nextId = refl; changes = refl; artificial = refl; mark = refl; pivots = refl }
 
       go : (t : Option Symbol) → tag .other ≡ t → Untagged n kind S cs (λ j. TagOf j c) w (purge (tag .marker .id) (elim t [ none ↦ w | some o ↦ purge (o .id) w ]))
       go none e = last kind w (λ j. ⊥) H (λ j x. x) (λ j x. x) whole (λ j x. absurd x)

@@ -1,7 +1,7 @@
 -- A removal's steps in a whole run, for a constraint and an edit alike: they leave a tableau at rest that models the other demands, or are refused 14. Assumes nothing.
 use mathlib.Core.Path.{_≡_, refl, sym as back, ap, _∙_, subst}
 use mathlib.Core.Logic.{_⊎_, inl, inr, _≢_}
-use mathlib.Core.List.{List, [], _∷_, map}
+use mathlib.Core.List.{List, _∷_, map}
 use mathlib.Core.Option.{none, some}
 use Prim.Native.Nat.{ℕ, _^_, _<_}
 use native.Mathlib.Omega.{arith}
@@ -9,8 +9,7 @@ use mathlib.Core.Bool.{true}
 use lib.Ieee.{Float}
 use Rattle.exact.specs.Whole.{Zb, val}
 use Rattle.simplex.specs.Ord.{0ℤ}
-use Rattle.simplex.specs.Choose.{All}
-use Rattle.simplex.specs.Opt.{Kind as KindZ, const, external, slack, dummy}
+use Rattle.simplex.specs.Opt.{Kind as KindZ, const, slack, dummy}
 use Rattle.simplex.specs.Form.{Form, le!, eq!, ge!, le, eq, ge, soft}
 use Rattle.simplex.specs.Problem.{Con, markerKind, Tag as TagOf, Sounds, Models}
 use Rattle.simplex.specs.Pass.{State as StateZ}
@@ -22,6 +21,7 @@ use Rattle.steps.specs.Work.{Work, going}
 use Rattle.steps.specs.Optimise.{theObjective, optimise}
 use Rattle.steps.specs.Remove.{removeConstraintEffects, dropMarker, purgeTag}
 use Rattle.steps.specs.Calls.{begin}
+use Rattle.steps.proofs.AfterRemove.{removeEffects-after}
 use Rattle.bridge.specs.Rows.{In, NotIn}
 use Rattle.bridge.specs.Table.{kindOf, Live}
 use Rattle.bridge.specs.Looks.{in-or-not}
@@ -33,7 +33,7 @@ use Rattle.run.specs.Inputs.{inputs-z}
 use Rattle.run.specs.Steady.{Kept, kept-trans}
 use Rattle.run.specs.Passes.{waysOf, Optimised, optimised}
 use Rattle.run.specs.Perm.{withoutHeld, all-found, models-first}
-use Rattle.run.specs.Effects.{freed, effects-half, effects-good, Freed, effects-z, kept-effects, effects-still}
+use Rattle.run.specs.Effects.{freed, effects-half, effects-good, Freed, effects-z, kept-effects}
 use Rattle.run.specs.RemoveDrop.{Dropped, drop-marker}
 use Rattle.run.specs.RemovePurge.{Untagged, untagged}
 use Rattle.run.specs.RemoveMarks.{drop-mark, soft-below, soft-strength, paired}
@@ -139,21 +139,15 @@ module _ (m : Moment) (I : Inv m) (k : Key) (h : Held) (found : findHeld k (I .h
     pub table : StateZ
     pub cleared : Untagged columns (I .kind) table cs (λ j. TagOf j c) v (purgeTag (h .tag) v)
     pub kept : Kept s₀ v
-    pub list : v .tableau .infeasible ≡ []
     pub pivots : v .pivots ≡ 0
 
-  still : (first .tableau .infeasible ≡ []) × (first .pivots ≡ 0)
-  unfolding first begin
-  still = let a = effects-still (h .tag) strength s₀ in (a .0 ∙ I .idle, a .1)
-
   pub begun : (v : Work) → Dropped columns (I .kind) cs first v → Begun v
-  unfolding conOf
+  unfolding conOf first begin
   begun v d = record {
     table = d .table;
     cleared = untagged columns (I .kind) (d .table) c cs v (record { good = d .good; models = d .models; reads = d .reads; bare = d .kept .artificial bare-first }) sounds (h .tag) refl pair;
     kept = kept-trans s₀ first v kept-first (d .kept);
-    list = d .list ∙ still .0;
-    pivots = d .pivots ∙ still .1;
+    pivots = d .pivots ∙ removeEffects-after (h .tag) strength s₀ .pivots;
   }
 
   -- where the steps get as far as the pass with their mark whole, it begins so
@@ -179,9 +173,6 @@ module _ (m : Moment) (I : Inv m) (k : Key) (h : Held) (found : findHeld k (I .h
     pub inside : (j : ℕ) → In j (purgeTag (h .tag) v .tableau .symbols) → j < columns
     inside j i = omega (arith, I .ids j (old-symbol j i), I .room)
 
-    pub calm : All (λ j. B .cleared .kind′ j ≢ external) (purgeTag (h .tag) v .tableau .infeasible)
-    calm = subst (All (λ j. kind′ j ≢ external)) (back (B .cleared .cuts .list ∙ B .list)) tt
-
     pub passed : (left : ℕ) → markOf (optimise left theObjective y) ≡ allWhole → Optimised columns kind′ cs left (waysOf (y .tableau .symbols) (B .table .B)) y (optimise left theObjective y)
     passed left e =
-        optimised columns kind′ y (B .table) (λ _. 0ℤ) cs (omega arith) inside (B .cleared .read .good) (B .cleared .read .models) (B .cleared .read .reads) (B .cleared .read .bare) calm left e
+        optimised columns kind′ y (B .table) (λ _. 0ℤ) cs (omega arith) inside (B .cleared .read .good) (B .cleared .read .models) (B .cleared .read .reads) (B .cleared .read .bare) left e

@@ -13,7 +13,7 @@ use Rattle.laws.specs.Z.{_≼_}
 use Rattle.laws.specs.Ring.{ring, v, k as κ, _⊞_, _⊠_}
 use Rattle.simplex.specs.Ord.{0ℤ}
 use Rattle.simplex.specs.Lin.{δ-other}
-use Rattle.simplex.specs.At.{at, At, here, there, at?, at-there}
+use Rattle.simplex.specs.At.{at, at-there}
 use Rattle.simplex.specs.Choose.{All, all-zip, all-map}
 use Rattle.simplex.specs.Opt.{Kind as KindZ, external, slack}
 use Rattle.simplex.specs.Problem.{Sounds}
@@ -47,7 +47,6 @@ Counts (some u) m = u .uses ≡ m
 pub record Using (sym name : ℕ → ℕ) (held : List Held) (K : ℕ → ℕ) (S : StateZ) (kind : ℕ → KindZ) (ts : List Term) (w : Work) : Type 0 where
   pub read : Read columns kind S (map (conOf sym) held) w
   pub rest : (j : ℕ) → kind j ≡ slack → 0ℤ ≼ S .o j
-  pub listed : All (λ j. kind j ≢ external) (w .tableau .infeasible)
   pub room : w .tableau .nextId ≤ columns
   pub ids : (j : ℕ) → In j (w .tableau .symbols) → j < w .tableau .nextId
   pub vars : (x : ℕ) → VarAt kind (w .tableau .symbols) (findVariable x (w .changes .variables)) (sym x)
@@ -94,7 +93,6 @@ module _ (sym name : ℕ → ℕ) (held : List Held) (K : ℕ → ℕ) (S : Stat
     renamed us o L va co na kn = record {
       read = record { good = U .read .good; models = U .read .models; reads = U .read .reads; bare = U .read .bare };
       rest = U .rest;
-      listed = U .listed;
       room = U .room;
       ids = U .ids;
       vars = λ x. by-number x n
@@ -114,18 +112,10 @@ module _ (sym name : ℕ → ℕ) (held : List Held) (K : ℕ → ℕ) (S : Stat
   -- ---- a symbol that is no variable's goes
   module _ (kind : ℕ → KindZ) (ts : List Term) (w : Work) (U : Using sym name held K S kind ts w) (c : ℕ) (in-n : c < columns) (c≢0 : c ≢ 0) (F : All (Foreign c) (map (conOf sym) held)) (var : kind c ≡ external)
       (apart : (x : ℕ) → findVariable x (w .changes .variables) ≢ none → sym x ≢ c) where
-    still : (j : ℕ) → kind j ≢ external → at c external kind j ≢ external
-    still j ne q = go (at? c external kind j)
-      where
-        go : At c external kind j → ⊥
-        go (here p e) = ne (ap kind p ∙ var)
-        go (there p e) = ne (back e ∙ q)
-
     purge-using : Using sym name held K S (at c external kind) ts (purge c w)
     purge-using = record {
       read = purged columns kind S (map (conOf sym) held) w (U .read) c in-n c≢0 F;
       rest = λ j e. U .rest j (was-slack kind c j e);
-      listed = subst (All (λ j. at c external kind j ≢ external)) (back (X .list)) (all-map {P = λ j. kind j ≢ external} still (w .tableau .infeasible) (U .listed));
       room = subst (λ (m : ℕ). m ≤ columns) (back (X .nextId)) (U .room);
       ids = λ j m. subst (λ (y : ℕ). j < y) (back (X .nextId)) (U .ids j (X .old j m));
       vars = λ x. subst (λ (y : Changes). VarAt (at c external kind) (purge c w .tableau .symbols) (findVariable x (y .variables)) (sym x)) (back (X .changes)) (here-too x (findVariable x (w .changes .variables)) refl (U .vars x));

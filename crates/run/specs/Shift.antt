@@ -1,5 +1,5 @@
 -- A suggestion's shift of constants, read as the theory's rows: each row that gets something gets a whole number more. Assumes nothing.
-use mathlib.Core.Path.{_≡_, refl, sym, ap, _∙_, subst}
+use mathlib.Core.Path.{_≡_, sym, ap, _∙_, subst}
 use mathlib.Core.Logic.{_≢_}
 use mathlib.Core.Bool.{true, false}
 use mathlib.Core.List.{List, [], _∷_}
@@ -22,7 +22,7 @@ use Rattle.steps.specs.Row.{Row, untouched}
 use Rattle.steps.specs.State.{Basic}
 use Rattle.steps.specs.Work.{findRow}
 use Rattle.steps.specs.Substitute.{rowsOf, marksOf}
-use Rattle.steps.specs.Edit.{shiftRow, shiftRows, shifted}
+use Rattle.steps.specs.Edit.{shiftRow, shiftRows}
 use Rattle.bridge.specs.Nums.{constantBound-z, worse-l, worse-r, write-small}
 use Rattle.bridge.specs.Rows.{Up, Sym?, is, isnt, sym?, ReadsRow, row-to, reads-to}
 use Rattle.bridge.specs.Finds.{UpRows, find-hit, find-miss, find-none}
@@ -34,51 +34,22 @@ module _ (shift : Basic → Option Float) where
   abbrev after : List Basic → List Basic
   after bs = rowsOf (shiftRows shift bs)
 
-  -- the rows that got something
-  abbrev pub these : List Basic → List Basic
-  these bs = rowsOf (shiftRows shift (shifted shift bs))
-
   -- what is found for a column, before and after
-  pub data Found (j : ℕ) (bs : List Basic) : Option Row → Option Row → Type 0 where
+  data Found (j : ℕ) (bs : List Basic) : Option Row → Option Row → Type 0 where
     no-row : Found j bs none none
-    a-row : (b : Basic) → b .symbol .id ≡ j → shiftRow (b .row) (shift b) .mark ≡ allWhole
-        → ((t : Float) → shift b ≡ some t → findRow j (these bs) ≡ some (shiftRow (b .row) (shift b) .row))
-        → Found j bs (some (b .row)) (some (shiftRow (b .row) (shift b) .row))
+    a-row : (b : Basic) → b .symbol .id ≡ j → shiftRow (b .row) (shift b) .mark ≡ allWhole → Found j bs (some (b .row)) (some (shiftRow (b .row) (shift b) .row))
 
-  shifted-nil : shifted shift [] ≡ []
-  unfolding shifted
-  shifted-nil = refl
-
-  shifted-none : (b : Basic) (bs : List Basic) → shift b ≡ none → shifted shift (b ∷ bs) ≡ shifted shift bs
-  unfolding shifted
-  shifted-none b bs e = rw (e, shifted) refl
-
-  shifted-some : (b : Basic) (bs : List Basic) (t : Float) → shift b ≡ some t → shifted shift (b ∷ bs) ≡ b ∷ shifted shift bs
-  unfolding shifted
-  shifted-some b bs t e = rw (e, shifted) refl
-
-  skip : (j : ℕ) (b : Basic) (bs : List Basic) (o : Option Float) → shift b ≡ o → isSymbol j (b .symbol) ≡ false → findRow j (these (b ∷ bs)) ≡ findRow j (these bs)
-  unfolding shiftRows rowsOf
-  skip j b bs none e d = ap (λ (l : List Basic). findRow j (rowsOf (shiftRows shift l))) (shifted-none b bs e)
-  skip j b bs (some t) e d =
-      ap (λ (l : List Basic). findRow j (rowsOf (shiftRows shift l))) (shifted-some b bs t e) ∙ find-miss j (record { symbol = b .symbol; row = shiftRow (b .row) (shift b) .row }) (these bs) d
-
-  hit : (j : ℕ) (b : Basic) (bs : List Basic) (t : Float) → shift b ≡ some t → isSymbol j (b .symbol) ≡ true → findRow j (these (b ∷ bs)) ≡ some (shiftRow (b .row) (shift b) .row)
-  unfolding shiftRows rowsOf
-  hit j b bs t e d =
-      ap (λ (l : List Basic). findRow j (rowsOf (shiftRows shift l))) (shifted-some b bs t e) ∙ find-hit j (record { symbol = b .symbol; row = shiftRow (b .row) (shift b) .row }) (these bs) d
-
-  pub find-shift : (j : ℕ) (bs : List Basic) → marksOf (shiftRows shift bs) ≡ allWhole → Found j bs (findRow j bs) (findRow j (after bs))
+  find-shift : (j : ℕ) (bs : List Basic) → marksOf (shiftRows shift bs) ≡ allWhole → Found j bs (findRow j bs) (findRow j (after bs))
   unfolding shiftRows rowsOf marksOf
   find-shift j [] m = subst (λ (o : Option Row). Found j [] o o) (sym (find-none j)) no-row
   find-shift j (b ∷ bs) m = go (sym? j (b .symbol)) (find-shift j bs (worse-r (shiftRow (b .row) (shift b) .mark) (marksOf (shiftRows shift bs)) m))
     where
       at-head : isSymbol j (b .symbol) ≡ true → j ≡ b .symbol .id → Found j (b ∷ bs) (some (b .row)) (some (shiftRow (b .row) (shift b) .row))
-      at-head d p = a-row b (sym p) (worse-l (shiftRow (b .row) (shift b) .mark) (marksOf (shiftRows shift bs)) m) (λ t e. hit j b bs t e d)
+      at-head d p = a-row b (sym p) (worse-l (shiftRow (b .row) (shift b) .mark) (marksOf (shiftRows shift bs)) m)
 
       further : isSymbol j (b .symbol) ≡ false → {o q : Option Row} → Found j bs o q → Found j (b ∷ bs) o q
       further d no-row = no-row
-      further d (a-row c p w f) = a-row c p w (λ t e. skip j b bs (shift b) refl d ∙ f t e)
+      further d (a-row c p w) = a-row c p w
 
       go : Sym? j (b .symbol) → Found j bs (findRow j bs) (findRow j (after bs)) → Found j (b ∷ bs) (findRow j (b ∷ bs)) (findRow j (record { symbol = b .symbol; row = shiftRow (b .row) (shift b) .row } ∷ after bs))
       go (is e p d) ih =
@@ -97,15 +68,6 @@ module _ (shift : Basic → Option Float) where
   unfolding shiftRows rowsOf
   shift-all Q [] a = tt
   shift-all Q (b ∷ bs) a = (a .0, shift-all Q bs (a .1))
-
-  pub these-all : (Q : Symbol → Type 0) (bs : List Basic) → All (λ (b : Basic). Q (b .symbol)) bs → All (λ (b : Basic). Q (b .symbol)) (these bs)
-  unfolding shiftRows rowsOf
-  these-all Q [] a = subst (λ (l : List Basic). All (λ (b : Basic). Q (b .symbol)) (rowsOf (shiftRows shift l))) (sym shifted-nil) tt
-  these-all Q (b ∷ bs) a = go (shift b) refl (these-all Q bs (a .1))
-    where
-      go : (o : Option Float) → shift b ≡ o → All (λ (b : Basic). Q (b .symbol)) (these bs) → All (λ (b : Basic). Q (b .symbol)) (these (b ∷ bs))
-      go none e ih = subst (λ (l : List Basic). All (λ (b : Basic). Q (b .symbol)) (rowsOf (shiftRows shift l))) (sym (shifted-none b bs e)) ih
-      go (some t) e ih = subst (λ (l : List Basic). All (λ (b : Basic). Q (b .symbol)) (rowsOf (shiftRows shift l))) (sym (shifted-some b bs t e)) (a .0, ih)
 
 -- ---- one row
 
@@ -140,7 +102,7 @@ module _ (kind : ℕ → KindZ) (xs : List Symbol) (bs : List Basic) (cs : List 
     (whole : marksOf (shiftRows shift bs) ≡ allWhole) (R′ : ℕ → Vec) (is-shifted : (j : ℕ) → B j ≡ true → (i : ℕ) → R j i +ℤ d j *ℤ δ 0 i ≡ R′ j i) where
   row-after : (j : ℕ) (o q : Option Row) → Found shift j bs o q → RowAt xs o (B j) (R j) → RowAt xs q (B j) (R′ j)
   row-after j o q no-row r = r
-  row-after j o q (a-row b p w f) r = (
+  row-after j o q (a-row b p w) r = (
     r .0,
     subst (λ (t : ℕ). ReadsRow xs (shiftRow (b .row) (shift b) .row) (R′ t)) p
         (row-to xs (shiftRow (b .row) (shift b) .row) (plus (R (b .symbol .id)) (d (b .symbol .id)) (δ 0)) (R′ (b .symbol .id)) (is-shifted (b .symbol .id) basic)

@@ -12,7 +12,7 @@ use Rattle.laws.specs.Z.{_≺_, mul-cancel, ≡→eqZb}
 use Rattle.laws.specs.Ring.{ring, v as ν, k as lit, _⊠_, ⊟_}
 use Rattle.simplex.specs.Ord.{0ℤ, 1ℤ, ≼-of-eq, ≼-trans, ≺-irrefl}
 use Rattle.simplex.specs.Lin.{dot}
-use Rattle.simplex.specs.Choose.{All, all-map}
+use Rattle.simplex.specs.Choose.{All}
 use Rattle.simplex.specs.Opt.{Kind as KindZ, const, external, slack, dummy, slack≢external, slack≢dummy}
 use Rattle.simplex.specs.Pass.{State as StateZ}
 use Rattle.simplex.specs.Problem.{Con, Equation, full, full-plain, full-feasible, full-equations, const-plain, dummies-only}
@@ -21,7 +21,7 @@ use Rattle.simplex.specs.Keep.{Subject, added, add-good}
 use Rattle.steps.specs.Number.{zero64, nearZero, Mark, allWhole, notWhole, notFinite}
 use Rattle.steps.specs.Symbol.{Symbol, isExternal}
 use Rattle.steps.specs.Row.{Row, solveForSymbol}
-use Rattle.steps.specs.Work.{Work, Outcome, refused, going, refuse, checkFinite, marking, withTableau, withRows, withObjective, withInfeasible, withChanges, withArtificial, keepRow}
+use Rattle.steps.specs.Work.{Work, Outcome, refused, going, refuse, checkFinite, marking, withTableau, withRows, withObjective, withChanges, withArtificial, keepRow}
 use Rattle.steps.specs.Changes.{note}
 use Rattle.steps.specs.Substitute.{substitute, enterBasis}
 use Rattle.steps.specs.CreateRow.{Created}
@@ -29,13 +29,13 @@ use Rattle.steps.specs.Add.{addWithSubject}
 use lib.Dec.{T}
 use Rattle.simplex.specs.Gone.{dummy≢external}
 use Rattle.bridge.specs.Nums.{finite≢, nearZero-yes, nearZero-z}
-use Rattle.bridge.specs.Table.{kindOf, Live, in-nonzero}
+use Rattle.bridge.specs.Table.{Live, in-nonzero}
 use Rattle.bridge.specs.Looks.{minus-one}
 use Rattle.bridge.specs.Runs.{markOf}
 use Rattle.bridge.specs.Ranks.{Entered, Goes, subject-z}
 use Rattle.run.specs.Demand.{Demand}
 use Rattle.run.specs.Inv.{Held, conOf}
-use Rattle.run.specs.Steady.{Calm, Kept, enter-kept, enter-calm}
+use Rattle.run.specs.Steady.{Kept, enter-kept}
 use Rattle.run.specs.Passes.{other-artificial}
 use Rattle.run.specs.Build.{NewTag, Built, newHeld}
 use Rattle.bridge.specs.Finds.{none≢some, some-injective}
@@ -63,7 +63,7 @@ subject-goes s c = go (x .mark) refl
     go notFinite e m = absurd (finite≢ (sym e ∙ m))
 
 enter-pivots : (s : Symbol) (r : Row) (w : Work) → enterBasis s r w .pivots ≡ w .pivots
-unfolding enterBasis substitute note withTableau withChanges withArtificial marking withRows withObjective withInfeasible
+unfolding enterBasis substitute note withTableau withChanges withArtificial marking withRows withObjective
 enter-pivots s r w = go (isExternal s && ne (r .constant) zero64)
   where
     go : (b : Bool) → (withRows (keepRow (record { symbol = s; row = r }) ((cond b (note (s .id) (substitute (s .id) r w)) (substitute (s .id) r w)) .tableau .rows)) (cond b (note (s .id) (substitute (s .id) r w)) (substitute (s .id) r w))) .pivots ≡ w .pivots
@@ -75,23 +75,16 @@ unfolding entered marking
 entered-kept s c = let k = enter-kept s (solveForSymbol (s .id) (c .work .tableau .symbols) (c .row) .row) (marking (solveForSymbol (s .id) (c .work .tableau .symbols) (c .row) .mark) (c .work)) in
     record { symbols = k .symbols; nextId = k .nextId; variables = k .variables; artificial = k .artificial }
 
-entered-calm : (kind : ℕ → KindZ) (s : Symbol) (c : Created) → kind (s .id) ≡ kindOf (s .kind) → Calm kind (c .work) → Calm kind (entered s c)
-unfolding entered marking
-entered-calm kind s c k C = enter-calm kind s (solveForSymbol (s .id) (c .work .tableau .symbols) (c .row) .row) (marking (solveForSymbol (s .id) (c .work .tableau .symbols) (c .row) .mark) (c .work)) k (record { listed = C .listed; kinds = C .kinds; basics = C .basics })
-
 entered-pivots : (s : Symbol) (c : Created) → entered s c .pivots ≡ c .work .pivots
 unfolding entered marking
 entered-pivots s c = enter-pivots s (solveForSymbol (s .id) (c .work .tableau .symbols) (c .row) .row) (marking (solveForSymbol (s .id) (c .work .tableau .symbols) (c .row) .mark) (c .work))
 
-module _ (n : ℕ) (old : ℕ → KindZ) (S : StateZ) (held : List Held) (d : Demand) (w : Work) (c : Created) (B : Built n old S held d w c) (idle : c .work .tableau .infeasible ≡ []) where
+module _ (n : ℕ) (old : ℕ → KindZ) (S : StateZ) (held : List Held) (d : Demand) (w : Work) (c : Created) (B : Built n old S held d w c) where
   abbrev S₁ : StateZ
   S₁ = record { B = S .B; R = S .R; o = B .o }
 
   abbrev cs : List Con
   cs = map (conOf (B .column)) (newHeld d c ∷ held)
-
-  calm : Calm (B .kind) (c .work)
-  calm = record { listed = subst (All (λ j. B .kind j ≢ external)) (sym idle) tt; kinds = B .reads .kinds; basics = all-map (λ b h. h .1) (c .work .tableau .rows) (B .reads .rows-live) }
 
   pub placed : (s : Symbol) → Live (B .kind) (c .work .tableau .symbols) s → S .B (s .id) ≡ false → (B .r (s .id) *ℤ B .r (s .id) ≡ 1ℤ → Subject n (B .kind) S₁ (B .r) (s .id))
       → markOf (addWithSubject s c) ≡ allWhole → Placed n (B .kind) cs 1 (c .work) (entered s c)
@@ -110,7 +103,6 @@ module _ (n : ℕ) (old : ℕ → KindZ) (S : StateZ) (held : List Held) (d : De
         above = omega (arith, K .nextId);
         next = omega (arith, K .nextId);
         variables = K .variables;
-        listed = entered-calm (B .kind) s c (live .1) calm .listed;
         made = 0;
         count = omega (arith, entered-pivots s c);
         fewer = omega arith;

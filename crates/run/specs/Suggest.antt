@@ -1,6 +1,5 @@
 -- A suggestion keeps the invariant of a whole run, whatever it answers. Assumes nothing.
 use mathlib.Core.Path.{_≡_, refl, sym, ap, ap₂, _∙_, subst}
-use mathlib.Core.Logic.{_⊎_, inl, inr}
 use mathlib.Core.Bool.{Bool, true, false, not, cond}
 use mathlib.Core.List.{List, [], _∷_, map}
 use mathlib.Core.Option.{none, some}
@@ -16,6 +15,7 @@ use Rattle.simplex.specs.Ord.{0ℤ}
 use Rattle.simplex.specs.Lin.{Vec, δ, plus}
 use Rattle.simplex.specs.Choose.{All}
 use Rattle.simplex.specs.Opt.{slack}
+use Rattle.simplex.specs.Pass.{State as StateZ}
 use Rattle.simplex.specs.Form.{Form, eq, eq! }
 use Rattle.simplex.specs.Problem.{Con, Meets, Models}
 use Rattle.simplex.specs.Drag.{edit}
@@ -29,17 +29,17 @@ use Rattle.steps.specs.Edit.{shiftOf, shiftRows, shiftConstants, suggestSteps}
 use Rattle.steps.specs.Tests.{keptTerms}
 use Rattle.steps.specs.Calls.{Result, begin, refusedBy, acceptedAs}
 use Rattle.bridge.specs.Nums.{finite≢, worse-r, constantBound-z, whole-if}
-use Rattle.bridge.specs.Rows.{In}
 use Rattle.bridge.specs.Table.{ReadsWork}
-use Rattle.bridge.specs.Runs.{markOf}
-use Rattle.bridge.specs.Drags.{Dragged, Ends, drag, dual-mark}
+use Rattle.bridge.specs.Looks.{slack-in}
+use Rattle.bridge.specs.Runs.{markOf, dual-mark}
+use Rattle.bridge.specs.Drags.{Drag as Dragging, Dragged, Ends, drag}
 use Rattle.run.specs.Demand.{ofEdit, Call, make, accepted, liveAfter, Moment, next}
 use Rattle.run.specs.Inv.{columns, Held, exprOf, formOf, otherId, conOf, findHeld, Shaped, EditedAs, WholeDemand, Inv}
 use Rattle.run.specs.AtRest.{one, best-columns}
 use Rattle.run.specs.Perm.{withoutHeld, all-found, all-first, models-first}
 use Rattle.run.specs.Inputs.{whole-within, inputs-z}
-use Rattle.run.specs.Steady.{Kept, kept-trans, IfGoing}
-use Rattle.run.specs.Drag.{dual-kept, shift-kept, shift-marks, starts}
+use Rattle.run.specs.Steady.{Kept, kept-trans, IfGoing, dual-kept}
+use Rattle.run.specs.Drag.{shift-kept, shift-marks, table, starts}
 
 -- ---- a refused call, and an accepted one
 
@@ -103,11 +103,7 @@ module _ (m : Moment) (I : Inv m) (u : ℕ) (x : Float) (e : Edit) (h : Held) (f
 
   unfoldable pub inside : (j : ℕ) → I .kind j ≡ slack → j < columns
   unfolding begin
-  inside j k = go (Rattle.bridge.specs.Looks.in-or-not j (m .state .tableau .symbols))
-    where
-      go : In j (m .state .tableau .symbols) ⊎ Rattle.bridge.specs.Rows.NotIn j (m .state .tableau .symbols) → j < columns
-      go (inl i) = omega (arith, I .ids j i, I .room)
-      go (inr n) = absurd (Rattle.simplex.specs.Opt.slack≢external (sym k ∙ I .reads .unknown j (λ z. Rattle.simplex.specs.Opt.slack≢const (sym k ∙ ap (I .kind) z ∙ I .good .zero)) n))
+  inside j k = omega (arith, I .ids j (slack-in (I .kind) (m .state .tableau .symbols) (I .good .zero) (I .reads .unknown) j k), I .room)
 
   -- the stored suggestion is whole
   old : Zb (2 ^ 30) (neg (e .suggestion)) (val (h .demand .constant))
@@ -160,10 +156,6 @@ module _ (m : Moment) (I : Inv m) (u : ℕ) (x : Float) (e : Edit) (h : Held) (f
   unfolding work marking begin
   no-art = refl
 
-  still : work .tableau .infeasible ≡ []
-  unfolding work marking begin
-  still = I .idle
-
   two : e .tag .other ≡ some o
   unfolding o
   two = ap (λ (t : Tag). t .other) (E .tag) ∙ shape .1 .1
@@ -183,27 +175,38 @@ module _ (m : Moment) (I : Inv m) (u : ℕ) (x : Float) (e : Edit) (h : Held) (f
   unfoldable pub shifted-work : Work
   shifted-work = shiftConstants (e .tag) delta work
 
-  ended : (left : ℕ) → shifted-work .mark ≡ allWhole → markOf (dualOptimise left shifted-work) ≡ allWhole → Comes (dualOptimise left shifted-work)
+  pub shifted-kept : Kept (begin (m .state)) shifted-work
   unfolding shifted-work
-  ended left a q =
-      go (dualOptimise left (shiftConstants (e .tag) delta work))
-      (drag columns (I .kind) inside (edit (plus expr (negℤ grown) (δ 0)) weight (e .tag .marker .id) (o .id) ∷ others) (omega arith) (λ j. I .table .R j 0) denominator (tt, met) left (shiftConstants (e .tag) delta work) _ _
-      (starts columns (I .kind) (omega arith) inside work (I .table) (λ _. 0ℤ) (I .good) (I .rest) work-reads no-art still expr weight (e .tag) o two others tagged delta grown (delta-z input) (marks .1)) q)
-      (dual-kept left (shiftConstants (e .tag) delta work))
-    where
-      marks : (work .mark ≡ allWhole) × (Rattle.steps.specs.Substitute.marksOf (shiftRows (shiftOf (e .tag) delta work) (work .tableau .rows)) ≡ allWhole)
-      marks = shift-marks (e .tag) delta work a
+  shifted-kept = kept-trans (begin (m .state)) work shifted-work begin-kept (shift-kept (e .tag) delta work)
 
-      input : wholeWithin constantBound x ≡ true
-      input = start-mark (marks .0)
+  module _ (a : shifted-work .mark ≡ allWhole) where
+    marks : (work .mark ≡ allWhole) × (Rattle.steps.specs.Substitute.marksOf (shiftRows (shiftOf (e .tag) delta work) (work .tableau .rows)) ≡ allWhole)
+    unfolding shifted-work
+    marks = shift-marks (e .tag) delta work a
 
-      go : (t : Outcome Work) → Ends columns (I .kind) inside (edit (plus expr (negℤ grown) (δ 0)) weight (e .tag .marker .id) (o .id) ∷ others) t → IfGoing (Kept (shiftConstants (e .tag) delta work)) t → Comes t
-      go (refused k p t) f g = f
-      go (going y) f g = record {
-        dragged = subst (λ (t : Tag). Dragged columns (I .kind) inside (edit (plus expr (negℤ grown) (δ 0)) weight (t .marker .id) (o .id) ∷ others) y) (E .tag) f;
-        kept = kept-trans (begin (m .state)) work y begin-kept (kept-trans work (shiftConstants (e .tag) delta work) y (shift-kept (e .tag) delta work) g);
-        input = input;
-      }
+    input : wholeWithin constantBound x ≡ true
+    input = start-mark (marks .0)
+
+    pub shifted-table : StateZ
+    shifted-table = table columns (I .kind) (omega arith) inside work (I .table) (λ _. 0ℤ) (I .good) (I .rest) work-reads no-art expr weight (e .tag) o two others tagged delta grown (delta-z input) (marks .1)
+
+    pub shifted-starts : Dragging columns (I .kind) inside (edit (plus expr (negℤ grown) (δ 0)) weight (e .tag .marker .id) (o .id) ∷ others) shifted-work shifted-table (λ _. 0ℤ)
+    unfolding shifted-work shifted-table
+    shifted-starts = starts columns (I .kind) (omega arith) inside work (I .table) (λ _. 0ℤ) (I .good) (I .rest) work-reads no-art expr weight (e .tag) o two others tagged delta grown (delta-z input) (marks .1)
+
+    ended : (left : ℕ) → markOf (dualOptimise left shifted-work) ≡ allWhole → Comes (dualOptimise left shifted-work)
+    ended left q =
+        go (dualOptimise left shifted-work)
+        (drag columns (I .kind) inside (edit (plus expr (negℤ grown) (δ 0)) weight (e .tag .marker .id) (o .id) ∷ others) (omega arith) (λ j. I .table .R j 0) denominator (tt, met) left shifted-work shifted-table (λ _. 0ℤ) shifted-starts q)
+        (dual-kept left shifted-work)
+      where
+        go : (t : Outcome Work) → Ends columns (I .kind) inside (edit (plus expr (negℤ grown) (δ 0)) weight (e .tag .marker .id) (o .id) ∷ others) t → IfGoing (Kept shifted-work) t → Comes t
+        go (refused k p t) f g = f
+        go (going y) f g = record {
+          dragged = subst (λ (t : Tag). Dragged columns (I .kind) inside (edit (plus expr (negℤ grown) (δ 0)) weight (t .marker .id) (o .id) ∷ others) y) (E .tag) f;
+          kept = kept-trans (begin (m .state)) shifted-work y shifted-kept g;
+          input = input;
+        }
 
   pub steps-come : (left : ℕ) → markOf (suggestSteps left e x (begin (m .state))) ≡ allWhole → Comes (suggestSteps left e x (begin (m .state)))
   unfolding suggestSteps checkFinite refuse _>>=_ shifted-work delta work markOf
@@ -211,6 +214,6 @@ module _ (m : Moment) (I : Inv m) (u : ℕ) (x : Float) (e : Edit) (h : Held) (f
     where
       go : (t : Mark) → shifted-work .mark ≡ t → markOf ((elim t [ allWhole ↦ going shifted-work | notWhole ↦ going shifted-work | notFinite ↦ refused 13 (shifted-work .pivots) (shifted-work .mark) ]) >>= dualOptimise left) ≡ allWhole
           → Comes ((elim t [ allWhole ↦ going shifted-work | notWhole ↦ going shifted-work | notFinite ↦ refused 13 (shifted-work .pivots) (shifted-work .mark) ]) >>= dualOptimise left)
-      go allWhole q h = ended left q h
-      go notWhole q h = ended left (dual-mark left shifted-work h) h
+      go allWhole q h = ended q left h
+      go notWhole q h = ended (dual-mark left shifted-work h) left h
       go notFinite q h = absurd (finite≢ (sym q ∙ h))

@@ -28,7 +28,7 @@ use Rattle.steps.specs.Changes.{findVariable}
 use Rattle.steps.specs.Add.{wholeTerms, wholeWithin, wholeInputs}
 use Rattle.steps.specs.Edit.{suggestSteps}
 use Rattle.steps.specs.Tests.{findConstraint, findEdit, keepEdit, dropEdit, keptTerms}
-use Rattle.steps.specs.Calls.{Result, begin, finish, stillBelow, refusedBy, acceptedAs, conclude, suggest}
+use Rattle.steps.specs.Calls.{Result, begin, finish, refusedBy, acceptedAs, conclude, suggest}
 use Rattle.steps.specs.Readable.{readable}
 use Rattle.steps.proofs.After.{says-whole}
 use Rattle.keeps.specs.Keys.{findEdit-is, keepEdit-is, dropEdit-is}
@@ -210,7 +210,7 @@ module _ (m : Moment) (I : Inv m) (up : Rattle.keeps.specs.Lists.Up 0 (map (λ 
 
   -- ---- THE INVARIANT AFTER AN ACCEPTED SUGGESTION
   pub after-inv : Inv (record { state = finish y (m .state .constraints) (keepEdit (record { variable = u; strength = e .strength; tag = e .tag; suggestion = x }) (dropEdit u (m .state .edits))); live = map (moved u x) (m .live) })
-  unfolding finish begin stillBelow saysWhole e₁ movedHeld
+  unfolding finish begin saysWhole e₁ movedHeld
   after-inv = record {
     kind = I .kind;
     table = Z .dragged .state;
@@ -242,7 +242,6 @@ module _ (m : Moment) (I : Inv m) (up : Rattle.keeps.specs.Lists.Up 0 (map (λ 
       beyond = reads .beyond;
       artificial = tt;
     };
-    idle = ap (stillBelow (y .tableau .rows)) (Z .dragged .idle);
     first = subst (λ (k : ℕ). 0 < k) (sym (Z .kept .nextId)) (I .first);
     room = subst (λ (k : ℕ). k ≤ columns) (sym (Z .kept .nextId)) (I .room);
     ids = λ j i. subst (λ (k : ℕ). j < k) (sym (Z .kept .nextId)) (I .ids j (subst (In j) (Z .kept .symbols) i));

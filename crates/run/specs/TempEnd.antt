@@ -33,7 +33,7 @@ use Rattle.run.specs.TempStart.{tid≢0, fresh, good₁}
 use Rattle.run.specs.TempPass.{Passed}
 
 module _ (n : ℕ) (old : ℕ → KindZ) (S : StateZ) (held : List Held) (d : Demand) (w : Work) (c : Created) (Q : Built n old S held d w c) (in-n : 0 < n) (room : c .work .tableau .nextId < n)
-    (plain : (i : ℕ) → Q .kind i ≡ external → Q .r i ≡ 0ℤ) (L : c .work .tableau .infeasible ≡ []) where
+    (plain : (i : ℕ) → Q .kind i ≡ external → Q .r i ≡ 0ℤ) where
   abbrev t : ℕ
   t = c .work .tableau .nextId
 
@@ -90,7 +90,7 @@ module _ (n : ℕ) (old : ℕ → KindZ) (S : StateZ) (held : List Held) (d : De
   sounds₁ = sounds-on n (Q .kind) kind (λ j ne. at-there t slack (Q .kind) j (λ p. ne (ap (Q .kind) p ∙ was))) cs (Q .sounds) plains
 
   -- ---- the temporary's value, at the end of the pass
-  module _ (left : ℕ) (x : Work) (P : Passed n old S held d w c Q in-n room plain L left x) where
+  module _ (left : ℕ) (x : Work) (P : Passed n old S held d w c Q in-n room plain left x) where
     pub worth-0 : P .T .o 0 ≡ P .T .R t 0
     worth-0 = sym (at-column n (P .T .B) (P .T .R) (P .good .shape) 0 (P .good .shape .const) in-n (P .T .o) (P .good .clear)) ∙ P .art (λ j. P .T .R j 0) (basic-solves n (P .T .B) (P .T .R) (P .good .shape) in-n)
 

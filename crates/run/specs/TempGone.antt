@@ -75,7 +75,7 @@ dot-less n p w σ = dot-cong n (at p 0ℤ w) σ w (at p 0ℤ σ) (λ j _. go j (
     go j (there e q) (there f r) = ap₂ _*ℤ_ q (sym r)
 
 module _ (n : ℕ) (old : ℕ → KindZ) (S : StateZ) (held : List Held) (d : Demand) (w : Work) (c : Created) (Q : Built n old S held d w c) (in-n : 0 < n) (room : c .work .tableau .nextId < n)
-    (plain : (i : ℕ) → Q .kind i ≡ external → Q .r i ≡ 0ℤ) (L : c .work .tableau .infeasible ≡ []) (T : StateZ) (G : Good n (at (c .work .tableau .nextId) slack (Q .kind)) T) (free : T .B (c .work .tableau .nextId) ≡ false)
+    (plain : (i : ℕ) → Q .kind i ≡ external → Q .r i ≡ 0ℤ) (T : StateZ) (G : Good n (at (c .work .tableau .nextId) slack (Q .kind)) T) (free : T .B (c .work .tableau .nextId) ≡ false)
     (solves : (σ : Vec) → Solves n (T .R) σ ↔ (Solves n (S .R) σ × (σ (c .work .tableau .nextId) ≡ dot n (Q .r) σ)))
     (main : (σ : Vec) → Solves n (T .R) σ → dot n (T .o) σ ≡ dot n (Q .o) σ) where
   abbrev t : ℕ
@@ -122,11 +122,11 @@ module _ (n : ℕ) (old : ℕ → KindZ) (S : StateZ) (held : List Held) (d : De
     shape = last-good .shape;
     clear = last-good .clear;
     sounds = Q .sounds;
-    solves = models-temp n (Q .kind) (S .B) (S .R) (S .o) (map (conOf (Q .column)) held) (conOf (Q .column) (newHeld d c)) t (Q .r) (Q .g) (T .R) (Q .models) room (Q .sign) (Q .row) solves (G .shape .unit t free) (foreigns n old S held d w c Q in-n room plain L);
+    solves = models-temp n (Q .kind) (S .B) (S .R) (S .o) (map (conOf (Q .column)) held) (conOf (Q .column) (newHeld d c)) t (Q .r) (Q .g) (T .R) (Q .models) room (Q .sign) (Q .row) solves (G .shape .unit t free) (foreigns n old S held d w c Q in-n room plain);
     worth = λ σ s.
         let σ′ : Vec = at t 0ℤ σ in
         let s′ = kill-solves n t (T .R) σ room (G .shape .unit t free) .0 s in
-        dot-less n t (T .o) σ ∙ main σ′ s′ ∙ Q .worth σ′ (solves σ′ .0 s′ .0) ∙ total-foreign t 0ℤ σ cs (foreigns n old S held d w c Q in-n room plain L);
+        dot-less n t (T .o) σ ∙ main σ′ s′ ∙ Q .worth σ′ (solves σ′ .0 s′ .0) ∙ total-foreign t 0ℤ σ cs (foreigns n old S held d w c Q in-n room plain);
   }
 
   pub last-reads : (x : Work) (a : Vec) → x .artificial ≡ none → ReadsWork (at t slack (Q .kind)) x (T .B) (T .R) (T .o) a → ReadsWork (Q .kind) (purge t x) (T .B) (killed t (T .R)) (at t 0ℤ (T .o)) (λ _. 0ℤ)

@@ -31,7 +31,6 @@ use Rattle.bridge.specs.Rows.{In, NotIn, Sym?, is, isnt, sym?, ReadsRow}
 use Rattle.bridge.specs.Table.{kindOf, RowAt, Live, ReadsWork, pivot-z}
 use Rattle.bridge.specs.Looks.{in-or-not, is-live}
 use Rattle.bridge.specs.Runs.{markOf, pivot-pivots}
-use Rattle.bridge.specs.Quiet.{pivot-quiet}
 use Rattle.run.specs.Demand.{Demand}
 use Rattle.run.specs.Inv.{Held, conOf}
 use Rattle.run.specs.Build.{newHeld, Built}
@@ -62,8 +61,8 @@ unfolding purge withTableau
 purged-mark t w = refl
 
 module _ (n : ℕ) (old : ℕ → KindZ) (S : StateZ) (held : List Held) (d : Demand) (w : Work) (c : Created) (Q : Built n old S held d w c) (in-n : 0 < n) (room : c .work .tableau .nextId < n)
-    (plain : (i : ℕ) → Q .kind i ≡ external → Q .r i ≡ 0ℤ) (L : c .work .tableau .infeasible ≡ []) (j₀ : ℕ) (s₀ : Q .kind j₀ ≡ slack) (in₀ : j₀ < c .work .tableau .nextId) (r₀ : Q .r j₀ ≢ 0ℤ)
-    (left : ℕ) (x : Work) (P : Passed n old S held d w c Q in-n room plain L left x) (flat₀ : P .T .o 0 ≡ 0ℤ) where
+    (plain : (i : ℕ) → Q .kind i ≡ external → Q .r i ≡ 0ℤ) (j₀ : ℕ) (s₀ : Q .kind j₀ ≡ slack) (in₀ : j₀ < c .work .tableau .nextId) (r₀ : Q .r j₀ ≢ 0ℤ)
+    (left : ℕ) (x : Work) (P : Passed n old S held d w c Q in-n room plain left x) (flat₀ : P .T .o 0 ≡ 0ℤ) where
   abbrev t : ℕ
   t = c .work .tableau .nextId
 
@@ -77,7 +76,7 @@ module _ (n : ℕ) (old : ℕ → KindZ) (S : StateZ) (held : List Held) (d : De
   slack-t = at-here t slack (Q .kind)
 
   flat : P .T .R t 0 ≡ 0ℤ
-  flat = sym (worth-0 n old S held d w c Q in-n room plain L left x P) ∙ flat₀
+  flat = sym (worth-0 n old S held d w c Q in-n room plain left x P) ∙ flat₀
 
   -- the tableau with the main objective in the artificial one's place
   good : Good n kind T
@@ -208,24 +207,23 @@ module _ (n : ℕ) (old : ℕ → KindZ) (S : StateZ) (held : List Held) (d : De
 
   x-kept : Kept begun x
   unfolding begun
-  x-kept = P .steady .kept
+  x-kept = P .kept
 
-  placed : (z : Work) → Kept begun z → z .artificial ≡ none → z .pivots ≡ x .pivots → z .tableau .infeasible ≡ [] → (T′ : StateZ) → Good n kind T′ → T′ .B t ≡ false
+  placed : (z : Work) → Kept begun z → z .artificial ≡ none → z .pivots ≡ x .pivots → (T′ : StateZ) → Good n kind T′ → T′ .B t ≡ false
       → ((σ : Vec) → Solves n (T′ .R) σ ↔ (Solves n (S .R) σ × (σ t ≡ dot n (Q .r) σ))) → ((σ : Vec) → Solves n (T′ .R) σ → dot n (T′ .o) σ ≡ dot n (Q .o) σ)
       → (a : Vec) → ReadsWork kind z (T′ .B) (T′ .R) (T′ .o) a
       → Placed n (Q .kind) (map (conOf (Q .column)) (newHeld d c ∷ held)) (Rattle.run.specs.Passes.waysOf (begun .tableau .symbols) (at t true (S .B))) (c .work) (purge t z)
   unfolding purge withTableau begun newSymbol
-  placed z K no-art same quiet T′ G free solves main a H = record {
+  placed z K no-art same T′ G free solves main a H = record {
     table = record { B = T′ .B; R = killed t (T′ .R); o = at t 0ℤ (T′ .o) };
-    good = last-good n old S held d w c Q in-n room plain L T′ G free solves main;
-    models = last-models n old S held d w c Q in-n room plain L T′ G free solves main;
-    reads = last-reads n old S held d w c Q in-n room plain L T′ G free solves main z a no-art H;
+    good = last-good n old S held d w c Q in-n room plain T′ G free solves main;
+    models = last-models n old S held d w c Q in-n room plain T′ G free solves main;
+    reads = last-reads n old S held d w c Q in-n room plain T′ G free solves main z a no-art H;
     artificial = no-art;
     symbols = ap (deleteSymbol t) (K .symbols ∙ wide) ∙ deleted-last (c .work .tableau .symbols) (newSymbol Slack (c .work)) (Q .ids);
     above = omega (arith, K .nextId, begun-next);
     next = omega (arith, K .nextId, begun-next);
     variables = K .variables ∙ begun-variables;
-    listed = subst (All (λ j. Q .kind j ≢ external)) (sym quiet) tt;
     made = P .made;
     count = same ∙ P .count ∙ ap (λ (k : ℕ). k + P .made) begun-pivots;
     fewer = P .fewer;
@@ -235,10 +233,6 @@ module _ (n : ℕ) (old : ℕ → KindZ) (S : StateZ) (held : List Held) (d : De
   unfoldable pub Ending : Outcome Work → Type 0
   Ending (refused k p m) = ⊥
   Ending (going z) = Placed n (Q .kind) (map (conOf (Q .column)) (newHeld d c ∷ held)) (Rattle.run.specs.Passes.waysOf (begun .tableau .symbols) (at t true (S .B))) (c .work) z
-
-  idle-y : y .tableau .infeasible ≡ []
-  unfolding withArtificial
-  idle-y = P .idle
 
   same-y : y .pivots ≡ x .pivots
   unfolding withArtificial
@@ -253,7 +247,7 @@ module _ (n : ℕ) (old : ℕ → KindZ) (S : StateZ) (held : List Held) (d : De
 
   goes : P .T .B t ≡ false → Ending (going (purge t y))
   unfolding Ending
-  goes free = placed y kept-y none-y same-y idle-y T good free (P .solves) (P .main) (P .T .o) reads
+  goes free = placed y kept-y none-y same-y T good free (P .solves) (P .main) (P .T .o) reads
 
   module _ (r : Row) (line : ReadsRow (y .tableau .symbols) r (P .T .R t)) (basic : P .T .B t ≡ true) (e : Symbol) (live : Live kind (y .tableau .symbols) e) (se : kind (e .id) ≡ slack) (ne : P .T .R t (e .id) ≢ 0ℤ)
       (m : pivot t e y .mark ≡ allWhole) where
@@ -293,7 +287,6 @@ module _ (n : ℕ) (old : ℕ → KindZ) (S : StateZ) (held : List Held) (d : De
     unfolding Ending
     pivots-out =
         placed (pivot t e y) (kept-trans begun y (pivot t e y) kept-y (pivot-kept t e y)) (pivot-kept t e y .artificial none-y) (pivot-pivots t e y ∙ same-y)
-        (pivot-quiet n kind t e y (step t (e .id) T) (pivoted t (e .id) (P .T .R) (P .o)) (pivoted t (e .id) (P .T .R) (P .T .o)) after-good (turn .2) ∙ idle-y)
         (step t (e .id) T) after-good now-free (λ σ. ((λ s. P .solves σ .0 (back σ .0 s)), (λ s. back σ .1 (P .solves σ .1 s))))
         (λ σ s. pivot-objective n (P .T .R) t (e .id) (P .o) σ room (back σ .0 s) ∙ P .main σ (back σ .0 s)) (pivoted t (e .id) (P .T .R) (P .T .o)) (turn .2)
 

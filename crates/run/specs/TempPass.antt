@@ -1,6 +1,6 @@
 -- Add's step 6, its pass: on the artificial objective it ends at the temporary's lowest value, or uses its budget up; it always finds a leaving row. Assumes nothing.
 use mathlib.Core.Path.{_≡_, refl, sym, ap, _∙_, subst}
-use mathlib.Core.Logic.{inl, inr, _≢_, _↔_}
+use mathlib.Core.Logic.{inl, inr, _↔_}
 use mathlib.Core.Bool.{Bool, true, false}
 use mathlib.Core.List.{List, [], _∷_, _++_}
 use Prim.Native.Nat.{ℕ, _+_, _<_, _≤_}
@@ -10,7 +10,6 @@ use Rattle.laws.specs.Z.{_≼_, _≺_}
 use Rattle.simplex.specs.Ord.{0ℤ, clash, ≼-of-eq, ≼-trans}
 use Rattle.simplex.specs.Lin.{Vec, dot}
 use Rattle.simplex.specs.At.{at, At, here, there, at?, at-here}
-use Rattle.simplex.specs.Choose.{All, all-map}
 use Rattle.simplex.specs.Basis.{Clear}
 use Rattle.simplex.specs.Tab.{Solves}
 use Rattle.simplex.specs.Opt.{Kind as KindZ, external, slack}
@@ -25,7 +24,6 @@ use Rattle.simplex.specs.Search.{Asc}
 use Rattle.simplex.specs.Temp.{Dead}
 use Rattle.steps.specs.Number.{allWhole}
 use Rattle.steps.specs.Symbol.{Symbol, Slack}
-use Rattle.steps.specs.State.{Basic}
 use Rattle.steps.specs.Work.{Work, Outcome, refused, going, withTableau, withRows, withArtificial, newSymbol, appendSymbol}
 use Rattle.steps.specs.CreateRow.{Created, appendTo}
 use Rattle.steps.specs.Optimise.{optimise, theArtificial}
@@ -33,11 +31,10 @@ use Rattle.steps.specs.Artificial.{standTemporary}
 use Rattle.bridge.specs.Rows.{In}
 use Rattle.bridge.specs.Table.{ReadsWork}
 use Rattle.bridge.specs.Runs.{markOf, Standing, carried, Ran, rests, used-up, no-leaving, run}
-use Rattle.bridge.specs.Quiet.{Quiet, optimise-quiet}
 use Rattle.run.specs.Demand.{Demand}
 use Rattle.run.specs.Inv.{Held}
 use Rattle.run.specs.Build.{Built}
-use Rattle.run.specs.Steady.{Calm, Steady, IfGoing, optimise-steady}
+use Rattle.run.specs.Steady.{Kept, IfGoing, optimise-kept}
 use Rattle.run.specs.Passes.{idsOf, restrictedIds, waysOf, live-asc, live-cover, live-inside, live-once, live-basics, live-slacks, resting}
 use Rattle.run.specs.TempStart.{standing, S₁, kind₁, tid≢0, fresh, dead, no-t, good₀, good₁, reads₁}
 
@@ -49,7 +46,7 @@ append-below (x ∷ xs) s j f (inl e) = omega (arith, f (x .id) (inl refl))
 append-below (x ∷ xs) s j f (inr m) = append-below xs s j (λ i q. f i (inr q)) m
 
 module _ (n : ℕ) (old : ℕ → KindZ) (S : StateZ) (held : List Held) (d : Demand) (w : Work) (c : Created) (Q : Built n old S held d w c) (in-n : 0 < n) (room : c .work .tableau .nextId < n)
-    (plain : (i : ℕ) → Q .kind i ≡ external → Q .r i ≡ 0ℤ) (L : c .work .tableau .infeasible ≡ []) where
+    (plain : (i : ℕ) → Q .kind i ≡ external → Q .r i ≡ 0ℤ) where
   abbrev kind : ℕ → KindZ
   kind = kind₁ n old S held d w c Q room plain
 
@@ -101,8 +98,7 @@ module _ (n : ℕ) (old : ℕ → KindZ) (S : StateZ) (held : List Held) (d : De
     pub main : (σ : Vec) → Solves n (T .R) σ → dot n o σ ≡ dot n (Q .o) σ
     pub clear : Clear (T .B) o
     pub no-var : (i : ℕ) → kind i ≡ external → o i ≡ 0ℤ
-    pub steady : Steady kind begun x
-    pub idle : x .tableau .infeasible ≡ []
+    pub kept : Kept begun x
     pub made : ℕ
     pub count : x .pivots ≡ begun .pivots + made
     pub within : made ≤ left
@@ -176,14 +172,6 @@ module _ (n : ℕ) (old : ℕ → KindZ) (S : StateZ) (held : List Held) (d : De
   PassEnds left (going x) = Passed left x
   PassEnds left (refused k p t) = (k ≡ 14) × (left < waysOf (begun .tableau .symbols) (T₀ .B))
 
-  calm : Calm kind begun
-  unfolding standTemporary appendTo withArtificial withRows withTableau appendSymbol newSymbol
-  calm = record { listed = subst (All (λ j. kind j ≢ external)) (sym L) tt; kinds = H₀ .kinds; basics = all-map (λ (b : Basic) h. h .1) (begun .tableau .rows) (H₀ .rows-live) }
-
-  begun-list : begun .tableau .infeasible ≡ []
-  unfolding standTemporary appendTo withArtificial withRows withTableau appendSymbol newSymbol
-  begun-list = L
-
   stands₀ : Standing (begun .artificial)
   unfolding standTemporary withArtificial
   stands₀ = tt
@@ -197,11 +185,10 @@ module _ (n : ℕ) (old : ℕ → KindZ) (S : StateZ) (held : List Held) (d : De
   -- THE PASS ON THE ARTIFICIAL OBJECTIVE
   pub passes : (left : ℕ) → markOf (optimise left theArtificial begun) ≡ allWhole → PassEnds left (optimise left theArtificial begun)
   unfolding end
-  passes left m = go (optimise left theArtificial begun) (run n kind ids asc cover in-ids left theArtificial begun T₀ (Q .o) G₀ (H₀, stands₀) m) (optimise-steady kind left theArtificial begun calm)
-      (optimise-quiet n kind ids asc cover in-ids left theArtificial begun T₀ (Q .o) G₀ (H₀, stands₀) m)
+  passes left m = go (optimise left theArtificial begun) (run n kind ids asc cover in-ids left theArtificial begun T₀ (Q .o) G₀ (H₀, stands₀) m) (optimise-kept left theArtificial begun)
     where
-      rested : (x : Work) → Ran n kind ids asc cover in-ids theArtificial left begun T₀ (Q .o) (going x) → Steady kind begun x → x .tableau .infeasible ≡ begun .tableau .infeasible → Passed left x
-      rested x (rests k l f q y r e) st quiet = record {
+      rested : (x : Work) → Ran n kind ids asc cover in-ids theArtificial left begun T₀ (Q .o) (going x) → Kept begun x → Passed left x
+      rested x (rests k l f q y r e) st = record {
         T = after kind ids T₀ k;
         o = carried kind ids T₀ (Q .o) k;
         good = end-good k f;
@@ -213,15 +200,14 @@ module _ (n : ℕ) (old : ℕ → KindZ) (S : StateZ) (held : List Held) (d : De
         main = λ σ s. end-main k f .value σ (temp σ .1 (end-solves k f σ .0 s));
         clear = end-main k f .clear;
         no-var = end-main k f .no-var;
-        steady = st;
-        idle = quiet ∙ begun-list;
+        kept = st;
         made = k;
         count = e;
         within = l;
         fewer = ways k f;
       }
 
-      go : (t : Outcome Work) → Ran n kind ids asc cover in-ids theArtificial left begun T₀ (Q .o) t → IfGoing (Steady kind begun) t → Quiet (begun .tableau .infeasible) t → PassEnds left t
-      go (going x) r st quiet = rested x r st quiet
-      go (refused k p t) (used-up f q e u) st quiet = (refl, ways left f)
-      go (refused k p t) (no-leaving i l f e q s u v) st quiet = absurd (never-stuck i f e q)
+      go : (t : Outcome Work) → Ran n kind ids asc cover in-ids theArtificial left begun T₀ (Q .o) t → IfGoing (Kept begun) t → PassEnds left t
+      go (going x) r st = rested x r st
+      go (refused k p t) (used-up f q e u) st = (refl, ways left f)
+      go (refused k p t) (no-leaving i l f e q s u v) st = absurd (never-stuck i f e q)

@@ -89,7 +89,7 @@ variables-read t = length-listOf _ _
 pub list-short : (t : Tables) → reads t ≡ true → length (fetchChanges (read t) .list) ≤ 32
 list-short t h =
     let l = list-few (read t) in
-    let c = reads-counts t h .3 in
+    let c = reads-counts t h .2 in
     omega (arith, l, c, variables-read t)
 
 pub fetch-few : (t : Tables) → fetchOf places places t .count ≤ 32

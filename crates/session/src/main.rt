@@ -6,11 +6,11 @@ mod stream;
 
 // Two sets of tables, lent to every call: the solver's and the working room's. The reset makes the first read as a state.
 fn main() {
-    let mut h = [0u64; 326];
+    let mut h = [0u64; 196];
     let mut n = [[0u64; 20]; 128];
     let mut r = [[0.0f64; 17]; 128];
     let mut w = [[0.0f64; 130]; 51];
-    let mut h2 = [0u64; 326];
+    let mut h2 = [0u64; 196];
     let mut n2 = [[0u64; 20]; 128];
     let mut r2 = [[0.0f64; 17]; 128];
     let mut w2 = [[0.0f64; 130]; 51];

@@ -1,4 +1,4 @@
--- "Reset refuses only wrong lengths": nine places of the head are written, the rest lies past the counts.
+-- "Reset refuses only wrong lengths": eight places of the head are written, the rest lies past the counts.
 -- Assumes nothing.
 use Prim.Native.Nat.{ℕ}
 use mathlib.Core.Path.{_≡_, refl, ap, _∙_}
@@ -7,7 +7,7 @@ use mathlib.Core.List.{List, []}
 use lib.ListN.{getD, set}
 use lib.Ieee.{Float}
 use Rattle.steps.specs.Calls.{empty, reset}
-use Rattle.layout.specs.Layout.{Tables, tables, writeHead, writeNames, writeReals, writeRows, write, over, heading, bitOf, listAt, rowsAt, symbolsAt, editsAt, constraintsAt}
+use Rattle.layout.specs.Layout.{Tables, tables, writeHead, writeNames, writeReals, writeRows, write, over, heading, recordCounts, bitOf, recordCountsAt, rowsAt, symbolsAt, editsAt, constraintsAt}
 use Rattle.layout.specs.Rooms.{lengthsRight}
 use Rattle.layout.specs.Laying.{laid-nil, laid-cons, set-same}
 use Rattle.shell.specs.Shell.{Called, called, refused18, callIn}
@@ -16,15 +16,15 @@ unfoldable pub resetOf : Tables → Called
 resetOf t = cond (lengthsRight t) (callIn reset t) (called refused18 t)
 
 unfoldable pub resetHead : List ℕ → List ℕ
-resetHead h = set (set (set (set (set (set (set (set (set h 0 1) 1 0) 2 0) 3 0) 4 0) 5 0) 6 0) 7 0) 8 1
+resetHead h = set (set (set (set (set (set (set (set h 0 1) 1 0) 2 0) 4 0) 5 0) 6 0) 7 0) 8 1
 
 reset-head : (h : List ℕ) → writeHead empty h ≡ resetHead h
-unfolding writeHead over heading empty bitOf resetHead
+unfolding writeHead over heading recordCounts empty bitOf resetHead
 reset-head h =
     let f : ℕ → ℕ → ℕ = λ x _. x in
-    laid-nil f listAt _ ∙ laid-nil f rowsAt _ ∙ laid-nil f symbolsAt _
-    ∙ laid-cons f 0 1 _ h 0 ∙ laid-cons f 1 0 _ _ 0 ∙ laid-cons f 2 0 _ _ 0 ∙ laid-cons f 3 0 _ _ 0 ∙ laid-cons f 4 0 _ _ 0 ∙ laid-cons f 5 0 _ _ 0 ∙ laid-cons f 6 0 _ _ 0 ∙ laid-cons f 7 0 _ _ 0 ∙ laid-cons f 8 1 _ _ 0
-    ∙ laid-nil f 9 _
+    laid-nil f rowsAt _ ∙ laid-nil f symbolsAt _
+    ∙ laid-cons f recordCountsAt 0 _ _ 0 ∙ laid-cons f 5 0 _ _ 0 ∙ laid-cons f 6 0 _ _ 0 ∙ laid-cons f 7 0 _ _ 0 ∙ laid-cons f 8 1 _ _ 0 ∙ laid-nil f 9 _
+    ∙ ap (λ (l : List ℕ). set (set (set (set (set l 4 0) 5 0) 6 0) 7 0) 8 1) (laid-cons f 0 1 _ h 0 ∙ laid-cons f 1 0 _ _ 0 ∙ laid-cons f 2 0 _ _ 0 ∙ laid-nil f 3 _)
 
 reset-names : (n : List (List ℕ)) → writeNames empty n ≡ n
 unfolding writeNames empty

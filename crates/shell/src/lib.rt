@@ -145,7 +145,6 @@ fn reset_head(head: &mut [u64])
     head[layout::NEXT_ID] = 1;
     head[layout::SYMBOL_COUNT] = 0;
     head[layout::ROW_COUNT] = 0;
-    head[layout::ENTRY_COUNT] = 0;
     head[layout::VARIABLE_COUNT] = 0;
     head[layout::CONSTRAINT_COUNT] = 0;
     head[layout::EDIT_COUNT] = 0;

@@ -149,7 +149,8 @@ module _ (kind : ℕ → Kind) (m : ℕ) (M : ℕ → Mask) (le en : ℕ → ℕ
       go (leaves p u) = absurd (no-external (le i) (ls i h) (ap kind (sym p) ∙ x))
       go (stays p q u) = u
 
-  basics : (i : ℕ) → i ≤ m → trues (map (M i) ids) ≡ trues (map (M 0) ids)
+  -- the number of them that are basic stays
+  pub basics : (i : ℕ) → i ≤ m → trues (map (M i) ids) ≡ trues (map (M 0) ids)
   basics zero h = refl
   basics (suc i) h =
       ap (λ (N : Mask). trues (map N ids)) (fun-ext (F .next i h))

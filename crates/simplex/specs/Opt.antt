@@ -1,4 +1,4 @@
--- Optimality and infeasibility. An assignment by fractions x_j = σ_j / σ_0 has a denominator σ_0 above 0. Assumes nothing.
+-- Optimality, and where no assignment will do. An assignment by fractions x_j = σ_j / σ_0 has a denominator σ_0 above 0. Assumes nothing.
 use mathlib.Core.Path.{_≡_, refl, sym, ap, _∙_, subst}
 use mathlib.Core.Logic.{_⊎_, inl, inr, _≢_}
 use mathlib.Core.List.{[], _∷_}

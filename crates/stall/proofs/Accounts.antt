@@ -1,4 +1,4 @@
--- The passes of Add's and Remove's steps account for all that these answer: the pivots, 14, and the mark. Assumes nothing.
+-- The passes of Add's, Remove's and Suggest's steps account for all that these answer: the pivots, 14, and the mark. Assumes nothing.
 use Prim.Native.Nat.{ℕ, _+_, _-_}
 use native.Mathlib.Omega.{arith}
 use mathlib.Core.Path.{_≡_, refl, sym, ap, _∙_, subst}
@@ -8,21 +8,22 @@ use mathlib.Core.List.{List, [], _∷_, _++_}
 use mathlib.Core.Option.{Option, none, some}
 use lib.Ieee.{Float}
 use Rattle.simplex.specs.Choose.{All}
-use Rattle.steps.specs.Number.{Mark, allWhole, notWhole, notFinite, nearZero, wholeIf}
+use Rattle.steps.specs.Number.{Mark, allWhole, notWhole, notFinite, nearZero, wholeIf, constantBound, _-₆₄_}
 use Rattle.steps.specs.Symbol.{Slack, Symbol}
-use Rattle.steps.specs.State.{Term, Relation, Tag}
+use Rattle.steps.specs.State.{Term, Relation, Tag, Edit}
 use Rattle.steps.specs.Work.{Work, Outcome, refused, going, _>>=_, refuse, checkFinite, marking, withArtificial, newSymbol}
 use Rattle.steps.specs.CreateRow.{Created, createRow, chooseSubject, allDummies}
-use Rattle.steps.specs.Optimise.{theObjective, theArtificial, optimise}
+use Rattle.steps.specs.Optimise.{theObjective, theArtificial, optimise, dualOptimise}
 use Rattle.steps.specs.Artificial.{standTemporary, removeTemporary, artificialConstantNearZero, addWithArtificialVariable}
-use Rattle.steps.specs.Add.{wholeInputs, addWithSubject, addCreated, Added, addSteps}
+use Rattle.steps.specs.Add.{wholeInputs, wholeWithin, addWithSubject, addCreated, Added, addSteps}
 use Rattle.steps.specs.Remove.{removeConstraintEffects, dropMarker, purgeTag, dropUses, removeSteps}
+use Rattle.steps.specs.Edit.{shiftConstants, suggestSteps}
 use Rattle.steps.proofs.After.{After, after-refl, after-trans, marking-after, artificial-after}
 use Rattle.steps.proofs.AfterAdd.{createRow-after, standTemporary-after}
-use Rattle.steps.proofs.AfterRemove.{removeEffects-after, purgeTag-after, dropUses-after}
-use Rattle.bridge.specs.Runs.{markOf, optimise-mark}
-use Rattle.stall.specs.Stall.{PassStart, outcomeOf, pivotsOf, pivotsFrom, allPivots, objectivePass, artificialPass, addPasses, removePasses, refusalOf, UsedUp, Some, Shares}
-use Rattle.stall.proofs.Turns.{pivotsAt, counts}
+use Rattle.steps.proofs.AfterRemove.{removeEffects-after, purgeTag-after, dropUses-after, shift-after}
+use Rattle.bridge.specs.Runs.{markOf}
+use Rattle.stall.specs.Stall.{optimising, dual, PassStart, outcomeBy, outcomeOf, pivotsOf, pivotsFrom, allPivots, objectivePass, artificialPass, addPasses, removePasses, suggestPasses, refusalOf, UsedUp, Some, Shares}
+use Rattle.stall.proofs.Turns.{pivotsAt, pass-mark, counts}
 use Rattle.stall.proofs.Pass.{Unmarred}
 use Rattle.stall.proofs.Quiet.{Quiet, goes, refuses, checks, then, subject-quiet, temporary-quiet, marker-quiet}
 
@@ -67,9 +68,9 @@ pub passed : (b : ℕ) (ps : List PassStart) (v : Work) → Told b ps (going v) 
 unfolding pivotsAt refusalOf markOf outcomeOf pivotsOf
 passed b ps v t p e a = record {
   shares = shares-end b p ps (t .shares) (e ∙ ap (λ (k : ℕ). b - k) (t .pivots));
-  pivots = counts (p .left) (p .goal) (p .work) ∙ ap (λ (k : ℕ). k + pivotsFrom (p .left) (p .goal) (p .work)) (a .pivots ∙ t .pivots) ∙ sym (pivots-end p ps);
+  pivots = counts (p .left) (p .rule) (p .work) ∙ ap (λ (k : ℕ). k + pivotsFrom (p .left) (p .rule) (p .work)) (a .pivots ∙ t .pivots) ∙ sym (pivots-end p ps);
   used-up = λ u. some-end UsedUp p ps u;
-  unmarred = λ m. all-end Unmarred p ps (t .unmarred (a .mark (optimise-mark (p .left) (p .goal) (p .work) m))) m;
+  unmarred = λ m. all-end Unmarred p ps (t .unmarred (a .mark (pass-mark (p .rule) (p .left) (p .work) m))) m;
 }
 
 append-none : {A : Type 0} (l : List A) → l ++ [] ≡ l
@@ -78,9 +79,9 @@ append-none (x ∷ l) = ap (λ t. x ∷ t) (append-none l)
 
 -- the pass on the objective, with f before it
 pub objective : (b : ℕ) (ps : List PassStart) (f : Work → Work) → ((v : Work) → After v (f v)) → (o : Outcome Work) → Told b ps o → Told b (ps ++ objectivePass b f o) (o >>= λ v. optimise (b - v .pivots) theObjective (f v))
-unfolding objectivePass _>>=_ outcomeOf
+unfolding objectivePass _>>=_ outcomeOf outcomeBy
 objective b ps f a (refused n p m) t = subst (λ (l : List PassStart). Told b l (refused n p m)) (sym (append-none ps)) t
-objective b ps f a (going v) t = passed b ps v t (record { goal = theObjective; left = b - v .pivots; work = f v }) refl (a v)
+objective b ps f a (going v) t = passed b ps v t (record { rule = optimising theObjective; left = b - v .pivots; work = f v }) refl (a v)
 
 -- ---- Add
 
@@ -89,10 +90,10 @@ abbrev standing : Created → Work
 standing c = standTemporary (newSymbol Slack (c .work)) (record { work = c .work; row = c .row })
 
 abbrev start : ℕ → Created → PassStart
-start b c = record { goal = theArtificial; left = b - standing c .pivots; work = standing c }
+start b c = record { rule = optimising theArtificial; left = b - standing c .pivots; work = standing c }
 
 artificial : (b : ℕ) (c : Created) → c .work .pivots ≡ 0 → Told b (start b c ∷ []) (addWithArtificialVariable b c)
-unfolding addWithArtificialVariable outcomeOf
+unfolding addWithArtificialVariable outcomeOf outcomeBy
 artificial b c z =
     on b (start b c ∷ []) (optimise (start b c .left) theArtificial (standing c)) (λ w. elim (artificialConstantNearZero w) [ false ↦ refuse 12 w | true ↦ removeTemporary (newSymbol Slack (c .work)) (withArtificial none w) ])
     (passed b [] (c .work) (none-yet b (c .work) (going (c .work)) z (goes (after-refl (c .work)))) (start b c) (ap (λ (k : ℕ). b - k) (a .pivots)) a) (λ w. go w (artificialConstantNearZero w))
@@ -181,3 +182,25 @@ remove-told b tag k ts w z =
   where
     dropped : Outcome Work
     dropped = checkFinite (removeConstraintEffects tag k w) >>= dropMarker (tag .marker)
+
+-- ---- Suggest
+pub suggest-told : (b : ℕ) (e : Edit) (x : Float) (w : Work) → w .pivots ≡ 0 → Told b (suggestPasses b e x w) (suggestSteps b e x w)
+unfolding suggestPasses suggestSteps checkFinite refuse _>>=_ outcomeOf outcomeBy pivotsAt refusalOf markOf
+suggest-told b e x w z = go (v .mark)
+  where
+    v : Work
+    v = shiftConstants (e .tag) (x -₆₄ e .suggestion) (marking (wholeIf (wholeWithin constantBound x)) w)
+
+    a : After w v
+    a = after-trans (marking-after (wholeIf (wholeWithin constantBound x)) w) (shift-after (e .tag) (x -₆₄ e .suggestion) (marking (wholeIf (wholeWithin constantBound x)) w))
+
+    begun : PassStart
+    begun = record { rule = dual; left = b; work = v }
+
+    passes : Told b (begun ∷ []) (dualOptimise b v)
+    passes = passed b [] v (none-yet b w (going v) z (goes a)) begun (omega (arith, a .pivots, z)) (after-refl v)
+
+    go : (m : Mark) → Told b (elim (checked m v) [ refused n p m ↦ [] | going u ↦ record { rule = dual; left = b; work = u } ∷ [] ]) (checked m v >>= dualOptimise b)
+    go allWhole = passes
+    go notWhole = passes
+    go notFinite = none-yet b w (refused 13 (v .pivots) (v .mark)) z (record { pivots = a .pivots; other = λ q. omega (arith, q); mark = a .mark })

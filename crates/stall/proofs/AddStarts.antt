@@ -31,8 +31,8 @@ use Rattle.run.specs.AddEnds.{Ends}
 use Rattle.run.specs.Artificial.{artificial-ends}
 use Rattle.run.specs.AddMarks.{markAdded, createdOf}
 use Rattle.run.specs.AddSteps.{createdWays, created-ends}
-use Rattle.run.specs.AddInv.{W, B, room, idle}
-use Rattle.stall.specs.Stall.{PassStart, objectivePass, artificialPass, addPasses}
+use Rattle.run.specs.AddInv.{W, B, room}
+use Rattle.stall.specs.Stall.{optimising, PassStart, objectivePass, artificialPass, addPasses}
 use Rattle.stall.proofs.Pass.{Starts}
 
 both : (ps qs : List PassStart) → All Starts ps → All Starts qs → All Starts (ps ++ qs)
@@ -53,15 +53,12 @@ module _ (m : Moment) (I : Inv m) (d : Demand) (b : ℕ) (up : belowZero (streng
   fits : c .work .tableau .nextId < columns
   fits = room artificial-ends m I d b up few low whole
 
-  unlisted : c .work .tableau .infeasible ≡ []
-  unlisted = idle artificial-ends m I d b up few low whole
-
   -- ---- step 6's pass
   abbrev standing : Work
   standing = standTemporary (newSymbol Slack (c .work)) (record { work = c .work; row = c .row })
 
   abbrev first : PassStart
-  first = record { goal = theArtificial; left = b - standing .pivots; work = standing }
+  first = record { rule = optimising theArtificial; left = b - standing .pivots; work = standing }
 
   temporary-starts : chooseSubject c ≡ none → Starts first
   temporary-starts e = record {
@@ -71,7 +68,7 @@ module _ (m : Moment) (I : Inv m) (d : Demand) (b : ℕ) (up : belowZero (streng
     other = Q .o;
     good = good₁ columns (I .kind) (I .table) (I .held) d w c Q fits plain;
     reads = (reads₁ columns (I .kind) (I .table) (I .held) d w c Q fits plain, stands);
-    inside = inside₁ columns (I .kind) (I .table) (I .held) d w c Q (lit< tt) fits plain unlisted;
+    inside = inside₁ columns (I .kind) (I .table) (I .held) d w c Q (lit< tt) fits plain;
   }
     where
       plain : (i : ℕ) → Q .kind i ≡ external → Q .r i ≡ 0ℤ
@@ -97,7 +94,7 @@ module _ (m : Moment) (I : Inv m) (d : Demand) (b : ℕ) (up : belowZero (streng
   unfolding objectivePass
   objective-starts =
       go (addCreated b c)
-      (created-ends artificial-ends columns (I .kind) (I .table) (I .held) d w c Q (lit< tt) fits unlisted b (W artificial-ends m I d b up few low whole .middle))
+      (created-ends artificial-ends columns (I .kind) (I .table) (I .held) d w c Q (lit< tt) fits b (W artificial-ends m I d b up few low whole .middle))
     where
       go : (t : Outcome Work) → Ends columns (Q .kind) (map (conOf (Q .column)) (newHeld d c ∷ I .held)) (createdWays c (I .table)) b (c .work) t
           → All Starts (objectivePass b (λ v. v) t)

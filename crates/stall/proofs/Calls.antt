@@ -3,30 +3,30 @@ use Prim.Native.Nat.{ℕ, _-_, _<_}
 use native.Mathlib.Omega.{arith}
 use mathlib.Core.Path.{_≡_, refl, subst}
 use mathlib.Core.Logic.{inl, inr}
-use mathlib.Core.Bool.{true}
+use mathlib.Core.Bool.{Bool, true, false}
 use mathlib.Core.List.{List, [], _∷_}
 use mathlib.Core.Option.{Option, none, some}
 use lib.Ieee.{Float}
 use Rattle.simplex.specs.Choose.{All}
-use Rattle.steps.specs.Number.{zero64}
+use Rattle.steps.specs.Number.{zero64, isFinite}
 use Rattle.steps.specs.Strength.{clip}
 use Rattle.steps.specs.State.{Term, Relation, equal, Constraint, Edit, State}
 use Rattle.steps.specs.Work.{Work, Outcome, refused, going}
 use Rattle.steps.specs.Add.{Added, addSteps}
 use Rattle.steps.specs.Remove.{removeSteps}
-use Rattle.steps.specs.Edit.{editTerms, addEditSteps}
+use Rattle.steps.specs.Edit.{editTerms, addEditSteps, suggestSteps}
 use Rattle.steps.specs.Tests.{firstRefusal, addTests, addEditTests, findConstraint, findEdit, keepConstraint, dropConstraint, keepEdit, dropEdit, keptTerms}
-use Rattle.steps.specs.Calls.{Result, begin, finish, refusedBy, acceptedAs, conclude, concludeAdd, add, remove, addEdit, removeEdit}
+use Rattle.steps.specs.Calls.{Result, begin, finish, refusedBy, acceptedAs, conclude, concludeAdd, add, remove, addEdit, removeEdit, suggest}
 use Rattle.steps.specs.Changing.{Changing}
 use Rattle.steps.proofs.After.{says-whole}
 use Rattle.steps.proofs.Numbers.{test-number}
 use Rattle.bridge.specs.Finds.{none≢some, some-injective}
 use Rattle.bridge.specs.Runs.{markOf}
 use Rattle.run.specs.Demand.{Call, resets, fetches, adds, removes, addsEdit, removesEdit, suggests, make}
-use Rattle.stall.specs.Stall.{PassStart, outcomeOf, pivotsOf, allPivots, allWays, addPasses, removePasses, passesOf, budgetOf, NoReturn, Level, Fewer, Demand3, Counted, moment, refusalOf, UsedUp, Some, Shares, TheCalls}
+use Rattle.stall.specs.Stall.{PassStart, outcomeOf, pivotsOf, allPivots, allWays, addPasses, removePasses, suggestPasses, passesOf, budgetOf, NoReturn, Level, Fewer, SomeWay, Demand3, Counted, moment, refusalOf, UsedUp, Some, Shares, TheCalls}
 use Rattle.stall.proofs.Turns.{pivotsAt, moments, all-used}
 use Rattle.stall.proofs.Pass.{Starts, Unmarred, returns-not, level, fewer}
-use Rattle.stall.proofs.Accounts.{Told, workOf, add-told, remove-told}
+use Rattle.stall.proofs.Accounts.{Told, workOf, add-told, remove-told, suggest-told}
 
 -- ---- what the passes ps tell of an answer
 record Answers (b : ℕ) (ps : List PassStart) (r : Result) : Type 0 where
@@ -106,6 +106,20 @@ unedit-answers v b s = go (findEdit v (s .edits))
     go none = tested b 8 s (λ q. omega (arith, q))
     go (some e) = concluded b (removePasses b (e .tag) (e .strength) (begin s)) s (removeSteps b (e .tag) (e .strength) (editTerms v) (begin s)) next (remove-told b (e .tag) (e .strength) (editTerms v) (begin s) (fresh s))
 
+suggest-answers : (v : ℕ) (x : Float) (b : ℕ) (s : State) → Answers b (passesOf (suggests v x b) s) (make (suggests v x b) s)
+unfolding passesOf make suggest
+suggest-answers v x b s = go (isFinite x) (findEdit v (s .edits))
+  where
+    next : Edit → Work → State
+    next e w = finish w (s .constraints) (keepEdit (record { variable = v; strength = e .strength; tag = e .tag; suggestion = x }) (dropEdit v (s .edits)))
+
+    go : (f : Bool) (o : Option Edit)
+        → Answers b (elim f [ false ↦ [] | true ↦ elim o [ none ↦ [] | some e ↦ suggestPasses b e x (begin s) ] ])
+        (elim f [ false ↦ refusedBy 1 0 (s .whole) s | true ↦ elim o [ none ↦ refusedBy 8 0 (s .whole) s | some e ↦ conclude s (suggestSteps b e x (begin s)) (next e) ] ])
+    go false o = tested b 1 s (λ q. omega (arith, q))
+    go true none = tested b 8 s (λ q. omega (arith, q))
+    go true (some e) = concluded b (suggestPasses b e x (begin s)) s (suggestSteps b e x (begin s)) (next e) (suggest-told b e x (begin s) (fresh s))
+
 answers : (b : ℕ) (c : Call) (s : State) → budgetOf c ≡ some b → Answers b (passesOf c s) (make c s)
 unfolding budgetOf
 answers b resets s e = absurd (none≢some e)
@@ -114,12 +128,12 @@ answers b (adds n ts k r x) s e = subst (λ (y : ℕ). Answers y (passesOf (adds
 answers b (removes n x) s e = subst (λ (y : ℕ). Answers y (passesOf (removes n x) s) (make (removes n x) s)) (some-injective e) (remove-answers n x s)
 answers b (addsEdit v k x) s e = subst (λ (y : ℕ). Answers y (passesOf (addsEdit v k x) s) (make (addsEdit v k x) s)) (some-injective e) (edit-answers v k x s)
 answers b (removesEdit v x) s e = subst (λ (y : ℕ). Answers y (passesOf (removesEdit v x) s) (make (removesEdit v x) s)) (some-injective e) (unedit-answers v x s)
-answers b (suggests v k x) s e = absurd (none≢some e)
+answers b (suggests v k x) s e = subst (λ (y : ℕ). Answers y (passesOf (suggests v k x) s) (make (suggests v k x) s)) (some-injective e) (suggest-answers v k x s)
 
 each-counted : (ps : List PassStart) → All Counted ps
 unfolding moment pivotsOf
 each-counted [] = tt
-each-counted (p ∷ ps) = ((λ i. moments i (p .left) (p .goal) (p .work)), each-counted ps)
+each-counted (p ∷ ps) = ((λ i. moments i (p .left) (p .rule) (p .work)), each-counted ps)
 
 -- THE PASSES ARE THE CALL'S, whatever its mark
 pub passes-are-the-calls : (b : ℕ) (c : Call) (s : State) → budgetOf c ≡ some b → TheCalls b c s
@@ -132,7 +146,7 @@ unmarred b c s e m = answers b c s e .unmarred m
 -- ---- the budget
 spent : (p : PassStart) → UsedUp p → pivotsOf p ≡ p .left
 unfolding outcomeOf pivotsOf
-spent p u = all-used (p .left) (p .goal) (p .work) u
+spent p u = all-used (p .left) (p .rule) (p .work) u
 
 -- a budget that is used up is below the ways
 pub below-ways : (b : ℕ) (ps : List PassStart) → Shares b ps → All Fewer ps → Some UsedUp ps → b < allWays ps
@@ -154,9 +168,15 @@ all-fewer : (ps : List PassStart) → All Starts ps → All Unmarred ps → All 
 all-fewer [] a m = tt
 all-fewer (p ∷ ps) a m = (fewer p (a .0) (m .0), all-fewer ps (a .1) (m .1))
 
-pub demand-3 : (b : ℕ) (c : Call) (s : State) → budgetOf c ≡ some b → make c s .answer .whole ≡ true → All Starts (passesOf c s) → Demand3 b c s
-demand-3 b c s e m a =
+pub demand-3 : (b : ℕ) (c : Call) (s : State) → budgetOf c ≡ some b → make c s .answer .whole ≡ true → All Starts (passesOf c s) → SomeWay c s → Demand3 b c s
+demand-3 b c s e m a way =
     let u : All Unmarred (passesOf c s) = unmarred b c s e m in
     let f : All Fewer (passesOf c s) = all-fewer (passesOf c s) a u in
     let t : TheCalls b c s = passes-are-the-calls b c s e in
-    record { no-return = all-returns (passesOf c s) a u; level = all-level (passesOf c s) a u; fewer = f; enough = λ l q. omega (arith, l, below-ways b (passesOf c s) (t .shares) f (t .used-up q)) }
+    record {
+      no-return = all-returns (passesOf c s) a u;
+      level = all-level (passesOf c s) a u;
+      fewer = f;
+      enough = λ l q. omega (arith, l, below-ways b (passesOf c s) (t .shares) f (t .used-up q));
+      some-way = way;
+    }

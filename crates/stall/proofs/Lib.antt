@@ -8,4 +8,5 @@ pub mod Accounts
 pub mod Calls
 pub mod RemoveStarts
 pub mod AddStarts
+pub mod SuggestStarts
 pub mod Whole

@@ -1,27 +1,30 @@
--- Demand 3 for one pass, of either goal and any call: from a start that reads as a good tableau of the theory, with the mark whole at its end. Assumes nothing.
-use Prim.Native.Nat.{ℕ, _<_}
-use native.Mathlib.Nat.{le-refl}
+-- Demand 3 for one pass, of either rule and any call: from a start that reads as a good tableau of the theory, with the mark whole at its end. Assumes nothing.
+use Prim.Native.Nat.{ℕ, _≤_, _<_}
+use native.Mathlib.Decide.{decLe}
+use native.Mathlib.Omega.{arith}
 use mathlib.Core.Path.{_≡_, sym, ap, _∙_, subst}
+use mathlib.Core.Logic.{_≢_}
+use mathlib.Core.Bool.{true}
 use mathlib.Core.List.{List, map}
 use mathlib.Core.Option.{some}
 use Rattle.simplex.specs.Lin.{Vec}
 use Rattle.simplex.specs.Choose.{Distinct, trues}
-use Rattle.simplex.specs.Opt.{Kind as KindZ, slack}
-use Rattle.simplex.specs.Pass.{State, Good}
-use Rattle.simplex.specs.Bland.{Pass, no-return}
-use Rattle.simplex.specs.Bound.{Mem}
+use Rattle.simplex.specs.Opt.{Kind as KindZ, const, external, slack}
+use Rattle.simplex.specs.Pass.{State}
+use Rattle.simplex.specs.Bound.{Mem, basics}
 use Rattle.simplex.specs.Search.{Asc}
-use Rattle.simplex.specs.Look.{look, after, lv, ev, pass, enough}
 use Rattle.steps.specs.Number.{allWhole}
 use Rattle.steps.specs.Symbol.{Symbol}
 use Rattle.steps.specs.Work.{Work}
+use Rattle.bridge.specs.Finds.{none≢some}
 use Rattle.bridge.specs.Rows.{In}
-use Rattle.bridge.specs.Runs.{markOf, ReadsGoal, objOf, artOf}
+use Rattle.bridge.specs.Table.{ReadsWork}
+use Rattle.bridge.specs.Runs.{markOf, ReadsGoal, objOf, artOf, reads-of}
 use Rattle.run.specs.Passes.{idsOf, restrictedIds, waysOf, live-asc, live-cover, live-inside, live-once, live-basics, live-slacks}
-use Rattle.stall.specs.Stall.{PassStart, outcomeOf, moment, pivotsOf, restrictedRows, restrictedSymbols, ways, NoReturn, Level, Fewer}
+use Rattle.stall.specs.Stall.{Rule, optimising, dual, PassStart, outcomeOf, moment, pivotsOf, restrictedSymbols, ways, NoReturn, Level, Fewer}
 use Rattle.stall.proofs.Turns.{moments}
 use Rattle.stall.proofs.Rows.{rows-are, ways-are}
-use Rattle.stall.proofs.Moments.{Reading, reading, At, at, symbols-stay, basics-stay}
+use Rattle.stall.proofs.Moments.{goalOf, GoodBy, Theory, theory, Traced, trace, symbols-stay}
 
 -- the work that the pass starts with reads as a good tableau of the theory, the goal's row as its objective
 pub record Starts (p : PassStart) : Type 0 where
@@ -29,87 +32,93 @@ pub record Starts (p : PassStart) : Type 0 where
   pub kind : ℕ → KindZ
   pub table : State
   pub other : Vec
-  pub good : Good n kind table
-  pub reads : ReadsGoal (p .goal) kind (p .work) table other
+  pub good : GoodBy (p .rule) n kind table
+  pub reads : ReadsGoal (goalOf (p .rule)) kind (p .work) table other
   pub inside : (j : ℕ) → In j (p .work .tableau .symbols) → j < n
 
 -- its mark is whole at its end, a refusal or not
 abbrev pub Unmarred : PassStart → Type 0
 Unmarred p = markOf (outcomeOf p) ≡ allWhole
 
+good-zero : (r : Rule) (n : ℕ) (kind : ℕ → KindZ) (S : State) → GoodBy r n kind S → kind 0 ≡ const
+good-zero (optimising g) n kind S G = G .zero
+good-zero dual n kind S G = G .zero
+
 module _ (p : PassStart) (S : Starts p) (m : Unmarred p) where
   abbrev o : Vec
-  o = objOf (p .goal) (S .table .o) (S .other)
+  o = objOf (goalOf (p .rule)) (S .table .o) (S .other)
 
   abbrev a : Vec
-  a = artOf (p .goal) (S .table .o) (S .other)
+  a = artOf (goalOf (p .rule)) (S .table .o) (S .other)
 
-  D : Reading (p .goal) (S .kind) (p .work) (S .table) o a
-  D = reading (p .goal) (S .kind) (p .work) (S .table) (S .other) (S .reads)
+  R : ReadsWork (S .kind) (p .work) (S .table .B) (S .table .R) o a
+  R = reads-of (S .kind) (goalOf (p .rule)) (p .work) (S .table) (S .other) (S .reads)
 
-  abbrev ids : List ℕ
-  ids = idsOf (p .work .tableau .symbols)
-
-  asc : Asc ids
-  asc = live-asc (S .n) (S .kind) (p .work) (S .table .B) (S .table .R) o a (S .good .zero) (D .reads) (S .inside)
-
-  cover : (j : ℕ) → S .kind j ≡ slack → Mem j ids
-  cover = live-cover (S .n) (S .kind) (p .work) (S .table .B) (S .table .R) o a (S .good .zero) (D .reads) (S .inside)
-
-  in-ids : (j : ℕ) → Mem j ids → j < S .n
-  in-ids = live-inside (S .n) (S .kind) (p .work) (S .table .B) (S .table .R) o a (S .good .zero) (D .reads) (S .inside)
-
-  at-moment : (i : ℕ) (u : Work) → moment i p ≡ some u → At (S .n) (S .kind) ids asc cover in-ids i (S .table) u
-  unfolding moment outcomeOf
-  at-moment i u q = at (S .n) (S .kind) ids asc cover in-ids i (p .left) (p .goal) (p .work) (S .table) (S .other) (S .good) (S .reads) m u q
-
-  abbrev T : ℕ → State
-  T = after (S .kind) ids (S .table)
-
-  abbrev leaves : ℕ → ℕ
-  leaves k = lv (look (S .kind) ids (T k))
-
-  abbrev enters : ℕ → ℕ
-  enters k = ev (look (S .kind) ids (T k))
+  Z : S .kind 0 ≡ const
+  Z = good-zero (p .rule) (S .n) (S .kind) (S .table) (S .good)
 
   abbrev rs : List ℕ
   rs = restrictedIds (p .work .tableau .symbols)
 
   once : Distinct rs
-  once = live-once (S .n) (S .kind) (p .work) (S .table .B) (S .table .R) o a (S .good .zero) (D .reads) (S .inside)
+  once = live-once (S .n) (S .kind) (p .work) (S .table .B) (S .table .R) o a Z R (S .inside)
 
   slacks : (j : ℕ) → S .kind j ≡ slack → Mem j rs
-  slacks = live-slacks (S .n) (S .kind) (p .work) (S .table .B) (S .table .R) o a (S .good .zero) (D .reads) (S .inside)
+  slacks = live-slacks (S .n) (S .kind) (p .work) (S .table .B) (S .table .R) o a Z R (S .inside)
 
-  -- the theory's pass, as far as a moment of ours
-  up-to : (i : ℕ) (u : Work) → moment i p ≡ some u → Pass (S .n) (S .kind) i T leaves enters
-  up-to i u q = pass (S .n) (S .kind) ids asc cover in-ids (S .table) i (S .good) (at-moment i u q .pivots)
+  -- the theory's states beside its moments
+  abbrev ids : List ℕ
+  ids = idsOf (p .work .tableau .symbols)
+
+  asc : Asc ids
+  asc = live-asc (S .n) (S .kind) (p .work) (S .table .B) (S .table .R) o a Z R (S .inside)
+
+  cover : (j : ℕ) → S .kind j ≡ slack → Mem j ids
+  cover = live-cover (S .n) (S .kind) (p .work) (S .table .B) (S .table .R) o a Z R (S .inside)
+
+  in-ids : (j : ℕ) → Mem j ids → j < S .n
+  in-ids = live-inside (S .n) (S .kind) (p .work) (S .table .B) (S .table .R) o a Z R (S .inside)
+
+  T : Traced (S .n) (S .kind) ids asc cover in-ids (p .rule) (pivotsOf p) (λ i. moment i p) (S .table)
+  unfolding moment outcomeOf pivotsOf
+  T = trace (S .n) (S .kind) ids asc cover in-ids (p .left) (p .rule) (p .work) (S .table) (S .other) (S .good) (S .reads) m
+
+  says : Theory (S .kind) (pivotsOf p) (T .states) (T .le) (T .en)
+  says = theory (p .rule) (S .n) (S .kind) (pivotsOf p) (T .states) (T .le) (T .en) (T .track)
+
+  -- a moment comes after no more pivots than are made
+  made : (i : ℕ) (u : Work) → moment i p ≡ some u → i ≤ pivotsOf p
+  unfolding moment pivotsOf
+  made i u q = go (decLe i (pivotsOf p))
+    where
+      go : Dec (i ≤ pivotsOf p) → i ≤ pivotsOf p
+      go (yes h) = h
+      go (no h) = absurd (none≢some (sym (moments i (p .left) (p .rule) (p .work) .1 (omega (arith, h))) ∙ q))
 
   -- NO BASIS TWICE
   pub returns-not : NoReturn p
-  returns-not i j u v l q r same = no-return (S .n) (S .kind) j T leaves enters (up-to j v r) i j l (le-refl j) (λ x. sym (at-moment i u q .basics x) ∙ same x ∙ at-moment j v r .basics x)
+  returns-not i j u v l q r same = says .never i j l (made j v r) (λ x. sym (T .shown i u q .basics x) ∙ same x ∙ T .shown j v r .basics x)
 
   -- n AND r STAY
-  first-is : trues (map (T 0 .B) rs) ≡ restrictedRows (p .work .tableau .rows)
-  unfolding after
-  first-is = rows-are (S .kind) (p .work) (S .table .B) (S .table .R) o a (D .reads)
+  start-basics : (j : ℕ) → T .states 0 .B j ≡ true → S .kind j ≢ external → Mem j rs
+  start-basics = subst (λ (t : State). (j : ℕ) → t .B j ≡ true → S .kind j ≢ external → Mem j rs) (sym (T .first)) (live-basics (S .n) (S .kind) (p .work) (S .table .B) (S .table .R) o a Z R (S .inside))
 
-  symbols-same : (i : ℕ) (u : Work) → moment i p ≡ some u → u .tableau .symbols ≡ p .work .tableau .symbols
-  unfolding moment
-  symbols-same i u q = symbols-stay i (p .left) (p .goal) (p .work) u q
+  later-basics : (i : ℕ) → i < pivotsOf p → Mem (T .en i) rs
+  later-basics i h = slacks (T .en i) (says .ins i h)
 
   pub level : Level p
+  unfolding moment
   level i u q =
-      let e = symbols-same i u q in (
+      let e = symbols-stay i (p .left) (p .rule) (p .work) u q in (
         ap restrictedSymbols e,
-        sym (at-moment i u q .rows) ∙ ap (λ (xs : List Symbol). trues (map (T i .B) (restrictedIds xs))) e ∙ basics-stay (S .n) (S .kind) i T leaves enters (up-to i u q) rs once slacks i (le-refl i) ∙ first-is,
+        sym (T .shown i u q .rows) ∙ ap (λ (xs : List Symbol). trues (map (T .states i .B) (restrictedIds xs))) e
+            ∙ basics (S .kind) (pivotsOf p) (λ i. T .states i .B) (T .le) (T .en) (says .flips) (says .outs) (says .ins) (says .never) rs once start-basics later-basics i (made i u q)
+            ∙ ap (λ (t : State). trues (map (t .B) rs)) (T .first) ∙ rows-are (S .kind) (p .work) (S .table .B) (S .table .R) o a R,
       )
 
   -- FEWER PIVOTS THAN WAYS
   pub fewer : Fewer p
-  unfolding ways waysOf moment pivotsOf
+  unfolding ways waysOf
   fewer =
-      let z = moments (pivotsOf p) (p .left) (p .goal) (p .work) .0 (le-refl (pivotsOf p)) in
-      subst (λ (k : ℕ). pivotsOf p < k) (ways-are (S .kind) (p .work) (S .table .B) (S .table .R) o a (D .reads))
-      (enough (S .n) (S .kind) ids asc cover in-ids (S .table) (pivotsOf p) (S .good) (at-moment (pivotsOf p) (z .0) (z .1) .pivots) rs once
-      (live-basics (S .n) (S .kind) (p .work) (S .table .B) (S .table .R) o a (S .good .zero) (D .reads) (S .inside)) slacks)
+      subst (λ (k : ℕ). pivotsOf p < k)
+      (ap (λ (t : State). waysOf (p .work .tableau .symbols) (t .B)) (T .first) ∙ ways-are (S .kind) (p .work) (S .table .B) (S .table .R) o a R) (says .bound rs once start-basics later-basics)

@@ -18,7 +18,7 @@ use Rattle.bridge.specs.Runs.{optimise-mark}
 use Rattle.run.specs.Demand.{Key, ofConstraint, ofEdit, Moment, removes, removesEdit}
 use Rattle.run.specs.Inv.{columns, Held, findHeld, ConstraintAt, EditAt, Inv}
 use Rattle.run.specs.RemoveSteps.{first, Begun, begins, inside}
-use Rattle.stall.specs.Stall.{PassStart, outcomeOf, objectivePass, removePasses, passesOf}
+use Rattle.stall.specs.Stall.{optimising, PassStart, outcomeBy, outcomeOf, objectivePass, removePasses, passesOf}
 use Rattle.stall.proofs.Pass.{Starts, Unmarred}
 
 module _ (m : Moment) (I : Inv m) (k : Key) (h : Held) (found : findHeld k (I .held) ≡ some h) (b : ℕ) where
@@ -26,14 +26,14 @@ module _ (m : Moment) (I : Inv m) (k : Key) (h : Held) (found : findHeld k (I .h
   Started t = All Unmarred (objectivePass b (purgeTag (h .tag)) t) → All Starts (objectivePass b (purgeTag (h .tag)) t)
 
   begun : (t : Outcome Work) → dropMarker (h .tag .marker) (first m I k h found) ≡ t → Started t
-  unfolding objectivePass outcomeOf
+  unfolding objectivePass outcomeOf outcomeBy
   begun (refused n p q) e u = tt
   begun (going v) e u = (start, tt)
     where
       B : Begun m I k h found v
       B = begins m I k h found v e (purgeTag-after (h .tag) v .mark (optimise-mark (b - v .pivots) theObjective (purgeTag (h .tag) v) (u .0)))
 
-      start : Starts (record { goal = theObjective; left = b - v .pivots; work = purgeTag (h .tag) v })
+      start : Starts (record { rule = optimising theObjective; left = b - v .pivots; work = purgeTag (h .tag) v })
       start = record { n = columns; kind = B .cleared .kind′; table = B .table; other = λ _. 0ℤ; good = B .cleared .read .good; reads = B .cleared .read .reads; inside = inside m I k h found v B }
 
   steps-start : All Unmarred (removePasses b (h .tag) (strengthOf (h .demand .relation)) (begin (m .state))) → All Starts (removePasses b (h .tag) (strengthOf (h .demand .relation)) (begin (m .state)))

@@ -1,16 +1,17 @@
--- What `optimise` is: turns, one after the other, while one is made and the budget lasts. Assumes nothing.
+-- What a pass of either rule is: turns, one after the other, while one is made and the budget lasts. Assumes nothing.
 use Prim.Native.Nat.{ℕ, zero, suc, _+_, _≤_, _<_}
 use native.Mathlib.Omega.{arith}
 use mathlib.Core.Path.{_≡_, refl, ap}
+use mathlib.Core.Logic.{_≢_}
 use mathlib.Core.Option.{Option, none, some}
 use Rattle.steps.specs.Number.{Mark, allWhole, notWhole, notFinite}
 use Rattle.steps.specs.Symbol.{Symbol}
 use Rattle.steps.specs.Work.{Work, Outcome, refused, going, _>>=_, refuse, checkFinite, countPivot}
 use Rattle.steps.specs.Substitute.{pivot}
-use Rattle.steps.specs.Optimise.{Goal, Choice, ended, stuck, pivotOn, choosePivot, countedPivot, optimise}
+use Rattle.steps.specs.Optimise.{Choice, ended, stuck, pivotOn, choosePivot, countedPivot, optimise, chooseDualPivot, dualOptimise}
 use Rattle.steps.proofs.After.{pivot-after}
-use Rattle.bridge.specs.Runs.{counted-one}
-use Rattle.stall.specs.Stall.{goesOn, turn, later, pivotsFrom, refusalOf}
+use Rattle.bridge.specs.Runs.{markOf, counted-one, optimise-mark, dual-mark}
+use Rattle.stall.specs.Stall.{Rule, optimising, dual, chosen, outcomeBy, goesOn, turn, later, pivotsFrom, refusalOf}
 
 -- a pivot that is made, or is refused for a number that is not finite
 data Counted (l e : Symbol) (w : Work) : Outcome Work → Type 0 where
@@ -27,42 +28,55 @@ counted l e w = go (pivot (l .id) e w .mark) refl
     go notWhole q = made
     go notFinite q = lost (pivot (l .id) e w .pivots) (pivot-after (l .id) e w .pivots) (pivot (l .id) e w .mark) q
 
--- ---- one turn, where one pivot at least is left: beside what `turn` finds, what `optimise` answers
-pub data Step (left : ℕ) (g : Goal) (w : Work) : Option Work → Outcome Work → Type 0 where
-  rests : Step left g w none (going w)
-  no-row : Step left g w none (refused 15 (w .pivots) (w .mark))
-  not-finite : (p : ℕ) → p ≡ w .pivots → (m : Mark) → m ≡ notFinite → Step left g w none (refused 13 p m)
-  pivots : (l e : Symbol) → choosePivot g w ≡ pivotOn l e → Step left g w (some (countPivot (pivot (l .id) e w))) (optimise left g (countPivot (pivot (l .id) e w)))
+-- ---- one turn, where one pivot at least is left: beside what `turn` finds, what the pass answers
+pub data Step (left : ℕ) (r : Rule) (w : Work) : Option Work → Outcome Work → Type 0 where
+  rests : Step left r w none (going w)
+  stays : (n : ℕ) → n ≢ 14 → Step left r w none (refused n (w .pivots) (w .mark))
+  not-finite : (p : ℕ) → p ≡ w .pivots → (m : Mark) → m ≡ notFinite → Step left r w none (refused 13 p m)
+  pivots : (l e : Symbol) → chosen r w ≡ pivotOn l e → Step left r w (some (countPivot (pivot (l .id) e w))) (outcomeBy r left (countPivot (pivot (l .id) e w)))
 
-pub step : (left : ℕ) (g : Goal) (w : Work) → Step left g w (turn g w) (optimise (suc left) g w)
-unfolding turn goesOn optimise refuse _>>=_
-step left g w = go (choosePivot g w) refl
+pub step : (left : ℕ) (r : Rule) (w : Work) → Step left r w (turn r w) (outcomeBy r (suc left) w)
+unfolding turn outcomeBy chosen goesOn optimise dualOptimise refuse _>>=_
+step left r w = by r
   where
-    turned : (l e : Symbol) → choosePivot g w ≡ pivotOn l e → (o : Outcome Work) → Counted l e w o → Step left g w (goesOn o) (o >>= λ v. optimise left g v)
-    turned l e q o made = pivots l e q
-    turned l e q o (lost p r m s) = not-finite p r m s
+    turned : (r : Rule) (l e : Symbol) → chosen r w ≡ pivotOn l e → (o : Outcome Work) → Counted l e w o → Step left r w (goesOn o) (o >>= λ v. outcomeBy r left v)
+    turned r l e q o made = pivots l e q
+    turned r l e q o (lost p x m s) = not-finite p x m s
 
-    go : (c : Choice) → choosePivot g w ≡ c
-        → Step left g w (elim c [ ended ↦ none | stuck ↦ none | pivotOn l e ↦ goesOn (countedPivot l e w) ])
-        (elim c [ ended ↦ going w | stuck ↦ refused 15 (w .pivots) (w .mark) | pivotOn l e ↦ countedPivot l e w >>= λ v. optimise left g v ])
-    go ended q = rests
-    go stuck q = no-row
-    go (pivotOn l e) q = turned l e q (countedPivot l e w) (counted l e w)
+    go : (r : Rule) (n : ℕ) → n ≢ 14 → (c : Choice) → chosen r w ≡ c
+        → Step left r w (elim c [ ended ↦ none | stuck ↦ none | pivotOn l e ↦ goesOn (countedPivot l e w) ])
+        (elim c [ ended ↦ going w | stuck ↦ refused n (w .pivots) (w .mark) | pivotOn l e ↦ countedPivot l e w >>= λ v. outcomeBy r left v ])
+    go r n d ended q = rests
+    go r n d stuck q = stays n d
+    go r n d (pivotOn l e) q = turned r l e q (countedPivot l e w) (counted l e w)
+
+    by : (r : Rule) → Step left r w (turn r w) (outcomeBy r (suc left) w)
+    by (optimising g) = go (optimising g) 15 (λ e. omega (arith, e)) (choosePivot g w) refl
+    by dual = go dual 16 (λ e. omega (arith, e)) (chooseDualPivot w) refl
 
 -- and where none is left
-pub data Last (g : Goal) (w : Work) : Outcome Work → Type 0 where
-  at-rest : Last g w (going w)
-  rowless : Last g w (refused 15 (w .pivots) (w .mark))
-  needs-one : Last g w (refused 14 (w .pivots) (w .mark))
+pub data Last (w : Work) : Outcome Work → Type 0 where
+  at-rest : Last w (going w)
+  stands : (n : ℕ) → Last w (refused n (w .pivots) (w .mark))
 
-pub last : (g : Goal) (w : Work) → Last g w (optimise zero g w)
-unfolding optimise refuse
-last g w = go (choosePivot g w)
+pub last : (r : Rule) (w : Work) → Last w (outcomeBy r zero w)
+unfolding outcomeBy optimise dualOptimise refuse
+last r w = by r
   where
-    go : (c : Choice) → Last g w (elim c [ ended ↦ going w | stuck ↦ refused 15 (w .pivots) (w .mark) | pivotOn l e ↦ refused 14 (w .pivots) (w .mark) ])
-    go ended = at-rest
-    go stuck = rowless
-    go (pivotOn l e) = needs-one
+    go : (n : ℕ) (c : Choice) → Last w (elim c [ ended ↦ going w | stuck ↦ refused n (w .pivots) (w .mark) | pivotOn l e ↦ refused 14 (w .pivots) (w .mark) ])
+    go n ended = at-rest
+    go n stuck = stands n
+    go n (pivotOn l e) = stands 14
+
+    by : (r : Rule) → Last w (outcomeBy r zero w)
+    by (optimising g) = go 15 (choosePivot g w)
+    by dual = go 16 (chooseDualPivot w)
+
+-- a mark that is whole at the end of a pass was so at its start
+pub pass-mark : (r : Rule) (left : ℕ) (w : Work) → markOf (outcomeBy r left w) ≡ allWhole → w .mark ≡ allWhole
+unfolding outcomeBy
+pass-mark (optimising g) left w = optimise-mark left g w
+pass-mark dual left w = dual-mark left w
 
 -- ---- the count
 unfoldable pub pivotsAt : Outcome Work → ℕ
@@ -70,47 +84,46 @@ pivotsAt (refused n p m) = p
 pivotsAt (going w) = w .pivots
 
 -- a pass counts the pivots that it makes
-pub counts : (left : ℕ) (g : Goal) (w : Work) → pivotsAt (optimise left g w) ≡ w .pivots + pivotsFrom left g w
+pub counts : (left : ℕ) (r : Rule) (w : Work) → pivotsAt (outcomeBy r left w) ≡ w .pivots + pivotsFrom left r w
 unfolding pivotsAt pivotsFrom
-counts zero g w = go (optimise zero g w) (last g w)
+counts zero r w = go (outcomeBy r zero w) (last r w)
   where
-    go : (o : Outcome Work) → Last g w o → pivotsAt o ≡ w .pivots + 0
+    go : (o : Outcome Work) → Last w o → pivotsAt o ≡ w .pivots + 0
     go o at-rest = omega arith
-    go o rowless = omega arith
-    go o needs-one = omega arith
-counts (suc left) g w = go (turn g w) (optimise (suc left) g w) (step left g w) (counts left g)
+    go o (stands n) = omega arith
+counts (suc left) r w = go (turn r w) (outcomeBy r (suc left) w) (step left r w) (counts left r)
   where
-    go : (t : Option Work) (o : Outcome Work) → Step left g w t o → ((v : Work) → pivotsAt (optimise left g v) ≡ v .pivots + pivotsFrom left g v)
-        → pivotsAt o ≡ w .pivots + elim t as (λ x. ℕ) [ none ↦ 0 | some v ↦ suc (pivotsFrom left g v) ]
+    go : (t : Option Work) (o : Outcome Work) → Step left r w t o → ((v : Work) → pivotsAt (outcomeBy r left v) ≡ v .pivots + pivotsFrom left r v)
+        → pivotsAt o ≡ w .pivots + elim t as (λ x. ℕ) [ none ↦ 0 | some v ↦ suc (pivotsFrom left r v) ]
     go t o rests ih = omega arith
-    go t o no-row ih = omega arith
+    go t o (stays n d) ih = omega arith
     go t o (not-finite p q m s) ih = omega (arith, q)
     go t o (pivots l e q) ih = omega (arith, ih (countPivot (pivot (l .id) e w)), counted-one (l .id) e w)
 
 -- ---- the moments: one for the start, one for each pivot made
-abbrev onward : ℕ → ℕ → Goal → Option Work → Option Work
-onward i left g t = elim t [ none ↦ none | some v ↦ later i left g v ]
+abbrev onward : ℕ → ℕ → Rule → Option Work → Option Work
+onward i left r t = elim t [ none ↦ none | some v ↦ later i left r v ]
 
-pub moments : (i left : ℕ) (g : Goal) (w : Work) → (i ≤ pivotsFrom left g w → (u : Work) × (later i left g w ≡ some u)) × (pivotsFrom left g w < i → later i left g w ≡ none)
+pub moments : (i left : ℕ) (r : Rule) (w : Work) → (i ≤ pivotsFrom left r w → (u : Work) × (later i left r w ≡ some u)) × (pivotsFrom left r w < i → later i left r w ≡ none)
 unfolding later pivotsFrom
-moments zero left g w = ((λ l. (w, refl)), (λ l. absurd (omega (arith, l))))
-moments (suc i) zero g w = ((λ l. absurd (omega (arith, l))), (λ l. refl))
-moments (suc i) (suc left) g w = go (turn g w) (moments i left g)
+moments zero left r w = ((λ l. (w, refl)), (λ l. absurd (omega (arith, l))))
+moments (suc i) zero r w = ((λ l. absurd (omega (arith, l))), (λ l. refl))
+moments (suc i) (suc left) r w = go (turn r w) (moments i left r)
   where
-    go : (t : Option Work) → ((v : Work) → (i ≤ pivotsFrom left g v → (u : Work) × (later i left g v ≡ some u)) × (pivotsFrom left g v < i → later i left g v ≡ none))
-        → (suc i ≤ elim t as (λ x. ℕ) [ none ↦ 0 | some v ↦ suc (pivotsFrom left g v) ] → (u : Work) × (onward i left g t ≡ some u)) × (elim t as (λ x. ℕ) [ none ↦ 0 | some v ↦ suc (pivotsFrom left g v) ] < suc i → onward i left g t ≡ none)
+    go : (t : Option Work) → ((v : Work) → (i ≤ pivotsFrom left r v → (u : Work) × (later i left r v ≡ some u)) × (pivotsFrom left r v < i → later i left r v ≡ none))
+        → (suc i ≤ elim t as (λ x. ℕ) [ none ↦ 0 | some v ↦ suc (pivotsFrom left r v) ] → (u : Work) × (onward i left r t ≡ some u)) × (elim t as (λ x. ℕ) [ none ↦ 0 | some v ↦ suc (pivotsFrom left r v) ] < suc i → onward i left r t ≡ none)
     go none ih = ((λ l. absurd (omega (arith, l))), (λ l. refl))
     go (some v) ih = ((λ l. ih v .0 (omega (arith, l))), (λ l. ih v .1 (omega (arith, l))))
 
 -- ---- 14 is given with every pivot of the budget made
-pub all-used : (left : ℕ) (g : Goal) (w : Work) → refusalOf (optimise left g w) ≡ 14 → pivotsFrom left g w ≡ left
+pub all-used : (left : ℕ) (r : Rule) (w : Work) → refusalOf (outcomeBy r left w) ≡ 14 → pivotsFrom left r w ≡ left
 unfolding refusalOf pivotsFrom
-all-used zero g w e = refl
-all-used (suc left) g w e = go (turn g w) (optimise (suc left) g w) (step left g w) e (all-used left g)
+all-used zero r w e = refl
+all-used (suc left) r w e = go (turn r w) (outcomeBy r (suc left) w) (step left r w) e (all-used left r)
   where
-    go : (t : Option Work) (o : Outcome Work) → Step left g w t o → refusalOf o ≡ 14 → ((v : Work) → refusalOf (optimise left g v) ≡ 14 → pivotsFrom left g v ≡ left)
-        → elim t as (λ x. ℕ) [ none ↦ 0 | some v ↦ suc (pivotsFrom left g v) ] ≡ suc left
+    go : (t : Option Work) (o : Outcome Work) → Step left r w t o → refusalOf o ≡ 14 → ((v : Work) → refusalOf (outcomeBy r left v) ≡ 14 → pivotsFrom left r v ≡ left)
+        → elim t as (λ x. ℕ) [ none ↦ 0 | some v ↦ suc (pivotsFrom left r v) ] ≡ suc left
     go t o rests e ih = absurd (omega (arith, e))
-    go t o no-row e ih = absurd (omega (arith, e))
+    go t o (stays n d) e ih = absurd (d e)
     go t o (not-finite p q m s) e ih = absurd (omega (arith, e))
     go t o (pivots l x q) e ih = ap suc (ih (countPivot (pivot (l .id) x w)) e)

@@ -1,4 +1,4 @@
--- DEMAND 3. In a whole run no optimise pass of an add or a removal holds the same basic symbols twice, each makes fewer pivots than there are ways to choose r of n, and these ways are budget enough. Assumes nothing.
+-- DEMAND 3. In a whole run no pass of an add, a removal or a suggestion holds the same basic symbols twice, each makes fewer pivots than there are ways to choose r of n, these ways are budget enough, and 16 is not given. Assumes nothing.
 use Prim.Native.Nat.{ℕ, _≤_}
 use mathlib.Core.Path.{_≡_, refl}
 use mathlib.Core.Bool.{true, false}
@@ -20,12 +20,13 @@ use Rattle.run.specs.Demand.{ofConstraint, ofEdit, Call, resets, fetches, adds,
 use Rattle.run.specs.Inv.{Inv}
 use Rattle.run.specs.AddMarks.{markAdded, whole-steps}
 use Rattle.run.specs.Add.{passed, not-above, ids-left, added-whole}
-use Rattle.run.specs.Run.{inv-before}
+use Rattle.run.specs.Run.{inv-before, marked-numbers}
 use Rattle.run.specs.AddEdit.{clip-up, whole-strength, one-term}
 use Rattle.stall.specs.Stall.{PassStart, addPasses, passesOf, budgetOf, Demand3, NeverStalls}
 use Rattle.stall.proofs.Pass.{Starts}
 use Rattle.stall.proofs.Calls.{unmarred, demand-3}
 use Rattle.stall.proofs.AddStarts.{add-starts}
+use Rattle.stall.proofs.SuggestStarts.{suggest-starts}
 use Rattle.stall.proofs.RemoveStarts.{remove-starts, removeEdit-starts}
 
 -- ---- an add
@@ -98,11 +99,11 @@ starts cs (adds n ts k r x) b e w = adds-start (after cs) (inv-before (changing.
 starts cs (removes n x) b e w = remove-starts (after cs) (inv-before (changing.removes n x) cs w) n x (unmarred b (removes n x) (after cs .state) e w)
 starts cs (addsEdit v k x) b e w = edit-start (after cs) (inv-before (changing.addsEdit v k x) cs w) v k x w
 starts cs (removesEdit v x) b e w = removeEdit-starts (after cs) (inv-before (changing.removesEdit v x) cs w) v x (unmarred b (removesEdit v x) (after cs .state) e w)
-starts cs (suggests v k x) b e w = absurd (none≢some e)
+starts cs (suggests v k x) b e w = suggest-starts (after cs) (inv-before (changing.suggests v k x) cs w) v k x (unmarred b (suggests v k x) (after cs .state) e w)
 
 -- the mark of the call's own answer is enough
 pub marked-never-stalls : (cs : List Call) (c : Call) (b : ℕ) → budgetOf c ≡ some b → make c (after cs .state) .answer .whole ≡ true → Demand3 b c (after cs .state)
-marked-never-stalls cs c b e w = demand-3 b c (after cs .state) e w (starts cs c b e w)
+marked-never-stalls cs c b e w = demand-3 b c (after cs .state) e w (starts cs c b e w) (marked-numbers c cs w .1 .1 .0)
 
 -- DEMAND 3
 pub never-stalls : NeverStalls

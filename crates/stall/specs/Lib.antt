@@ -1,3 +1,3 @@
--- Demand 3: no optimise pass of an add or a removal stalls.
+-- Demand 3: no pass of an add, a removal or a suggestion stalls.
 pub mod Stall
 pub mod Samples

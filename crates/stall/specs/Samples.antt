@@ -1,16 +1,16 @@
--- Two adds and a removal, computed pass by pass: what n and r are, the ways to choose r of n, and the pivots made.
+-- Two adds, a removal and two drags, computed pass by pass: what n and r are, the ways to choose r of n, and the pivots made.
 use Prim.Native.Nat.{ℕ}
 use mathlib.Core.List.{List, [], _∷_, map}
 use lib.Dec.{T}
 use lib.Ieee.{Float}
 use Rattle.simplex.specs.Choose.{choose}
 use Rattle.steps.specs.Strength.{required}
-use Rattle.steps.specs.State.{Relation, atMost, equal}
+use Rattle.steps.specs.State.{Relation, atMost, equal, atLeast}
 use Rattle.steps.specs.Readable.{concat}
 use Rattle.steps.specs.Session.{sameNumbers}
 use Rattle.steps.specs.Twelve.{num, minus, x, openTwelve}
-use Rattle.run.specs.Demand.{Call, adds, removes, make, accepted, liveAfter, next, start, after}
-use Rattle.stall.specs.Stall.{PassStart, goesOn, turn, pivotsFrom, pivotsOf, restrictedRows, restrictedSymbols, ways, objectivePass, artificialPass, addPasses, removePasses, passesOf}
+use Rattle.run.specs.Demand.{Call, adds, removes, addsEdit, suggests, make, accepted, liveAfter, next, start, after}
+use Rattle.stall.specs.Stall.{PassStart, chosen, goesOn, turn, pivotsFrom, pivotsOf, restrictedRows, restrictedSymbols, ways, objectivePass, artificialPass, addPasses, removePasses, suggestPasses, passesOf}
 
 -- n, r, the ways, the pivots
 unfoldable pub figures : PassStart → List ℕ
@@ -26,7 +26,7 @@ xIs c relation n strength = adds c (x ∷ []) (minus n) (relation strength) 10
 
 -- the key: unfolds this module and what it computes with
 unfoldable pub openSamples : Unit {0}
-unfolding openTwelve choose make accepted liveAfter next start after goesOn turn pivotsFrom pivotsOf restrictedRows restrictedSymbols ways objectivePass artificialPass addPasses removePasses passesOf figures figuresOf xIs
+unfolding openTwelve choose make accepted liveAfter next start after chosen goesOn turn pivotsFrom pivotsOf restrictedRows restrictedSymbols ways objectivePass artificialPass addPasses removePasses suggestPasses passesOf figures figuresOf xIs
 openSamples = tt
 
 -- x ≤ 8, then x = 5, both required. Step 6's pass has the slack, the dummy and the temporary, which alone of them is basic; it makes one pivot. Then the temporary is gone, and step 7's makes none.
@@ -43,3 +43,13 @@ third-session = tt
 pub removed-again : T (sameNumbers (figuresOf (xIs 2 atMost 8 required ∷ xIs 1 equal 10 (num 1) ∷ []) (removes 2 10)) (2 ∷ 0 ∷ 1 ∷ 0 ∷ []))
 unfolding openSamples
 removed-again = tt
+
+-- W7: an edit of x at 1, x ≤ 30, then x dragged to 40. Two errors and the slack; one of them is basic, and one pivot is made.
+pub dragged-past : T (sameNumbers (figuresOf (xIs 2 atMost 30 required ∷ addsEdit 1 (num 1) 10 ∷ []) (suggests 1 (num 40) 10)) (3 ∷ 1 ∷ 3 ∷ 1 ∷ []))
+unfolding openSamples
+dragged-past = tt
+
+-- x ≥ -3, and x ≥ 0 at 1, then x dragged to -11: two rows are below 0. The lower id leaves first, and two pivots are made; with the higher first it would be one.
+pub two-below : T (sameNumbers (figuresOf (adds 7 (x ∷ []) (num 0) (atLeast (num 1)) 10 ∷ adds 6 (x ∷ []) (num 3) (atLeast required) 10 ∷ addsEdit 1 (num 1) 10 ∷ []) (suggests 1 (minus 11) 10)) (5 ∷ 2 ∷ 10 ∷ 2 ∷ []))
+unfolding openSamples
+two-below = tt

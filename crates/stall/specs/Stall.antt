@@ -1,9 +1,10 @@
--- Demand 3 in document 01's words, for a reader who knows Cassowary and not antt. An add optimises in one or two passes, a removal in one. A pass is
--- pivots by the steps' own rule, one after the other: `choosePivot` finds what enters and what leaves, `countedPivot` makes the pivot and counts it. Its
--- moments are the work before its first pivot and after each of them. `passesOf` gives the passes of a call, each by where it starts, in the steps' own
--- words and with the call's own budget. Of every add and removal of a whole run it is then said: no two moments of a pass have the same set of basic
--- symbols; a pass makes fewer pivots than there are ways to choose r of n, which stay the same all along; and a budget as large as these ways, summed
--- over the call's passes, is not used up. The last section says, of every call, that these are its passes. Nothing here speaks of numbers in rows.
+-- Demand 3 in the documents' words, for a reader who knows Cassowary and not antt: document 01's of adds and removals, document 02's T-11 of drags. An
+-- add optimises in one or two passes, a removal in one, a suggestion makes a dual pass. A pass is pivots by the steps' own rule, one after the other:
+-- `choosePivot` or `chooseDualPivot` finds what enters and what leaves, `countedPivot` makes the pivot and counts it. Its moments are the work before
+-- its first pivot and after each of them. `passesOf` gives the passes of a call, each by where it starts, in the steps' own words and with the call's
+-- own budget. Of every add, removal and suggestion of a whole run it is then said: no two moments of a pass have the same set of basic symbols; a pass
+-- makes fewer pivots than there are ways to choose r of n, which stay the same all along; a budget as large as these ways, summed over the call's
+-- passes, is not used up; and 16 is not given. The last section says, of every call, that these are its passes. Nothing here speaks of numbers in rows.
 -- `never-stalls` in proofs/Whole.antt proves the first part, `passes-are-the-calls` in proofs/Calls.antt the second.
 use Prim.Native.Nat.{ℕ, zero, suc, _+_, _-_, _≤_, _<_}
 use mathlib.Core.Path.{_≡_}
@@ -13,60 +14,74 @@ use mathlib.Core.List.{List, [], _∷_, _++_}
 use mathlib.Core.Option.{Option, none, some}
 use lib.Ieee.{Float}
 use Rattle.simplex.specs.Choose.{choose, All}
-use Rattle.steps.specs.Number.{zero64, wholeIf}
+use Rattle.steps.specs.Number.{zero64, _-₆₄_, constantBound, isFinite, wholeIf}
 use Rattle.steps.specs.Strength.{clip}
 use Rattle.steps.specs.Symbol.{Slack, Symbol, isRestricted}
-use Rattle.steps.specs.State.{Term, Relation, equal, Tag, Basic, State}
+use Rattle.steps.specs.State.{Term, Relation, equal, Tag, Basic, Edit, State}
 use Rattle.steps.specs.Work.{Work, Outcome, refused, going, _>>=_, checkFinite, marking, findRow, newSymbol}
 use Rattle.steps.specs.CreateRow.{Created, createRow, chooseSubject, allDummies}
-use Rattle.steps.specs.Optimise.{Goal, theObjective, theArtificial, ended, stuck, pivotOn, choosePivot, countedPivot, optimise}
+use Rattle.steps.specs.Optimise.{Goal, theObjective, theArtificial, Choice, ended, stuck, pivotOn, choosePivot, countedPivot, optimise, chooseDualPivot, dualOptimise}
 use Rattle.steps.specs.Artificial.{standTemporary}
-use Rattle.steps.specs.Add.{wholeInputs, addCreated}
+use Rattle.steps.specs.Add.{wholeInputs, wholeWithin, addCreated}
 use Rattle.steps.specs.Remove.{removeConstraintEffects, dropMarker, purgeTag}
-use Rattle.steps.specs.Edit.{editTerms}
+use Rattle.steps.specs.Edit.{editTerms, shiftConstants}
 use Rattle.steps.specs.Tests.{firstRefusal, addTests, addEditTests, findConstraint, findEdit}
 use Rattle.steps.specs.Calls.{begin}
 use Rattle.run.specs.Demand.{Call, resets, fetches, adds, removes, addsEdit, removesEdit, suggests, make, after, Whole}
 
 -- ---- a pass
 
--- where an optimise pass starts: what it optimises, what is left of the budget, and the work then
+-- by which rule a pass pivots: it optimises a goal, or it is the dual pass
+pub data Rule : Type 0 where
+  optimising : Goal → Rule
+  dual : Rule
+
+-- what the steps choose by it
+unfoldable pub chosen : Rule → Work → Choice
+chosen (optimising g) w = choosePivot g w
+chosen dual w = chooseDualPivot w
+
+-- where a pass starts: its rule, what is left of the budget, and the work then
 pub record PassStart : Type 0 where
-  pub goal : Goal
+  pub rule : Rule
   pub left : ℕ
   pub work : Work
 
--- what the steps get from it
+-- what the steps get with so much left of the budget, and from where a pass starts
+unfoldable pub outcomeBy : Rule → ℕ → Work → Outcome Work
+outcomeBy (optimising g) left w = optimise left g w
+outcomeBy dual left w = dualOptimise left w
+
 unfoldable pub outcomeOf : PassStart → Outcome Work
-outcomeOf p = optimise (p .left) (p .goal) (p .work)
+outcomeOf p = outcomeBy (p .rule) (p .left) (p .work)
 
 -- the work that a step goes on with, none where it refuses
 unfoldable pub goesOn : Outcome Work → Option Work
 goesOn (refused n p m) = none
 goesOn (going w) = some w
 
--- the work one pivot later, none where the pass has ended, finds no leaving row, or writes a number that is not finite
-unfoldable pub turn : Goal → Work → Option Work
-turn g w = elim (choosePivot g w) [ ended ↦ none | stuck ↦ none | pivotOn l e ↦ goesOn (countedPivot l e w) ]
+-- the work one pivot later, none where the pass has ended, finds no leaving row or no entering symbol, or writes a number that is not finite
+unfoldable pub turn : Rule → Work → Option Work
+turn r w = elim (chosen r w) [ ended ↦ none | stuck ↦ none | pivotOn l e ↦ goesOn (countedPivot l e w) ]
 
 -- the work i pivots later, of at most `left`, none where fewer are made
-unfoldable pub later : ℕ → ℕ → Goal → Work → Option Work
-later zero left g w = some w
-later (suc i) zero g w = none
-later (suc i) (suc left) g w = elim (turn g w) [ none ↦ none | some v ↦ later i left g v ]
+unfoldable pub later : ℕ → ℕ → Rule → Work → Option Work
+later zero left r w = some w
+later (suc i) zero r w = none
+later (suc i) (suc left) r w = elim (turn r w) [ none ↦ none | some v ↦ later i left r v ]
 
 -- the moments of a pass: the work after i of its pivots
 unfoldable pub moment : ℕ → PassStart → Option Work
-moment i p = later i (p .left) (p .goal) (p .work)
+moment i p = later i (p .left) (p .rule) (p .work)
 
 -- how many pivots are made, of at most `left`
-unfoldable pub pivotsFrom : ℕ → Goal → Work → ℕ
-pivotsFrom zero g w = 0
-pivotsFrom (suc left) g w = elim (turn g w) [ none ↦ 0 | some v ↦ suc (pivotsFrom left g v) ]
+unfoldable pub pivotsFrom : ℕ → Rule → Work → ℕ
+pivotsFrom zero r w = 0
+pivotsFrom (suc left) r w = elim (turn r w) [ none ↦ 0 | some v ↦ suc (pivotsFrom left r v) ]
 
 -- the pivots that a pass makes
 unfoldable pub pivotsOf : PassStart → ℕ
-pivotsOf p = pivotsFrom (p .left) (p .goal) (p .work)
+pivotsOf p = pivotsFrom (p .left) (p .rule) (p .work)
 
 -- ---- the set of basic symbols
 
@@ -110,7 +125,7 @@ allPivots (p ∷ ps) = pivotsOf p + allPivots ps
 -- the pass on the objective of what the steps have come to, with what is left of the budget; none where they refuse before
 unfoldable pub objectivePass : ℕ → (Work → Work) → Outcome Work → List PassStart
 objectivePass budget f (refused n p m) = []
-objectivePass budget f (going v) = record { goal = theObjective; left = budget - v .pivots; work = f v } ∷ []
+objectivePass budget f (going v) = record { rule = optimising theObjective; left = budget - v .pivots; work = f v } ∷ []
 
 -- Add's step 6: the pass on the artificial objective, of a row without a subject that does not hold dummies alone
 unfoldable pub artificialPass : ℕ → Created → List PassStart
@@ -118,7 +133,7 @@ artificialPass budget c =
     let standing : Work = standTemporary (newSymbol Slack (c .work)) (record { work = c .work; row = c .row }) in
     elim (chooseSubject c) [
       | some s ↦ []
-      | none ↦ elim (allDummies c) [ true ↦ [] | false ↦ record { goal = theArtificial; left = budget - standing .pivots; work = standing } ∷ [] ]
+      | none ↦ elim (allDummies c) [ true ↦ [] | false ↦ record { rule = optimising theArtificial; left = budget - standing .pivots; work = standing } ∷ [] ]
     ]
 
 -- Add's passes: step 6's, if it comes to that, and step 7's
@@ -134,7 +149,13 @@ addPasses budget terms constant relation w =
 unfoldable pub removePasses : ℕ → Tag → Float → Work → List PassStart
 removePasses budget tag strength w = objectivePass budget (purgeTag tag) (checkFinite (removeConstraintEffects tag strength w) >>= dropMarker (tag .marker))
 
--- the optimise passes of a call on a state: none where its tests refuse it
+-- Suggest's dual pass, from the rows that the new value has shifted; none where a number is not finite
+unfoldable pub suggestPasses : ℕ → Edit → Float → Work → List PassStart
+suggestPasses budget e new w =
+    let shifted : Work = shiftConstants (e .tag) (new -₆₄ e .suggestion) (marking (wholeIf (wholeWithin constantBound new)) w) in
+    elim (checkFinite shifted) [ refused n p m ↦ [] | going v ↦ record { rule = dual; left = budget; work = v } ∷ [] ]
+
+-- the passes of a call on a state: none where its tests refuse it
 unfoldable pub passesOf : Call → State → List PassStart
 passesOf resets s = []
 passesOf fetches s = []
@@ -143,9 +164,10 @@ passesOf (removes n b) s = elim (findConstraint n (s .constraints)) [ none ↦ [
 passesOf (addsEdit v k b) s =
     elim (firstRefusal (addEditTests v (clip k) s)) [ some x ↦ [] | none ↦ addPasses b (editTerms v) zero64 (equal (clip k)) (begin s) ]
 passesOf (removesEdit v b) s = elim (findEdit v (s .edits)) [ none ↦ [] | some e ↦ removePasses b (e .tag) (e .strength) (begin s) ]
-passesOf (suggests v x b) s = []
+passesOf (suggests v x b) s =
+    elim (isFinite x) [ false ↦ [] | true ↦ elim (findEdit v (s .edits)) [ none ↦ [] | some e ↦ suggestPasses b e x (begin s) ] ]
 
--- an add or a removal, of a constraint or an edit, with its budget
+-- an add or a removal, of a constraint or an edit, or a suggestion, with its budget
 unfoldable pub budgetOf : Call → Option ℕ
 budgetOf resets = none
 budgetOf fetches = none
@@ -153,11 +175,11 @@ budgetOf (adds n ts k r b) = some b
 budgetOf (removes n b) = some b
 budgetOf (addsEdit v k b) = some b
 budgetOf (removesEdit v b) = some b
-budgetOf (suggests v x b) = none
+budgetOf (suggests v x b) = some b
 
 -- ---- demand 3
 
--- "no optimise pass of an add or a removal holds the same set of basic symbols twice"
+-- "no optimise pass of an add or a removal holds the same set of basic symbols twice"; "a dual pass then never holds the same basic set twice"
 abbrev pub NoReturn : PassStart → Type 0
 NoReturn p = (i j : ℕ) (u v : Work) → i < j → moment i p ≡ some u → moment j p ≡ some v → SameBasics u v → ⊥
 
@@ -177,12 +199,17 @@ Fewer p = pivotsOf p < ways p
 abbrev pub Enough : ℕ → Call → State → Type 0
 Enough b c s = allWays (passesOf c s) ≤ b → make c s .answer .number ≢ 14
 
+-- "and 16 is never given": "a dual pass finds no entering symbol"
+abbrev pub SomeWay : Call → State → Type 0
+SomeWay c s = make c s .answer .number ≢ 16
+
 -- all of it, of a call with the budget b on a state
 pub record Demand3 (b : ℕ) (c : Call) (s : State) : Type 0 where
   pub no-return : All NoReturn (passesOf c s)
   pub level : All Level (passesOf c s)
   pub fewer : All Fewer (passesOf c s)
   pub enough : Enough b c s
+  pub some-way : SomeWay c s
 
 -- "In a whole run": every call before answered yes, and so does this one
 abbrev pub NeverStalls : Type 0

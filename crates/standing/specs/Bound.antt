@@ -50,11 +50,9 @@ plain-stands a t s =
       wide = s .wide;
       few-symbols = s .few-symbols;
       few-rows = s .few-rows;
-      few-entries = s .few-entries;
       few-variables = s .few-variables;
       few-constraints = s .few-constraints;
       few-edits = s .few-edits;
       coded = s .coded;
       fits = fits-plain (s .fits);
-      listed = s .listed;
     }

@@ -13,25 +13,21 @@ use Rattle.keeps.specs.Fits.{FitsW}
 use Rattle.layout.specs.Layout.{Tables, tables, symbolOf}
 use Rattle.choose.specs.declared.Found.the-variants.{At}
 use Rattle.choose.specs.Choose.{placeOf}
-use Rattle.choose.specs.Reading.{symbolsIn, entriesIn}
+use Rattle.choose.specs.Reading.{symbolsIn}
 use Rattle.rows.specs.Place.{PlaceOf}
 use Rattle.rows.specs.Reading.{rowOf}
 use Rattle.moves.specs.Moves.{board}
-use Rattle.moves.specs.Counts.{row-place-between, kept-same, kept-past}
-use Rattle.moves.specs.Entries.{pushed-below-same}
-use Rattle.moves.specs.Rows as moved
-use Rattle.moves.specs.Room.{Held}
+use Rattle.moves.specs.Counts.{row-place-between, kept-same}
 use Rattle.tableau.specs.Notes.{Noted, noted, changed-if-head}
 use Rattle.tableau.specs.NotesRead.{changed-if-length}
 use Rattle.tableau.specs.NotesKept.{ItemsKept, items-then, items-by, note-kept, note-rows-kept}
-use Rattle.tableau.specs.Substituting.{Substitution, substituteOf, pushedOf, noteRows-head}
+use Rattle.tableau.specs.Substituting.{Substitution, substituteOf}
 use Rattle.tableau.specs.Pivoting.{entersNoted, noteEntering, keepEntering, enterOf}
-use Rattle.tableau.specs.Working.{workOf, Ready, symbols-by, entries-same, ready-after}
-use Rattle.tableau.specs.Pushed.{Room, ready-whole, whole-head}
+use Rattle.tableau.specs.Working.{workOf, Ready, whole-head, ready-after}
 use Rattle.tableau.specs.EnterRead.{enter-read, ready-entered}
 use Rattle.standing.specs.Standing.{Standing, Beside}
 use Rattle.standing.specs.Places.{ready-of, place-of-found}
-use Rattle.standing.specs.Kept.{standing-by, beside-by, push-room, pushes-stay, listed-by}
+use Rattle.standing.specs.Kept.{standing-by, beside-by}
 
 -- the tables after: `o` of an enterOf or a pivotOf
 abbrev pub left : Substitution → List (List Float) → Tables
@@ -45,55 +41,30 @@ module _ (art : Bool) (a : Mark) (h : List ℕ) (n : List (List ℕ)) (reals w :
   abbrev sub : Substitution
   sub = substituteOf art (1 + j) row (noted h n) w
 
-  sub-same : (q : ℕ) → (q ≡ 7 → ⊥) → getD (sub .head) q 0 ≡ getD h q 0
-  unfolding substituteOf
-  sub-same q c = noteRows-head (1 + j) (getD h 2 0) row w (noted h n) q c
-
   sub-ready : Ready (sub .head) (sub .names) (sub .rows)
   sub-ready = ready-after (code / 4) j row h n reals w ready long p art
 
-  sub-held : Held (entriesIn (sub .head)) (s .listed .seen)
-  sub-held = rw (entries-same (sub .head) h sub-same) (s .listed .held)
-
-  -- the list has room for the pushes
-  pub entering-room : Room (sub .head) (sub .rows)
-  entering-room = push-room art a h n reals w s (sub .head) (sub .rows) (sub-ready .head-long) sub-same sub-held
-
-  abbrev pushed : Substitution
-  pushed = pushedOf sub
-
-  pushed-ready : Ready (pushed .head) (pushed .names) (pushed .rows)
-  pushed-ready = ready-whole (code / 4) j row h n reals w ready long p art entering-room
-
-  pushed-kept : ItemsKept (noted h n) (noted (pushed .head) (pushed .names))
-  unfolding pushedOf substituteOf
-  pushed-kept =
-      items-then (note-rows-kept (1 + j) (getD h 2 0) row w (noted h n))
-      (items-by (sub .head) (pushed .head) (sub .names) λ q c d. pushed-below-same (sub .head) (sub .rows) (sub-ready .head-long) (entering-room .fits) q (omega (arith, c)) (omega (arith, d)))
-
-  pushed-held : Held (entriesIn (pushed .head)) (s .listed .seen)
-  unfolding pushedOf
-  pushed-held = pushes-stay art a h n reals w s (sub .head) (sub .rows) (sub-ready .head-long) sub-same sub-held
+  sub-kept : ItemsKept (noted h n) (noted (sub .head) (sub .names))
+  unfolding substituteOf
+  sub-kept = note-rows-kept (1 + j) (getD h 2 0) row w (noted h n)
 
   -- ---- the note
 
   abbrev t : Noted
-  t = noteEntering code row pushed
+  t = noteEntering code row sub
 
-  t-same : (q : ℕ) → (q ≡ 7 → ⊥) → getD (t .head) q 0 ≡ getD (pushed .head) q 0
+  t-long : length (t .head) ≡ 196
   unfolding noteEntering
-  t-same q c = changed-if-head (entersNoted code (getD row 0 nan)) (code / 4) (noted (pushed .head) (pushed .names)) q c
-
-  t-long : length (t .head) ≡ 326
-  unfolding noteEntering
-  t-long = changed-if-length (entersNoted code (getD row 0 nan)) (code / 4) (noted (pushed .head) (pushed .names)) ∙ pushed-ready .head-long
+  t-long = changed-if-length (entersNoted code (getD row 0 nan)) (code / 4) (noted (sub .head) (sub .names)) ∙ sub-ready .head-long
 
   t-kept : ItemsKept (noted h n) t
   unfolding noteEntering
-  t-kept = items-then pushed-kept (note-kept (entersNoted code (getD row 0 nan)) (code / 4) (noted (pushed .head) (pushed .names)))
+  t-kept = items-then sub-kept (note-kept (entersNoted code (getD row 0 nan)) (code / 4) (noted (sub .head) (sub .names)))
 
-  t-head : (q : ℕ) → (q ≡ 3 → ⊥) → (q ≡ 7 → ⊥) → q < 196 → getD (t .head) q 0 ≡ getD h q 0
-  t-head q c d e = t-same q d ∙ whole-head (code / 4) j row h n reals w ready long p art entering-room q c d e
+  t-head : (q : ℕ) → (q ≡ 7 → ⊥) → getD (t .head) q 0 ≡ getD h q 0
+  unfolding noteEntering
+  t-head q c =
+      changed-if-head (entersNoted code (getD row 0 nan)) (code / 4) (noted (sub .head) (sub .names)) q c ∙ whole-head (code / 4) j row h n reals w ready long p art q c
 
   -- ---- the row kept
 
@@ -102,39 +73,25 @@ module _ (art : Bool) (a : Mark) (h : List ℕ) (n : List (List ℕ)) (reals w :
     o = enterOf art code (1 + j) row (noted h n) w
 
     t-fit : getD (t .head) 2 0 < 49
-    t-fit = rw (t-head 2 (omega arith) (omega arith) (omega arith)) fit
+    t-fit = rw (t-head 2 (omega arith)) fit
 
     kept-place : (q : ℕ) → (q ≡ 2 → ⊥) → q < 146 → getD (o .head) q 0 ≡ getD (t .head) q 0
     unfolding enterOf keepEntering
     kept-place q c e =
-        let b = row-place-between (board (t .head) (pushed .rows)) t-long (code / 4) in
-        kept-same (board (t .head) (pushed .rows)) t-long code row t-fit q c (omega (arith, e, b .0))
+        let b = row-place-between (board (t .head) (sub .rows)) t-long (code / 4) in
+        kept-same (board (t .head) (sub .rows)) t-long code row t-fit q c (omega (arith, e, b .0))
 
     entered-kept : ItemsKept (noted h n) (noted (o .head) (o .names))
     unfolding enterOf keepEntering
     entered-kept = items-then t-kept (items-by (t .head) (o .head) (t .names) λ q c d. kept-place q (omega (arith, c)) (omega (arith, d)))
 
-    entered-held : Held (entriesIn (o .head)) (s .listed .seen)
-    unfolding enterOf keepEntering
-    entered-held =
-        rw (
-          moved.entries-same (t .head) (o .head) (kept-place 3 (omega arith) (omega arith))
-              (λ i b. kept-past (board (t .head) (pushed .rows)) t-long code row t-fit (196 + i) (omega (arith, t-fit))),
-          entries-same (t .head) (pushed .head) t-same,
-        ) pushed-held
-
-    entered-symbols : symbolsIn (o .head) ≡ symbolsIn h
-    entered-symbols =
-        let same : (q : ℕ) → (q ≡ 2 → ⊥) → (q ≡ 3 → ⊥) → (q ≡ 7 → ⊥) → q < 146 → getD (o .head) q 0 ≡ getD h q 0 = λ q b c d e. kept-place q b e ∙ t-head q c d (omega (arith, e)) in
-        symbols-by (o .head) h (same 1 (omega arith) (omega arith) (omega arith) (omega arith)) λ i b. same (16 + i) (omega arith) (omega arith) (omega arith) (omega (arith, b, s .few-symbols))
-
     pub entering-reads : (v : ℕ) → workOf art (worse a (o .mark)) v (left o reals) ≡ enterBasis (symbolOf code) (rowOf (getD h 1 0) row) (workOf art a v (tables h n reals w))
-    entering-reads v = enter-read code j row h n reals w ready long p art entering-room fit a v
+    entering-reads v = enter-read code j row h n reals w ready long p art fit a v
 
     pub entering-stands : FitsW (workOf art (worse a (o .mark)) 0 (left o reals)) → Standing art (worse a (o .mark)) (left o reals)
     entering-stands f =
         standing-by art a h n reals w s art (worse a (o .mark)) (o .head) (o .names) (o .rows)
-        (ready-entered code j row h n reals w ready long p art entering-room fit) entered-kept f (listed-by h (o .head) (s .listed) entered-held entered-symbols)
+        (ready-entered code j row h n reals w ready long p art fit) entered-kept f
 
     pub entering-beside : Beside (tables h n reals w) (left o reals)
     entering-beside = beside-by art a h n reals w s (o .head) (o .names) (o .rows) entered-kept

@@ -9,11 +9,8 @@ use lib.Ieee.{Float}
 use Rattle.steps.specs.Number.{Mark, isFinite}
 use Rattle.steps.specs.State.{Term}
 use Rattle.steps.specs.Tests.{keptTerms, newVariables}
-use Rattle.keeps.specs.Along.{ids}
 use Rattle.keeps.specs.Good.{Good}
 use Rattle.layout.specs.Layout.{Tables, nextIdOf, symbolCount, rowCount, variablesOf}
-use Rattle.choose.specs.Reading.{symbolsIn, entriesIn}
-use Rattle.moves.specs.Room.{Held}
 use Rattle.tableau.specs.Working.{workOf}
 use Rattle.standing.specs.Standing.{Standing}
 
@@ -26,8 +23,6 @@ pub record Opening (a : Mark) (terms : List Term) (constant : Float) (t : Tables
   pub K : ℕ → ℕ
   pub U : ℕ → ℕ
   pub good : Good K U (workOf false a 0 t)
-  -- in a stored state the list's entries are live symbols
-  pub entries : Held (entriesIn (t .head)) (ids (symbolsIn (t .head)))
   pub finite : isFinite constant ≡ true
   pub few-terms : length terms ≤ 16
   pub few-rows : rowCount (t .head) ≤ 47

@@ -16,13 +16,12 @@ use Rattle.keeps.specs.Pivots.{pivot-fits}
 use Rattle.layout.specs.Layout.{Tables, tables, symbolOf, cellsOf}
 use Rattle.choose.specs.declared.Found.the-variants.{At}
 use Rattle.choose.specs.Choose as choose
-use Rattle.choose.specs.Reading.{symbolsIn, basicsIn, entriesIn}
+use Rattle.choose.specs.Reading.{symbolsIn, basicsIn}
 use Rattle.rows.specs.Marks.{worse-unit, worse-assoc}
 use Rattle.rows.specs.Place.{PlaceOf}
 use Rattle.rows.specs.Stays.{length-solveForSymbolsIn}
 use Rattle.moves.specs.Moves.{Board, board, droppedRow}
-use Rattle.moves.specs.Counts.{dropped-same, dropped-past, dropped-rows}
-use Rattle.moves.specs.Rows as moved
+use Rattle.moves.specs.Counts.{dropped-same, dropped-rows}
 use Rattle.tableau.specs.Notes.{noted}
 use Rattle.tableau.specs.NotesRead.{changesIn}
 use Rattle.tableau.specs.NotesKept.{ItemsKept, items-by}
@@ -32,8 +31,8 @@ use Rattle.tableau.specs.Working.{workOf, work, artificialIn, work-parts, symbo
 use Rattle.tableau.specs.PivotRead.{ready-dropped, drop-read, pivot-read}
 use Rattle.standing.specs.Standing.{Standing, Beside, beside-then}
 use Rattle.standing.specs.Places.{fits-parts, ready-of, place-of-symbol, place-of-found, symbol-live, row-found}
-use Rattle.standing.specs.Kept.{standing-by, beside-by, listed-same, standing-worse}
-use Rattle.standing.specs.Entered.{left, entering-room, entering-stands, entering-beside}
+use Rattle.standing.specs.Kept.{standing-by, beside-by, standing-worse}
+use Rattle.standing.specs.Entered.{left, entering-stands, entering-beside}
 
 marking-none : (x : Work) → marking allWhole x ≡ x
 unfolding marking
@@ -66,11 +65,6 @@ module _ (art : Bool) (a : Mark) (h : List ℕ) (n : List (List ℕ)) (reals w :
   pub drop-symbols : symbolsIn (out .head) ≡ symbolsIn h
   drop-symbols = symbols-by (out .head) h (drop-same 1 (omega arith) (omega arith)) λ k b. drop-same (16 + k) (omega arith) (omega (arith, b, s .few-symbols))
 
-  drop-entries : entriesIn (out .head) ≡ entriesIn h
-  drop-entries =
-      moved.entries-same h (out .head) (drop-same 3 (omega arith) (omega arith)) λ k b.
-      dropped-past (board h w) (ready .head-long) i (ready .few-rows) low high (196 + k) (omega (arith, s .few-rows))
-
   drop-kept : ItemsKept (noted h n) (noted (out .head) n)
   drop-kept = items-by h (out .head) n λ q c d. drop-same q (omega (arith, c)) (omega (arith, d))
 
@@ -81,7 +75,6 @@ module _ (art : Bool) (a : Mark) (h : List ℕ) (n : List (List ℕ)) (reals w :
   pub drop-stands : Standing art a dropped
   drop-stands =
       standing-by art a h n reals w s art a (out .head) n (out .rows) (ready-dropped i h n w ready low high) drop-kept (subst FitsW (sym (drop-reads 0)) drop-fits)
-      (listed-same h (out .head) (s .listed) drop-entries drop-symbols)
 
   pub drop-beside : Beside (tables h n reals w) dropped
   drop-beside = beside-by art a h n reals w s (out .head) n (out .rows) drop-kept
@@ -129,8 +122,7 @@ module _ (art : Bool) (a : Mark) (h : List ℕ) (n : List (List ℕ)) (reals w :
 
   pub pivoting-reads : (v : ℕ) → workOf art (worse a (o .mark)) v (left o reals) ≡ pivot l (symbolOf code) (workOf art a v (tables h n reals w))
   pivoting-reads v =
-      pivot-read l i t j h n reals w (ready-of art a h n reals w s) low high (row-found art a h n reals w s i low high) found place art
-      (entering-room art (worse a m) (b .head) n reals (b .rows) s₁ code j row row-long place₁) a v
+      pivot-read l i t j h n reals w (ready-of art a h n reals w s) low high (row-found art a h n reals w s i low high) found place art a v
 
   pub pivoting-stands : FitsW (pivot l (symbolOf code) (workOf art a 0 (tables h n reals w))) → Standing art (worse a (o .mark)) (left o reals)
   unfolding pivotOf withMark
@@ -179,7 +171,7 @@ module _ (art : Bool) (a : Mark) (h : List ℕ) (n : List (List ℕ)) (reals w :
     pivoted-fits =
         subst (λ (x : Work). FitsW (pivot (getD h (145 + i) 0 / 4) (symbolOf (getD h (15 + p) 0)) x)) (sym (work-parts art a 0 h n reals w))
         (pivot-fits (getD h (145 + i) 0 / 4) (symbolOf (getD h (15 + p) 0))
-        (work (symbolsIn h) (getD h 0 0) (basicsIn h w) (cellsOf (getD h 1 0) (getD w 0 [])) (entriesIn h) (changesIn reals (noted h n)) (artificialIn art h w) a 0)
+        (work (symbolsIn h) (getD h 0 0) (basicsIn h w) (cellsOf (getD h 1 0) (getD w 0 [])) (changesIn reals (noted h n)) (artificialIn art h w) a 0)
         (fits-parts art a h n reals w s) free (symbol-live h p low₁ high₁))
 
     pub pivot-stands : Standing art (worse a (pivoted .mark)) (left pivoted reals)

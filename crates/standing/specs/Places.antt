@@ -25,9 +25,16 @@ use Rattle.choose.specs.Choose.{Within, onFound, idAt, placeOf, rowOf}
 use Rattle.choose.specs.Own.{first-within, Ascends, own-place}
 use Rattle.choose.specs.Reading.{symbolsIn, basicsIn}
 use Rattle.rows.specs.Place.{PlaceOf, place-from}
-use Rattle.moves.specs.Room.{by-eqb}
 use Rattle.tableau.specs.Working.{artificialIn, work-parts, length-symbols, Ready}
 use Rattle.standing.specs.Standing.{Standing}
+
+-- by whether two numbers are the same
+pub by-eqb : (P : Type 0) (x y : ℕ) → (x ≡ y → P) → (eqb x y ≡ false → P) → P
+by-eqb P x y u v = go (eqb x y) refl
+  where
+    go : (b : Bool) → eqb x y ≡ b → P
+    go true e = u (eqb-true x y e)
+    go false e = v e
 
 -- ---- lists that are read place by place
 

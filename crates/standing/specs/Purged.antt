@@ -2,40 +2,34 @@
 -- Assumes nothing.
 use Prim.Native.Nat.{ℕ, _+_, _/_, _≤_, _<_}
 use mathlib.Core.Path.{_≡_, refl, sym, ap, _∙_, subst}
-use mathlib.Core.Bool.{Bool, true, false, _||_}
-use mathlib.Core.List.{List, [], _∷_}
+use mathlib.Core.Bool.{Bool, false}
+use mathlib.Core.List.{List, []}
 use native.Mathlib.Omega.{arith}
 use lib.Dec.{eqb}
-use borrow.Author.Tests.{eq-eqb}
 use lib.ListN.{length, getD}
 use lib.Ieee.{Float, nan}
 use Rattle.steps.specs.Number.{Mark}
-use Rattle.steps.specs.Symbol.{Symbol, isSymbol, deleteSymbol}
-use Rattle.steps.specs.State.{Tableau}
 use Rattle.steps.specs.Work.{Work, withTableau, withRows, dropRow, purge}
-use Rattle.steps.specs.Tests.{member}
 use Rattle.laws.specs.Places.{length-mapIn}
-use Rattle.keeps.specs.Along.{ids}
 use Rattle.keeps.specs.Fits.{FitsW, fits-purge, fits-plain}
 use Rattle.layout.specs.Layout.{tables}
 use Rattle.choose.specs.declared.Found.{Found}
 use Rattle.choose.specs.declared.Found.the-variants.{At, Nothing}
 use Rattle.choose.specs.Choose.{Within, onFound, idAt, placeOf}
 use Rattle.choose.specs.Own.{first-within}
-use Rattle.choose.specs.Reading.{symbolsIn, entriesIn, tableauIn}
+use Rattle.choose.specs.Reading.{tableauIn}
 use Rattle.moves.specs.Close.{closed}
 use Rattle.moves.specs.Moved.{closed-after, length-closed}
 use Rattle.moves.specs.Moves.{Board, board, droppedRow, dropRowOf, closedColumns, closedColumn, closeColumnOf, purgeOf}
 use Rattle.moves.specs.Counts.{row-by, dropped-same, column-length, column-same, column-symbols}
 use Rattle.moves.specs.Rows.{drop-of-tableau}
 use Rattle.moves.specs.Purge.{purged-tableau}
-use Rattle.moves.specs.Room.{Among, or-left, or-right, or-other, by-eqb}
 use Rattle.tableau.specs.Notes.{noted}
 use Rattle.tableau.specs.NotesRead.{changesIn}
 use Rattle.tableau.specs.NotesKept.{ItemsKept, items-by, keeps-mapIn}
 use Rattle.tableau.specs.Working.{workOf, artificialIn, changes-by, Ready}
 use Rattle.tableau.specs.EnterRead.{workBy, work-is}
-use Rattle.standing.specs.Standing.{Listed, Standing, Beside, beside-same}
+use Rattle.standing.specs.Standing.{Standing, Beside, beside-same}
 use Rattle.standing.specs.Places.{ready-of}
 use Rattle.standing.specs.Kept.{standing-by, beside-by}
 use Rattle.standing.specs.Pivoted.{drop-stands, drop-beside}
@@ -131,18 +125,6 @@ module _ (h : List ℕ) (n : List (List ℕ)) (w : List (List Float)) (r : Ready
 
 -- ---- "a gone symbol's row, place and cells go"
 
-delete-among : (s : ℕ) (xs : List Symbol) → Among (ids (deleteSymbol s xs)) (ids xs)
-unfolding deleteSymbol member
-delete-among s [] y h = h
-delete-among s (x ∷ xs) y h = go (isSymbol s x) h (λ k. delete-among s xs y k)
-  where
-    go : (b : Bool) → member y (ids (elim b [ true ↦ xs | false ↦ x ∷ deleteSymbol s xs ])) ≡ true → (member y (ids (deleteSymbol s xs)) ≡ true → member y (ids xs) ≡ true)
-        → eqb y (x .id) || member y (ids xs) ≡ true
-    go true k rest = or-right (eqb y (x .id)) (member y (ids xs)) k
-    go false k rest =
-        by-eqb (eqb y (x .id) || member y (ids xs) ≡ true) y (x .id) (λ e. or-left (eqb y (x .id)) (member y (ids xs)) (eq-eqb y (x .id) e))
-        (λ e. or-right (eqb y (x .id)) (member y (ids xs)) (rest (or-other (eqb y (x .id)) (member y (ids (deleteSymbol s xs))) e k)))
-
 module _ (a : Mark) (h : List ℕ) (n : List (List ℕ)) (reals w : List (List Float)) (s : Standing false a (tables h n reals w)) (id : ℕ) where
   abbrev gone : Board
   gone = purgeOf id (board h w)
@@ -187,16 +169,8 @@ module _ (a : Mark) (h : List ℕ) (n : List (List ℕ)) (reals w : List (List F
   unfolding purge withTableau workOf
   purge-fits = fits-purge id _ _ _ _ a (fits-plain (s .fits))
 
-  purge-listed : Listed (gone .head)
-  unfolding workBy purge withTableau tableauIn
-  purge-listed =
-      let l = s .listed in
-      let symbols : symbolsIn (gone .head) ≡ deleteSymbol id (symbolsIn h) = ap (λ (t : Tableau). t .symbols) (purge-tableau 0) in
-      let entries : entriesIn (gone .head) ≡ entriesIn h = ap (λ (t : Tableau). t .infeasible) (purge-tableau 0) in
-      record { seen = l .seen; few = l .few; held = rw entries (l .held); live = rw symbols (λ y e. l .live y (delete-among id (symbolsIn h) y e)) }
-
   pub purge-stands : Standing false a (tables (gone .head) n reals (gone .rows))
-  purge-stands = standing-by false a h n reals w s false a (gone .head) n (gone .rows) (stays .0) purge-kept (subst FitsW (sym (purge-reads 0)) purge-fits) purge-listed
+  purge-stands = standing-by false a h n reals w s false a (gone .head) n (gone .rows) (stays .0) purge-kept (subst FitsW (sym (purge-reads 0)) purge-fits)
 
   pub purge-beside : Beside (tables h n reals w) (tables (gone .head) n reals (gone .rows))
   purge-beside = beside-by false a h n reals w s (gone .head) n (gone .rows) purge-kept

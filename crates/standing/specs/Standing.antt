@@ -1,25 +1,13 @@
--- Tables on which the steps of a call may work: their lengths and counts, flags that are 0 or 1, the tableau's shape, and room on the infeasible list.
+-- Tables on which the steps of a call may work: their lengths and counts, flags that are 0 or 1, and the tableau's shape.
 -- Assumes nothing.
-use Prim.Native.Nat.{ℕ, _≤_}
+use Prim.Native.Nat.{_≤_}
 use mathlib.Core.Path.{_≡_, refl, _∙_}
 use mathlib.Core.Bool.{Bool}
-use mathlib.Core.List.{List}
-use lib.ListN.{length}
 use Rattle.steps.specs.Number.{Mark}
-use Rattle.keeps.specs.Along.{ids}
 use Rattle.keeps.specs.Fits.{FitsW}
-use Rattle.layout.specs.Layout.{Tables, symbolCount, rowCount, entryCount, variableCount, constraintCount, editCount, constraintsOf, editsOf}
+use Rattle.layout.specs.Layout.{Tables, symbolCount, rowCount, variableCount, constraintCount, editCount, constraintsOf, editsOf}
 use Rattle.layout.specs.Rooms.{Lengths, Wide, Coded}
-use Rattle.choose.specs.Reading.{symbolsIn, entriesIn}
-use Rattle.moves.specs.Room.{Among, Held}
 use Rattle.tableau.specs.Working.{workOf}
-
--- the list's entries are distinct and, as the live symbols are, among at most 129 ids that were live in this call
-pub record Listed (h : List ℕ) : Type 0 where
-  pub seen : List ℕ
-  pub few : length seen ≤ 129
-  pub held : Held (entriesIn h) seen
-  pub live : Among (ids (symbolsIn h)) seen
 
 -- `art` says whether an artificial objective stands in row 50, `a` is the mark of what the call wrote so far
 pub record Standing (art : Bool) (a : Mark) (t : Tables) : Type 0 where
@@ -27,13 +15,11 @@ pub record Standing (art : Bool) (a : Mark) (t : Tables) : Type 0 where
   pub wide : Wide t
   pub few-symbols : symbolCount (t .head) ≤ 129
   pub few-rows : rowCount (t .head) ≤ 49
-  pub few-entries : entryCount (t .head) ≤ 130
   pub few-variables : variableCount (t .head) ≤ 32
   pub few-constraints : constraintCount (t .head) ≤ 48
   pub few-edits : editCount (t .head) ≤ 48
   pub coded : Coded t
   pub fits : FitsW (workOf art a 0 t)
-  pub listed : Listed (t .head)
 
 -- what the steps leave alone of the tables: the stored constraints and edits
 pub record Beside (t u : Tables) : Type 0 where

@@ -9,7 +9,7 @@ use Rattle.steps.specs.Number.{zero64, Mark, allWhole, notWhole, notFini
 use Rattle.steps.specs.Symbol.{Symbol, isExternal}
 use Rattle.steps.specs.Row.{Row}
 use Rattle.steps.specs.State.{Basic}
-use Rattle.steps.specs.Work.{Work, withTableau, withChanges, withArtificial, marking, withRows, withObjective, withInfeasible, findRow, appendSymbol, purge}
+use Rattle.steps.specs.Work.{Work, withTableau, withChanges, withArtificial, marking, withRows, withObjective, findRow, appendSymbol, purge}
 use Rattle.steps.specs.Changes.{note}
 use Rattle.steps.specs.Substitute.{substitute, enterBasis, pivot}
 
@@ -54,10 +54,6 @@ pub rows-after : (rs : List Basic) (w : Work) → After w (withRows rs w)
 unfolding withRows withTableau
 rows-after rs w = same w (withRows rs w) refl refl
 
-pub infeasible-after : (l : List ℕ) (w : Work) → After w (withInfeasible l w)
-unfolding withInfeasible withTableau
-infeasible-after l w = same w (withInfeasible l w) refl refl
-
 pub artificial-after : (a : Option Row) (w : Work) → After w (withArtificial a w)
 unfolding withArtificial
 artificial-after a w = same w (withArtificial a w) refl refl
@@ -82,7 +78,7 @@ cond-after false w x y f g = g
 -- ---- substitution and pivots
 
 pub substitute-after : (s : ℕ) (row : Row) (w : Work) → After w (substitute s row w)
-unfolding substitute marking withArtificial withChanges withInfeasible withObjective withRows withTableau
+unfolding substitute marking withArtificial withChanges withObjective withRows withTableau
 substitute-after s row w = record { pivots = refl; mark = worse-first (w .mark) _ }
 
 pub enter-after : (s : Symbol) (row : Row) (w : Work) → After w (enterBasis s row w)

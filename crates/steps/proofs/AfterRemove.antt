@@ -8,7 +8,7 @@ use Rattle.steps.specs.Number.{zero64}
 use Rattle.steps.specs.Symbol.{Symbol, isExternal, isError}
 use Rattle.steps.specs.Row.{Row}
 use Rattle.steps.specs.State.{Term, Tag}
-use Rattle.steps.specs.Work.{Work, withTableau, withChanges, marking, withRows, withObjective, withInfeasible, findRow, purge}
+use Rattle.steps.specs.Work.{Work, withTableau, withChanges, marking, withRows, withObjective, findRow, purge}
 use Rattle.steps.specs.Changes.{note}
 use Rattle.steps.specs.CreateRow.{insertInObjective}
 use Rattle.steps.specs.Remove.{insertRowInObjective, removeMarkerEffects, removeConstraintEffects, noteLeaving, purgeTag, useLess, dropUse, dropUses}
@@ -70,5 +70,5 @@ dropUses-after (t ∷ ts) w = after-trans (dropUse-after t w) (dropUses-after ts
 -- ---- suggest
 
 pub shift-after : (tag : Tag) (delta : Float) (w : Work) → After w (shiftConstants tag delta w)
-unfolding shiftConstants marking withChanges withInfeasible withRows withTableau
+unfolding shiftConstants marking withChanges withRows withTableau
 shift-after tag delta w = record { pivots = refl; mark = worse-first (w .mark) _ }

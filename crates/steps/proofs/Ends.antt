@@ -4,14 +4,14 @@ use Prim.Native.Nat.{ℕ, zero, suc, _+_, _-_, _≤_}
 use native.Mathlib.Omega.{arith}
 use mathlib.Core.Path.{_≡_, refl, ap}
 use mathlib.Core.Bool.{Bool, true, not}
-use mathlib.Core.List.{List, []}
+use mathlib.Core.List.{List}
 use lib.Dec.{T, T-not, eqb, eqb-refl}
 use Rattle.steps.specs.Number.{Mark, allWhole, notWhole, notFinite}
-use Rattle.steps.specs.Work.{Work, Outcome, refused, going, _>>=_, refuse, checkFinite, countPivot, withInfeasible}
+use Rattle.steps.specs.Work.{Work, Outcome, refused, going, _>>=_, refuse, checkFinite, countPivot}
 use Rattle.steps.specs.Substitute.{pivot}
-use Rattle.steps.specs.Optimise.{Goal, Choice, ended, stuck, pivotOn, choosePivot, countedPivot, optimise, DualChoice, feasible, noEntering, dualPivotOn, chooseDualPivot, countedDualPivot, dualOptimise}
+use Rattle.steps.specs.Optimise.{Goal, Choice, ended, stuck, pivotOn, choosePivot, countedPivot, optimise, chooseDualPivot, dualOptimise}
 use Rattle.steps.specs.Tests.{member}
-use Rattle.steps.proofs.After.{After, after-trans, infeasible-after, pivot-after}
+use Rattle.steps.proofs.After.{After, pivot-after}
 
 -- what the steps of a call are held to: its budget, the stored mark, and the numbers by which they may refuse
 pub record Bounds : Type 0 where
@@ -118,21 +118,21 @@ optimises {lim} g13 g14 g15 (suc left) goal w b h = go (choosePivot goal w) λ v
 
 -- a dual pass: 13, 14, 16, or its end
 pub dualOptimises : {lim : Bounds} → Gives lim 13 → Gives lim 14 → Gives lim 16 → (left : ℕ) (w : Work) → w .pivots + left ≡ lim .budget → Within lim w → Ends lim (Within lim) (dualOptimise left w)
-unfolding dualOptimise countedDualPivot
+unfolding dualOptimise countedPivot
 dualOptimises {lim} g13 g14 g16 zero w b h = go (chooseDualPivot w)
   where
-    go : (c : DualChoice) → Ends lim (Within lim) (elim c [ feasible ↦ going (withInfeasible [] w) | noEntering ↦ refuse 16 w | dualPivotOn s l e ↦ refuse 14 w ])
-    go feasible = goes (within-after (infeasible-after [] w) h)
-    go noEntering = refuses (Within lim) 16 w tt tt g16 h
-    go (dualPivotOn s l e) = used-up w g14 b h
+    go : (c : Choice) → Ends lim (Within lim) (elim c [ ended ↦ going w | stuck ↦ refuse 16 w | pivotOn l e ↦ refuse 14 w ])
+    go ended = goes h
+    go stuck = refuses (Within lim) 16 w tt tt g16 h
+    go (pivotOn l e) = used-up w g14 b h
 dualOptimises {lim} g13 g14 g16 (suc left) w b h = go (chooseDualPivot w) λ v p f. dualOptimises g13 g14 g16 left v p f
   where
-    go : (c : DualChoice) → ((v : Work) → v .pivots + left ≡ lim .budget → Within lim v → Ends lim (Within lim) (dualOptimise left v))
-        → Ends lim (Within lim) (elim c [ feasible ↦ going (withInfeasible [] w) | noEntering ↦ refuse 16 w | dualPivotOn s l e ↦ countedDualPivot s l e w >>= λ v. dualOptimise left v ])
-    go feasible on = goes (within-after (infeasible-after [] w) h)
-    go noEntering on = refuses (Within lim) 16 w tt tt g16 h
-    go (dualPivotOn s l e) on =
-        bind (λ v. dualOptimise left v) (pivots-once w _ (after-trans (infeasible-after l w) (pivot-after s e _)) g13 (omega (arith, b)) h)
+    go : (c : Choice) → ((v : Work) → v .pivots + left ≡ lim .budget → Within lim v → Ends lim (Within lim) (dualOptimise left v))
+        → Ends lim (Within lim) (elim c [ ended ↦ going w | stuck ↦ refuse 16 w | pivotOn l e ↦ countedPivot l e w >>= λ v. dualOptimise left v ])
+    go ended on = goes h
+    go stuck on = refuses (Within lim) 16 w tt tt g16 h
+    go (pivotOn l e) on =
+        bind (λ v. dualOptimise left v) (pivots-once w (pivot (l .id) e w) (pivot-after (l .id) e w) g13 (omega (arith, b)) h)
         (λ v f. on v (omega (arith, b, f .1)) (f .0))
 
 -- the pass that a call makes with what is left of its budget

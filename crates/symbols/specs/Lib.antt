@@ -1,4 +1,4 @@
--- The tableau's part of the reading test: symbols, rows and the infeasible list, place by place.
+-- The tableau's part of the reading test: symbols and rows, place by place.
 pub mod Symbols
 pub mod Order
 pub mod Marks

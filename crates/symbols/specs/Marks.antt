@@ -21,7 +21,7 @@ use Rattle.places.specs.Finding.{all-at, at-all}
 use Rattle.places.specs.Listed.{join, same}
 use Rattle.places.specs.Shares.{finiteIn}
 use Rattle.places.specs.Marked.{markOf, cellFits, marked, Marks, fitsIn, mark-told, fit-finite, fit-absent, it-fits, fits-at, at-fits}
-use Rattle.symbols.specs.Symbols.{idsAscend, placeOf, columnClear, basicFits, basicsFit, rowFinite, rowsFinite, entriesFit, tableauFits}
+use Rattle.symbols.specs.Symbols.{idsAscend, placeOf, columnClear, basicFits, basicsFit, rowFinite, rowsFinite, tableauFits}
 
 unfoldable pub noMarks : List Float
 noMarks = replicate 130 zero64
@@ -239,10 +239,10 @@ module _ (h : List ℕ) (w : List (List Float)) (k r : ℕ) (few : k ≤ 129) wh
   pub walk-fits : basicsLive h k r && cellsFit w (marksOf h k r noMarks) k r ≡ basicsFit h w k r && finiteIn (getD w 0 []) cellsAt k && rowsFinite w k r
   walk-fits = same _ _ walk-parts parts-walk
 
-  pub walked-tableau : (q : ℕ) → idsAscend h rowsAt r && basicsLive h k r && cellsFit w (marksOf h k r noMarks) k r && entriesFit h k q ≡ tableauFits h w k r q
+  pub walked-tableau : idsAscend h rowsAt r && basicsLive h k r && cellsFit w (marksOf h k r noMarks) k r ≡ tableauFits h w k r
   unfolding tableauFits
-  walked-tableau q = after (idsAscend h rowsAt r) (basicsLive h k r) (cellsFit w made k r) basics objective rows walk-fits
+  walked-tableau = after (idsAscend h rowsAt r) (basicsLive h k r) (cellsFit w made k r) basics objective rows walk-fits
     where
-      after : (a b c d e f : Bool) → b && c ≡ d && e && f → a && b && c && entriesFit h k q ≡ a && d && e && f && entriesFit h k q
-      after true b c d e f p = ap (λ (x : Bool). x && entriesFit h k q) p
+      after : (a b c d e f : Bool) → b && c ≡ d && e && f → a && b && c ≡ a && d && e && f
+      after true b c d e f p = p
       after false b c d e f p = refl

@@ -1,6 +1,6 @@
 -- The tableau's part of the reading test, place by place. The code runs it so, but for the rows' cells: those it walks once (Marks.antt).
 use Prim.Native.Nat.{ℕ, _+_, _-_, _/_, _%_}
-use mathlib.Core.Bool.{Bool, true, not, _&&_, cond}
+use mathlib.Core.Bool.{Bool, true, _&&_, cond}
 use mathlib.Core.List.{List, []}
 use lib.Dec.{eqb, ltb}
 use lib.ListN.{getD, set, replicate}
@@ -9,7 +9,7 @@ use Rattle.steps.specs.Number.{isFinite}
 use Rattle.steps.specs.Symbol.{absent}
 use Rattle.laws.specs.Loops.{run}
 use Rattle.laws.specs.Lists.{allIn}
-use Rattle.layout.specs.Layout.{symbolsAt, rowsAt, listAt, constraintsAt, editsAt, cellsAt, basicsAt, symbolCode, otherSymbol}
+use Rattle.layout.specs.Layout.{symbolsAt, rowsAt, constraintsAt, editsAt, cellsAt, basicsAt, symbolCode, otherSymbol}
 use Rattle.places.specs.Finding.{placeIn}
 use Rattle.places.specs.Shares.{Shares, shares, take, noneLeft, stock, finiteIn}
 
@@ -51,20 +51,8 @@ rowFinite row k = isFinite (getD row 0 nan) && finiteIn row cellsAt k
 unfoldable pub rowsFinite : List (List Float) → ℕ → ℕ → Bool
 rowsFinite w k r = allIn (λ i. rowFinite (getD w (basicsAt + i) []) k) 0 r
 
--- ---- the list: its entries are distinct ids of live symbols
-
--- none of the entries from i on is x
-unfoldable pub entriesDiffer : List ℕ → ℕ → ℕ → ℕ → Bool
-entriesDiffer h i q x = allIn (λ j. not (eqb x (getD h (listAt + j) 0))) i q
-
-unfoldable pub idsDiffer : List ℕ → ℕ → ℕ → Bool
-idsDiffer h k x = allIn (λ j. not (eqb x (getD h (symbolsAt + j) 0 / 4))) 0 k
-
-unfoldable pub entriesFit : List ℕ → ℕ → ℕ → Bool
-entriesFit h k q = allIn (λ i. entriesDiffer h (i + 1) q (getD h (listAt + i) 0) && not (idsDiffer h k (getD h (listAt + i) 0))) 0 q
-
-unfoldable pub tableauFits : List ℕ → List (List Float) → ℕ → ℕ → ℕ → Bool
-tableauFits h w k r q = idsAscend h rowsAt r && basicsFit h w k r && finiteIn (getD w 0 []) cellsAt k && rowsFinite w k r && entriesFit h k q
+unfoldable pub tableauFits : List ℕ → List (List Float) → ℕ → ℕ → Bool
+tableauFits h w k r = idsAscend h rowsAt r && basicsFit h w k r && finiteIn (getD w 0 []) cellsAt k && rowsFinite w k r
 
 -- ---- owners: each live symbol has one share, and each owner takes one
 

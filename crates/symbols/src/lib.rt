@@ -1,4 +1,4 @@
-// The tableau's part of the reading test: symbols, rows and the infeasible list.
+// The tableau's part of the reading test: symbols and rows.
 ghost use mathlib.Core.Path.{_≡_};
 ghost use mathlib.Core.Bool.{true};
 ghost use Prim.Native.Nat.{_+_, _<_, _≤_};
@@ -7,7 +7,7 @@ ghost use lib.ListN.{getD, length, replicate};
 ghost use Rattle.layout.specs.Layout.{symbolsAt, headSize, itemsSize, rowsSize};
 ghost use Rattle.places.specs.Shares.{shares, stock};
 ghost use Rattle.places.specs.Marked.{Marks};
-ghost use Rattle.symbols.specs.Symbols.{idsAscend, idsBounded, placeOf, slotOf, slotsOf, entriesDiffer, idsDiffer, entriesFit, tableauFits, takeSymbol, takeOther, takeTag, takeVariables, takeTags, noShares, ownedFit};
+ghost use Rattle.symbols.specs.Symbols.{idsAscend, idsBounded, placeOf, slotOf, slotsOf, tableauFits, takeSymbol, takeOther, takeTag, takeVariables, takeTags, noShares, ownedFit};
 ghost use Rattle.symbols.specs.Marks.{noMarks, markAt, marksOf, basicsLive, rowsFit, cellsFit};
 
 pub fn ids_ascend(head: &[u64], a: usize, n: usize) -> bool
@@ -165,73 +165,23 @@ fn cells_fit(rows: &[[f64; 130]], marks: &[f64; 130], k: usize, r: usize) -> boo
     places::row_fits(&rows[layout::OBJECTIVE], marks, 1, 1 + k) & rows_fit(rows, marks, k, r)
 }
 
-// ---- the list
-
-fn entries_differ(head: &[u64], i: usize, q: usize, x: u64) -> bool
-    requires { ⌜ length (now head) ≡ headSize ⌝ }
-    requires { ⌜ q ≤ 130 ⌝ }
-    ensures { λ b. ⌜ b ≡ entriesDiffer (now (head .entry)) i q x ⌝ }
-{
-    let mut ok = true;
-    let mut j = i;
-    while j < q {
-        ok = ok & !(x == head[layout::LIST + j]);
-        j += 1;
-    }
-    ok
-}
-
-fn ids_differ(head: &[u64], k: usize, x: u64) -> bool
-    requires { ⌜ symbolsAt + k ≤ length (now head) ⌝ }
-    ensures { λ b. ⌜ b ≡ idsDiffer (now (head .entry)) k x ⌝ }
-{
-    let mut ok = true;
-    let mut j = 0;
-    while j < k {
-        ok = ok & !(x == head[layout::SYMBOLS + j] / 4);
-        j += 1;
-    }
-    ok
-}
-
-fn entries_fit(head: &[u64], k: usize, q: usize) -> bool
-    requires { ⌜ length (now head) ≡ headSize ⌝ }
-    requires { ⌜ k ≤ 129 ⌝ }
-    requires { ⌜ q ≤ 130 ⌝ }
-    ensures { λ b. ⌜ b ≡ entriesFit (now (head .entry)) k q ⌝ }
-{
-    let mut ok = true;
-    let mut i = 0;
-    while i < q {
-        let x = head[layout::LIST + i];
-        ok = ok & (entries_differ(head, i + 1, q, x) & !ids_differ(head, k, x));
-        i += 1;
-    }
-    ok
-}
-
 pub fn tableau_fits(
     slots: &[u8; 256],
     head: &[u64],
     rows: &[[f64; 130]],
     k: usize,
     r: usize,
-    q: usize,
 ) -> bool
     requires { ⌜ length (now head) ≡ headSize ⌝ }
     requires { ⌜ length (now rows) ≡ rowsSize ⌝ }
     requires { ⌜ k ≤ 129 ⌝ }
     requires { ⌜ r ≤ 48 ⌝ }
-    requires { ⌜ q ≤ 130 ⌝ }
     requires { ⌜ idsAscend (now head) symbolsAt k ≡ true ⌝ }
-    ensures { λ b. ⌜ b ≡ tableauFits (now (head .entry)) (now (rows .entry)) k r q ⌝ }
+    ensures { λ b. ⌜ b ≡ tableauFits (now (head .entry)) (now (rows .entry)) k r ⌝ }
 {
     let mut marks = no_marks();
     let live = mark_basics(&mut marks, slots, head, k, r);
-    ids_ascend(head, layout::ROWS, r)
-        & live
-        & cells_fit(rows, &marks, k, r)
-        & entries_fit(head, k, q)
+    ids_ascend(head, layout::ROWS, r) & live & cells_fit(rows, &marks, k, r)
 }
 
 // ---- owners: each live symbol has one share, and each owner takes one

@@ -14,11 +14,11 @@ use Rattle.steps.specs.State.{Basic, Tableau, Changes}
 use Rattle.steps.specs.Work.{Work, withTableau, withRows, withChanges, keepRow}
 use Rattle.steps.specs.Changes.{varChanged, note}
 use Rattle.steps.specs.Substitute.{substitute, enterBasis}
-use Rattle.layout.specs.Layout.{tables, symbolOf, basicOf, basicsOf, variablesOf, read, symbolsOf, entriesOf}
+use Rattle.layout.specs.Layout.{tables, symbolOf, basicOf, basicsOf, variablesOf, read, symbolsOf}
 use Rattle.moves.specs.Columns.{Wide}
 use Rattle.rows.specs.Place.{PlaceOf}
 use Rattle.rows.specs.Reading.{rowOf}
-use Rattle.choose.specs.Reading.{symbolsIn, basicsIn, entriesIn, tableauIn}
+use Rattle.choose.specs.Reading.{symbolsIn, basicsIn, tableauIn}
 use Rattle.moves.specs.Moves.{board, keptRow, rowPlace}
 use Rattle.moves.specs.Counts.{row-place-between, kept-same, kept-length, kept-rows}
 use Rattle.moves.specs.Close.{opened}
@@ -26,16 +26,15 @@ use Rattle.moves.specs.Moved.{opened-after, length-opened}
 use Rattle.moves.specs.Rows.{kept-tableau}
 use Rattle.tableau.specs.Notes.{Noted, noted, varChangedIf, changed-if-head}
 use Rattle.tableau.specs.NotesRead.{changesIn, Flags, changed-if-read, changed-if-flags, changed-if-length}
-use Rattle.tableau.specs.Substituting.{Substitution, substituteOf, pushedOf}
+use Rattle.tableau.specs.Substituting.{Substitution, substituteOf}
 use Rattle.tableau.specs.Pivoting.{entersNoted, noteEntering, keepEntering, enterOf}
-use Rattle.tableau.specs.Working.{workOf, work-parts, artificialIn, artificial-by, changes-by, symbols-same, entries-same, basics-same, Ready}
-use Rattle.tableau.specs.Pushed.{wide-row, wide-every, every-wide, Room, substitute-whole, ready-whole, whole-head}
+use Rattle.tableau.specs.Working.{workOf, work-parts, artificialIn, artificial-by, changes-by, symbols-same, basics-same, wide-row, wide-every, every-wide, Ready, substitute-whole, whole-head, ready-after}
 
 unfoldable pub workBy : Tableau → Changes → Option Row → Mark → ℕ → Work
 workBy t c r a v = record { tableau = t; changes = c; artificial = r; mark = a; pivots = v }
 
 pub work-is : (art : Bool) (a : Mark) (v : ℕ) (h : List ℕ) (n : List (List ℕ)) (reals w : List (List Float)) → workOf art a v (tables h n reals w) ≡ workBy (tableauIn h w) (changesIn reals (noted h n)) (artificialIn art h w) a v
-unfolding workBy workOf read symbolsOf entriesOf basicsOf variablesOf tableauIn symbolsIn basicsIn entriesIn changesIn artificialIn
+unfolding workBy workOf read symbolsOf basicsOf variablesOf tableauIn symbolsIn basicsIn changesIn artificialIn
 work-is art a v h n reals w = refl
 
 -- ---- a note
@@ -47,13 +46,13 @@ noted-work on id art a v s reals w h f =
     let g : List ℕ = varChangedIf on id s .head in
     let same : (q : ℕ) → (q ≡ 7 → ⊥) → getD g q 0 ≡ getD (s .head) q 0 = changed-if-head on id s in
     work-parts art a v g (varChangedIf on id s .names) reals w
-    ∙ rw (symbols-same g (s .head) same, same 0 (omega arith), basics-same g (s .head) same w, same 1 (omega arith), entries-same g (s .head) same, artificial-by art g (s .head) w (same 1 (omega arith)), changed-if-read on id reals s h f) refl
+    ∙ rw (symbols-same g (s .head) same, same 0 (omega arith), basics-same g (s .head) same w, same 1 (omega arith), artificial-by art g (s .head) w (same 1 (omega arith)), changed-if-read on id reals s h f) refl
     ∙ sym (ap (withChanges (cond on (varChanged id (changesIn reals s)) (changesIn reals s))) (work-parts art a v (s .head) (s .names) reals w))
 
 pub note-read : (on : Bool) (id : ℕ) (art : Bool) (a : Mark) (v : ℕ) (s : Noted) (reals w : List (List Float)) → 7 < length (s .head) → Flags (getD (s .head) 4 0) (s .names)
     → workOf art a v (tables (varChangedIf on id s .head) (varChangedIf on id s .names) reals w)
     ≡ cond on (note id (workOf art a v (tables (s .head) (s .names) reals w))) (workOf art a v (tables (s .head) (s .names) reals w))
-unfolding note withChanges workOf read symbolsOf entriesOf basicsOf variablesOf changesIn
+unfolding note withChanges workOf read symbolsOf basicsOf variablesOf changesIn
 note-read on id art a v s reals w h f = noted-work on id art a v s reals w h f ∙ by on
   where
     by : (on : Bool) → withChanges (cond on (varChanged id (changesIn reals s)) (changesIn reals s)) (workOf art a v (tables (s .head) (s .names) reals w))
@@ -76,7 +75,7 @@ ready-noted on id s w r = record {
 abbrev kept : Basic → Work → Work
 kept b x = withRows (keepRow b (x .tableau .rows)) x
 
-module _ (code : ℕ) (row : List Float) (h : List ℕ) (w : List (List Float)) (len : length h ≡ 326) (size : length w ≡ 51) (fit : getD h 2 0 < 49) where
+module _ (code : ℕ) (row : List Float) (h : List ℕ) (w : List (List Float)) (len : length h ≡ 196) (size : length w ≡ 51) (fit : getD h 2 0 < 49) where
   kept-place : (m : ℕ) → (m ≡ 2 → ⊥) → m < 146 → getD (keptRow code row (board h w) .head) m 0 ≡ getD h m 0
   kept-place m ne low =
       let e = row-place-between (board h w) len (code / 4) in
@@ -126,23 +125,22 @@ module _ (code : ℕ) (row : List Float) (h : List ℕ) (w : List (List Float)) 
 
 -- ---- the theorem
 
-module _ (code j : ℕ) (row : List Float) (h : List ℕ) (n : List (List ℕ)) (reals w : List (List Float)) (ready : Ready h n w) (long : length row ≡ 130) (p : PlaceOf (code / 4) (symbolsIn h) j) (art : Bool)
-    (room : Room (substituteOf art (1 + j) row (noted h n) w .head) (substituteOf art (1 + j) row (noted h n) w .rows)) (fit : getD h 2 0 < 49) where
+module _ (code j : ℕ) (row : List Float) (h : List ℕ) (n : List (List ℕ)) (reals w : List (List Float)) (ready : Ready h n w) (long : length row ≡ 130) (p : PlaceOf (code / 4) (symbolsIn h) j) (art : Bool) (fit : getD h 2 0 < 49) where
   abbrev o : Substitution
-  o = pushedOf (substituteOf art (1 + j) row (noted h n) w)
+  o = substituteOf art (1 + j) row (noted h n) w
 
   o-ready : Ready (o .head) (o .names) (o .rows)
-  o-ready = ready-whole (code / 4) j row h n reals w ready long p art room
+  o-ready = ready-after (code / 4) j row h n reals w ready long p art
 
   abbrev t : Noted
   t = noteEntering code row o
 
   -- places of the head that neither the substitution nor the note changes
-  t-head : (q : ℕ) → (q ≡ 3 → ⊥) → (q ≡ 7 → ⊥) → q < 196 → getD (t .head) q 0 ≡ getD h q 0
+  t-head : (q : ℕ) → (q ≡ 7 → ⊥) → getD (t .head) q 0 ≡ getD h q 0
   unfolding noteEntering
-  t-head q c d e = changed-if-head (entersNoted code (getD row 0 nan)) (code / 4) (noted (o .head) (o .names)) q d ∙ whole-head (code / 4) j row h n reals w ready long p art room q c d e
+  t-head q c = changed-if-head (entersNoted code (getD row 0 nan)) (code / 4) (noted (o .head) (o .names)) q c ∙ whole-head (code / 4) j row h n reals w ready long p art q c
 
-  t-long : length (t .head) ≡ 326
+  t-long : length (t .head) ≡ 196
   unfolding noteEntering
   t-long = changed-if-length (entersNoted code (getD row 0 nan)) (code / 4) (noted (o .head) (o .names)) ∙ o-ready .head-long
 
@@ -156,7 +154,7 @@ module _ (code j : ℕ) (row : List Float) (h : List ℕ) (n : List (List ℕ)) 
   unfolding noteEntering
   noted-are a v =
       note-read (entersNoted code (getD row 0 nan)) (code / 4) art (worse a (o .mark)) v (noted (o .head) (o .names)) reals (o .rows) (omega (arith, o-ready .head-long)) (o-ready .flags)
-      ∙ ap (λ (x : Work). cond (entersNoted code (getD row 0 nan)) (note (code / 4) x) x) (substitute-whole (code / 4) j row h n reals w ready long p art room a v)
+      ∙ ap (λ (x : Work). cond (entersNoted code (getD row 0 nan)) (note (code / 4) x) x) (substitute-whole (code / 4) j row h n reals w ready long p art a v)
 
   entered : (x : Work) → kept (basicOf (getD h 1 0) code row) (cond (entersNoted code (getD row 0 nan)) (note (code / 4) (substitute (code / 4) (rowOf (getD h 1 0) row) x)) (substitute (code / 4) (rowOf (getD h 1 0) row) x))
       ≡ enterBasis (symbolOf code) (rowOf (getD h 1 0) row) x
@@ -169,13 +167,13 @@ module _ (code j : ℕ) (row : List Float) (h : List ℕ) (n : List (List ℕ)) 
       ≡ enterBasis (symbolOf code) (rowOf (getD h 1 0) row) (workOf art a v (tables h n reals w))
   unfolding enterOf keepEntering
   enter-read a v =
-      let few : getD (t .head) 1 0 ≡ getD h 1 0 = t-head 1 (omega arith) (omega arith) (omega arith) in
-      let fits : getD (t .head) 2 0 ≡ getD h 2 0 = t-head 2 (omega arith) (omega arith) (omega arith) in
+      let few : getD (t .head) 1 0 ≡ getD h 1 0 = t-head 1 (omega arith) in
+      let fits : getD (t .head) 2 0 ≡ getD h 2 0 = t-head 2 (omega arith) in
       keep-read code row (t .head) (o .rows) t-long (o-ready .rows-stand) (rw fits fit) art (worse a (o .mark)) v (t .names) reals (rw few (ready .few-symbols))
       ∙ rw few (ap (kept (basicOf (getD h 1 0) code row)) (noted-are a v) ∙ entered (workOf art a v (tables h n reals w)))
 
   pub ready-entered : Ready (enterOf art code (1 + j) row (noted h n) w .head) (enterOf art code (1 + j) row (noted h n) w .names) (enterOf art code (1 + j) row (noted h n) w .rows)
   unfolding enterOf keepEntering
   ready-entered =
-      let fits : getD (t .head) 2 0 ≡ getD h 2 0 = t-head 2 (omega arith) (omega arith) (omega arith) in
+      let fits : getD (t .head) 2 0 ≡ getD h 2 0 = t-head 2 (omega arith) in
       ready-kept code row (t .head) (o .rows) t-long (o-ready .rows-stand) (rw fits fit) (t .names) t-ready long

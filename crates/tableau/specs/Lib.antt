@@ -6,6 +6,5 @@ pub mod NotesRead
 pub mod NotesKept
 pub mod SubstituteRead
 pub mod Working
-pub mod Pushed
 pub mod EnterRead
 pub mod PivotRead

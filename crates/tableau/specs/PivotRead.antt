@@ -13,7 +13,7 @@ use Rattle.steps.specs.Symbol.{Symbol}
 use Rattle.steps.specs.Row.{Row, Written, solveForSymbols}
 use Rattle.steps.specs.Work.{Work, withTableau, withRows, marking, findRow, dropRow}
 use Rattle.steps.specs.Substitute.{enterBasis, pivot}
-use Rattle.layout.specs.Layout.{tables, symbolOf, basicsOf, read, symbolsOf, entriesOf}
+use Rattle.layout.specs.Layout.{tables, symbolOf, basicsOf, read, symbolsOf}
 use Rattle.rows.specs.Marks.{worse-assoc}
 use Rattle.moves.specs.Columns.{Wide}
 use Rattle.rows.specs.Stays.{length-solveForSymbolsIn}
@@ -29,10 +29,9 @@ use Rattle.moves.specs.Moves.{Board, board, droppedRow}
 use Rattle.moves.specs.Counts.{dropped-length, dropped-same, dropped-rows}
 use Rattle.moves.specs.Rows.{dropped-tableau}
 use Rattle.tableau.specs.Notes.{noted}
-use Rattle.tableau.specs.Substituting.{Substitution, substituteOf}
+use Rattle.tableau.specs.Substituting.{Substitution}
 use Rattle.tableau.specs.Pivoting.{enterOf, solvedRow, solvedMark, withMark, pivotOf}
-use Rattle.tableau.specs.Working.{workOf, artificialIn, symbols-by, changes-by, length-symbols, Ready}
-use Rattle.tableau.specs.Pushed.{wide-row, wide-every, every-wide, Room}
+use Rattle.tableau.specs.Working.{workOf, artificialIn, symbols-by, changes-by, length-symbols, wide-row, wide-every, every-wide, Ready}
 use Rattle.tableau.specs.EnterRead.{workBy, work-is, enter-read}
 
 -- ---- a row taken out
@@ -130,26 +129,25 @@ module _ (l i t j : ℕ) (h : List ℕ) (n : List (List ℕ)) (reals w : List (L
   out-symbols = symbols-by (out .head) h (dropped-place i h n w ready low high 1 (omega arith) (omega arith)) λ k b. dropped-place i h n w ready low high (16 + k) (omega arith) (omega (arith, b, ready .few-symbols))
 
   row-is : (a : Mark) (v : ℕ) → findRow l (workOf art a v (tables h n reals w) .tableau .rows) ≡ some (rowOf (getD h 1 0) (getD w i []))
-  unfolding workOf read symbolsOf entriesOf basicsOf basicsIn rowOf
+  unfolding workOf read symbolsOf basicsOf basicsIn rowOf
   row-is a v = row-found h l w ∙ ap (choose.onFound (λ k. some (rowIn h (getD w k []))) none) found
 
   solved-is : (a : Mark) (v : ℕ) → writtenOf (rowOf (getD h 1 0) row) false (solvedMark i (1 + t) (1 + j) h w)
       ≡ solveForSymbols l (symbolOf code .id) (workOf art a v (tables h n reals w) .tableau .symbols) (rowOf (getD h 1 0) (getD w i []))
-  unfolding workOf read symbolsOf entriesOf basicsOf symbolsIn symbolOf
+  unfolding workOf read symbolsOf basicsOf symbolsIn symbolOf
   solved-is a v = solved-read
 
-  module _ (room : Room (substituteOf art (1 + j) row (noted (out .head) n) (out .rows) .head) (substituteOf art (1 + j) row (noted (out .head) n) (out .rows) .rows)) where
-    pub pivot-read : (a : Mark) (v : ℕ)
-        → workOf art (worse a (pivotOf art i (1 + t) (1 + j) (noted h n) w .mark)) v
-        (tables (pivotOf art i (1 + t) (1 + j) (noted h n) w .head) (pivotOf art i (1 + t) (1 + j) (noted h n) w .names) reals (pivotOf art i (1 + t) (1 + j) (noted h n) w .rows))
-        ≡ pivot l (symbolOf (getD h (15 + (1 + j)) 0)) (workOf art a v (tables h n reals w))
-    unfolding pivotOf withMark
-    pivot-read a v =
-        let m : Mark = solvedMark i (1 + t) (1 + j) h w in
-        let e : Substitution = enterOf art code (1 + j) row (noted (out .head) n) (out .rows) in
-        let one : getD (out .head) 1 0 ≡ getD h 1 0 = dropped-place i h n w ready low high 1 (omega arith) (omega arith) in
-        let fit : getD (out .head) 2 0 < 49 = rw (dropped-count i h n w ready low high) (omega (arith, low, high, ready .few-rows)) in
-        ap (λ (k : Mark). workOf art k v (tables (e .head) (e .names) reals (e .rows))) (sym (worse-assoc a m (e .mark)))
-        ∙ enter-read code j row (out .head) n reals (out .rows) (ready-dropped i h n w ready low high) row-long (rw out-symbols q) art room fit (worse a m) v
-        ∙ rw one (ap (enterBasis (symbolOf code) (rowOf (getD h 1 0) row)) (drop-read i h n w ready low high l found art a m v reals))
-        ∙ sym (pivot-found l (symbolOf code) (workOf art a v (tables h n reals w)) (rowOf (getD h 1 0) (getD w i [])) (writtenOf (rowOf (getD h 1 0) row) false m) (row-is a v) (solved-is a v))
+  pub pivot-read : (a : Mark) (v : ℕ)
+      → workOf art (worse a (pivotOf art i (1 + t) (1 + j) (noted h n) w .mark)) v
+      (tables (pivotOf art i (1 + t) (1 + j) (noted h n) w .head) (pivotOf art i (1 + t) (1 + j) (noted h n) w .names) reals (pivotOf art i (1 + t) (1 + j) (noted h n) w .rows))
+      ≡ pivot l (symbolOf (getD h (15 + (1 + j)) 0)) (workOf art a v (tables h n reals w))
+  unfolding pivotOf withMark
+  pivot-read a v =
+      let m : Mark = solvedMark i (1 + t) (1 + j) h w in
+      let e : Substitution = enterOf art code (1 + j) row (noted (out .head) n) (out .rows) in
+      let one : getD (out .head) 1 0 ≡ getD h 1 0 = dropped-place i h n w ready low high 1 (omega arith) (omega arith) in
+      let fit : getD (out .head) 2 0 < 49 = rw (dropped-count i h n w ready low high) (omega (arith, low, high, ready .few-rows)) in
+      ap (λ (k : Mark). workOf art k v (tables (e .head) (e .names) reals (e .rows))) (sym (worse-assoc a m (e .mark)))
+      ∙ enter-read code j row (out .head) n reals (out .rows) (ready-dropped i h n w ready low high) row-long (rw out-symbols q) art fit (worse a m) v
+      ∙ rw one (ap (enterBasis (symbolOf code) (rowOf (getD h 1 0) row)) (drop-read i h n w ready low high l found art a m v reals))
+      ∙ sym (pivot-found l (symbolOf code) (workOf art a v (tables h n reals w)) (rowOf (getD h 1 0) (getD w i [])) (writtenOf (rowOf (getD h 1 0) row) false m) (row-is a v) (solved-is a v))

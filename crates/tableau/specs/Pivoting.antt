@@ -13,7 +13,7 @@ use Rattle.rows.specs.Table.{solveForSymbolsIn, solveForSymbolsMark}
 use Rattle.moves.specs.Moves.{Board, board, droppedRow, keptRow}
 use Rattle.moves.specs.Counts.{Fits, dropped-same}
 use Rattle.tableau.specs.Notes.{Noted, noted, varChangedIf, changed-if-head}
-use Rattle.tableau.specs.Substituting.{Substitution, substitution, substituteOf, pushedOf}
+use Rattle.tableau.specs.Substituting.{Substitution, substitution, substituteOf}
 
 -- "note an External with non-zero constant"
 unfoldable pub entersNoted : ℕ → Float → Bool
@@ -32,7 +32,7 @@ keepEntering code row s =
 
 -- "substitute, note an External with non-zero constant, keep the row"
 unfoldable pub enterOf : Bool → ℕ → ℕ → List Float → Noted → List (List Float) → Substitution
-enterOf art code at row s w = keepEntering code row (pushedOf (substituteOf art at row s w))
+enterOf art code at row s w = keepEntering code row (substituteOf art at row s w)
 
 -- the row at place i, solved: the leaving symbol's place and the entering one's
 unfoldable pub solvedRow : ℕ → ℕ → ℕ → List ℕ → List (List Float) → List Float
@@ -51,12 +51,11 @@ pivotOf art i leaving entering s w =
 
 -- ---- the calls, over variables
 
-pub changed-fits : (on : Bool) (id : ℕ) (s : Noted) {t : Noted} → t ≡ varChangedIf on id s → Fits (t .head) (getD (s .head) 1 0) (getD (s .head) 2 0) (getD (s .head) 3 0)
+pub changed-fits : (on : Bool) (id : ℕ) (s : Noted) {t : Noted} → t ≡ varChangedIf on id s → Fits (t .head) (getD (s .head) 1 0) (getD (s .head) 2 0)
 changed-fits on id s e =
     rw e (
       omega (arith, changed-if-head on id s 1 (omega arith)),
       omega (arith, changed-if-head on id s 2 (omega arith)),
-      omega (arith, changed-if-head on id s 3 (omega arith)),
     )
 
 pub enter-calls : (code : ℕ) (row : List Float) (h : List ℕ) (n : List (List ℕ)) (w : List (List Float)) (m : Mark) {s : Substitution} {on : Bool} {t : Noted} {b : Board}
@@ -75,5 +74,5 @@ pub pivot-calls : (art : Bool) (i leaving entering : ℕ) (s : Noted) (w : List 
 unfolding pivotOf withMark
 pivot-calls art i leaving entering s w h n x a p q k e o = rw (o, p, ← q, ← k, ← e) refl
 
-pub dropped-variables : (i : ℕ) (h : List ℕ) (w : List (List Float)) {b : Board} → length h ≡ 326 → getD h 2 0 ≤ 49 → 1 ≤ i → i ≤ getD h 2 0 → b ≡ droppedRow i (board h w) → getD (b .head) 4 0 ≡ getD h 4 0
+pub dropped-variables : (i : ℕ) (h : List ℕ) (w : List (List Float)) {b : Board} → length h ≡ 196 → getD h 2 0 ≤ 49 → 1 ≤ i → i ≤ getD h 2 0 → b ≡ droppedRow i (board h w) → getD (b .head) 4 0 ≡ getD h 4 0
 dropped-variables i h w len fit low high e = rw e (dropped-same (board h w) len i fit low high 4 (omega arith) (omega arith))

@@ -11,7 +11,6 @@ use Rattle.steps.specs.Number.{zero64, _*₆₄_, objectiveBound, Mark, allWhol
 use Rattle.steps.specs.Symbol.{isExternal, absent}
 use Rattle.layout.specs.Layout.{symbolOf}
 use Rattle.rows.specs.Table.{substituteRowIn, substituteRowMark, substituteCellsIn, substituteCellsMark}
-use Rattle.moves.specs.Moves.{pushBelowOf}
 use Rattle.moves.specs.Counts.{Fits}
 use Rattle.tableau.specs.Notes.{Noted, varChangedIf, changed-if-head}
 
@@ -50,7 +49,7 @@ substituteArtificialIn art at width pivot rows = cond art (set rows 50 (substitu
 unfoldable pub substituteArtificialMark : Bool → ℕ → ℕ → List Float → List (List Float) → Mark
 substituteArtificialMark art at width pivot rows = cond art (substituteRowMark at width pivot (getD rows 50 [])) allWhole
 
--- ---- all of it but the infeasible list, and the mark of all that was written
+-- ---- all of it, and the mark of all that was written
 
 pub record Substitution : Type 0 where
   pub head : List ℕ
@@ -80,10 +79,6 @@ substituteOf art at pivot s rows =
     (noteRows at (getD (s .head) 2 0) pivot rows s .names)
     (substituteRowsOf art at (getD (s .head) 1 0) (getD (s .head) 2 0) pivot rows)
     (substituteMarkOf art at (getD (s .head) 1 0) (getD (s .head) 2 0) pivot rows)
-
--- with the pushes: "a restricted row below 0 is pushed"
-unfoldable pub pushedOf : Substitution → Substitution
-pushedOf s = substitution (pushBelowOf (s .rows) (s .head)) (s .names) (s .rows) (s .mark)
 
 -- ---- the turns and the calls, over variables
 
@@ -118,17 +113,12 @@ unfolding noteRows noteRow
 noteRows-head at count pivot rows s q c =
     run-keeps (λ (t : Noted). getD (t .head) q 0 ≡ getD (s .head) q 0) (noteRow at pivot rows) (λ i t h. changed-if-head _ _ t q c ∙ h) 1 (1 + count) s refl
 
-pub noted-fits : (at count : ℕ) (pivot : List Float) (rows : List (List Float)) (s : Noted) {t : Noted} → t ≡ noteRows at count pivot rows s → Fits (t .head) (getD (s .head) 1 0) (getD (s .head) 2 0) (getD (s .head) 3 0)
+pub noted-fits : (at count : ℕ) (pivot : List Float) (rows : List (List Float)) (s : Noted) {t : Noted} → t ≡ noteRows at count pivot rows s → Fits (t .head) (getD (s .head) 1 0) (getD (s .head) 2 0)
 noted-fits at count pivot rows s e =
     rw e (
       omega (arith, noteRows-head at count pivot rows s 1 (omega arith)),
       omega (arith, noteRows-head at count pivot rows s 2 (omega arith)),
-      omega (arith, noteRows-head at count pivot rows s 3 (omega arith)),
     )
-
-pub pushed-calls : (h : List ℕ) (n : List (List ℕ)) (w : List (List Float)) (m : Mark) {g : List ℕ} {s : Substitution} → substitution h n w m ≡ s → g ≡ pushBelowOf w h → substitution g n w m ≡ pushedOf s
-unfolding pushedOf
-pushed-calls h n w m e q = rw (← e, q) refl
 
 pub noted-variables : (at count : ℕ) (pivot : List Float) (rows : List (List Float)) (s : Noted) {t : Noted} → t ≡ noteRows at count pivot rows s → getD (t .head) 4 0 ≡ getD (s .head) 4 0
 noted-variables at count pivot rows s e = rw e (noteRows-head at count pivot rows s 4 (omega arith))

@@ -9,16 +9,16 @@ use lib.ListN.{length, getD, length-set}
 use lib.Seq.{getD-set-same, getD-set-other}
 use lib.Ieee.{Float}
 use Rattle.laws.specs.Lists.{tab, listOf, tab-ext, length-tab}
-use Rattle.laws.specs.Places.{length-mapIn, mapIn-before, mapIn-after, lengths-mapIn, lengths-set}
+use Rattle.laws.specs.Places.{Every, every-at, at-every, length-mapIn, mapIn-before, mapIn-after, lengths-mapIn, lengths-set}
 use Rattle.steps.specs.Number.{objectiveBound, Mark, allWhole, worse}
 use Rattle.steps.specs.Symbol.{Symbol}
 use Rattle.steps.specs.Row.{Row, cellValues, cellMarks, Written}
 use Rattle.steps.specs.State.{Basic, Changes}
-use Rattle.steps.specs.Work.{Work, withTableau, withRows, withObjective, withInfeasible, withArtificial, withChanges, marking}
+use Rattle.steps.specs.Work.{Work, withTableau, withRows, withObjective, withArtificial, withChanges, marking}
 use Rattle.steps.specs.Changes.{allChanged}
-use Rattle.steps.specs.Substitute.{substituteInRow, substituteInCells, Substituted, substituteInRows, rowsOf, marksOf, notedOf, pushBelow, substitute}
-use Rattle.layout.specs.Layout.{Tables, tables, symbolOf, cellsOf, basicOf, basicsOf, variablesOf, read, symbolsOf, entriesOf}
-use Rattle.choose.specs.Reading.{symbolsIn, basicsIn, entriesIn}
+use Rattle.steps.specs.Substitute.{substituteInRow, substituteInCells, Substituted, substituteInRows, rowsOf, marksOf, notedOf, substitute}
+use Rattle.layout.specs.Layout.{Tables, tables, symbolOf, cellsOf, basicOf, basicsOf, variablesOf, read, symbolsOf}
+use Rattle.choose.specs.Reading.{symbolsIn, basicsIn}
 use Rattle.moves.specs.Columns.{Wide}
 use Rattle.rows.specs.Table.{substituteRowIn, substituteRowChanged, substituteRowMark, substituteCellsIn}
 use Rattle.rows.specs.Stays.{length-substituteRowIn, length-substituteCellsIn}
@@ -40,10 +40,10 @@ workOf art a v t =
       pivots = v;
     }
 
-abbrev pub work : List Symbol → ℕ → List Basic → List Float → List ℕ → Changes → Option Row → Mark → ℕ → Work
-work symbols next rows objective infeasible changes artificial mark pivots =
+abbrev pub work : List Symbol → ℕ → List Basic → List Float → Changes → Option Row → Mark → ℕ → Work
+work symbols next rows objective changes artificial mark pivots =
     record {
-      tableau = record { symbols = symbols; nextId = next; rows = rows; objective = objective; infeasible = infeasible };
+      tableau = record { symbols = symbols; nextId = next; rows = rows; objective = objective };
       changes = changes;
       artificial = artificial;
       mark = mark;
@@ -54,8 +54,8 @@ unfoldable pub artificialIn : Bool → List ℕ → List (List Float) → Option
 artificialIn art h w = cond art (some (rowOf (getD h 1 0) (getD w 50 []))) none
 
 pub work-parts : (art : Bool) (a : Mark) (v : ℕ) (h : List ℕ) (n : List (List ℕ)) (reals w : List (List Float))
-    → workOf art a v (tables h n reals w) ≡ work (symbolsIn h) (getD h 0 0) (basicsIn h w) (cellsOf (getD h 1 0) (getD w 0 [])) (entriesIn h) (changesIn reals (noted h n)) (artificialIn art h w) a v
-unfolding workOf read symbolsOf entriesOf basicsOf variablesOf symbolsIn basicsIn entriesIn changesIn artificialIn
+    → workOf art a v (tables h n reals w) ≡ work (symbolsIn h) (getD h 0 0) (basicsIn h w) (cellsOf (getD h 1 0) (getD w 0 [])) (changesIn reals (noted h n)) (artificialIn art h w) a v
+unfolding workOf read symbolsOf basicsOf variablesOf symbolsIn basicsIn changesIn artificialIn
 work-parts art a v h n reals w = refl
 
 -- ---- heads that agree where a part is read
@@ -84,39 +84,28 @@ module _ (g h : List ℕ) (same : (q : ℕ) → (q ≡ 7 → ⊥) → getD g q 0
   pub symbols-same : symbolsIn g ≡ symbolsIn h
   symbols-same = symbols-by g h (same 1 (omega arith)) λ i b. same (16 + i) (omega arith)
 
-  pub entries-same : entriesIn g ≡ entriesIn h
-  unfolding entriesIn listOf
-  entries-same = rw (same 3 (omega arith)) (tab-ext (λ i. getD g (196 + i) 0) (λ i. getD h (196 + i) 0) 0 (getD h 3 0) λ i a b. same (196 + i) (omega arith))
-
   pub basics-same : (w : List (List Float)) → basicsIn g w ≡ basicsIn h w
   basics-same w = basics-by g h w (same 1 (omega arith)) (same 2 (omega arith)) λ i b. same (146 + i) (omega arith)
-
--- but for the infeasible list
-pub list-changed : (art : Bool) (a : Mark) (v : ℕ) (g h : List ℕ) (n : List (List ℕ)) (reals w : List (List Float)) → getD h 1 0 ≤ 129 → getD h 2 0 ≤ 49
-    → ((q : ℕ) → (q ≡ 3 → ⊥) → q < 196 → getD g q 0 ≡ getD h q 0)
-    → workOf art a v (tables g n reals w) ≡ withInfeasible (entriesIn g) (workOf art a v (tables h n reals w))
-unfolding withInfeasible withTableau
-list-changed art a v g h n reals w few few₁ same =
-    let one : getD g 1 0 ≡ getD h 1 0 = same 1 (omega arith) (omega arith) in
-    work-parts art a v g n reals w
-    ∙ rw (
-      symbols-by g h one (λ i b. same (16 + i) (omega arith) (omega (arith, b, few))),
-      same 0 (omega arith) (omega arith),
-      basics-by g h w one (same 2 (omega arith) (omega arith)) (λ i b. same (146 + i) (omega arith) (omega (arith, b, few₁))),
-      one,
-      changes-by reals n g h (same 4 (omega arith) (omega arith)) (same 7 (omega arith) (omega arith)),
-      artificial-by art g h w one,
-    ) refl
-    ∙ sym (ap (withInfeasible (entriesIn g)) (work-parts art a v h n reals w))
 
 pub length-symbols : (h : List ℕ) → length (symbolsIn h) ≡ getD h 1 0
 unfolding symbolsIn listOf
 length-symbols h = length-tab (λ i. symbolOf (getD h (16 + i) 0)) 0 (getD h 1 0)
 
+-- ---- a table's width, row by row
+
+abbrev pub wide-row : List Float → Type 0
+wide-row r = length r ≡ 130
+
+pub wide-every : (w : List (List Float)) → length w ≡ 51 → Wide w 51 → Every wide-row w
+wide-every w e h = at-every wide-row w [] λ q k. h q (omega (arith, k, e))
+
+pub every-wide : (w : List (List Float)) → length w ≡ 51 → Every wide-row w → Wide w 51
+every-wide w e h q k = every-at wide-row w [] h q (omega (arith, k, e))
+
 -- ---- tables that can be substituted in: their lengths, their counts, and the variables' flags
 
 pub record Ready (h : List ℕ) (n : List (List ℕ)) (w : List (List Float)) : Type 0 where
-  pub head-long : length h ≡ 326
+  pub head-long : length h ≡ 196
   pub few-symbols : getD h 1 0 ≤ 129
   pub few-rows : getD h 2 0 ≤ 49
   pub rows-stand : length w ≡ 51
@@ -242,7 +231,7 @@ module _ (s j : ℕ) (pivot : List Float) (h : List ℕ) (n : List (List ℕ)) (
         ← ap (λ (m : Written). m .mark) made-read,
       )
 
-  -- ---- the theorem: all of the steps' substitution but what it pushes on the infeasible list
+  -- ---- the theorem
 
   heads : Heads s (symbolsIn h) j (getD h 1 0) p (length-symbols h) pivot in-pivot (getD h 2 0) (λ i. getD h (146 + i) 0) w in-table in-rows (noted h n)
   heads = record { long = omega (arith, ready .head-long); flags = ready .flags; codes = λ i b. refl }
@@ -253,14 +242,14 @@ module _ (s j : ℕ) (pivot : List Float) (h : List ℕ) (n : List (List ℕ)) (
   same : (q : ℕ) → (q ≡ 7 → ⊥) → getD (notes .head) q 0 ≡ getD h q 0
   same = notes-head s (symbolsIn h) j (getD h 1 0) p (length-symbols h) pivot in-pivot (getD h 2 0) (λ i. getD h (146 + i) 0) w in-table in-rows (noted h n) heads
 
-  abbrev result : List ℕ → Bool → Mark → ℕ → Work
-  result entries art a v =
+  abbrev result : Bool → Mark → ℕ → Work
+  result art a v =
       work (symbolsIn h) (getD h 0 0) (rowsOf (tab sub 0 (getD h 2 0)))
       (cellValues (substituteInCells s (symbolsIn h) (cellsOf (getD h 1 0) pivot) (cellsOf (getD h 1 0) (getD w 0 []))))
-      entries (allChanged (notedOf (tab sub 0 (getD h 2 0))) (changesIn reals (noted h n))) (cond art (some (made .row)) none)
+      (allChanged (notedOf (tab sub 0 (getD h 2 0))) (changesIn reals (noted h n))) (cond art (some (made .row)) none)
       (worse a (worse (marksOf (tab sub 0 (getD h 2 0))) (worse (cellMarks objectiveBound (substituteInCells s (symbolsIn h) (cellsOf (getD h 1 0) pivot) (cellsOf (getD h 1 0) (getD w 0 [])))) (cond art (made .mark) allWhole)))) v
 
-  after : (art : Bool) (a : Mark) (v : ℕ) → workOf art (worse a (substituteMarkOf art (1 + j) (getD h 1 0) (getD h 2 0) pivot w)) v (tables (notes .head) (notes .names) reals (done art)) ≡ result (entriesIn h) art a v
+  after : (art : Bool) (a : Mark) (v : ℕ) → workOf art (worse a (substituteMarkOf art (1 + j) (getD h 1 0) (getD h 2 0) pivot w)) v (tables (notes .head) (notes .names) reals (done art)) ≡ result art a v
   after art a v =
       work-parts art (worse a (substituteMarkOf art (1 + j) (getD h 1 0) (getD h 2 0) pivot w)) v (notes .head) (notes .names) reals (done art)
       ∙ rw (
@@ -268,7 +257,6 @@ module _ (s j : ℕ) (pivot : List Float) (h : List ℕ) (n : List (List ℕ)) (
         same 0 (omega arith),
         basics-same (notes .head) h same (done art),
         same 1 (omega arith),
-        entries-same (notes .head) h same,
         artificial-by art (notes .head) h (done art) (same 1 (omega arith)),
         basics-after art,
         objective-after art,
@@ -282,31 +270,24 @@ module _ (s j : ℕ) (pivot : List Float) (h : List ℕ) (n : List (List ℕ)) (
   rows-stepped = rows-tab s (symbolsIn h) j (getD h 1 0) p (length-symbols h) pivot in-pivot (getD h 2 0) (λ i. getD h (146 + i) 0) w in-table in-rows 0 (getD h 2 0)
 
   abbrev before : Bool → Mark → ℕ → Work
-  before art a v = work (symbolsIn h) (getD h 0 0) (basicsIn h w) (cellsOf (getD h 1 0) (getD w 0 [])) (entriesIn h) (changesIn reals (noted h n)) (artificialIn art h w) a v
+  before art a v = work (symbolsIn h) (getD h 0 0) (basicsIn h w) (cellsOf (getD h 1 0) (getD w 0 [])) (changesIn reals (noted h n)) (artificialIn art h w) a v
 
-  steps-whole : (art : Bool) (a : Mark) (v : ℕ) → substitute s (rowOf (getD h 1 0) pivot) (before art a v) ≡ result (pushBelow (rowsOf (tab sub 0 (getD h 2 0))) (entriesIn h)) art a v
-  unfolding substitute withInfeasible withTableau withRows withObjective withArtificial withChanges marking artificialIn rowOf
+  steps-whole : (art : Bool) (a : Mark) (v : ℕ) → substitute s (rowOf (getD h 1 0) pivot) (before art a v) ≡ result art a v
+  unfolding substitute withTableau withRows withObjective withArtificial withChanges marking artificialIn rowOf
   steps-whole true a v = rw rows-stepped refl
   steps-whole false a v = rw rows-stepped refl
 
-  -- with the pushes: g is the head that they leave
-  pub substitute-pushed-read : (art : Bool) (a : Mark) (v : ℕ) (g : List ℕ)
-      → ((q : ℕ) → (q ≡ 3 → ⊥) → q < 196 → getD g q 0 ≡ getD (substituteOf art (1 + j) pivot (noted h n) w .head) q 0)
-      → entriesIn g ≡ pushBelow (basicsIn (substituteOf art (1 + j) pivot (noted h n) w .head) (substituteOf art (1 + j) pivot (noted h n) w .rows)) (entriesIn (substituteOf art (1 + j) pivot (noted h n) w .head))
-      → workOf art (worse a (substituteOf art (1 + j) pivot (noted h n) w .mark)) v (tables g (substituteOf art (1 + j) pivot (noted h n) w .names) reals (substituteOf art (1 + j) pivot (noted h n) w .rows))
+  pub substitute-whole : (art : Bool) (a : Mark) (v : ℕ)
+      → workOf art (worse a (substituteOf art (1 + j) pivot (noted h n) w .mark)) v
+      (tables (substituteOf art (1 + j) pivot (noted h n) w .head) (substituteOf art (1 + j) pivot (noted h n) w .names) reals (substituteOf art (1 + j) pivot (noted h n) w .rows))
       ≡ substitute s (rowOf (getD h 1 0) pivot) (workOf art a v (tables h n reals w))
-  unfolding substituteOf withInfeasible withTableau
-  substitute-pushed-read art a v g q e =
-      let m : Mark = worse a (substituteMarkOf art (1 + j) (getD h 1 0) (getD h 2 0) pivot w) in
-      let few : getD (notes .head) 1 0 ≤ 129 = rw (same 1 (omega arith)) (ready .few-symbols) in
-      let few₁ : getD (notes .head) 2 0 ≤ 49 = rw (same 2 (omega arith)) (ready .few-rows) in
-      let l : entriesIn g ≡ pushBelow (rowsOf (tab sub 0 (getD h 2 0))) (entriesIn h) =
-      e ∙ ap (λ (b : List Basic). pushBelow b (entriesIn (notes .head))) (basics-same (notes .head) h same (done art) ∙ basics-after art)
-      ∙ ap (pushBelow (rowsOf (tab sub 0 (getD h 2 0)))) (entries-same (notes .head) h same) in
-      list-changed art m v g (notes .head) (notes .names) reals (done art) few few₁ q
-      ∙ ap (withInfeasible (entriesIn g)) (after art a v)
-      ∙ ap (λ (i : List ℕ). result i art a v) l
-      ∙ sym (ap (substitute s (rowOf (getD h 1 0) pivot)) (work-parts art a v h n reals w) ∙ steps-whole art a v)
+  unfolding substituteOf
+  substitute-whole art a v = after art a v ∙ sym (ap (substitute s (rowOf (getD h 1 0) pivot)) (work-parts art a v h n reals w) ∙ steps-whole art a v)
+
+  -- places of the head that a substitution leaves as they are
+  pub whole-head : (art : Bool) (q : ℕ) → (q ≡ 7 → ⊥) → getD (substituteOf art (1 + j) pivot (noted h n) w .head) q 0 ≡ getD h q 0
+  unfolding substituteOf
+  whole-head art q c = same q c
 
   -- ---- tables that were substituted in can be substituted in again
 

@@ -73,7 +73,7 @@ fn flag_symbol(names: &mut [[u64; 20]], count: usize, id: u64)
 
 // A set that a fetch has reported is cleared first.
 fn var_changed(head: &mut [u64], names: &mut [[u64; 20]], id: u64)
-    requires { ⌜ length (now head) ≡ 326 ⌝ }
+    requires { ⌜ length (now head) ≡ 196 ⌝ }
     requires { ⌜ getD (now head) 4 0 ≤ length (now names) ⌝ }
     ensures { λ _. ⌜ noted (now (head .exit)) (now (names .exit)) ≡ varChangedIn id (noted (now (head .entry)) (now (names .entry))) ⌝ }
 {
@@ -84,7 +84,7 @@ fn var_changed(head: &mut [u64], names: &mut [[u64; 20]], id: u64)
 }
 
 pub fn var_changed_if(on: bool, head: &mut [u64], names: &mut [[u64; 20]], id: u64)
-    requires { ⌜ length (now head) ≡ 326 ⌝ }
+    requires { ⌜ length (now head) ≡ 196 ⌝ }
     requires { ⌜ getD (now head) 4 0 ≤ length (now names) ⌝ }
     ensures { λ _. ⌜ noted (now (head .exit)) (now (names .exit)) ≡ varChangedIf on id (noted (now (head .entry)) (now (names .entry))) ⌝ }
 {

@@ -31,15 +31,14 @@ pub fn enter_basis(
     at: usize,
     row: &[f64; 130],
 ) -> Wrote
-    requires { ⌜ length (now head) ≡ 326 ⌝ }
+    requires { ⌜ length (now head) ≡ 196 ⌝ }
     requires { ⌜ getD (now head) 1 0 ≤ 129 ⌝ }
     requires { ⌜ getD (now head) 2 0 < 49 ⌝ }
-    requires { ⌜ getD (now head) 3 0 ≤ 130 ⌝ }
     requires { ⌜ getD (now head) 4 0 ≤ length (now names) ⌝ }
     requires { ⌜ length (now rows) ≡ 51 ⌝ }
     requires { ⌜ at < 130 ⌝ }
     ensures { λ r. ⌜ substitution (now (head .exit)) (now (names .exit)) (now (rows .exit)) (markOf r) ≡ enterOf art code at (now (row .entry)) (noted (now (head .entry)) (now (names .entry))) (now (rows .entry)) ⌝ }
-    ensures { λ _. ⌜ Fits (now (head .exit)) (getD (now (head .entry)) 1 0) (getD (now (head .entry)) 2 0 + 1) 130 ⌝ }
+    ensures { λ _. ⌜ Fits (now (head .exit)) (getD (now (head .entry)) 1 0) (getD (now (head .entry)) 2 0 + 1) ⌝ }
 {
     let w = substitute(art, head, names, rows, at, row);
     let on = enters_noted(code, row[0]);
@@ -58,10 +57,9 @@ pub fn pivot(
     leaving: usize,
     entering: usize,
 ) -> Wrote
-    requires { ⌜ length (now head) ≡ 326 ⌝ }
+    requires { ⌜ length (now head) ≡ 196 ⌝ }
     requires { ⌜ getD (now head) 1 0 ≤ 129 ⌝ }
     requires { ⌜ getD (now head) 2 0 ≤ 49 ⌝ }
-    requires { ⌜ getD (now head) 3 0 ≤ 130 ⌝ }
     requires { ⌜ getD (now head) 4 0 ≤ length (now names) ⌝ }
     requires { ⌜ length (now rows) ≡ 51 ⌝ }
     requires { ⌜ 1 ≤ i ⌝ }
@@ -69,7 +67,7 @@ pub fn pivot(
     requires { ⌜ leaving < 130 ⌝ }
     requires { ⌜ entering < 130 ⌝ }
     ensures { λ r. ⌜ substitution (now (head .exit)) (now (names .exit)) (now (rows .exit)) (markOf r) ≡ pivotOf art i leaving entering (noted (now (head .entry)) (now (names .entry))) (now (rows .entry)) ⌝ }
-    ensures { λ _. ⌜ Fits (now (head .exit)) (getD (now (head .entry)) 1 0) (getD (now (head .entry)) 2 0) 130 ⌝ }
+    ensures { λ _. ⌜ Fits (now (head .exit)) (getD (now (head .entry)) 1 0) (getD (now (head .entry)) 2 0) ⌝ }
 {
     let width = head[layout::SYMBOL_COUNT] as usize;
     let code = head[layout::BEFORE_SYMBOLS + entering];

@@ -8,9 +8,8 @@ ghost use Rattle.layout.specs.Layout.{symbolOf};
 ghost use Rattle.rows.specs.Marks.{markOf};
 ghost use Rattle.moves.specs.Counts.{Fits};
 ghost use Rattle.tableau.specs.Notes.{noted};
-ghost use Rattle.tableau.specs.Substituting.{changes, substituteRowsIn, substituteRowsMark, noteRows, substituteObjectiveIn, substituteObjectiveMark, substituteArtificialIn, substituteArtificialMark, substitution, substituteOf, pushedOf};
+ghost use Rattle.tableau.specs.Substituting.{changes, substituteRowsIn, substituteRowsMark, noteRows, substituteObjectiveIn, substituteObjectiveMark, substituteArtificialIn, substituteArtificialMark, substitution, substituteOf};
 use crate::notes::var_changed_if;
-use moves::push_below;
 use rows::number::OBJECTIVE_BOUND;
 use rows::number::Wrote;
 use rows::number::joined;
@@ -101,7 +100,7 @@ fn note_rows(
     at: usize,
     pivot: &[f64; 130],
 )
-    requires { ⌜ length (now head) ≡ 326 ⌝ }
+    requires { ⌜ length (now head) ≡ 196 ⌝ }
     requires { ⌜ getD (now head) 4 0 ≤ length (now names) ⌝ }
     requires { ⌜ count < 50 ⌝ }
     requires { ⌜ count < length (now rows) ⌝ }
@@ -118,8 +117,8 @@ fn note_rows(
     }
 }
 
-// All but the infeasible list.
-fn substitute_and_note(
+// In the rows, the objective and the artificial objective where one stands.
+pub fn substitute(
     art: bool,
     head: &mut [u64],
     names: &mut [[u64; 20]],
@@ -127,14 +126,14 @@ fn substitute_and_note(
     at: usize,
     pivot: &[f64; 130],
 ) -> Wrote
-    requires { ⌜ length (now head) ≡ 326 ⌝ }
+    requires { ⌜ length (now head) ≡ 196 ⌝ }
     requires { ⌜ getD (now head) 1 0 ≤ 129 ⌝ }
     requires { ⌜ getD (now head) 2 0 ≤ 49 ⌝ }
     requires { ⌜ getD (now head) 4 0 ≤ length (now names) ⌝ }
     requires { ⌜ length (now rows) ≡ 51 ⌝ }
     requires { ⌜ at < 130 ⌝ }
     ensures { λ r. ⌜ substitution (now (head .exit)) (now (names .exit)) (now (rows .exit)) (markOf r) ≡ substituteOf art at (now (pivot .entry)) (noted (now (head .entry)) (now (names .entry))) (now (rows .entry)) ⌝ }
-    ensures { λ _. ⌜ Fits (now (head .exit)) (getD (now (head .entry)) 1 0) (getD (now (head .entry)) 2 0) (getD (now (head .entry)) 3 0) ⌝ }
+    ensures { λ _. ⌜ Fits (now (head .exit)) (getD (now (head .entry)) 1 0) (getD (now (head .entry)) 2 0) ⌝ }
     ensures { λ _. ⌜ getD (now (head .exit)) 4 0 ≡ getD (now (head .entry)) 4 0 ⌝ }
 {
     let width = head[layout::SYMBOL_COUNT] as usize;
@@ -144,28 +143,4 @@ fn substitute_and_note(
     let v = substitute_objective(rows, width, at, pivot);
     let w = substitute_artificial(art, rows, width, at, pivot);
     joined(u, joined(v, w))
-}
-
-pub fn substitute(
-    art: bool,
-    head: &mut [u64],
-    names: &mut [[u64; 20]],
-    rows: &mut [[f64; 130]],
-    at: usize,
-    pivot: &[f64; 130],
-) -> Wrote
-    requires { ⌜ length (now head) ≡ 326 ⌝ }
-    requires { ⌜ getD (now head) 1 0 ≤ 129 ⌝ }
-    requires { ⌜ getD (now head) 2 0 ≤ 49 ⌝ }
-    requires { ⌜ getD (now head) 3 0 ≤ 130 ⌝ }
-    requires { ⌜ getD (now head) 4 0 ≤ length (now names) ⌝ }
-    requires { ⌜ length (now rows) ≡ 51 ⌝ }
-    requires { ⌜ at < 130 ⌝ }
-    ensures { λ r. ⌜ substitution (now (head .exit)) (now (names .exit)) (now (rows .exit)) (markOf r) ≡ pushedOf (substituteOf art at (now (pivot .entry)) (noted (now (head .entry)) (now (names .entry))) (now (rows .entry))) ⌝ }
-    ensures { λ _. ⌜ Fits (now (head .exit)) (getD (now (head .entry)) 1 0) (getD (now (head .entry)) 2 0) 130 ⌝ }
-    ensures { λ _. ⌜ getD (now (head .exit)) 4 0 ≡ getD (now (head .entry)) 4 0 ⌝ }
-{
-    let w = substitute_and_note(art, head, names, rows, at, pivot);
-    push_below(head, rows);
-    w
 }

@@ -66,7 +66,7 @@ marks-in a v h n r w m row = refl
 
 -- tables that a symbol can come into
 pub record Open (f : Frame) : Type 0 where
-  pub head-long : length (f .head) ≡ 326
+  pub head-long : length (f .head) ≡ 196
   pub rows-stand : length (f .rows) ≡ 51
   pub rows-wide : Wide (f .rows) (1 + getD (f .head) 2 0)
   pub row-wide : length (f .row) ≡ 130

@@ -17,7 +17,7 @@ use Rattle.tags.specs.declared.Relation.{Relation as Given}
 use Rattle.tags.specs.declared.Relation.the-variants.{AtMost, Equal, AtLeast}
 
 -- what stands in the tables after a symbol came
-pub grew-of : (kind : ℕ) (h : List ℕ) (w : List (List Float)) {g : List ℕ} {v : List (List Float)} → length h ≡ 326 → getD h 1 0 < 129 → board g v ≡ appendedSymbol kind (board h w) → Grew h g
+pub grew-of : (kind : ℕ) (h : List ℕ) (w : List (List Float)) {g : List ℕ} {v : List (List Float)} → length h ≡ 196 → getD h 1 0 < 129 → board g v ≡ appendedSymbol kind (board h w) → Grew h g
 unfolding appendedSymbol
 grew-of kind h w {g} {v} len fit e =
     let b : Board = board h w in

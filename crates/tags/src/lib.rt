@@ -35,7 +35,7 @@ fn add_symbol(
     k: f64,
     past: Wrote,
 ) -> Wrote
-    requires { ⌜ length (now head) ≡ 326 ⌝ }
+    requires { ⌜ length (now head) ≡ 196 ⌝ }
     requires { ⌜ getD (now head) 0 0 ≤ 4294967295 ⌝ }
     requires { ⌜ getD (now head) 1 0 < 129 ⌝ }
     requires { ⌜ getD (now head) 2 0 ≤ 49 ⌝ }
@@ -59,7 +59,7 @@ fn add_error(
     strength: f64,
     past: Wrote,
 ) -> Wrote
-    requires { ⌜ length (now head) ≡ 326 ⌝ }
+    requires { ⌜ length (now head) ≡ 196 ⌝ }
     requires { ⌜ getD (now head) 0 0 ≤ 4294967295 ⌝ }
     requires { ⌜ getD (now head) 1 0 < 129 ⌝ }
     requires { ⌜ getD (now head) 2 0 ≤ 49 ⌝ }
@@ -82,7 +82,7 @@ fn inequality(
     strength: f64,
     past: Wrote,
 ) -> Tagged
-    requires { ⌜ length (now head) ≡ 326 ⌝ }
+    requires { ⌜ length (now head) ≡ 196 ⌝ }
     requires { ⌜ getD (now head) 0 0 < 4294967295 ⌝ }
     requires { ⌜ getD (now head) 1 0 < 128 ⌝ }
     requires { ⌜ getD (now head) 2 0 ≤ 49 ⌝ }
@@ -114,7 +114,7 @@ fn soft_equality(
     strength: f64,
     past: Wrote,
 ) -> Tagged
-    requires { ⌜ length (now head) ≡ 326 ⌝ }
+    requires { ⌜ length (now head) ≡ 196 ⌝ }
     requires { ⌜ getD (now head) 0 0 < 4294967295 ⌝ }
     requires { ⌜ getD (now head) 1 0 < 128 ⌝ }
     requires { ⌜ getD (now head) 2 0 ≤ 49 ⌝ }
@@ -138,7 +138,7 @@ fn required_equality(
     row: &mut [f64; 130],
     past: Wrote,
 ) -> Tagged
-    requires { ⌜ length (now head) ≡ 326 ⌝ }
+    requires { ⌜ length (now head) ≡ 196 ⌝ }
     requires { ⌜ getD (now head) 0 0 ≤ 4294967295 ⌝ }
     requires { ⌜ getD (now head) 1 0 < 129 ⌝ }
     requires { ⌜ getD (now head) 2 0 ≤ 49 ⌝ }
@@ -161,7 +161,7 @@ fn equality(
     strength: f64,
     past: Wrote,
 ) -> Tagged
-    requires { ⌜ length (now head) ≡ 326 ⌝ }
+    requires { ⌜ length (now head) ≡ 196 ⌝ }
     requires { ⌜ getD (now head) 0 0 < 4294967295 ⌝ }
     requires { ⌜ getD (now head) 1 0 < 128 ⌝ }
     requires { ⌜ getD (now head) 2 0 ≤ 49 ⌝ }
@@ -181,7 +181,7 @@ pub fn add_tag(
     relation: Relation,
     past: Wrote,
 ) -> Tagged
-    requires { ⌜ length (now head) ≡ 326 ⌝ }
+    requires { ⌜ length (now head) ≡ 196 ⌝ }
     requires { ⌜ getD (now head) 0 0 < 4294967295 ⌝ }
     requires { ⌜ getD (now head) 1 0 < 128 ⌝ }
     requires { ⌜ getD (now head) 2 0 ≤ 49 ⌝ }

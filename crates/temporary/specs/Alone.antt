@@ -45,7 +45,7 @@ module _ (past : Wrote) (h : List ℕ) (n : List (List ℕ)) (reals w : List (Li
   stood-is b e =
       rw e (
         stood-read (markOf past) h n reals w row (s .standing) long (s .few-symbols) (s .few-rows) 0,
-        stood-stands (markOf past) h n reals w row (s .standing) long (s .few-symbols) (s .few-rows) (s .entries) (s .holds),
+        stood-stands (markOf past) h n reals w row (s .standing) long (s .few-symbols) (s .few-rows) (s .holds),
         stood-beside (markOf past) h n reals w row (s .standing) long (s .few-symbols) (s .few-rows),
       )
 

@@ -22,7 +22,7 @@ use Rattle.keeps.specs.Cells.{Fine, holds-held}
 use Rattle.keeps.specs.RowOps.{RowOk}
 use Rattle.keeps.specs.Fits.{IsBasic, FitsW, bids}
 use Rattle.keeps.specs.Passes.{Free, held-free}
-use Rattle.layout.specs.Layout.{Tables, tables, symbolOf, basicsOf, read, symbolsOf, entriesOf}
+use Rattle.layout.specs.Layout.{Tables, tables, symbolOf, basicsOf, read, symbolsOf}
 use Rattle.rows.specs.declared.number.Wrote.{Wrote}
 use Rattle.rows.specs.Marks.{markOf}
 use Rattle.rows.specs.Reading.{rowOf}
@@ -85,7 +85,7 @@ module _ (a : Mark) (v : ℕ) (h : List ℕ) (n : List (List ℕ)) (reals w : Li
   before = workOf false a v t
 
   row-read : (id : ℕ) → findRow id (before .tableau .rows) ≡ onFound (λ k. some (rowIn h (getD w k []))) none (choose.rowOf id h)
-  unfolding workOf read symbolsOf entriesOf basicsOf basicsIn
+  unfolding workOf read symbolsOf basicsOf basicsIn
   row-read id = row-found h id w
 
   reads : before .tableau ≡ tableauIn h w
@@ -94,7 +94,7 @@ module _ (a : Mark) (v : ℕ) (h : List ℕ) (n : List (List ℕ)) (reals w : Li
 
   -- the row's first slack or Error is not basic
   pub pivotable-at : Standing false a t → (id i p : ℕ) → choose.rowOf id h ≡ At i → heldOf Pivotable h (getD w i []) ≡ At p → times (getD h (15 + p) 0 / 4) (bids (basicsIn h w)) ≡ 0
-  unfolding workOf read symbolsOf entriesOf basicsOf basicsIn symbolOf
+  unfolding workOf read symbolsOf basicsOf basicsIn symbolOf
   pivotable-at s id i p q e =
       pivotable-free before (s .fits) id (rowIn h (getD w i [])) (row-read id ∙ ap (onFound (λ k. some (rowIn h (getD w k []))) none) q) (symbolAt h p)
       (pivotable-is h w before reads (getD w i []) ∙ ap (onFound (λ k. some (symbolAt h k)) none) e) .free

@@ -6,7 +6,7 @@ use mathlib.Core.Bool.{true, false}
 use mathlib.Core.List.{List, []}
 use mathlib.Core.Option.{some}
 use native.Mathlib.Omega.{arith}
-use lib.ListN.{length, getD, set, length-set, length-map}
+use lib.ListN.{length, getD, set, length-set}
 use lib.Seq.{getD-set-same, getD-set-other}
 use lib.Ieee.{Float}
 use Rattle.laws.specs.Lists.{listOf, tab-ext}
@@ -18,26 +18,21 @@ use Rattle.steps.specs.Row.{Row}
 use Rattle.steps.specs.Work.{Work, withRows, withArtificial, keepRow, newSymbol}
 use Rattle.steps.specs.CreateRow.{Building, appendTo}
 use Rattle.steps.specs.Artificial.{standTemporary}
-use Rattle.keeps.specs.Along.{ids}
 use Rattle.keeps.specs.Fits.{FitsW}
 use Rattle.keeps.specs.Adding.{temporary-fits}
 use Rattle.layout.specs.Layout.{tables, symbolOf, basicOf, read}
 use Rattle.rows.specs.Reading.{rowOf}
-use Rattle.choose.specs.Reading.{symbolsIn, basicsIn, entriesIn, rowIn}
+use Rattle.choose.specs.Reading.{symbolsIn, basicsIn, rowIn}
 use Rattle.moves.specs.Moves.{Board, board, appendedHead, clearedColumn, appendedSymbol, keptRow}
-use Rattle.moves.specs.Room.{Held}
-use Rattle.moves.specs.Rows.{entries-same}
 use Rattle.moves.specs.Columns.{new-symbol}
-use Rattle.moves.specs.Counts.{appended-length, appended-same, appended-symbols, kept-same, kept-past, row-place-between}
+use Rattle.moves.specs.Counts.{appended-length, appended-same, appended-symbols, kept-same, row-place-between}
 use Rattle.tableau.specs.Notes.{noted}
 use Rattle.tableau.specs.NotesKept.{ItemsKept, items-by}
-use Rattle.tableau.specs.Working.{workOf, artificialIn, work-parts, symbols-by, length-symbols, Ready}
+use Rattle.tableau.specs.Working.{workOf, artificialIn, work-parts, Ready}
 use Rattle.tableau.specs.EnterRead.{keep-read, ready-kept}
 use Rattle.tags.specs.Tags.{frame, appendIn}
 use Rattle.tags.specs.Read.{workIn, readFrame, Open, append-read}
-use Rattle.creating.specs.Leaves.{HeadLeft, symbol-head-left}
-use Rattle.creating.specs.Stands.{held-left}
-use Rattle.standing.specs.Standing.{Listed, Standing, Beside}
+use Rattle.standing.specs.Standing.{Standing, Beside}
 use Rattle.standing.specs.Kept.{standing-by, beside-by}
 use Rattle.standing.specs.Places.{fits-parts, ready-of, all-places}
 use Rattle.temporary.specs.Temporary.{Holds, grownRow, temporaryCode, stoodOf}
@@ -93,7 +88,7 @@ module _ (a : Mark) (h : List ℕ) (n : List (List ℕ)) (reals w : List (List F
   grown-long : length grown ≡ 130
   grown-long = length-set row (1 + getD h 1 0) zero64 ∙ long
 
-  len : length h₁ ≡ 326
+  len : length h₁ ≡ 196
   len = appended-length b (ready .head-long) 1 (omega (arith, few))
 
   size : length w₁ ≡ 51
@@ -180,25 +175,6 @@ module _ (a : Mark) (h : List ℕ) (n : List (List ℕ)) (reals w : List (List F
   kept : ItemsKept (noted h n) (noted h₂ n)
   kept = items-by h h₂ n same-items
 
-  left-same : HeadLeft h h
-  left-same = record { long = ready .head-long; more = omega arith; below = λ m low ne high. refl; past = λ m low. refl }
-
-  -- the ids that were live and the temporary's: 129 at most
-  listed : Held (entriesIn h) (ids (symbolsIn h)) → Listed h₂
-  listed held =
-      let same : (m : ℕ) → (m ≡ 2 → ⊥) → m < 146 → getD h₂ m 0 ≡ getD h₁ m 0 = λ m ne high.
-      let e = row-place-between (board h₁ w₁) len (temporaryCode h / 4) in
-      kept-same (board h₁ w₁) len (temporaryCode h) grown fit m ne (omega (arith, e, high)) in
-      let held₁ : Held (entriesIn h₁) (ids (symbolsIn h₁)) = held-left h h₁ (symbol-head-left h h w left-same 1 (omega (arith, few))) held in
-      let symbols : symbolsIn h₂ ≡ symbolsIn h₁ = symbols-by h₂ h₁ (same 1 (omega arith) (omega arith)) (λ i k. same (16 + i) (omega arith) (omega (arith, k, ready₁ .few-symbols))) in
-      let entries : entriesIn h₂ ≡ entriesIn h₁ = entries-same h₁ h₂ (same 3 (omega arith) (omega arith)) (λ i k. kept-past (board h₁ w₁) len (temporaryCode h) grown fit (196 + i) (omega (arith, fit))) in
-      record {
-        seen = ids (symbolsIn h₁);
-        few = omega (arith, length-map (symbolsIn h₁) (λ (x : Symbol). x .id), length-symbols h₁, ready₁ .few-symbols);
-        held = rw entries held₁;
-        live = rw symbols (λ x e. e);
-      }
-
   ready₃ : Ready h₂ n (set w₂ 50 grown)
   ready₃ = record {
     head-long = ready₂ .head-long;
@@ -212,12 +188,11 @@ module _ (a : Mark) (h : List ℕ) (n : List (List ℕ)) (reals w : List (List F
   abbrev before₀ : Work
   before₀ = workOf false a 0 (tables h n reals w)
 
-  pub stood-stands : Held (entriesIn h) (ids (symbolsIn h)) → Holds before₀ (rowIn h row)
-      → Standing true a (tables (stoodOf row b .head) n reals (stoodOf row b .rows))
+  pub stood-stands : Holds before₀ (rowIn h row) → Standing true a (tables (stoodOf row b .head) n reals (stoodOf row b .rows))
   unfolding stoodOf appendedSymbol
-  stood-stands held ok =
+  stood-stands ok =
       standing-by false a h n reals w s true a h₂ n (set w₂ 50 grown) ready₃ kept
-      (subst FitsW (sym (stood-read 0)) (temporary-fits before₀ (rowIn h row) (s .fits) ok)) (listed held)
+      (subst FitsW (sym (stood-read 0)) (temporary-fits before₀ (rowIn h row) (s .fits) ok))
 
   pub stood-beside : Beside (tables h n reals w) (tables (stoodOf row b .head) n reals (stoodOf row b .rows))
   unfolding stoodOf appendedSymbol

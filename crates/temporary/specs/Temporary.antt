@@ -9,13 +9,11 @@ use Rattle.steps.specs.Number.{zero64, Mark}
 use Rattle.steps.specs.Row.{Row}
 use Rattle.steps.specs.Work.{Work}
 use Rattle.steps.specs.CreateRow.{Created}
-use Rattle.keeps.specs.Along.{ids}
 use Rattle.keeps.specs.Cells.{Fine}
 use Rattle.keeps.specs.RowOps.{RowOk}
 use Rattle.keeps.specs.Fits.{IsBasic}
 use Rattle.layout.specs.Layout.{Tables, nextIdOf, symbolCount, rowCount}
-use Rattle.choose.specs.Reading.{symbolsIn, entriesIn, rowIn}
-use Rattle.moves.specs.Room.{Held}
+use Rattle.choose.specs.Reading.{rowIn}
 use Rattle.moves.specs.Moves.{Board, board, appendedSymbol, keptRow}
 use Rattle.tableau.specs.Working.{workOf}
 use Rattle.standing.specs.Standing.{Standing}
@@ -35,7 +33,6 @@ pub record Fitting (a : Mark) (t : Tables) (row : List Float) : Type 0 where
   pub few-symbols : symbolCount (t .head) ≤ 128
   pub few-rows : rowCount (t .head) ≤ 47
   pub few-ids : nextIdOf (t .head) ≤ 4294900018
-  pub entries : Held (entriesIn (t .head)) (ids (symbolsIn (t .head)))
   pub holds : Holds (workOf false a 0 t) (rowIn (t .head) row)
 
 -- the cell of the temporary, past the others

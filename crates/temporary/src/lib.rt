@@ -32,7 +32,7 @@ use standing::check_finite;
 
 // "a temporary slack is basic with this row, a copy is the artificial objective"
 fn stand_temporary(head: &mut [u64], rows: &mut [[f64; 130]], row: &mut [f64; 130]) -> u64
-    requires { ⌜ length (now head) ≡ 326 ⌝ }
+    requires { ⌜ length (now head) ≡ 196 ⌝ }
     requires { ⌜ getD (now head) 0 0 ≤ 4294967295 ⌝ }
     requires { ⌜ getD (now head) 1 0 ≤ 128 ⌝ }
     requires { ⌜ getD (now head) 2 0 ≤ 48 ⌝ }

@@ -6,7 +6,7 @@ ghost use lib.ListN.{length, getD};
 ghost use Rattle.rows.specs.Marks.{markOf};
 ghost use Rattle.rows.specs.Table.{insertRowIn, insertRowMark};
 ghost use Rattle.tableau.specs.Notes.{noted};
-ghost use Rattle.tableau.specs.Substituting.{substitution, substituteOf, pushedOf};
+ghost use Rattle.tableau.specs.Substituting.{substitution, substituteOf};
 ghost use Rattle.tableau.specs.Pivoting.{pivotOf};
 use rows::number::Wrote;
 
@@ -33,14 +33,13 @@ pub extern "C" fn timed_substitute(
     at: usize,
     pivot: &[f64; 130],
 ) -> Wrote
-    requires { ⌜ length (now head) ≡ 326 ⌝ }
+    requires { ⌜ length (now head) ≡ 196 ⌝ }
     requires { ⌜ getD (now head) 1 0 ≤ 129 ⌝ }
     requires { ⌜ getD (now head) 2 0 ≤ 49 ⌝ }
-    requires { ⌜ getD (now head) 3 0 ≤ 130 ⌝ }
     requires { ⌜ getD (now head) 4 0 ≤ length (now names) ⌝ }
     requires { ⌜ length (now rows) ≡ 51 ⌝ }
     requires { ⌜ at < 130 ⌝ }
-    ensures { λ r. ⌜ substitution (now (head .exit)) (now (names .exit)) (now (rows .exit)) (markOf r) ≡ pushedOf (substituteOf false at (now (pivot .entry)) (noted (now (head .entry)) (now (names .entry))) (now (rows .entry))) ⌝ }
+    ensures { λ r. ⌜ substitution (now (head .exit)) (now (names .exit)) (now (rows .exit)) (markOf r) ≡ substituteOf false at (now (pivot .entry)) (noted (now (head .entry)) (now (names .entry))) (now (rows .entry)) ⌝ }
 {
     tableau::substitution::substitute(false, head, names, rows, at, pivot)
 }
@@ -54,10 +53,9 @@ pub extern "C" fn timed_pivot(
     leaving: usize,
     entering: usize,
 ) -> Wrote
-    requires { ⌜ length (now head) ≡ 326 ⌝ }
+    requires { ⌜ length (now head) ≡ 196 ⌝ }
     requires { ⌜ getD (now head) 1 0 ≤ 129 ⌝ }
     requires { ⌜ getD (now head) 2 0 ≤ 49 ⌝ }
-    requires { ⌜ getD (now head) 3 0 ≤ 130 ⌝ }
     requires { ⌜ getD (now head) 4 0 ≤ length (now names) ⌝ }
     requires { ⌜ length (now rows) ≡ 51 ⌝ }
     requires { ⌜ 1 ≤ i ⌝ }

@@ -23,7 +23,7 @@ pub const PLACES: usize = 32;
 #[repr(C)]
 #[derive(Clone)]
 pub struct Tables {
-    pub head: [u64; 326],
+    pub head: [u64; 196],
     pub names: [[u64; 20]; 128],
     pub reals: [[f64; 17]; 128],
     pub rows: [[f64; 130]; 51],

@@ -33,7 +33,7 @@ unfolding zero64
 returns c = refuse (tables (c .before .before .before .args .head .now) (c .before .before .before .args .names .now) (c .before .before .before .args .reals .now) (c .before .before .before .args .rows .now)) (c .before .before .before .args .n) (c .before .reads-as-state .ensures) (not-true _ (c .if1 .taken))
 
 value-in-requires : tie.Need-value-in-requires
-value-in-requires c κs = let y = yes _ (c .before .reads-as-state .ensures) (not-false _ (c .if1 .left)) in (y .0 .0, (y .0 .1, (y .0 .3, (y .1 .1, y .1 .3))))
+value-in-requires c κs = let y = yes _ (c .before .reads-as-state .ensures) (not-false _ (c .if1 .left)) in (y .0 .0, (y .0 .1, (y .0 .3, (y .1 .1, y .1 .2))))
 
 returns-2 : tie.Need-returns-2
 unfolding zero64

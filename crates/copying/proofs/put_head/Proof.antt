@@ -3,13 +3,13 @@
 use Prim.Native.Nat.{ℕ, _+_}
 use mathlib.Core.Path.{_≡_}
 use mathlib.Core.List.{List}
-use lib.ListN.{getD}
+use Rattle.layout.specs.Layout.{symbolsAt, rowsAt, headingEnd, recordCountsAt, recordCountsEnd, symbolCount, rowCount}
 use Rattle.layout.specs.Copy.{headOver, putSpan}
 use borrow.Author.Needs.{needs}
 use Rattle.copying.proofs.put_head.Statement.{statement}
 use Rattle.copying.proofs.put_head.Tie as tie
 
-glue : (g h : List ℕ) {h₁ h₂ h₃ h₄ : List ℕ} → h₁ ≡ putSpan g 0 9 h → h₂ ≡ putSpan g 16 (16 + getD g 1 0) h₁ → h₃ ≡ putSpan g 146 (146 + getD g 2 0) h₂ → h₄ ≡ putSpan g 196 (196 + getD g 3 0) h₃ → h₄ ≡ headOver g h
+glue : (g h : List ℕ) {h₁ h₂ h₃ h₄ : List ℕ} → h₁ ≡ putSpan g 0 headingEnd h → h₂ ≡ putSpan g recordCountsAt recordCountsEnd h₁ → h₃ ≡ putSpan g symbolsAt (symbolsAt + symbolCount g) h₂ → h₄ ≡ putSpan g rowsAt (rowsAt + rowCount g) h₃ → h₄ ≡ headOver g h
 unfolding headOver
 glue g h e₁ e₂ e₃ e₄ = rw (e₄, e₃, e₂, e₁)
 
@@ -22,9 +22,7 @@ put-head-spec =
     (tie.spec
     (λ c. search needs)
     (λ c. search needs)
-    (λ c. search needs)
     (λ c κs. search needs)
-    (λ c. search needs)
     (λ c κs. search needs)
     (λ c. search needs)
     (λ c κs. search needs)

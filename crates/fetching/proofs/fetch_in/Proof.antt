@@ -20,7 +20,7 @@ slice-read-clear-changed-if-2 : tie.Need-slice-read-clear-changed-if-2
 slice-read-clear-changed-if-2 c = omega (arith, reads-lengths _ (c .before .before .before .before .before .before .before .before .pre .0) .0)
 
 clear-changed-if-requires : tie.Need-clear-changed-if-requires
-clear-changed-if-requires c κs = omega (arith, reads-lengths _ (c .before .before .before .before .before .before .before .before .pre .0) .1, reads-counts _ (c .before .before .before .before .before .before .before .before .pre .0) .3)
+clear-changed-if-requires c κs = omega (arith, reads-lengths _ (c .before .before .before .before .before .before .before .before .pre .0) .1, reads-counts _ (c .before .before .before .before .before .before .before .before .pre .0) .2)
 
 list-news-requires : tie.Need-list-news-requires
 list-news-requires c κs =
@@ -28,7 +28,7 @@ list-news-requires c κs =
     let l = reads-lengths _ (p .0) in
     let n = reads-counts _ (p .0) in (
       l .0,
-      (l .3, (n .1, (n .3, (omega (arith, c .before .before .before .before .before .before .clear-changed-if .kept, l .1, n .3), (omega (arith, l .2, n .3), (ap (λ (x : List ℕ). length x) (p .1 .0), ap (λ (x : List Float). length x) (p .1 .1))))))),
+      (l .3, (n .1, (n .2, (omega (arith, c .before .before .before .before .before .before .clear-changed-if .kept, l .1, n .2), (omega (arith, l .2, n .2), (ap (λ (x : List ℕ). length x) (p .1 .0), ap (λ (x : List Float). length x) (p .1 .1))))))),
     )
 
 slice-read-head : tie.Need-slice-read-head

@@ -1,25 +1,25 @@
 -- `finishing::with_edit` meets its contract.
 -- Assumes nothing.
 use native.Mathlib.Omega.{arith}
-use Rattle.finishing.specs.Stored.{closed-counts, edit-came}
+use Rattle.finishing.specs.Stored.{marked-counts, edit-came}
 use borrow.Author.Needs.{needs}
 use Rattle.finishing.proofs.with_edit.Statement.{statement}
 use Rattle.finishing.proofs.with_edit.Tie as tie
 
-close-requires : tie.Need-close-requires
-close-requires c κs = let s = c .before .before .pre .0 in (s .lengths .0, (s .few-rows, (s .few-entries, s .lengths .3)))
+store-mark-requires : tie.Need-store-mark-requires
+store-mark-requires c κs = let s = c .before .before .pre .0 in s .lengths .0
 
 keep-edit-requires : tie.Need-keep-edit-requires
-keep-edit-requires c κs = let s = c .before .before .before .before .before .before .before .before .pre .0 in let k = closed-counts (c .before .before .before .before .before .before .before .before .args .wrote) (c .before .before .before .before .before .before .before .before .args .head .now) (c .before .before .before .before .before .before .before .before .args .names .now) (c .before .before .before .before .before .before .before .before .args .reals .now) (c .before .before .before .before .before .before .before .before .args .rows .now) s (c .before .before .before .before .before .close .ensures) in (k .0, (omega (arith, k .2, c .before .before .before .before .before .before .before .before .pre .1), (s .lengths .1, s .lengths .2)))
+keep-edit-requires c κs = let s = c .before .before .before .before .before .before .before .before .pre .0 in let k = marked-counts (c .before .before .before .before .before .before .before .before .args .wrote) (c .before .before .before .before .before .before .before .before .args .head .now) (c .before .before .before .before .before .before .before .before .args .names .now) (c .before .before .before .before .before .before .before .before .args .reals .now) (c .before .before .before .before .before .before .before .before .args .rows .now) s (c .before .before .before .before .before .store-mark .ensures) in (k .0, (omega (arith, k .2, c .before .before .before .before .before .before .before .before .pre .1), (s .lengths .1, s .lengths .2)))
 
 returns : tie.Need-returns
-returns c = edit-came (c .before .before .before .before .before .before .before .before .before .before .before .before .before .args .wrote) (c .before .before .before .before .before .before .before .before .before .before .before .before .before .args .head .now) (c .before .before .before .before .before .before .before .before .before .before .before .before .before .args .names .now) (c .before .before .before .before .before .before .before .before .before .before .before .before .before .args .reals .now) (c .before .before .before .before .before .before .before .before .before .before .before .before .before .args .rows .now) (c .before .before .before .before .before .before .before .before .before .before .before .before .before .pre .0) (c .before .before .before .before .before .before .before .before .before .before .before .before .before .args .item .now) (c .before .before .before .before .before .before .before .before .before .before .before .before .before .args .real .now) (c .before .before .before .before .before .before .before .before .before .before .before .before .before .pre .1) (c .before .before .before .before .before .before .before .before .before .before .close .ensures) (c .before .before .before .before .keep-edit .ensures)
+returns c = edit-came (c .before .before .before .before .before .before .before .before .before .before .before .before .before .args .wrote) (c .before .before .before .before .before .before .before .before .before .before .before .before .before .args .head .now) (c .before .before .before .before .before .before .before .before .before .before .before .before .before .args .names .now) (c .before .before .before .before .before .before .before .before .before .before .before .before .before .args .reals .now) (c .before .before .before .before .before .before .before .before .before .before .before .before .before .args .rows .now) (c .before .before .before .before .before .before .before .before .before .before .before .before .before .pre .0) (c .before .before .before .before .before .before .before .before .before .before .before .before .before .args .item .now) (c .before .before .before .before .before .before .before .before .before .before .before .before .before .args .real .now) (c .before .before .before .before .before .before .before .before .before .before .before .before .before .pre .1) (c .before .before .before .before .before .before .before .before .before .before .store-mark .ensures) (c .before .before .before .before .keep-edit .ensures)
 
 pub with-edit-spec : {M : Type 1} → statement M
 with-edit-spec =
     tie.close
     (tie.spec
-    close-requires
+    store-mark-requires
     keep-edit-requires
     (λ c. search needs)
     (λ c. search needs)

@@ -20,9 +20,6 @@ slice-write-head-7 c = simp length-set (omega arith)
 slice-write-head-8 : tie.Need-slice-write-head-8
 slice-write-head-8 c = simp length-set (omega arith)
 
-slice-write-head-9 : tie.Need-slice-write-head-9
-slice-write-head-9 c = simp length-set (omega arith)
-
 returns : tie.Need-returns
 unfolding resetHead
 returns c = refl
@@ -39,6 +36,5 @@ reset-head-spec =
     slice-write-head-6
     slice-write-head-7
     slice-write-head-8
-    slice-write-head-9
     (λ c. search needs)
     returns)

@@ -7,7 +7,7 @@ use mathlib.Core.List.{List}
 use lib.Ieee.{Float}
 use Rattle.layout.specs.Layout.{rowsAt}
 use Rattle.places.specs.Marked.{Marks}
-use Rattle.symbols.specs.Symbols.{idsAscend, entriesFit, tableauFits}
+use Rattle.symbols.specs.Symbols.{idsAscend, tableauFits}
 use Rattle.symbols.specs.Marks.{noMarks, marksOf, basicsLive, cellsFit, marks-are, walked-tableau}
 use borrow.Author.Needs.{needs}
 use Rattle.symbols.proofs.tableau_fits.Statement.{statement}
@@ -20,8 +20,8 @@ module _ (h : List ℕ) (k r : ℕ) (few : k ≤ 129) {n m : List Float} (s : n 
   made-marks : Marks m
   made-marks = subst (λ (l : List Float). Marks l) (sym made) (marks-are h k r few)
 
-  glue : (w : List (List Float)) (q : ℕ) {a b c d : Bool} → a ≡ idsAscend h rowsAt r → b ≡ basicsLive h k r → c ≡ cellsFit w m k r → d ≡ entriesFit h k q → a && b && c && d ≡ tableauFits h w k r q
-  glue w q ia ib ic id = rw (ia, ib, ic, id, made) (walked-tableau h w k r few q)
+  glue : (w : List (List Float)) {a b c : Bool} → a ≡ idsAscend h rowsAt r → b ≡ basicsLive h k r → c ≡ cellsFit w m k r → a && b && c ≡ tableauFits h w k r
+  glue w ia ib ic = rw (ia, ib, ic, made) (walked-tableau h w k r few)
 
 cells-fit-requires : tie.Need-cells-fit-requires
 cells-fit-requires c κs =
@@ -32,8 +32,8 @@ cells-fit-requires c κs =
 
 returns : tie.Need-returns
 returns c =
-    let p = c .before .before .before .before .before .before .before .before .pre in
-    glue _ _ _ (p .1 .1 .0) (c .before .before .before .before .before .before .no-marks .ensures) (c .before .before .before .before .mark-basics .ensures .1) _ _ (c .before .before .before .ids-ascend .ensures) (c .before .before .before .before .mark-basics .ensures .0) (c .before .cells-fit .ensures) (c .entries-fit .ensures)
+    let p = c .before .before .before .before .before .before .before .pre in
+    glue _ _ _ (p .1 .1 .0) (c .before .before .before .before .before .no-marks .ensures) (c .before .before .before .mark-basics .ensures .1) _ (c .before .before .ids-ascend .ensures) (c .before .before .before .mark-basics .ensures .0) (c .cells-fit .ensures)
 
 pub tableau-fits-spec : {M : Type 1} → statement M
 tableau-fits-spec =
@@ -43,5 +43,4 @@ tableau-fits-spec =
     (λ c κs. search needs)
     (λ c κs. search needs)
     cells-fit-requires
-    (λ c κs. search needs)
     returns)

@@ -13,7 +13,7 @@ create-row-requires : tie.Need-create-row-requires
 create-row-requires c κs = (opening-first _ _ _ _ _ _ _ _ _ (c .before .before .before .before .before .before .mark-inputs .ensures) (c .before .before .before .before .before .before .before .before .pre .0), c .before .before .before .before .before .before .before .before .pre .1)
 
 add-row-requires : tie.Need-add-row-requires
-add-row-requires c κs = made-by _ _ _ _ _ _ _ _ (opening-first _ _ _ _ _ _ _ _ _ (c .before .before .before .before .before .before .before .before .before .before .before .before .before .before .before .before .before .mark-inputs .ensures) (c .before .before .before .before .before .before .before .before .before .before .before .before .before .before .before .before .before .before .before .pre .0)) (c .before .before .before .before .before .before .before .before .before .before .create-row .ensures .0) (c .before .before .before .before .before .before .before .before .before .before .create-row .ensures .1 .0 .0) (c .before .before .before .before .before .before .before .before .before .before .create-row .ensures .1 .1 .0) (c .before .before .before .before .before .before .before .before .before .before .create-row .ensures .1 .1 .1 .0) (c .before .before .before .before .before .before .before .before .before .before .create-row .ensures .1 .1 .1 .1 .0) (c .before .before .before .before .before .before .before .before .before .before .create-row .ensures .1 .1 .1 .1 .1)
+add-row-requires c κs = made-by _ _ _ _ _ _ _ _ (opening-first _ _ _ _ _ _ _ _ _ (c .before .before .before .before .before .before .before .before .before .before .before .before .before .before .before .before .before .mark-inputs .ensures) (c .before .before .before .before .before .before .before .before .before .before .before .before .before .before .before .before .before .before .before .pre .0)) (c .before .before .before .before .before .before .before .before .before .before .create-row .ensures .0) (c .before .before .before .before .before .before .before .before .before .before .create-row .ensures .1 .0 .0) (c .before .before .before .before .before .before .before .before .before .before .create-row .ensures .1 .1 .0) (c .before .before .before .before .before .before .before .before .before .before .create-row .ensures .1 .1 .1 .0) (c .before .before .before .before .before .before .before .before .before .before .create-row .ensures .1 .1 .1 .1)
 
 returns : tie.Need-returns
 returns c = steps-are _ _ _ _ _ _ _ _ _ _ _ _ (c .before .before .before .before .before .before .before .before .before .before .before .before .before .before .before .before .before .before .before .before .before .before .mark-inputs .ensures) (c .before .before .before .before .before .before .before .before .before .before .before .before .before .before .before .create-row .ensures .0) (c .before .before .before .before .before .before .before .before .before .before .before .before .before .before .before .create-row .ensures .1 .0 .1) (c .before .before .before .before .add-row .ensures .0) (c .before .before .before .before .add-row .ensures .1)

@@ -23,7 +23,7 @@ returns c =
 add-tests-requires : tie.Need-add-tests-requires
 add-tests-requires c κs =
     let start = c .before .before .before .before .before .before in
-    let r = ready-if (tables (start .args .head .now) (start .args .names .now) (start .args .reals .now) (start .args .rows .now)) (start .args .ok) (not-false _ (c .before .before .before .before .if1 .left)) (start .pre) in (r .0 .0, (r .0 .1, (r .1 .3, (r .1 .4, r .1 .5))))
+    let r = ready-if (tables (start .args .head .now) (start .args .names .now) (start .args .reals .now) (start .args .rows .now)) (start .args .ok) (not-false _ (c .before .before .before .before .if1 .left)) (start .pre) in (r .0 .0, (r .0 .1, (r .1 .2, (r .1 .3, r .1 .4))))
 
 by-test-requires : tie.Need-by-test-requires
 by-test-requires c κs =

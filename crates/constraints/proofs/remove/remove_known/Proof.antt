@@ -20,29 +20,29 @@ slice-read-name-at c = omega (arith, c .before .before .before .before .before .
 name-at-requires : tie.Need-name-at-requires
 name-at-requires c κs =
     let start = c .before .before .before .before .before .before .before .before .before in
-    omega (arith, start .pre .0 .1 .4, start .pre .0 .0 .1)
+    omega (arith, start .pre .0 .1 .3, start .pre .0 .0 .1)
 
 add-item : tie.Need-add-item
-add-item c = omega (arith, c .name-at .ensures .1, c .before .before .before .before .before .before .before .before .before .before .pre .0 .1 .4)
+add-item c = omega (arith, c .name-at .ensures .1, c .before .before .before .before .before .before .before .before .before .before .pre .0 .1 .3)
 
 mul-item : tie.Need-mul-item
-mul-item c = omega (arith, c .name-at .ensures .1, c .before .before .before .before .before .before .before .before .before .before .pre .0 .1 .4)
+mul-item c = omega (arith, c .name-at .ensures .1, c .before .before .before .before .before .before .before .before .before .before .pre .0 .1 .3)
 
 slice-copy-out-item : tie.Need-slice-copy-out-item
 slice-copy-out-item c =
     let start = c .before .before .before .before .before .before .before .before .before .before in
-    let l = constraint-placed (tables (start .args .head .now) (start .args .names .now) (start .args .reals .now) (start .args .rows .now)) (start .args .n) (start .pre .1) in omega (arith, c .name-at .ensures .0, l, start .pre .0 .1 .4, start .pre .0 .0 .1)
+    let l = constraint-placed (tables (start .args .head .now) (start .args .names .now) (start .args .reals .now) (start .args .rows .now)) (start .args .n) (start .pre .1) in omega (arith, c .name-at .ensures .0, l, start .pre .0 .1 .3, start .pre .0 .0 .1)
 
 add-real : tie.Need-add-real
-add-real c = omega (arith, c .before .name-at .ensures .1, c .before .before .before .before .before .before .before .before .before .before .before .pre .0 .1 .4)
+add-real c = omega (arith, c .before .name-at .ensures .1, c .before .before .before .before .before .before .before .before .before .before .before .pre .0 .1 .3)
 
 mul-real : tie.Need-mul-real
-mul-real c = omega (arith, c .before .name-at .ensures .1, c .before .before .before .before .before .before .before .before .before .before .before .pre .0 .1 .4)
+mul-real c = omega (arith, c .before .name-at .ensures .1, c .before .before .before .before .before .before .before .before .before .before .before .pre .0 .1 .3)
 
 slice-copy-out-real : tie.Need-slice-copy-out-real
 slice-copy-out-real c =
     let start = c .before .before .before .before .before .before .before .before .before .before .before in
-    let l = constraint-placed (tables (start .args .head .now) (start .args .names .now) (start .args .reals .now) (start .args .rows .now)) (start .args .n) (start .pre .1) in omega (arith, c .before .name-at .ensures .0, l, start .pre .0 .1 .4, start .pre .0 .0 .2)
+    let l = constraint-placed (tables (start .args .head .now) (start .args .names .now) (start .args .reals .now) (start .args .rows .now)) (start .args .n) (start .pre .1) in omega (arith, c .before .name-at .ensures .0, l, start .pre .0 .1 .3, start .pre .0 .0 .2)
 
 remove-steps-requires : tie.Need-remove-steps-requires
 remove-steps-requires c κs =

@@ -13,7 +13,7 @@ use Rattle.creating.proofs.term.insert_terms.Statement.{statement}
 use Rattle.creating.proofs.term.insert_terms.Tie as tie
 
 abbrev Inv-loop : tie.InvT-loop
-Inv-loop head₀ names₀ reals₀ rows₀ row₀ item real e w₀ j₀ head names reals rows row w j = (run (λ i x. insertKeptIn (getD item (4 + i) 0) (getD real (1 + i) nan) x) j e (build (desk head names reals rows row) (markOf w)) ≡ run (λ i x. insertKeptIn (getD item (4 + i) 0) (getD real (1 + i) nan) x) j₀ e (build (desk head₀ names₀ reals₀ rows₀ row₀) (markOf w₀))) × Roomy head × (length head ≡ 326) × (length names ≡ 128) × (length reals ≡ 128) × (length rows ≡ 51) × (j ≤ e)
+Inv-loop head₀ names₀ reals₀ rows₀ row₀ item real e w₀ j₀ head names reals rows row w j = (run (λ i x. insertKeptIn (getD item (4 + i) 0) (getD real (1 + i) nan) x) j e (build (desk head names reals rows row) (markOf w)) ≡ run (λ i x. insertKeptIn (getD item (4 + i) 0) (getD real (1 + i) nan) x) j₀ e (build (desk head₀ names₀ reals₀ rows₀ row₀) (markOf w₀))) × Roomy head × (length head ≡ 196) × (length names ≡ 128) × (length reals ≡ 128) × (length rows ≡ 51) × (j ≤ e)
 
 abbrev μ-loop : tie.MeasureT-loop
 μ-loop head₀ names₀ reals₀ rows₀ row₀ item real e w₀ j₀ head names reals rows row w j = e - j

@@ -1,13 +1,12 @@
 -- `dragging::shifting::shift_constants` meets its contract.
 -- Assumes nothing.
 use borrow.Author.Needs.{needs}
-use Rattle.dragging.specs.Shifting.{drag-calls, both-keep}
+use Rattle.dragging.specs.Shifting.{drag-calls}
 use Rattle.dragging.proofs.shifting.shift_constants.Statement.{statement}
 use Rattle.dragging.proofs.shifting.shift_constants.Tie as tie
 
 returns : tie.Need-returns
-returns c =
-    (drag-calls _ _ _ _ _ _ (c .before .before .before .before .before .before .before .before .before .before .before .before .before .before .before .before .before .drag-of .ensures .0) (c .before .before .before .before .before .before .before .before .before .before .before .before .note-shifts .ensures .0) (c .before .before .before .before .before .before .shift-rows .ensures) (c .before .before .push-shifts .ensures .0), (c .before .before .push-shifts .ensures .1 .0, both-keep (c .before .before .push-shifts .ensures .1 .1) (c .before .before .before .before .before .before .before .before .before .before .before .before .note-shifts .ensures .1 .1)))
+returns c = drag-calls _ _ _ _ _ _ (c .before .before .before .before .before .before .before .before .before .before .before .before .drag-of .ensures .0) (c .before .before .before .before .before .before .before .note-shifts .ensures) (c .before .shift-rows .ensures)
 
 pub shift-constants-spec : {M : Type 1} → statement M
 shift-constants-spec =
@@ -15,7 +14,6 @@ shift-constants-spec =
     (tie.spec
     (λ c κs. search needs)
     (λ c. search needs)
-    (λ c κs. search needs)
     (λ c κs. search needs)
     (λ c κs. search needs)
     (λ c. search needs)

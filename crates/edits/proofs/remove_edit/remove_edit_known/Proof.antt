@@ -20,40 +20,40 @@ slice-read-name-at c = omega (arith, c .before .before .before .before .before .
 name-at-requires : tie.Need-name-at-requires
 name-at-requires c κs =
     let start = c .before .before .before .before .before .before .before .before .before in
-    omega (arith, start .pre .0 .1 .5, start .pre .0 .0 .1)
+    omega (arith, start .pre .0 .1 .4, start .pre .0 .0 .1)
 
 add-marker : tie.Need-add-marker
-add-marker c = omega (arith, c .name-at .ensures .1, c .before .before .before .before .before .before .before .before .before .before .pre .0 .1 .5)
+add-marker c = omega (arith, c .name-at .ensures .1, c .before .before .before .before .before .before .before .before .before .before .pre .0 .1 .4)
 
 mul-marker : tie.Need-mul-marker
-mul-marker c = omega (arith, c .name-at .ensures .1, c .before .before .before .before .before .before .before .before .before .before .pre .0 .1 .5)
+mul-marker c = omega (arith, c .name-at .ensures .1, c .before .before .before .before .before .before .before .before .before .before .pre .0 .1 .4)
 
 index-1-marker : tie.Need-index-1-marker
 index-1-marker c =
     let start = c .before .before .before .before .before .before .before .before .before .before in
-    let l = edit-placed (tables (start .args .head .now) (start .args .names .now) (start .args .reals .now) (start .args .rows .now)) (start .args .n) (start .pre .1) in omega (arith, c .name-at .ensures .0, l, start .pre .0 .1 .5, start .pre .0 .0 .1)
+    let l = edit-placed (tables (start .args .head .now) (start .args .names .now) (start .args .reals .now) (start .args .rows .now)) (start .args .n) (start .pre .1) in omega (arith, c .name-at .ensures .0, l, start .pre .0 .1 .4, start .pre .0 .0 .1)
 
 add-other : tie.Need-add-other
-add-other c = omega (arith, c .before .name-at .ensures .1, c .before .before .before .before .before .before .before .before .before .before .before .pre .0 .1 .5)
+add-other c = omega (arith, c .before .name-at .ensures .1, c .before .before .before .before .before .before .before .before .before .before .before .pre .0 .1 .4)
 
 mul-other : tie.Need-mul-other
-mul-other c = omega (arith, c .before .name-at .ensures .1, c .before .before .before .before .before .before .before .before .before .before .before .pre .0 .1 .5)
+mul-other c = omega (arith, c .before .name-at .ensures .1, c .before .before .before .before .before .before .before .before .before .before .before .pre .0 .1 .4)
 
 index-1-other : tie.Need-index-1-other
 index-1-other c =
     let start = c .before .before .before .before .before .before .before .before .before .before .before in
-    let l = edit-placed (tables (start .args .head .now) (start .args .names .now) (start .args .reals .now) (start .args .rows .now)) (start .args .n) (start .pre .1) in omega (arith, c .before .name-at .ensures .0, l, start .pre .0 .1 .5, start .pre .0 .0 .1)
+    let l = edit-placed (tables (start .args .head .now) (start .args .names .now) (start .args .reals .now) (start .args .rows .now)) (start .args .n) (start .pre .1) in omega (arith, c .before .name-at .ensures .0, l, start .pre .0 .1 .4, start .pre .0 .0 .1)
 
 add-strength : tie.Need-add-strength
-add-strength c = omega (arith, c .before .before .name-at .ensures .1, c .before .before .before .before .before .before .before .before .before .before .before .before .pre .0 .1 .5)
+add-strength c = omega (arith, c .before .before .name-at .ensures .1, c .before .before .before .before .before .before .before .before .before .before .before .before .pre .0 .1 .4)
 
 mul-strength : tie.Need-mul-strength
-mul-strength c = omega (arith, c .before .before .name-at .ensures .1, c .before .before .before .before .before .before .before .before .before .before .before .before .pre .0 .1 .5)
+mul-strength c = omega (arith, c .before .before .name-at .ensures .1, c .before .before .before .before .before .before .before .before .before .before .before .before .pre .0 .1 .4)
 
 index-1-strength : tie.Need-index-1-strength
 index-1-strength c =
     let start = c .before .before .before .before .before .before .before .before .before .before .before .before in
-    let l = edit-placed (tables (start .args .head .now) (start .args .names .now) (start .args .reals .now) (start .args .rows .now)) (start .args .n) (start .pre .1) in omega (arith, c .before .before .name-at .ensures .0, l, start .pre .0 .1 .5, start .pre .0 .0 .2)
+    let l = edit-placed (tables (start .args .head .now) (start .args .names .now) (start .args .reals .now) (start .args .rows .now)) (start .args .n) (start .pre .1) in omega (arith, c .before .before .name-at .ensures .0, l, start .pre .0 .1 .4, start .pre .0 .0 .2)
 
 remove-steps-requires : tie.Need-remove-steps-requires
 remove-steps-requires c κs =

@@ -18,15 +18,15 @@ slice-read-name-at c = omega (arith, c .before .before .before .before .before .
 name-at-requires : tie.Need-name-at-requires
 name-at-requires c κs =
     let start = c .before .before .before .before .before .before .before .before .before in
-    omega (arith, start .pre .0 .1 .5, start .pre .0 .0 .1)
+    omega (arith, start .pre .0 .1 .4, start .pre .0 .0 .1)
 
 add-edit-record : tie.Need-add-edit-record
-add-edit-record c = omega (arith, c .before .before .name-at .ensures .1, c .before .before .before .before .before .before .before .before .before .before .before .before .pre .0 .1 .5)
+add-edit-record c = omega (arith, c .before .before .name-at .ensures .1, c .before .before .before .before .before .before .before .before .before .before .before .before .pre .0 .1 .4)
 
 edit-record-requires : tie.Need-edit-record-requires
 edit-record-requires c κs =
     let start = c .before .before .before .before .before .before .before .before .before .before .before .before in
-    let l = edit-placed (tables (start .args .head .now) (start .args .names .now) (start .args .reals .now) (start .args .rows .now)) (start .args .n) (start .pre .1 .1) in let q = c .before .before .name-at .ensures .0 in (omega (arith, q, l, start .pre .0 .1 .5, start .pre .0 .0 .1), omega (arith, q, l, start .pre .0 .1 .5, start .pre .0 .0 .2))
+    let l = edit-placed (tables (start .args .head .now) (start .args .names .now) (start .args .reals .now) (start .args .rows .now)) (start .args .n) (start .pre .1 .1) in let q = c .before .before .name-at .ensures .0 in (omega (arith, q, l, start .pre .0 .1 .4, start .pre .0 .0 .1), omega (arith, q, l, start .pre .0 .1 .4, start .pre .0 .0 .2))
 
 suggest-steps-requires : tie.Need-suggest-steps-requires
 suggest-steps-requires c κs =

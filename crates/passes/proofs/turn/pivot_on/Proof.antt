@@ -20,7 +20,7 @@ pivot-requires c κs =
     let p = c .before .before .before .before .before .before .before .before .before .pre in
     let s = p .0 in
     let q = within (c .before .before .before .before .before .before .place-of .ensures .1) (c .before .before .before .before .f .given .1) in
-    (s .lengths .0, (s .few-symbols, (s .few-rows, (s .few-entries, (omega (arith, s .few-variables, s .lengths .1), (s .lengths .3, (p .1 .0, (p .1 .1 .0, (omega (arith, q .1, s .few-symbols), omega (arith, p .1 .1 .1 .1 .0, s .few-symbols))))))))))
+    (s .lengths .0, (s .few-symbols, (s .few-rows, (omega (arith, s .few-variables, s .lengths .1), (s .lengths .3, (p .1 .0, (p .1 .1 .0, (omega (arith, q .1, s .few-symbols), omega (arith, p .1 .1 .1 .1 .0, s .few-symbols)))))))))
 
 returns-2 : tie.Need-returns-2
 returns-2 c =

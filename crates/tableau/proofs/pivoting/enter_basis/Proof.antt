@@ -14,7 +14,7 @@ unfolding enterOf
 returns c =
     let f = changed-fits _ _ _ (c .before .before .before .before .before .before .before .before .before .var-changed-if .ensures) in (
       enter-calls _ _ _ _ _ _ (c .before .before .before .before .before .before .before .before .before .before .before .before .before .before .before .before .before .before .substitute .ensures .0) (c .before .before .before .before .before .before .before .before .before .before .before .before .enters-noted .ensures) (c .before .before .before .before .before .before .before .before .before .var-changed-if .ensures) (c .before .before .before .keep-row .ensures .0),
-      (omega (arith, f, c .before .before .before .before .before .before .before .before .before .before .before .before .before .before .before .before .before .before .substitute .ensures .1 .0, c .before .before .before .keep-row .ensures .1), omega (arith, f, c .before .before .before .before .before .before .before .before .before .before .before .before .before .before .before .before .before .before .substitute .ensures .1 .0, c .before .before .before .keep-row .ensures .1), omega (arith, f, c .before .before .before .before .before .before .before .before .before .before .before .before .before .before .before .before .before .before .substitute .ensures .1 .0, c .before .before .before .keep-row .ensures .1)),
+      (omega (arith, f, c .before .before .before .before .before .before .before .before .before .before .before .before .before .before .before .before .before .before .substitute .ensures .1 .0, c .before .before .before .keep-row .ensures .1), omega (arith, f, c .before .before .before .before .before .before .before .before .before .before .before .before .before .before .before .before .before .before .substitute .ensures .1 .0, c .before .before .before .keep-row .ensures .1)),
     )
 
 pub enter-basis-spec : {M : Type 1} → statement M

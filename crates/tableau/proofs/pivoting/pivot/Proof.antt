@@ -12,20 +12,17 @@ use Rattle.tableau.proofs.pivoting.pivot.Tie as tie
 enter-basis-requires : tie.Need-enter-basis-requires
 enter-basis-requires c κs =
     let p = c .before .before .before .before .before .before .before .before .before .before .before .before .before .before .before .before .pre in
-    let v = dropped-variables _ _ _ (p .0) (p .1 .1 .0) (p .1 .1 .1 .1 .1 .1 .0) (p .1 .1 .1 .1 .1 .1 .1 .0) (c .before .before .before .before .before .before .before .drop-row .ensures .0) in (
+    let v = dropped-variables _ _ _ (p .0) (p .1 .1 .0) (p .1 .1 .1 .1 .1 .0) (p .1 .1 .1 .1 .1 .1 .0) (c .before .before .before .before .before .before .before .drop-row .ensures .0) in (
       omega (arith, c .before .before .before .before .before .before .before .drop-row .kept, p),
       (
         omega (arith, c .before .before .before .before .before .before .before .drop-row .ensures .1, p),
         (
           omega (arith, c .before .before .before .before .before .before .before .drop-row .ensures .1, p),
           (
-            omega (arith, c .before .before .before .before .before .before .before .drop-row .ensures .1, p),
+            omega (arith, v, p),
             (
-              omega (arith, v, p),
-              (
-                omega (arith, c .before .before .before .before .before .before .before .drop-row .kept, p),
-                omega (arith, p),
-              ),
+              omega (arith, c .before .before .before .before .before .before .before .drop-row .kept, p),
+              omega (arith, p),
             ),
           ),
         ),
@@ -37,7 +34,7 @@ unfolding solvedMark solvedRow
 returns c =
     let p = c .before .before .before .before .before .before .before .before .before .before .before .before .before .before .before .before .before .before .before .before .before .before .pre in (
       pivot-calls _ _ _ _ _ _ _ _ _ _ (c .before .before .before .before .before .before .before .before .before .before .before .before .before .before .before .before .solve-for-symbols .ensures .0) (c .before .before .before .before .before .before .before .before .before .before .before .before .before .before .before .before .solve-for-symbols .ensures .1) (c .before .before .before .before .before .before .before .before .before .before .before .before .before .drop-row .ensures .0) (c .before .before .before .before .before .enter-basis .ensures .0) (joined-mark _ _ (c .joined .ensures) refl refl),
-      (omega (arith, c .before .before .before .before .before .before .before .before .before .before .before .before .before .drop-row .ensures .1, c .before .before .before .before .before .enter-basis .ensures .1), omega (arith, p, c .before .before .before .before .before .before .before .before .before .before .before .before .before .drop-row .ensures .1, c .before .before .before .before .before .enter-basis .ensures .1), omega (arith, c .before .before .before .before .before .enter-basis .ensures .1)),
+      (omega (arith, c .before .before .before .before .before .before .before .before .before .before .before .before .before .drop-row .ensures .1, c .before .before .before .before .before .enter-basis .ensures .1), omega (arith, p, c .before .before .before .before .before .before .before .before .before .before .before .before .before .drop-row .ensures .1, c .before .before .before .before .before .enter-basis .ensures .1)),
     )
 
 pub pivot-spec : {M : Type 1} → statement M

@@ -13,7 +13,7 @@ use Rattle.tableau.proofs.substitution.note_rows.Statement.{statement}
 use Rattle.tableau.proofs.substitution.note_rows.Tie as tie
 
 abbrev Inv-loop : tie.InvT-loop
-Inv-loop head₀ names₀ rows count at pivot c i₀ head names i = (run (noteRow at pivot rows) i (1 + count) (noted head names) ≡ run (noteRow at pivot rows) i₀ (1 + count) (noted head₀ names₀)) × (length head ≡ 326) × (length names ≡ length names₀) × (getD head 4 0 ≤ length names) × (i ≤ 1 + count)
+Inv-loop head₀ names₀ rows count at pivot c i₀ head names i = (run (noteRow at pivot rows) i (1 + count) (noted head names) ≡ run (noteRow at pivot rows) i₀ (1 + count) (noted head₀ names₀)) × (length head ≡ 196) × (length names ≡ length names₀) × (getD head 4 0 ≤ length names) × (i ≤ 1 + count)
 
 abbrev μ-loop : tie.MeasureT-loop
 μ-loop head₀ names₀ rows count at pivot c i₀ head names i = 1 + count - i
