@@ -1,14 +1,20 @@
-/* The solver's calls, as libknobharbor.a has them (`rt staticlib knobharbor`; it is for x86-64). Everything that a call answers
-   and leaves is proved of the code behind it (crates/knobharbor, docs/CLAIMS.md); that this header says the same as that code is
-   not proved.
+/* The solver's calls, as libknobharbor.a has them (`rt staticlib knobharbor` for x86-64, `tools/cross TARGET` for others). Everything
+   that a call answers and leaves is proved of the code behind it (crates/knobharbor, docs/CLAIMS.md); that this header says the same
+   as that code is not proved.
 
    All memory is the caller's. A state lives in four lent tables; a changing call is lent a working room of four tables more.
    Each table and list crosses as a pointer and a length, counted in elements: a head's numbers, the rows of the others.
 
    What the caller owes, and no call can test: a pointer is not null, is aligned, and points at as many elements as its length
    says, also where that is 0; no two of a call's tables and lists overlap; no other thread uses them during the call; the float
-   unit rounds to nearest and flushes no subnormal number to zero, as C starts it (FTZ or DAZ set, or another rounding mode: the
-   answers differ, and no number says so). */
+   unit rounds to nearest, ties to even, flushes no subnormal number to zero and traps on nothing, as C starts it (FTZ or DAZ set, or
+   another rounding mode: the answers differ, and no number says so; docs/TARGETS.md has the registers).
+
+   The code keeps nothing between calls and has no data of its own, so calls on different tables may run at the same time, in
+   threads or in an interrupt; calls on the same tables, or with the same working room, may not. (Queries only read: several may
+   run at once on the same tables.) A call that an interrupt leaves half-way must go on before the tables are used again.
+
+   The calls are used most easily by the functions at the end, `kh_reset` and so on, over whole tables. */
 #ifndef KNOBHARBOR_H
 #define KNOBHARBOR_H
 
@@ -19,6 +25,14 @@
 #ifdef __cplusplus
 extern "C" {
 #endif
+
+/* ---- version */
+
+/* of this header and the archive that was built with it; a state kept by one version is not promised to read in another */
+#define KNOBHARBOR_VERSION_MAJOR 0
+#define KNOBHARBOR_VERSION_MINOR 1
+#define KNOBHARBOR_VERSION_PATCH 0
+#define KNOBHARBOR_VERSION "0.1.0"
 
 /* ---- sizes */
 
@@ -40,6 +54,13 @@ extern "C" {
 
 /* the strength from which on a constraint is required */
 #define KNOBHARBOR_REQUIRED 1001001000.0
+/* the crate's other three; any strength between 0 and required will do */
+#define KNOBHARBOR_STRONG 1000000.0
+#define KNOBHARBOR_MEDIUM 1000.0
+#define KNOBHARBOR_WEAK 1.0
+
+/* the largest budget */
+#define KNOBHARBOR_LARGEST_BUDGET 65535
 
 /* ---- tables */
 
@@ -175,18 +196,18 @@ knobharbor_fetched knobharbor_fetch(uint64_t *head, size_t heads, knobharbor_nam
 
 /* ---- queries
 
-   False or 0.0 for an unknown number, and where the tables do not read as a state. They write nothing; the tables are not const,
-   since before C23 a pointer to an array does not convert to a pointer to a const array. */
+   False or 0.0 for an unknown number, and where the tables do not read as a state. They write nothing. (Before C23 a pointer to
+   an array does not convert to a pointer to a const array: from tables that are not const, ask by `kh_value` and its like.) */
 
 /* The variable's value now. */
-double knobharbor_value(uint64_t *head, size_t heads, knobharbor_name *names, size_t named, knobharbor_real *reals,
-                        size_t valued, knobharbor_row *rows, size_t rowed, uint32_t variable);
+double knobharbor_value(const uint64_t *head, size_t heads, const knobharbor_name *names, size_t named, const knobharbor_real *reals,
+                        size_t valued, const knobharbor_row *rows, size_t rowed, uint32_t variable);
 
-bool knobharbor_has_constraint(uint64_t *head, size_t heads, knobharbor_name *names, size_t named,
-                               knobharbor_real *reals, size_t valued, knobharbor_row *rows, size_t rowed, uint32_t number);
+bool knobharbor_has_constraint(const uint64_t *head, size_t heads, const knobharbor_name *names, size_t named,
+                               const knobharbor_real *reals, size_t valued, const knobharbor_row *rows, size_t rowed, uint32_t number);
 
-bool knobharbor_has_edit(uint64_t *head, size_t heads, knobharbor_name *names, size_t named, knobharbor_real *reals,
-                         size_t valued, knobharbor_row *rows, size_t rowed, uint32_t variable);
+bool knobharbor_has_edit(const uint64_t *head, size_t heads, const knobharbor_name *names, size_t named, const knobharbor_real *reals,
+                         size_t valued, const knobharbor_row *rows, size_t rowed, uint32_t variable);
 
 /* ---- strengths */
 
@@ -195,6 +216,103 @@ double knobharbor_strength_create(double a, double b, double c, double w);
 
 /* held to 0..1,001,001,000 (NaN gives 1,001,001,000) */
 double knobharbor_strength_clip(double strength);
+
+/* ---- the calls over whole tables: t is what is kept, room the working room. Each is the call of its name above. */
+
+static inline knobharbor_answer kh_reset(knobharbor_tables *t)
+{
+    return knobharbor_reset(KNOBHARBOR_LEND(t));
+}
+
+static inline knobharbor_answer kh_add(knobharbor_tables *t, knobharbor_tables *room, uint32_t number, const knobharbor_term *terms,
+                                       size_t count, double constant, knobharbor_kind kind, double strength, uint16_t budget)
+{
+    return knobharbor_add(KNOBHARBOR_LEND(t), KNOBHARBOR_LEND(room), number, terms, count, constant, (uint32_t)kind, strength, budget);
+}
+
+/* the same of two lists of `count` each */
+static inline knobharbor_answer kh_add_lists(knobharbor_tables *t, knobharbor_tables *room, uint32_t number, const uint32_t *vars,
+                                             const double *coefs, size_t count, double constant, knobharbor_kind kind, double strength,
+                                             uint16_t budget)
+{
+    return knobharbor_add_lists(KNOBHARBOR_LEND(t), KNOBHARBOR_LEND(room), number, vars, count, coefs, count, constant, (uint32_t)kind,
+                                strength, budget);
+}
+
+static inline knobharbor_answer kh_remove(knobharbor_tables *t, knobharbor_tables *room, uint32_t number, uint16_t budget)
+{
+    return knobharbor_remove(KNOBHARBOR_LEND(t), KNOBHARBOR_LEND(room), number, budget);
+}
+
+static inline knobharbor_answer kh_add_edit(knobharbor_tables *t, knobharbor_tables *room, uint32_t variable, double strength,
+                                            uint16_t budget)
+{
+    return knobharbor_add_edit(KNOBHARBOR_LEND(t), KNOBHARBOR_LEND(room), variable, strength, budget);
+}
+
+static inline knobharbor_answer kh_remove_edit(knobharbor_tables *t, knobharbor_tables *room, uint32_t variable, uint16_t budget)
+{
+    return knobharbor_remove_edit(KNOBHARBOR_LEND(t), KNOBHARBOR_LEND(room), variable, budget);
+}
+
+static inline knobharbor_answer kh_suggest(knobharbor_tables *t, knobharbor_tables *room, uint32_t variable, double suggestion,
+                                           uint16_t budget)
+{
+    return knobharbor_suggest(KNOBHARBOR_LEND(t), KNOBHARBOR_LEND(room), variable, suggestion, budget);
+}
+
+/* what a fetch lists: variable numbers[i] stands at values[i], for i below the count that it answers */
+typedef struct knobharbor_changes {
+    uint64_t numbers[KNOBHARBOR_CHANGES];
+    double values[KNOBHARBOR_CHANGES];
+} knobharbor_changes;
+
+static inline knobharbor_fetched kh_fetch(knobharbor_tables *t, knobharbor_changes *changes)
+{
+    return knobharbor_fetch(KNOBHARBOR_LEND(t), changes->numbers, KNOBHARBOR_CHANGES, changes->values, KNOBHARBOR_CHANGES);
+}
+
+static inline double kh_value(const knobharbor_tables *t, uint32_t variable)
+{
+    return knobharbor_value(KNOBHARBOR_LEND(t), variable);
+}
+
+static inline bool kh_has_constraint(const knobharbor_tables *t, uint32_t number)
+{
+    return knobharbor_has_constraint(KNOBHARBOR_LEND(t), number);
+}
+
+static inline bool kh_has_edit(const knobharbor_tables *t, uint32_t variable)
+{
+    return knobharbor_has_edit(KNOBHARBOR_LEND(t), variable);
+}
+
+/* An answer's number in words. */
+static inline const char *kh_words(uint32_t number)
+{
+    static const char *const words[] = {
+        "accepted",
+        "a coefficient, the constant, the strength or the suggestion is infinite or not a number",
+        "the strength is negative",
+        "the constraint has more than 16 terms",
+        "the constraint is there already",
+        "there is no such constraint",
+        "the variable has an edit already",
+        "an edit cannot be required",
+        "the variable has no edit",
+        "there would be more than 32 variables",
+        "there are 48 constraints already, edits counted",
+        "symbol ids are used up; a reset starts them anew",
+        "the constraint cannot be met together with the other required ones",
+        "the arithmetic left the finite numbers",
+        "the pivot budget is used up",
+        "an optimise pass found no row to leave: the arithmetic has lost the problem",
+        "a drag found no symbol to enter: the arithmetic has lost the problem",
+        "a removal found no row for its marker: the arithmetic has lost it",
+        "a lent table has the wrong length or does not read as a state",
+    };
+    return number < sizeof words / sizeof words[0] ? words[number] : "no number of the document's";
+}
 
 #ifdef __cplusplus
 }

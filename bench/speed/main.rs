@@ -47,6 +47,8 @@ trait Engine {
     fn suggest(&mut self, v: u32, x: f64) -> bool;
     fn fetch(&mut self) -> usize;
     fn value(&mut self, v: u32) -> f64;
+    fn has_constraint(&mut self, d: &Demand) -> bool;
+    fn has_edit(&mut self, v: u32) -> bool;
 }
 
 // ---- ours, through the archive, and the crate as published: the same calls, by the same names
@@ -94,6 +96,13 @@ macro_rules! engine {
             fn value(&mut self, v: u32) -> f64 {
                 self.solver.get_value(self.vars[v as usize])
             }
+            fn has_constraint(&mut self, d: &Demand) -> bool {
+                let (_, c) = self.made.iter().find(|(n, _)| *n == d.number).unwrap();
+                self.solver.has_constraint(c)
+            }
+            fn has_edit(&mut self, v: u32) -> bool {
+                self.solver.has_edit_variable(&self.vars[v as usize])
+            }
         }
     };
 }
@@ -136,6 +145,12 @@ impl Engine for Patched {
     }
     fn value(&mut self, v: u32) -> f64 {
         self.solver.get_value(cassowary_patched::Variable(v))
+    }
+    fn has_constraint(&mut self, d: &Demand) -> bool {
+        self.solver.has_constraint(d.number)
+    }
+    fn has_edit(&mut self, v: u32) -> bool {
+        self.solver.has_edit_variable(&cassowary_patched::Variable(v))
     }
 }
 
@@ -181,7 +196,12 @@ enum Case {
     Build,
     Drag,
     AddRemove,
+    Value,
+    HasConstraint,
+    HasEdit,
 }
+
+const CASES: [Case; 6] = [Case::Build, Case::Drag, Case::AddRemove, Case::Value, Case::HasConstraint, Case::HasEdit];
 
 impl Case {
     fn name(self) -> &'static str {
@@ -189,6 +209,9 @@ impl Case {
             Case::Build => "build",
             Case::Drag => "drag and fetch",
             Case::AddRemove => "add and remove",
+            Case::Value => "value",
+            Case::HasConstraint => "has constraint",
+            Case::HasEdit => "has edit",
         }
     }
 }
@@ -214,6 +237,21 @@ fn sample<E: Engine>(l: &Layout, case: Case, turns: usize) -> (f64, Vec<f64>) {
         Case::AddRemove => {
             for _ in 0..turns {
                 assert!(e.add(&l.extra) & e.remove(&l.extra));
+            }
+        }
+        Case::Value => {
+            for v in (1..=l.variables).cycle().take(turns) {
+                black_box(e.value(v));
+            }
+        }
+        Case::HasConstraint => {
+            for d in l.demands.iter().cycle().take(turns) {
+                assert!(e.has_constraint(d));
+            }
+        }
+        Case::HasEdit => {
+            for v in (1..=l.variables).cycle().take(turns) {
+                black_box(e.has_edit(v));
             }
         }
     }
@@ -271,8 +309,12 @@ fn main() {
     println!("| layout | case | ours, us | untouched, us | patched, us | ours / untouched |");
     println!("|---|---|---|---|---|---|");
     for l in &layouts {
-        for case in [Case::Build, Case::Drag, Case::AddRemove] {
-            let turns = if case == Case::Build { 20 } else { 300 };
+        for case in CASES {
+            let turns = match case {
+                Case::Build => 20,
+                Case::Drag | Case::AddRemove => 300,
+                _ => 3000,
+            };
             let (mut a, mut b, mut c) = (Vec::new(), Vec::new(), Vec::new());
             for _ in 0..rounds {
                 let (x, ours) = sample::<Ours>(l, case, turns);
@@ -288,7 +330,7 @@ fn main() {
                 c.push(z);
             }
             let (x, y, z) = (median(a) / 1000.0, median(b) / 1000.0, median(c) / 1000.0);
-            println!("| {} | {} | {:.2} | {:.2} | {:.2} | {:.2} |", l.name, case.name(), x, y, z, x / y);
+            println!("| {} | {} | {:.3} | {:.3} | {:.3} | {:.2} |", l.name, case.name(), x, y, z, x / y);
         }
     }
     println!();

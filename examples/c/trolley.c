@@ -1,8 +1,6 @@
 /* The trolley's screen, six panes side by side: edge 1 is the left one, edge 7 the right one. The same calls as
-   examples/trolley.txt, then a pane that closes and a grip that goes. `make run` in this folder builds the archive, builds this against it and runs it. With the archive at
-   hand, from the repository's root:
-
-       gcc -Wall -Wextra -Werror -I include -o target/trolley examples/c/trolley.c target/staticlib/libknobharbor.a */
+   examples/trolley.txt, then a pane that closes and a grip that goes. `make run` in this folder builds the archive, builds this
+   against it and runs it; from the repository's root, `make -C examples/c run`. */
 #include "knobharbor.h"
 #include <stdio.h>
 #include <stdlib.h>
@@ -22,12 +20,12 @@ static void expect(bool held, const char *what)
 
 static double edge(uint32_t variable)
 {
-    return knobharbor_value(KNOBHARBOR_LEND(&screen), variable);
+    return kh_value(&screen, variable);
 }
 
 static void show(const char *what, knobharbor_answer a)
 {
-    printf("%-28s answer %2u, %u pivots, %s: edges", what, a.number, a.pivots, a.whole ? "whole" : "not whole");
+    printf("%-28s %s (%u), %u pivots, %s: edges", what, kh_words(a.number), (unsigned)a.number, (unsigned)a.pivots, a.whole ? "whole" : "not whole");
     for (uint32_t v = 1; v <= 7; v++)
         printf(" %g", edge(v) + 0.0); /* a value may be -0.0 */
     printf("\n");
@@ -37,14 +35,14 @@ static void show(const char *what, knobharbor_answer a)
 /* right edge minus left edge, minus the width, is `kind` zero */
 static void pane(uint32_t number, uint32_t left, double width, knobharbor_kind kind, double strength)
 {
-    knobharbor_term terms[2] = { { left + 1, 1.0 }, { left, -1.0 } };
-    knobharbor_answer a = knobharbor_add(KNOBHARBOR_LEND(&screen), KNOBHARBOR_LEND(&room), number, terms, 2, -width, kind, strength, 20);
+    const knobharbor_term width_of[2] = { { left + 1, 1.0 }, { left, -1.0 } };
+    knobharbor_answer a = kh_add(&screen, &room, number, width_of, 2, -width, kind, strength, 20);
     expect(a.number == KNOBHARBOR_ACCEPTED, "a pane is added");
 }
 
 static knobharbor_answer drag(uint32_t variable, double to, uint16_t budget)
 {
-    return knobharbor_suggest(KNOBHARBOR_LEND(&screen), KNOBHARBOR_LEND(&room), variable, to, budget);
+    return kh_suggest(&screen, &room, variable, to, budget);
 }
 
 static void lay_out(void)
@@ -52,8 +50,8 @@ static void lay_out(void)
     static const double least[6] = { 40, 40, 60, 60, 40, 40 };
     static const double liked[6] = { 160, 160, 240, 240, 120, 120 };
     static const double strength[6] = { 1, 1, 10, 10, 1, 1 };
-    knobharbor_term first = { 1, 1.0 };
-    knobharbor_answer a = knobharbor_add(KNOBHARBOR_LEND(&screen), KNOBHARBOR_LEND(&room), 1, &first, 1, 0.0, KNOBHARBOR_EQUAL, KNOBHARBOR_REQUIRED, 20);
+    const knobharbor_term first = { 1, 1.0 };
+    knobharbor_answer a = kh_add(&screen, &room, 1, &first, 1, 0.0, KNOBHARBOR_EQUAL, KNOBHARBOR_REQUIRED, 20);
     expect(a.number == KNOBHARBOR_ACCEPTED, "the left edge is held");
     for (uint32_t i = 0; i < 6; i++)
         pane(2 + i, 1 + i, least[i], KNOBHARBOR_AT_LEAST, KNOBHARBOR_REQUIRED);
@@ -63,8 +61,8 @@ static void lay_out(void)
 
 static void grip(uint32_t variable, double strength)
 {
-    knobharbor_answer a = knobharbor_add_edit(KNOBHARBOR_LEND(&screen), KNOBHARBOR_LEND(&room), variable, knobharbor_strength_clip(strength), 20);
-    expect(a.number == KNOBHARBOR_ACCEPTED && knobharbor_has_edit(KNOBHARBOR_LEND(&screen), variable), "an edge gets a grip");
+    knobharbor_answer a = kh_add_edit(&screen, &room, variable, knobharbor_strength_clip(strength), 20);
+    expect(a.number == KNOBHARBOR_ACCEPTED && kh_has_edit(&screen, variable), "an edge gets a grip");
 }
 
 /* Grips on edges 2 to 7, and each edge dragged to its place; the last drag's answer. */
@@ -72,9 +70,9 @@ static knobharbor_answer grips(void)
 {
     static const double start[6] = { 160, 320, 560, 800, 920, 1040 };
     knobharbor_answer a = { 0, 0, false };
-    grip(7, knobharbor_strength_create(1, 0, 0, 1));
+    grip(7, KNOBHARBOR_STRONG);
     for (uint32_t v = 2; v <= 6; v++)
-        grip(v, knobharbor_strength_create(0, 1, 0, 1));
+        grip(v, knobharbor_strength_create(0, 1, 0, 1)); /* the medium strength */
     for (uint32_t v = 7; v >= 2; v--) {
         a = drag(v, start[v - 2], 20);
         expect(a.number == KNOBHARBOR_ACCEPTED, "an edge goes to its place");
@@ -85,32 +83,31 @@ static knobharbor_answer grips(void)
 /* The liked width of pane 1 is given up, and edge 2 loses its grip. */
 static void let_go(void)
 {
-    knobharbor_answer a = knobharbor_remove(KNOBHARBOR_LEND(&screen), KNOBHARBOR_LEND(&room), 8, 20);
+    knobharbor_answer a = kh_remove(&screen, &room, 8, 20);
     show("pane 1 as wide as may be", a);
-    expect(a.number == KNOBHARBOR_ACCEPTED && !knobharbor_has_constraint(KNOBHARBOR_LEND(&screen), 8), "a constraint goes");
-    expect(knobharbor_has_constraint(KNOBHARBOR_LEND(&screen), 2), "its neighbour stays");
-    a = knobharbor_remove_edit(KNOBHARBOR_LEND(&screen), KNOBHARBOR_LEND(&room), 2, 20);
+    expect(a.number == KNOBHARBOR_ACCEPTED && !kh_has_constraint(&screen, 8), "a constraint goes");
+    expect(kh_has_constraint(&screen, 2), "its neighbour stays");
+    a = kh_remove_edit(&screen, &room, 2, 20);
     show("edge 2 without its grip", a);
-    expect(a.number == KNOBHARBOR_ACCEPTED && !knobharbor_has_edit(KNOBHARBOR_LEND(&screen), 2), "a grip goes");
+    expect(a.number == KNOBHARBOR_ACCEPTED && !kh_has_edit(&screen, 2), "a grip goes");
     expect(drag(2, 100, 20).number == KNOBHARBOR_NO_EDIT, "and cannot be dragged by");
 }
 
 /* what a display redraws */
 static void redraw(void)
 {
-    uint64_t numbers[KNOBHARBOR_CHANGES];
-    double values[KNOBHARBOR_CHANGES];
-    knobharbor_fetched f = knobharbor_fetch(KNOBHARBOR_LEND(&screen), numbers, KNOBHARBOR_CHANGES, values, KNOBHARBOR_CHANGES);
+    knobharbor_changes changes;
+    knobharbor_fetched f = kh_fetch(&screen, &changes);
     expect(f.number == KNOBHARBOR_ACCEPTED, "the changes are fetched");
     printf("  redraw");
     for (uint32_t i = 0; i < f.count; i++)
-        printf(" %u:%g", (unsigned)numbers[i], values[i]);
+        printf(" %u:%g", (unsigned)changes.numbers[i], changes.values[i]);
     printf("\n");
 }
 
 int main(void)
 {
-    knobharbor_answer a = knobharbor_reset(KNOBHARBOR_LEND(&screen));
+    knobharbor_answer a = kh_reset(&screen);
     expect(a.number == KNOBHARBOR_ACCEPTED && a.whole, "a reset is accepted");
     lay_out();
     a = grips();

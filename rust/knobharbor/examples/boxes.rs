@@ -31,14 +31,14 @@ fn main() {
     let mut solver = Solver::new();
     solver
         .add_constraints(&[
-            window_width |GE(REQUIRED)| 0.0,
-            box1.left |EQ(REQUIRED)| 0.0,
-            box2.right |EQ(REQUIRED)| window_width,
-            box2.left |GE(REQUIRED)| box1.right,
-            box1.left |LE(REQUIRED)| box1.right,
-            box2.left |LE(REQUIRED)| box2.right,
-            box1.right - box1.left |EQ(WEAK)| 50.0,
-            box2.right - box2.left |EQ(WEAK)| 100.0,
+            window_width | GE(REQUIRED) | 0.0,
+            box1.left | EQ(REQUIRED) | 0.0,
+            box2.right | EQ(REQUIRED) | window_width,
+            box2.left | GE(REQUIRED) | box1.right,
+            box1.left | LE(REQUIRED) | box1.right,
+            box2.left | LE(REQUIRED) | box2.right,
+            box1.right - box1.left | EQ(WEAK) | 50.0,
+            box2.right - box2.left | EQ(WEAK) | 100.0,
         ])
         .unwrap();
     solver.add_edit_variable(window_width, STRONG).unwrap();
@@ -46,8 +46,6 @@ fn main() {
     print_changes(&names, solver.fetch_changes());
     solver.suggest_value(window_width, 75.0).unwrap();
     print_changes(&names, solver.fetch_changes());
-    solver
-        .add_constraint((box1.right - box1.left) / 50.0 |EQ(MEDIUM)| (box2.right - box2.left) / 100.0)
-        .unwrap();
+    solver.add_constraint((box1.right - box1.left) / 50.0 | EQ(MEDIUM) | (box2.right - box2.left) / 100.0).unwrap();
     print_changes(&names, solver.fetch_changes());
 }

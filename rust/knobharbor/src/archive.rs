@@ -1,9 +1,24 @@
-//! The proved archive. Its functions take any tables and any numbers, so a safe face needs only to hand over whole slices.
-use std::alloc::{alloc_zeroed, handle_alloc_error, Layout};
+//! The proved archive. Its functions take any tables and any numbers, so a safe face needs only to hand over whole slices. The sizes
+//! are those of include/knobharbor.h; tests/header.rs holds them to it.
+use crate::{RelationalOperator, Term};
+
+// The lengths of the tables, and the widths of their elements.
+const HEAD: usize = 196;
+const ITEMS: usize = 128;
+const ROWS: usize = 51;
+const NAME: usize = 20;
+const REAL: usize = 17;
+const ROW: usize = 130;
+type Name = [u64; NAME];
+type Real = [f64; REAL];
+type Row = [f64; ROW];
+
+/// The places of a fetch's lists.
+pub const PLACES: usize = 32;
 
 /// What a changing call answers: 0 or a refusal's number, the pivots made, the whole mark.
 #[repr(C)]
-#[derive(Copy, Clone)]
+#[derive(Copy, Clone, Debug)]
 pub struct Answer {
     pub number: u32,
     pub pivots: u32,
@@ -17,38 +32,30 @@ pub struct Fetched {
     pub count: u32,
 }
 
-pub const PLACES: usize = 32;
-
-/// The four tables that hold a solver's state.
+/// The tables that hold a solver's state, or its working room, to be lent to a `LentSolver`. They are some 90 KB.
 #[repr(C)]
 #[derive(Clone)]
 pub struct Tables {
-    pub head: [u64; 196],
-    pub names: [[u64; 20]; 128],
-    pub reals: [[f64; 17]; 128],
-    pub rows: [[f64; 130]; 51],
+    head: [u64; HEAD],
+    names: [Name; ITEMS],
+    reals: [Real; ITEMS],
+    rows: [Row; ROWS],
 }
 
-/// A solver's tables and its working room, in one piece.
-#[repr(C)]
-#[derive(Clone)]
-pub struct Held {
-    pub tables: Tables,
-    pub room: Tables,
-}
+impl Tables {
+    /// All zero, as a `static` can be.
+    #[allow(clippy::new_without_default)]
+    pub const fn new() -> Tables {
+        Tables { head: [0; HEAD], names: [[0; NAME]; ITEMS], reals: [[0.0; REAL]; ITEMS], rows: [[0.0; ROW]; ROWS] }
+    }
 
-impl Held {
-    /// All zero. It is zeroed where it stands: built on the stack and moved it would be written twice.
-    pub fn zero() -> Box<Held> {
-        let layout = Layout::new::<Held>();
-        // Held is not of size 0, and all its bits zero are numbers of its arrays.
-        unsafe {
-            let held = alloc_zeroed(layout) as *mut Held;
-            if held.is_null() {
-                handle_alloc_error(layout);
-            }
-            Box::from_raw(held)
-        }
+    /// Table by table, where they stand.
+    #[cfg(feature = "alloc")]
+    pub(crate) fn copy_from(&mut self, other: &Tables) {
+        self.head.copy_from_slice(&other.head);
+        self.names.copy_from_slice(&other.names);
+        self.reals.copy_from_slice(&other.reals);
+        self.rows.copy_from_slice(&other.rows);
     }
 }
 
@@ -56,8 +63,8 @@ macro_rules! declare {
     ($($name:ident($($arg:ident: $ty:ty),*) -> $out:ty;)*) => {
         extern "C" {
             $(fn $name(
-                head: *mut u64, heads: usize, names: *mut [u64; 20], names_count: usize,
-                reals: *mut [f64; 17], reals_count: usize, rows: *mut [f64; 130], rows_count: usize,
+                head: *mut u64, heads: usize, names: *mut Name, names_count: usize,
+                reals: *mut Real, reals_count: usize, rows: *mut Row, rows_count: usize,
                 $($arg: $ty),*
             ) -> $out;)*
         }
@@ -68,10 +75,21 @@ macro_rules! declare_changing {
     ($($name:ident($($arg:ident: $ty:ty),*);)*) => {
         declare! {
             $($name(
-                whead: *mut u64, wheads: usize, wnames: *mut [u64; 20], wnames_count: usize,
-                wreals: *mut [f64; 17], wreals_count: usize, wrows: *mut [f64; 130], wrows_count: usize
+                whead: *mut u64, wheads: usize, wnames: *mut Name, wnames_count: usize,
+                wreals: *mut Real, wreals_count: usize, wrows: *mut Row, wrows_count: usize
                 $(, $arg: $ty)*
             ) -> Answer;)*
+        }
+    };
+}
+
+macro_rules! declare_asking {
+    ($($name:ident($arg:ident: $ty:ty) -> $out:ty;)*) => {
+        extern "C" {
+            $(fn $name(
+                head: *const u64, heads: usize, names: *const Name, names_count: usize,
+                reals: *const Real, reals_count: usize, rows: *const Row, rows_count: usize, $arg: $ty
+            ) -> $out;)*
         }
     };
 }
@@ -79,19 +97,22 @@ macro_rules! declare_changing {
 declare! {
     knobharbor_reset() -> Answer;
     knobharbor_fetch(numbers: *mut u64, number_count: usize, values: *mut f64, value_count: usize) -> Fetched;
-    knobharbor_value(variable: u32) -> f64;
-    knobharbor_has_constraint(number: u32) -> bool;
-    knobharbor_has_edit(variable: u32) -> bool;
 }
 
 declare_changing! {
     knobharbor_add(
-        number: u32, terms: *const Term, term_count: usize, constant: f64, kind: u32, strength: f64, budget: u16
+        number: u32, terms: *const Term, count: usize, constant: f64, kind: u32, strength: f64, budget: u16
     );
     knobharbor_remove(number: u32, budget: u16);
     knobharbor_add_edit(variable: u32, strength: f64, budget: u16);
     knobharbor_remove_edit(variable: u32, budget: u16);
     knobharbor_suggest(variable: u32, value: f64, budget: u16);
+}
+
+declare_asking! {
+    knobharbor_value(variable: u32) -> f64;
+    knobharbor_has_constraint(number: u32) -> bool;
+    knobharbor_has_edit(variable: u32) -> bool;
 }
 
 extern "C" {
@@ -123,26 +144,40 @@ macro_rules! change {
     };
 }
 
+macro_rules! ask {
+    ($f:ident, $t:expr, $arg:expr) => {
+        // The pointers are to whole arrays that nobody writes during the call, and the call only reads.
+        unsafe {
+            $f(
+                $t.head.as_ptr(),
+                $t.head.len(),
+                $t.names.as_ptr(),
+                $t.names.len(),
+                $t.reals.as_ptr(),
+                $t.reals.len(),
+                $t.rows.as_ptr(),
+                $t.rows.len(),
+                $arg,
+            )
+        }
+    };
+}
+
 pub fn reset(t: &mut Tables) -> Answer {
     with!(knobharbor_reset, t)
 }
 
-#[repr(C)]
-pub struct Term {
-    pub variable: u32,
-    pub coefficient: f64,
-}
-
+/// A constraint of this number: the terms plus the constant are `op` zero.
 pub struct Added<'a> {
     pub number: u32,
     pub terms: &'a [Term],
     pub constant: f64,
-    pub kind: u32,
+    pub op: RelationalOperator,
     pub strength: f64,
 }
 
 pub fn add(t: &mut Tables, w: &mut Tables, a: Added, budget: u16) -> Answer {
-    change!(knobharbor_add, t, w, a.number, a.terms.as_ptr(), a.terms.len(), a.constant, a.kind, a.strength, budget)
+    change!(knobharbor_add, t, w, a.number, a.terms.as_ptr(), a.terms.len(), a.constant, a.op.kind(), a.strength, budget)
 }
 
 pub fn remove(t: &mut Tables, w: &mut Tables, number: u32, budget: u16) -> Answer {
@@ -163,18 +198,6 @@ pub fn suggest(t: &mut Tables, w: &mut Tables, variable: u32, value: f64, budget
 
 pub fn fetch(t: &mut Tables, numbers: &mut [u64; PLACES], values: &mut [f64; PLACES]) -> Fetched {
     with!(knobharbor_fetch, t, numbers.as_mut_ptr(), PLACES, values.as_mut_ptr(), PLACES)
-}
-
-// A query reads the tables alone; the archive takes them by shared reference, so casting away `mut` writes nothing.
-macro_rules! ask {
-    ($f:ident, $t:expr, $arg:expr) => {
-        unsafe {
-            $f(
-                $t.head.as_ptr() as *mut u64, $t.head.len(), $t.names.as_ptr() as *mut [u64; 20], $t.names.len(),
-                $t.reals.as_ptr() as *mut [f64; 17], $t.reals.len(), $t.rows.as_ptr() as *mut [f64; 130], $t.rows.len(), $arg
-            )
-        }
-    };
 }
 
 pub fn value(t: &Tables, variable: u32) -> f64 {

@@ -1,61 +1,33 @@
-//! Variables, expressions and constraints, with the names and shapes of cassowary 0.3.0.
-use std::sync::atomic::{AtomicU32, Ordering};
-use std::sync::Arc;
-
-static NEXT_VARIABLE: AtomicU32 = AtomicU32::new(0);
-
-/// A variable of a layout. A copy is the same variable.
-#[derive(Copy, Clone, Hash, PartialEq, Eq, PartialOrd, Ord, Debug)]
-pub struct Variable(pub(crate) u32);
-
-impl Variable {
-    /// A variable unlike every other that `new` made.
-    #[allow(clippy::new_without_default)]
-    pub fn new() -> Variable {
-        Variable(NEXT_VARIABLE.fetch_add(1, Ordering::Relaxed))
-    }
-
-    /// The variable of this number: firmware that numbers its own edges keeps its numbers. It is the same as one that `new` made
-    /// with this number, so use one of the two.
-    pub fn from_number(number: u32) -> Variable {
-        Variable(number)
-    }
-
-    /// The number that the solver knows the variable by.
-    pub fn number(self) -> u32 {
-        self.0
-    }
-}
-
-/// A variable times a coefficient.
-#[derive(Copy, Clone, Debug)]
-pub struct Term {
-    pub variable: Variable,
-    pub coefficient: f64,
-}
-
-impl Term {
-    pub(crate) fn new(variable: Variable, coefficient: f64) -> Term {
-        Term { variable, coefficient }
-    }
-}
+//! Expressions and constraints, with the names and shapes of cassowary 0.3.0.
+use crate::strength::REQUIRED;
+use crate::{RelationalOperator, Term, Variable, WeightedRelation};
+use alloc::sync::Arc;
+use alloc::vec;
+use alloc::vec::Vec;
+use core::fmt;
+use core::hash::{Hash, Hasher};
 
 /// A sum of terms and a constant.
 #[derive(Clone, Debug)]
 pub struct Expression {
+    /// The terms, in the order in which the solver takes them.
     pub terms: Vec<Term>,
+    /// What is added to them.
     pub constant: f64,
 }
 
 impl Expression {
+    /// An expression without terms.
     pub fn from_constant(v: f64) -> Expression {
         Expression { terms: Vec::new(), constant: v }
     }
 
+    /// An expression of one term.
     pub fn from_term(term: Term) -> Expression {
         Expression { terms: vec![term], constant: 0.0 }
     }
 
+    /// An expression of these terms and this constant.
     pub fn new(terms: Vec<Term>, constant: f64) -> Expression {
         Expression { terms, constant }
     }
@@ -66,6 +38,35 @@ impl Expression {
         for t in &mut self.terms {
             *t = -*t;
         }
+    }
+}
+
+/// A coefficient or a constant as it stands in a sum: its sign apart, and no "1" before a variable.
+fn part(f: &mut fmt::Formatter, first: bool, k: f64, name: Option<Variable>) -> fmt::Result {
+    f.write_str(match (first, k.is_sign_negative()) {
+        (true, true) => "-",
+        (true, false) => "",
+        (false, true) => " - ",
+        (false, false) => " + ",
+    })?;
+    let size = if k.is_sign_negative() { -k } else { k };
+    match name {
+        Some(v) if size == 1.0 => write!(f, "v{}", v.number()),
+        Some(v) => write!(f, "{}*v{}", size, v.number()),
+        None => write!(f, "{size}"),
+    }
+}
+
+/// The terms in their order, then the constant unless it is zero: `v2 - v1 - 40`.
+impl fmt::Display for Expression {
+    fn fmt(&self, f: &mut fmt::Formatter) -> fmt::Result {
+        for (i, t) in self.terms.iter().enumerate() {
+            part(f, i == 0, t.coefficient, Some(t.variable))?;
+        }
+        if self.terms.is_empty() || self.constant != 0.0 {
+            part(f, self.terms.is_empty(), self.constant, None)?;
+        }
+        Ok(())
     }
 }
 
@@ -87,24 +88,6 @@ impl From<Term> for Expression {
     }
 }
 
-/// How a constraint's sum relates to zero.
-#[derive(Copy, Clone, PartialEq, Eq, Hash, PartialOrd, Ord, Debug)]
-pub enum RelationalOperator {
-    LessOrEqual,
-    Equal,
-    GreaterOrEqual,
-}
-
-impl std::fmt::Display for RelationalOperator {
-    fn fmt(&self, f: &mut std::fmt::Formatter) -> std::fmt::Result {
-        f.write_str(match self {
-            RelationalOperator::LessOrEqual => "<=",
-            RelationalOperator::Equal => "==",
-            RelationalOperator::GreaterOrEqual => ">=",
-        })
-    }
-}
-
 #[derive(Debug)]
 struct ConstraintData {
     expression: Expression,
@@ -117,25 +100,41 @@ struct ConstraintData {
 pub struct Constraint(Arc<ConstraintData>);
 
 impl Constraint {
+    /// The expression is `op` zero, at this strength.
     pub fn new(e: Expression, op: RelationalOperator, strength: f64) -> Constraint {
         Constraint(Arc::new(ConstraintData { expression: e, op, strength }))
     }
 
+    /// What is related to zero.
     pub fn expr(&self) -> &Expression {
         &self.0.expression
     }
 
+    /// How it is related to zero.
     pub fn op(&self) -> RelationalOperator {
         self.0.op
     }
 
+    /// How much it counts; `strength::REQUIRED` or more must be met.
     pub fn strength(&self) -> f64 {
         self.0.strength
     }
 }
 
-impl std::hash::Hash for Constraint {
-    fn hash<H: std::hash::Hasher>(&self, hasher: &mut H) {
+/// `v2 - v1 - 40 >= 0, required`, with the variables by their numbers.
+impl fmt::Display for Constraint {
+    fn fmt(&self, f: &mut fmt::Formatter) -> fmt::Result {
+        write!(f, "{} {} 0, ", self.expr(), self.op())?;
+        if self.strength() >= REQUIRED {
+            f.write_str("required")
+        } else {
+            write!(f, "at strength {}", self.strength())
+        }
+    }
+}
+
+impl Hash for Constraint {
+    fn hash<H: Hasher>(&self, hasher: &mut H) {
         hasher.write_usize(Arc::as_ptr(&self.0) as usize);
     }
 }
@@ -147,23 +146,6 @@ impl PartialEq for Constraint {
 }
 
 impl Eq for Constraint {}
-
-/// The relation between the pipes of a constraint: `a |LE(WEAK)| b`.
-pub enum WeightedRelation {
-    EQ(f64),
-    LE(f64),
-    GE(f64),
-}
-
-impl From<WeightedRelation> for (RelationalOperator, f64) {
-    fn from(r: WeightedRelation) -> (RelationalOperator, f64) {
-        match r {
-            WeightedRelation::EQ(s) => (RelationalOperator::Equal, s),
-            WeightedRelation::LE(s) => (RelationalOperator::LessOrEqual, s),
-            WeightedRelation::GE(s) => (RelationalOperator::GreaterOrEqual, s),
-        }
-    }
-}
 
 /// A constraint whose right side is not yet written.
 pub struct PartialConstraint(pub(crate) Expression, pub(crate) WeightedRelation);

@@ -3,7 +3,8 @@
 //!
 //! Two elements side by side in a window of some width:
 //!
-//! ```
+#![cfg_attr(feature = "alloc", doc = "```")]
+#![cfg_attr(not(feature = "alloc"), doc = "```ignore")]
 //! use knobharbor::strength::{MEDIUM, REQUIRED, STRONG, WEAK};
 //! use knobharbor::WeightedRelation::*;
 //! use knobharbor::{Solver, Variable};
@@ -28,8 +29,8 @@
 //!
 //! // a refused drag leaves every value as it was
 //! solver.set_budget(0);
-//! let refused = solver.suggest_value(window, 75.0);
-//! assert_eq!(refused, Err(knobharbor::Refusal::BudgetUsedUp));
+//! assert!(solver.suggest_value(window, 75.0).is_err());
+//! assert_eq!(solver.refused().unwrap().refusal(), knobharbor::Refusal::BudgetUsedUp);
 //! assert_eq!(solver.get_value(window), 300.0);
 //! assert!(solver.fetch_changes().is_empty());
 //!
@@ -39,13 +40,44 @@
 //! // 50ths are not exact in binary: the last digit depends on the order of the steps, which here is always the same
 //! assert!((solver.get_value(right1) - 25.0).abs() < 1e-9 && (solver.get_value(left2) - 25.0).abs() < 1e-9);
 //! ```
-mod archive;
-mod expression;
+//!
+//! Without the feature `alloc`, which is on by default, the crate needs no heap: [`LentSolver`] is the solver over two tables that the
+//! caller lends, with the terms of a constraint as a slice. The crate uses nothing of `std`; the feature `std` adds
+//! `std::error::Error` to its errors.
+#![no_std]
+#![warn(missing_docs)]
+#[cfg(feature = "alloc")]
+extern crate alloc;
+#[cfg(feature = "std")]
+extern crate std;
+
+#[macro_use]
 mod operators;
+
+mod archive;
+#[cfg(feature = "alloc")]
+mod errors;
+#[cfg(feature = "alloc")]
+mod expression;
+mod lent;
 mod refusal;
+#[cfg(feature = "alloc")]
 mod solver;
 pub mod strength;
+#[cfg(feature = "alloc")]
+mod sums;
+mod variable;
 
-pub use expression::{Constraint, Expression, PartialConstraint, RelationalOperator, Term, Variable, WeightedRelation};
+pub use archive::Tables;
+#[cfg(feature = "alloc")]
+pub use errors::{AddConstraintError, AddEditVariableError, Refused, RemoveConstraintError, RemoveEditVariableError, SuggestValueError};
+#[cfg(feature = "alloc")]
+pub use expression::{Constraint, Expression, PartialConstraint};
+pub use lent::{Changes, LentSolver};
 pub use refusal::Refusal;
-pub use solver::{Solver, LARGEST_BUDGET};
+#[cfg(feature = "alloc")]
+pub use solver::Solver;
+pub use variable::{RelationalOperator, Term, Variable, WeightedRelation};
+
+/// The largest budget, and the one that a new solver has.
+pub const LARGEST_BUDGET: u16 = u16::MAX;

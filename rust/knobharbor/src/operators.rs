@@ -1,7 +1,6 @@
-//! The operators by which constraints are written, after those of cassowary 0.3.0 (NOTICE): the order of the terms that they
-//! build decides the solver's steps, so it is the crate's.
-use std::ops;
-use crate::{Constraint, Expression, PartialConstraint, Term, Variable, WeightedRelation};
+//! The operators that build terms, and what all operators are written by, after those of cassowary 0.3.0 (NOTICE).
+use crate::{Term, Variable};
+use core::ops;
 
 /// One `impl` for each line: the two sides, and what stands for them.
 macro_rules! operators {
@@ -15,20 +14,6 @@ macro_rules! operators {
                 }
             }
         )*)*
-    };
-}
-
-/// A difference is the sum with the right side's negative.
-macro_rules! differences {
-    ($($left:ty, $right:ty;)*) => {
-        $(
-            impl ops::Sub<$right> for $left {
-                type Output = Expression;
-                fn sub(self, other: $right) -> Expression {
-                    self + -other
-                }
-            }
-        )*
     };
 }
 
@@ -55,132 +40,29 @@ macro_rules! narrow {
     };
 }
 
-fn one(v: Variable) -> Term {
-    Term::new(v, 1.0)
-}
-
-fn with_term(mut e: Expression, t: Term) -> Expression {
-    e.terms.push(t);
-    e
-}
-
-fn plus(mut e: Expression, k: f64) -> Expression {
-    e.constant += k;
-    e
-}
-
-fn joined(mut e: Expression, mut f: Expression) -> Expression {
-    e.terms.append(&mut f.terms);
-    plus(e, f.constant)
-}
-
-fn each(mut e: Expression, f: impl Fn(f64) -> f64) -> Expression {
-    e.constant = f(e.constant);
-    for t in &mut e.terms {
-        t.coefficient = f(t.coefficient);
-    }
-    e
-}
-
-fn related(p: PartialConstraint, right: impl Into<Expression>) -> Constraint {
-    let (op, strength) = p.1.into();
-    Constraint::new(p.0 - right.into(), op, strength)
-}
-
 operators! {
-    BitOr, bitor {
-        (k: f64, r: WeightedRelation) -> PartialConstraint = PartialConstraint(k.into(), r);
-        (v: Variable, r: WeightedRelation) -> PartialConstraint = PartialConstraint(v.into(), r);
-        (t: Term, r: WeightedRelation) -> PartialConstraint = PartialConstraint(t.into(), r);
-        (e: Expression, r: WeightedRelation) -> PartialConstraint = PartialConstraint(e, r);
-        (p: PartialConstraint, k: f64) -> Constraint = related(p, k);
-        (p: PartialConstraint, v: Variable) -> Constraint = related(p, v);
-        (p: PartialConstraint, t: Term) -> Constraint = related(p, t);
-        (p: PartialConstraint, e: Expression) -> Constraint = related(p, e);
-    }
-    Add, add {
-        (v: Variable, k: f64) -> Expression = one(v) + k;
-        (k: f64, v: Variable) -> Expression = one(v) + k;
-        (v: Variable, w: Variable) -> Expression = one(v) + one(w);
-        (v: Variable, t: Term) -> Expression = one(v) + t;
-        (t: Term, v: Variable) -> Expression = t + one(v);
-        (v: Variable, e: Expression) -> Expression = with_term(e, one(v));
-        (e: Expression, v: Variable) -> Expression = with_term(e, one(v));
-        (t: Term, k: f64) -> Expression = Expression::new(vec![t], k);
-        (k: f64, t: Term) -> Expression = Expression::new(vec![t], k);
-        (t: Term, u: Term) -> Expression = Expression::new(vec![t, u], 0.0);
-        (t: Term, e: Expression) -> Expression = with_term(e, t);
-        (e: Expression, t: Term) -> Expression = with_term(e, t);
-        (e: Expression, k: f64) -> Expression = plus(e, k);
-        (k: f64, e: Expression) -> Expression = plus(e, k);
-        (e: Expression, f: Expression) -> Expression = joined(e, f);
-    }
     Mul, mul {
         (v: Variable, k: f64) -> Term = Term::new(v, k);
         (k: f64, v: Variable) -> Term = Term::new(v, k);
         (t: Term, k: f64) -> Term = Term::new(t.variable, t.coefficient * k);
         (k: f64, t: Term) -> Term = t * k;
-        (e: Expression, k: f64) -> Expression = each(e, |x| x * k);
-        (k: f64, e: Expression) -> Expression = e * k;
     }
     Div, div {
         (v: Variable, k: f64) -> Term = Term::new(v, 1.0 / k);
         (t: Term, k: f64) -> Term = Term::new(t.variable, t.coefficient / k);
-        (e: Expression, k: f64) -> Expression = each(e, |x| x / k);
     }
-}
-
-differences! {
-    Variable, f64;
-    f64, Variable;
-    Variable, Variable;
-    Variable, Term;
-    Term, Variable;
-    Variable, Expression;
-    Expression, Variable;
-    Term, f64;
-    f64, Term;
-    Term, Term;
-    Term, Expression;
-    Expression, Term;
-    Expression, f64;
-    f64, Expression;
-    Expression, Expression;
 }
 
 narrow! {
-    BitOr, bitor {
-        f32, WeightedRelation -> PartialConstraint;
-        PartialConstraint, f32 -> Constraint;
-    }
-    Add, add {
-        f32, Variable -> Expression;
-        f32, Term -> Expression;
-        f32, Expression -> Expression;
-        Variable, f32 -> Expression;
-        Term, f32 -> Expression;
-        Expression, f32 -> Expression;
-    }
-    Sub, sub {
-        f32, Variable -> Expression;
-        f32, Term -> Expression;
-        f32, Expression -> Expression;
-        Variable, f32 -> Expression;
-        Term, f32 -> Expression;
-        Expression, f32 -> Expression;
-    }
     Mul, mul {
         f32, Variable -> Term;
         f32, Term -> Term;
-        f32, Expression -> Expression;
         Variable, f32 -> Term;
         Term, f32 -> Term;
-        Expression, f32 -> Expression;
     }
     Div, div {
         Variable, f32 -> Term;
         Term, f32 -> Term;
-        Expression, f32 -> Expression;
     }
 }
 
@@ -195,13 +77,5 @@ impl ops::Neg for Term {
     type Output = Term;
     fn neg(self) -> Term {
         Term::new(self.variable, -self.coefficient)
-    }
-}
-
-impl ops::Neg for Expression {
-    type Output = Expression;
-    fn neg(mut self) -> Expression {
-        self.negate();
-        self
     }
 }

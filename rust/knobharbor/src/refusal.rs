@@ -1,76 +1,86 @@
 //! Why a call was refused: document 01's numbers.
-use std::error::Error;
-use std::fmt;
+use core::fmt;
 
-/// A refused call changed nothing.
-#[derive(Copy, Clone, PartialEq, Eq, Hash, Debug)]
-#[repr(u32)]
-pub enum Refusal {
-    NotFinite = 1,
-    NegativeStrength = 2,
-    TooManyTerms = 3,
-    DuplicateConstraint = 4,
-    UnknownConstraint = 5,
-    DuplicateEditVariable = 6,
-    BadRequiredStrength = 7,
-    UnknownEditVariable = 8,
-    TooManyVariables = 9,
-    TooManyConstraints = 10,
-    IdsUsedUp = 11,
-    UnsatisfiableConstraint = 12,
-    ArithmeticNotFinite = 13,
-    BudgetUsedUp = 14,
-    NoLeavingRow = 15,
-    NoEnteringSymbol = 16,
-    NoMarkerRow = 17,
-    TablesDoNotRead = 18,
+macro_rules! refusals {
+    ($($(#[$doc:meta])* $name:ident = $number:literal, $words:literal;)*) => {
+        /// Why a call was refused, by document 01's numbers. A refused call changed nothing.
+        #[derive(Copy, Clone, PartialEq, Eq, Hash, Debug)]
+        #[repr(u32)]
+        pub enum Refusal {
+            $($(#[$doc])* $name = $number,)*
+        }
+
+        impl Refusal {
+            /// 0 is no refusal; a number that document 01 does not have would be tables that do not read.
+            pub(crate) fn of(number: u32) -> Option<Refusal> {
+                match number {
+                    0 => None,
+                    $($number => Some(Refusal::$name),)*
+                    _ => Some(Refusal::TablesDoNotRead),
+                }
+            }
+
+            /// The refusal in words; they are those of `include/knobharbor.h`.
+            pub const fn words(self) -> &'static str {
+                match self {
+                    $(Refusal::$name => $words,)*
+                }
+            }
+        }
+    };
+}
+
+refusals! {
+    /// A coefficient, the constant, an added constraint's strength or a suggestion is infinite or not a number.
+    NotFinite = 1, "a coefficient, the constant, the strength or the suggestion is infinite or not a number";
+    /// An added constraint's strength is below zero.
+    NegativeStrength = 2, "the strength is negative";
+    /// A constraint has at most 16 terms.
+    TooManyTerms = 3, "the constraint has more than 16 terms";
+    /// The constraint is in the solver.
+    DuplicateConstraint = 4, "the constraint is there already";
+    /// The constraint is not in the solver.
+    UnknownConstraint = 5, "there is no such constraint";
+    /// The variable can be dragged already.
+    DuplicateEditVariable = 6, "the variable has an edit already";
+    /// An edit's strength comes to required, or is not a number.
+    BadRequiredStrength = 7, "an edit cannot be required";
+    /// The variable cannot be dragged.
+    UnknownEditVariable = 8, "the variable has no edit";
+    /// A solver has at most 32 variables that a constraint or an edit names.
+    TooManyVariables = 9, "there would be more than 32 variables";
+    /// A solver has at most 48 constraints, edits counted.
+    TooManyConstraints = 10, "there are 48 constraints already, edits counted";
+    /// Some 4,294,900,000 symbols were made since the reset.
+    IdsUsedUp = 11, "symbol ids are used up; a reset starts them anew";
+    /// A required constraint against other required ones.
+    UnsatisfiableConstraint = 12, "the constraint cannot be met together with the other required ones";
+    /// A number became infinite or not a number.
+    ArithmeticNotFinite = 13, "the arithmetic left the finite numbers";
+    /// The call needs more pivots than its budget has.
+    BudgetUsedUp = 14, "the pivot budget is used up";
+    /// The crate's "The objective is unbounded".
+    NoLeavingRow = 15, "an optimise pass found no row to leave: the arithmetic has lost the problem";
+    /// The crate's "Dual optimise failed."
+    NoEnteringSymbol = 16, "a drag found no symbol to enter: the arithmetic has lost the problem";
+    /// The crate's "Failed to find leaving row."
+    NoMarkerRow = 17, "a removal found no row for its marker: the arithmetic has lost it";
+    /// The tables were damaged.
+    TablesDoNotRead = 18, "a lent table has the wrong length or does not read as a state";
 }
 
 impl Refusal {
     /// Document 01's number.
-    pub fn number(self) -> u32 {
+    pub const fn number(self) -> u32 {
         self as u32
-    }
-
-    /// 0 is no refusal; a number that document 01 does not have would be tables that do not read.
-    pub(crate) fn of(number: u32) -> Option<Refusal> {
-        use Refusal::*;
-        let all = [
-            NotFinite, NegativeStrength, TooManyTerms, DuplicateConstraint, UnknownConstraint, DuplicateEditVariable, BadRequiredStrength,
-            UnknownEditVariable, TooManyVariables, TooManyConstraints, IdsUsedUp, UnsatisfiableConstraint, ArithmeticNotFinite,
-            BudgetUsedUp, NoLeavingRow, NoEnteringSymbol, NoMarkerRow,
-        ];
-        match number {
-            0 => None,
-            n => Some(all.into_iter().find(|r| r.number() == n).unwrap_or(TablesDoNotRead)),
-        }
     }
 }
 
 impl fmt::Display for Refusal {
     fn fmt(&self, f: &mut fmt::Formatter) -> fmt::Result {
-        let words = match self {
-            Refusal::NotFinite => "a coefficient, the constant, the strength or the suggestion is infinite or not a number",
-            Refusal::NegativeStrength => "the strength is negative",
-            Refusal::TooManyTerms => "the constraint has more than 16 terms",
-            Refusal::DuplicateConstraint => "the constraint is in the solver already",
-            Refusal::UnknownConstraint => "the constraint is not in the solver",
-            Refusal::DuplicateEditVariable => "the variable has an edit already",
-            Refusal::BadRequiredStrength => "an edit cannot be required",
-            Refusal::UnknownEditVariable => "the variable has no edit",
-            Refusal::TooManyVariables => "there would be more than 32 variables",
-            Refusal::TooManyConstraints => "there are 48 constraints already, edits counted",
-            Refusal::IdsUsedUp => "symbol ids are used up; a reset starts them anew",
-            Refusal::UnsatisfiableConstraint => "the constraint cannot be met together with the other required ones",
-            Refusal::ArithmeticNotFinite => "the arithmetic left the finite numbers",
-            Refusal::BudgetUsedUp => "the pivot budget is used up",
-            Refusal::NoLeavingRow => "an optimise pass found no row to leave",
-            Refusal::NoEnteringSymbol => "a drag found no symbol to enter",
-            Refusal::NoMarkerRow => "a removal found no row for its marker",
-            Refusal::TablesDoNotRead => "the solver's tables do not read as a state",
-        };
-        write!(f, "{} ({})", words, self.number())
+        write!(f, "{} ({})", self.words(), self.number())
     }
 }
 
-impl Error for Refusal {}
+#[cfg(feature = "std")]
+impl std::error::Error for Refusal {}

@@ -1,11 +1,38 @@
 //! The solver: its tables, its working room, and the numbers of its constraints.
-use crate::archive::{self, Added, Answer, Held, Term, PLACES};
-use crate::{Constraint, Refusal, RelationalOperator, Variable};
+use crate::archive::{self, Added, Answer, Tables};
+use crate::lent::Changes;
+use crate::{
+    AddConstraintError, AddEditVariableError, Constraint, Refusal, Refused, RemoveConstraintError, RemoveEditVariableError,
+    SuggestValueError, Variable, LARGEST_BUDGET,
+};
+use alloc::alloc::{alloc_zeroed, handle_alloc_error, Layout};
+use alloc::boxed::Box;
+use alloc::vec::Vec;
 
-/// The largest budget, and the one that a new solver has.
-pub const LARGEST_BUDGET: u16 = u16::MAX;
+/// A solver's tables and its working room, in one piece.
+#[repr(C)]
+struct Held {
+    tables: Tables,
+    room: Tables,
+}
 
-/// A constraint solver with fixed tables. Every call ends within the pivot budget, and a refused call changes nothing.
+impl Held {
+    /// All zero. It is zeroed where it stands: built on the stack and moved it would be written twice.
+    fn zero() -> Box<Held> {
+        let layout = Layout::new::<Held>();
+        // Held is not of size 0, and all its bits zero are numbers of its arrays.
+        unsafe {
+            let held = alloc_zeroed(layout) as *mut Held;
+            if held.is_null() {
+                handle_alloc_error(layout);
+            }
+            Box::from_raw(held)
+        }
+    }
+}
+
+/// A constraint solver with fixed tables. Every call ends within the pivot budget, and a refused call changes nothing. A clone is a
+/// snapshot: both go on by themselves.
 pub struct Solver {
     held: Box<Held>,
     budget: u16,
@@ -13,20 +40,15 @@ pub struct Solver {
     next: u32,
     changes: Vec<(Variable, f64)>,
     last: Answer,
+    refused: Option<Refused>,
 }
 
 impl Solver {
+    /// An empty solver, with the largest budget.
     pub fn new() -> Solver {
         let mut held = Held::zero();
         let last = archive::reset(&mut held.tables);
-        Solver {
-            held,
-            budget: LARGEST_BUDGET,
-            constraints: Vec::new(),
-            next: 0,
-            changes: Vec::new(),
-            last,
-        }
+        Solver { held, budget: LARGEST_BUDGET, constraints: Vec::new(), next: 0, changes: Vec::new(), last, refused: None }
     }
 
     /// A call that needs more pivots than this is refused with `Refusal::BudgetUsedUp`, and changes nothing.
@@ -34,6 +56,7 @@ impl Solver {
         self.budget = pivots;
     }
 
+    /// The pivots that a call may make.
     pub fn budget(&self) -> u16 {
         self.budget
     }
@@ -49,12 +72,16 @@ impl Solver {
         self.last.whole
     }
 
-    fn concluded(&mut self, answer: Answer) -> Result<(), Refusal> {
+    /// Why the last changing call was refused, with document 01's number and the constraint in question; none if it was accepted.
+    pub fn refused(&self) -> Option<&Refused> {
+        self.refused.as_ref()
+    }
+
+    fn concluded(&mut self, answer: Answer, constraint: Option<&Constraint>) -> Result<(), Refusal> {
         self.last = answer;
-        match Refusal::of(answer.number) {
-            None => Ok(()),
-            Some(refusal) => Err(refusal),
-        }
+        let refusal = Refusal::of(answer.number);
+        self.refused = refusal.map(|refusal| Refused { refusal, constraint: constraint.cloned() });
+        refusal.map_or(Ok(()), Err)
     }
 
     fn number_of(&self, constraint: &Constraint) -> Option<u32> {
@@ -69,48 +96,40 @@ impl Solver {
         self.next
     }
 
-    pub fn add_constraint(&mut self, constraint: Constraint) -> Result<(), Refusal> {
+    /// Adds a constraint.
+    pub fn add_constraint(&mut self, constraint: Constraint) -> Result<(), AddConstraintError> {
         let known = self.number_of(&constraint);
         let number = known.unwrap_or_else(|| self.free_number());
-        let terms: Vec<Term> =
-            constraint.expr().terms.iter().map(|t| Term { variable: t.variable.number(), coefficient: t.coefficient }).collect();
-        let added = Added {
-            number,
-            terms: &terms,
-            constant: constraint.expr().constant,
-            kind: match constraint.op() {
-                RelationalOperator::LessOrEqual => 0,
-                RelationalOperator::Equal => 1,
-                RelationalOperator::GreaterOrEqual => 2,
-            },
-            strength: constraint.strength(),
-        };
+        let e = constraint.expr();
+        let added = Added { number, terms: &e.terms, constant: e.constant, op: constraint.op(), strength: constraint.strength() };
         let answer = archive::add(&mut self.held.tables, &mut self.held.room, added, self.budget);
-        self.concluded(answer)?;
+        self.concluded(answer, Some(&constraint))?;
         self.constraints.push((constraint, number));
         Ok(())
     }
 
-    /// One after the other, up to the first that is refused; those before it stay.
-    pub fn add_constraints<'a, I: IntoIterator<Item = &'a Constraint>>(&mut self, constraints: I) -> Result<(), Refusal> {
+    /// One after the other, up to the first that is refused; those before it stay. `refused` has the one.
+    pub fn add_constraints<'a, I: IntoIterator<Item = &'a Constraint>>(&mut self, constraints: I) -> Result<(), AddConstraintError> {
         for constraint in constraints {
             self.add_constraint(constraint.clone())?;
         }
         Ok(())
     }
 
-    pub fn remove_constraint(&mut self, constraint: &Constraint) -> Result<(), Refusal> {
+    /// Removes a constraint that was added.
+    pub fn remove_constraint(&mut self, constraint: &Constraint) -> Result<(), RemoveConstraintError> {
         let number = match self.number_of(constraint) {
             Some(number) => number,
             // a number that is not live: the archive refuses it, with the stored mark
             None => self.free_number(),
         };
         let answer = archive::remove(&mut self.held.tables, &mut self.held.room, number, self.budget);
-        self.concluded(answer)?;
+        self.concluded(answer, Some(constraint))?;
         self.constraints.retain(|(c, _)| c != constraint);
         Ok(())
     }
 
+    /// Whether the constraint is in the solver.
     pub fn has_constraint(&self, constraint: &Constraint) -> bool {
         match self.number_of(constraint) {
             Some(number) => archive::has_constraint(&self.held.tables, number),
@@ -118,40 +137,40 @@ impl Solver {
         }
     }
 
-    pub fn add_edit_variable(&mut self, v: Variable, strength: f64) -> Result<(), Refusal> {
+    /// Makes the variable one that can be dragged, at a strength below required.
+    pub fn add_edit_variable(&mut self, v: Variable, strength: f64) -> Result<(), AddEditVariableError> {
         let answer = archive::add_edit(&mut self.held.tables, &mut self.held.room, v.number(), strength, self.budget);
-        self.concluded(answer)
+        Ok(self.concluded(answer, None)?)
     }
 
-    pub fn remove_edit_variable(&mut self, v: Variable) -> Result<(), Refusal> {
+    /// Removes the variable's edit, and with it the last suggestion.
+    pub fn remove_edit_variable(&mut self, v: Variable) -> Result<(), RemoveEditVariableError> {
         let answer = archive::remove_edit(&mut self.held.tables, &mut self.held.room, v.number(), self.budget);
-        self.concluded(answer)
+        Ok(self.concluded(answer, None)?)
     }
 
+    /// Whether the variable can be dragged.
     pub fn has_edit_variable(&self, v: &Variable) -> bool {
         archive::has_edit(&self.held.tables, v.number())
     }
 
     /// Moves an edit's aim. If it is refused, every value, and the aim itself, is as it was.
-    pub fn suggest_value(&mut self, v: Variable, value: f64) -> Result<(), Refusal> {
+    pub fn suggest_value(&mut self, v: Variable, value: f64) -> Result<(), SuggestValueError> {
         let answer = archive::suggest(&mut self.held.tables, &mut self.held.room, v.number(), value, self.budget);
-        self.concluded(answer)
+        Ok(self.concluded(answer, None)?)
     }
 
     /// The variables whose values changed since the last fetch, by ascending number; a second fetch straight after reports none.
     /// A variable that no constraint or edit names any more is forgotten without notice, and a new one that stands at 0 is not
     /// reported: ask `get_value`.
     pub fn fetch_changes(&mut self) -> &[(Variable, f64)] {
-        let mut numbers = [0; PLACES];
-        let mut values = [0.0; PLACES];
-        let fetched = archive::fetch(&mut self.held.tables, &mut numbers, &mut values);
-        let count = fetched.count as usize;
+        let changes = Changes::of(&mut self.held.tables);
         self.changes.clear();
-        self.changes.extend(numbers.iter().zip(values).take(count).map(|(n, x)| (Variable::from_number(*n as u32), x)));
+        self.changes.extend_from_slice(&changes);
         &self.changes
     }
 
-    /// 0 for a variable that the solver does not know.
+    /// The variable's value; 0 for one that the solver does not know.
     pub fn get_value(&self, v: Variable) -> f64 {
         archive::value(&self.held.tables, v.number())
     }
@@ -160,6 +179,7 @@ impl Solver {
     pub fn reset(&mut self) {
         self.constraints.clear();
         self.changes.clear();
+        self.refused = None;
         self.last = archive::reset(&mut self.held.tables);
     }
 }
@@ -167,5 +187,22 @@ impl Solver {
 impl Default for Solver {
     fn default() -> Solver {
         Solver::new()
+    }
+}
+
+impl Clone for Solver {
+    fn clone(&self) -> Solver {
+        let mut held = Held::zero();
+        // the room is all zero after every call
+        held.tables.copy_from(&self.held.tables);
+        Solver {
+            held,
+            budget: self.budget,
+            constraints: self.constraints.clone(),
+            next: self.next,
+            changes: self.changes.clone(),
+            last: self.last,
+            refused: self.refused.clone(),
+        }
     }
 }

@@ -1,9 +1,13 @@
 //! Strengths of constraints, as in cassowary: real numbers from 0 to `REQUIRED`.
 use crate::archive;
 
+/// From this strength on a constraint must be met.
 pub const REQUIRED: f64 = 1_001_001_000.0;
+/// Outweighs a thousand medium ones.
 pub const STRONG: f64 = 1_000_000.0;
+/// Outweighs a thousand weak ones.
 pub const MEDIUM: f64 = 1_000.0;
+/// The least of the four.
 pub const WEAK: f64 = 1.0;
 
 /// `a` times `STRONG`, `b` times `MEDIUM` and `c` times `WEAK`, each first multiplied by `w` and held between 0 and 1,000.

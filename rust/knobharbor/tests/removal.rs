@@ -1,9 +1,9 @@
-//! The crate's own test, its `use` lines changed (NOTICE), and its last line: a variable that no constraint names any more "goes
+//! The crate's own test, its `use` lines and its layout changed (NOTICE), and its last line: a variable that no constraint names any more "goes
 //! with its row and cells and leaves the changed set without notice" (document 01), so a new one at 0 is not reported; its value is.
 
-use knobharbor::{Variable, Solver, Constraint};
-use knobharbor::WeightedRelation::*;
 use knobharbor::strength::*;
+use knobharbor::WeightedRelation::*;
+use knobharbor::{Constraint, Solver, Variable};
 
 mod common;
 

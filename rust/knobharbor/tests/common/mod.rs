@@ -1,5 +1,6 @@
-use std::collections::HashMap;
+#![allow(clippy::needless_borrowed_reference, clippy::type_complexity)] // the crate's own text
 use std::cell::RefCell;
+use std::collections::HashMap;
 use std::rc::Rc;
 
 use knobharbor::Variable;

@@ -1,0 +1,154 @@
+//! The calls over tables that the caller lends: fixed sizes, no heap.
+use crate::archive::{self, Added, Answer, Tables, PLACES};
+use crate::{Refusal, RelationalOperator, Term, Variable, LARGEST_BUDGET};
+use core::ops::Deref;
+
+/// A solver over lent tables. Constraints have numbers, which the caller chooses. Every call ends within the pivot budget, and a
+/// refused call changes nothing.
+///
+/// ```
+/// use knobharbor::strength::{REQUIRED, STRONG};
+/// use knobharbor::{LentSolver, Refusal, RelationalOperator::*, Tables, Term, Variable};
+///
+/// const LEFT: Variable = Variable::from_number(1);
+/// const RIGHT: Variable = Variable::from_number(2);
+/// let (mut tables, mut room) = (Tables::new(), Tables::new()); // firmware has two `static`s
+/// let mut solver = LentSolver::new(&mut tables, &mut room);
+/// let width = [Term { variable: RIGHT, coefficient: 1.0 }, Term { variable: LEFT, coefficient: -1.0 }];
+/// solver.add(1, &[LEFT * 1.0], 0.0, Equal, REQUIRED)?;
+/// solver.add(2, &width, -40.0, GreaterOrEqual, REQUIRED)?;
+/// solver.add_edit(RIGHT, STRONG)?;
+/// solver.suggest(RIGHT, 10.0)?;
+/// assert_eq!(solver.value(RIGHT), 40.0);
+/// assert_eq!(*solver.fetch(), [(RIGHT, 40.0)]);
+/// assert_eq!(solver.add(3, &width, -30.0, LessOrEqual, REQUIRED), Err(Refusal::UnsatisfiableConstraint));
+/// # Ok::<(), Refusal>(())
+/// ```
+pub struct LentSolver<'a> {
+    tables: &'a mut Tables,
+    room: &'a mut Tables,
+    budget: u16,
+    last: Answer,
+}
+
+impl<'a> LentSolver<'a> {
+    /// An empty solver over these tables, whatever they held, with a room to work in.
+    pub fn new(tables: &'a mut Tables, room: &'a mut Tables) -> LentSolver<'a> {
+        let last = archive::reset(tables);
+        LentSolver { tables, room, budget: LARGEST_BUDGET, last }
+    }
+
+    /// The solver that these tables hold, as an earlier one left them. If they hold none, every changing call but `reset` is refused
+    /// with `Refusal::TablesDoNotRead`. Until the first changing call, `is_whole` says no.
+    pub fn resume(tables: &'a mut Tables, room: &'a mut Tables) -> LentSolver<'a> {
+        LentSolver { tables, room, budget: LARGEST_BUDGET, last: Answer { number: 0, pivots: 0, whole: false } }
+    }
+
+    /// A call that needs more pivots than this is refused with `Refusal::BudgetUsedUp`, and changes nothing.
+    pub fn set_budget(&mut self, pivots: u16) {
+        self.budget = pivots;
+    }
+
+    /// The pivots that a call may make.
+    pub fn budget(&self) -> u16 {
+        self.budget
+    }
+
+    /// The pivots that the last changing call made, refused ones too.
+    pub fn pivots(&self) -> u32 {
+        self.last.pivots
+    }
+
+    /// The mark that the last changing call answered: see `Solver::is_whole`.
+    pub fn is_whole(&self) -> bool {
+        self.last.whole
+    }
+
+    fn concluded(&mut self, answer: Answer) -> Result<(), Refusal> {
+        self.last = answer;
+        Refusal::of(answer.number).map_or(Ok(()), Err)
+    }
+
+    /// Empties the solver; the budget stays.
+    pub fn reset(&mut self) {
+        self.last = archive::reset(self.tables);
+    }
+
+    /// Adds the constraint of this number: the terms plus the constant are `op` zero, at this strength.
+    pub fn add(&mut self, number: u32, terms: &[Term], constant: f64, op: RelationalOperator, strength: f64) -> Result<(), Refusal> {
+        let added = Added { number, terms, constant, op, strength };
+        let answer = archive::add(self.tables, self.room, added, self.budget);
+        self.concluded(answer)
+    }
+
+    /// Removes the constraint of this number.
+    pub fn remove(&mut self, number: u32) -> Result<(), Refusal> {
+        let answer = archive::remove(self.tables, self.room, number, self.budget);
+        self.concluded(answer)
+    }
+
+    /// Whether there is a constraint of this number.
+    pub fn has(&self, number: u32) -> bool {
+        archive::has_constraint(self.tables, number)
+    }
+
+    /// Makes the variable one that can be dragged, at this strength.
+    pub fn add_edit(&mut self, v: Variable, strength: f64) -> Result<(), Refusal> {
+        let answer = archive::add_edit(self.tables, self.room, v.number(), strength, self.budget);
+        self.concluded(answer)
+    }
+
+    /// Removes the variable's edit, and with it the last suggestion.
+    pub fn remove_edit(&mut self, v: Variable) -> Result<(), Refusal> {
+        let answer = archive::remove_edit(self.tables, self.room, v.number(), self.budget);
+        self.concluded(answer)
+    }
+
+    /// Whether the variable can be dragged.
+    pub fn has_edit(&self, v: Variable) -> bool {
+        archive::has_edit(self.tables, v.number())
+    }
+
+    /// Drags the variable. If it is refused, every value, and the aim itself, is as it was.
+    pub fn suggest(&mut self, v: Variable, value: f64) -> Result<(), Refusal> {
+        let answer = archive::suggest(self.tables, self.room, v.number(), value, self.budget);
+        self.concluded(answer)
+    }
+
+    /// The variable's value; 0 for one that the solver does not know.
+    pub fn value(&self, v: Variable) -> f64 {
+        archive::value(self.tables, v.number())
+    }
+
+    /// The variables whose values changed since the last fetch: see `Solver::fetch_changes`.
+    pub fn fetch(&mut self) -> Changes {
+        Changes::of(self.tables)
+    }
+}
+
+/// What a fetch lists: variables by ascending number, with their values. It derefs to a slice.
+#[derive(Copy, Clone, Debug)]
+pub struct Changes {
+    list: [(Variable, f64); PLACES],
+    count: usize,
+}
+
+impl Changes {
+    pub(crate) fn of(tables: &mut Tables) -> Changes {
+        let (mut numbers, mut values) = ([0; PLACES], [0.0; PLACES]);
+        let fetched = archive::fetch(tables, &mut numbers, &mut values);
+        let mut list = [(Variable::from_number(0), 0.0); PLACES];
+        for (place, (n, x)) in list.iter_mut().zip(numbers.into_iter().zip(values)) {
+            *place = (Variable::from_number(n as u32), x);
+        }
+        Changes { list, count: fetched.count as usize }
+    }
+}
+
+impl Deref for Changes {
+    type Target = [(Variable, f64)];
+
+    fn deref(&self) -> &[(Variable, f64)] {
+        &self.list[..self.count]
+    }
+}
