@@ -49,7 +49,7 @@ fn put_hex(out: &mut [u8], at: usize, n: u64, k: usize) -> usize
     put_byte(out, next, glyph(n % 16))
 }
 
-fn put_number(out: &mut [u8], at: usize, n: u64) -> usize
+pub fn put_number(out: &mut [u8], at: usize, n: u64) -> usize
     requires { ⌜ at + 20 ≤ length (now out) ⌝ }
     ensures { λ r. ⌜ Wrote (now (out .entry)) (now (out .exit)) at r (numberText n) ⌝ }
 {

@@ -1,0 +1,86 @@
+// T-12: lines over the service cable, read as their bytes come.
+ghost use mathlib.Core.Path.{_≡_};
+ghost use Prim.Native.Nat.{_≤_};
+ghost use lib.ListN.{length, take as front};
+ghost use Rattle.grammar.specs.Reader.{readLine};
+ghost use Rattle.reader.specs.Answers.{asRead};
+ghost use Rattle.cable_lines.specs.Cable.{answerOf, takes, closes};
+ghost use Rattle.cable_lines.specs.State.{heldBy};
+ghost use Rattle.cable_lines.specs.Given.{given, asGiven};
+use crate::state::LIMIT;
+use crate::state::State;
+use crate::state::keep_line;
+use crate::state::long;
+use crate::state::renew;
+use reader::answers::Reading;
+use reader::answers::read_line;
+use reader::answers::refuse;
+
+pub mod state;
+
+// Whether a line was answered, its answer (to be passed over if none was), and how many bytes were taken.
+pub struct Taken {
+    pub answered: bool,
+    pub answer: Reading,
+    pub taken: usize,
+}
+
+fn read_front(line: &[u8], n: usize) -> Reading
+    requires { ⌜ n ≤ length (now line) ⌝ }
+    ensures { λ r. ⌜ r ≡ asRead (readLine (front n (now (line .entry)))) ⌝ }
+{
+    read_line(&line[..n])
+}
+
+// The line that has begun, ended.
+fn answer_held(s: &State) -> Reading
+    ensures { λ r. ⌜ r ≡ asRead (answerOf (heldBy (now (s .entry)))) ⌝ }
+{
+    let n = s[LIMIT];
+    if n <= 200 {
+        return read_front(s, n as usize);
+    }
+    refuse(32, 0)
+}
+
+// The answer of the first line that ends in the piece; the caller goes on behind the bytes taken.
+pub fn take(s: &mut State, piece: &[u8]) -> Taken
+    ensures { λ r. ⌜ given r (heldBy (now (s .exit))) ≡ asGiven (takes (heldBy (now (s .entry))) (now (piece .entry))) ⌝ }
+{
+    let at = keep_line(s, piece);
+    if at == piece.len() {
+        return Taken {
+            answered: false,
+            answer: refuse(0, 0),
+            taken: at,
+        };
+    }
+    let answer = answer_held(s);
+    renew(s);
+    Taken {
+        answered: true,
+        answer: answer,
+        taken: at + 1,
+    }
+}
+
+// The cable is closed: the reader is as new.
+pub fn close(s: &mut State) -> Taken
+    ensures { λ r. ⌜ given r (heldBy (now (s .exit))) ≡ asGiven (closes (heldBy (now (s .entry)))) ⌝ }
+{
+    long(s);
+    let n = s[LIMIT];
+    renew(s);
+    if n == 0 {
+        return Taken {
+            answered: false,
+            answer: refuse(0, 0),
+            taken: 0,
+        };
+    }
+    Taken {
+        answered: true,
+        answer: refuse(33, 0),
+        taken: 0,
+    }
+}

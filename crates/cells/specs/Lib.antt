@@ -1,0 +1,15 @@
+pub mod Names
+pub mod Cells
+pub mod Seek
+pub mod Search
+pub mod Slide
+pub mod Reads
+pub mod Pack
+pub mod Look
+pub mod Replace
+pub mod Replaced
+pub mod Load
+pub mod Drop
+pub mod Close
+pub mod Open
+pub mod Column

@@ -1,0 +1,21 @@
+// The cells of all rows as one ascending list of keys, row * ROW_SPAN + place, with their values beside them.
+pub mod column;
+pub mod row;
+pub mod search;
+pub mod shift;
+pub mod slide;
+
+// How far the keys of one row lie from those of the next: a place is below it.
+pub const ROW_SPAN: u16 = 256;
+
+// Rows are below this one, so that a row after each has keys.
+pub const TOP_ROW: u8 = 255;
+
+// Where the keys of the rows end.
+pub const KEYS_END: u16 = 65280;
+
+// Room for all cells that the full table could hold: rows times symbols that are not basic.
+pub const CELL_ROOM: usize = 4096;
+
+// A dense row: place 0 is free, then a place for each of 129 symbols.
+pub const ROW_ROOM: usize = 130;

@@ -1,0 +1,7 @@
+pub mod Skip
+pub mod Merge
+pub mod Fronts
+pub mod Merging
+pub mod Paste
+pub mod Into
+pub mod Substituted

@@ -1,0 +1,12 @@
+pub mod Scan
+pub mod Run
+pub mod Heads
+pub mod HeadLaws
+pub mod Parts
+pub mod PartLaws
+pub mod StepLaws
+pub mod SumLaws
+pub mod Sides
+pub mod Ends
+pub mod Answers
+pub mod AnswerLaws

@@ -1,0 +1,6 @@
+// T-01: one line of text read into a constraint.
+pub mod answers;
+pub mod heads;
+pub mod parts;
+pub mod scan;
+pub mod sides;

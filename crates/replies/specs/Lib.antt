@@ -1,0 +1,2 @@
+-- The answer to a line as text.
+pub mod Replies

@@ -1,0 +1,80 @@
+// The places of the sparse tables. specs/Sparse.antt says what stands there.
+// A symbol is named by its place, from 1 by ascending id, and 0 is none; rows are counted from 1, and row 0's keys are a loose row's.
+
+// The most rows that a call works on.
+pub const MOST_ROWS: usize = 50;
+
+pub const MOST_VARIABLES: usize = 32;
+
+// ---- words: the next id, counts and flags; then the symbols' ids, the variables' numbers and uses, the constraints' numbers
+pub const NEXT_ID: usize = 0;
+
+pub const SYMBOL_COUNT: usize = 1;
+
+pub const ROW_COUNT: usize = 2;
+
+pub const CELL_COUNT: usize = 3;
+
+pub const VARIABLE_COUNT: usize = 4;
+
+pub const CONSTRAINT_COUNT: usize = 5;
+
+pub const EDIT_COUNT: usize = 6;
+
+pub const SHOULD_CLEAR: usize = 7;
+
+pub const WHOLE: usize = 8;
+
+pub const IDS: usize = 15;
+
+pub const VARIABLE_NUMBERS: usize = 146;
+
+pub const VARIABLE_USES: usize = 178;
+
+pub const CONSTRAINT_NUMBERS: usize = 210;
+
+pub const WORDS_SIZE: usize = 258;
+
+// ---- bytes: the symbols' kinds and the rows' symbols; the variables' symbols and changed flags; the constraints' marker, other, count of terms; the edits' variable, marker, other; the terms' variables
+pub const KINDS: usize = 0;
+
+pub const ROW_PLACES: usize = 136;
+
+pub const VARIABLE_PLACES: usize = 192;
+
+pub const CHANGED: usize = 224;
+
+pub const CONSTRAINT_MARKERS: usize = 256;
+
+pub const CONSTRAINT_OTHERS: usize = 304;
+
+pub const TERM_COUNTS: usize = 352;
+
+pub const EDIT_VARIABLES: usize = 400;
+
+pub const EDIT_MARKERS: usize = 448;
+
+pub const EDIT_OTHERS: usize = 496;
+
+pub const TERMS: usize = 544;
+
+pub const BYTES_SIZE: usize = 1312;
+
+// ---- reals: the rows' constants, the variables' old values, the objective along the places; the constraints' strengths, the edits' strengths and suggestions; the terms' coefficients
+pub const CONSTANTS: usize = 0;
+
+pub const OLD_VALUES: usize = 56;
+
+pub const OBJECTIVE: usize = 87;
+
+pub const CONSTRAINT_STRENGTHS: usize = 220;
+
+pub const EDIT_STRENGTHS: usize = 268;
+
+pub const SUGGESTIONS: usize = 316;
+
+pub const COEFFICIENTS: usize = 364;
+
+pub const REALS_SIZE: usize = 1132;
+
+pub fn nothing() {}
