@@ -1,0 +1,2 @@
+// A constraint that was read from a line of text, added to the solver.
+pub mod pack;
