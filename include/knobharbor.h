@@ -341,6 +341,11 @@ static inline const char *kh_words(uint32_t number)
         "a drag found no symbol to enter: the arithmetic has lost the problem",
         "a removal found no row for its marker: the arithmetic has lost it",
         "a lent table has the wrong length or does not read as a state",
+        "the line has more than 4,096 bytes",
+        "the line is not in the grammar",
+        "the line has more than 16 levels of brackets",
+        "the line has a number above 1,048,576, or a variable above 4,294,967,295",
+        "the line has more than 16 variables",
     };
     return number < sizeof words / sizeof words[0] ? words[number] : "no number of the document's";
 }
