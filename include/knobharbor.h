@@ -114,6 +114,23 @@ typedef struct knobharbor_answer {
                         every required constraint exactly, and no fractions do better */
 } knobharbor_answer;
 
+/* Why a line of text was refused, beside the numbers above: document 02's. */
+typedef enum knobharbor_line_number {
+    KNOBHARBOR_LINE_LONG = 19,      /* a line of more than 4,096 bytes */
+    KNOBHARBOR_LINE_UNREAD = 20,    /* not in the grammar, with the offset */
+    KNOBHARBOR_LINE_DEEP = 21,      /* deeper than 16 levels of brackets */
+    KNOBHARBOR_LINE_LARGE = 22,     /* a number, a product of multipliers or a sum above 1,048,576, or a variable above 4,294,967,295 */
+    KNOBHARBOR_LINE_VARIABLES = 23  /* more than 16 variables */
+} knobharbor_line_number;
+
+/* What the add of a line answers. */
+typedef struct knobharbor_text_answer {
+    uint32_t number; /* a knobharbor_line_number or a knobharbor_number */
+    uint32_t pivots; /* as above */
+    bool whole;      /* as above; a line that is refused answers the stored mark, or no if the tables don't read as a state */
+    size_t offset;   /* beside 20: the first byte with which no line can go on; else 0 */
+} knobharbor_text_answer;
+
 typedef struct knobharbor_fetched {
     uint32_t number; /* 0 or 18 */
     uint32_t count;  /* how many places of both lists are filled */
@@ -157,6 +174,14 @@ knobharbor_answer knobharbor_add_lists(uint64_t *head, size_t heads, knobharbor_
                                        knobharbor_row *wrows, size_t wrowed, uint32_t number, const uint32_t *vars,
                                        size_t var_count, const double *coefs, size_t coef_count, double constant, uint32_t kind,
                                        double strength, uint16_t budget);
+
+/* The same of a line of text, without a newline: `2*(v1 + 3) <= v2` adds 2 v1 - v2 + 6 at most zero, required. The line's own
+   refusals, 19 to 23, come first and touch no table; then those of knobharbor_add. */
+knobharbor_text_answer knobharbor_add_text(uint64_t *head, size_t heads, knobharbor_name *names, size_t named, knobharbor_real *reals,
+                                           size_t valued, knobharbor_row *rows, size_t rowed, uint64_t *whead, size_t wheads,
+                                           knobharbor_name *wnames, size_t wnamed, knobharbor_real *wreals, size_t wvalued,
+                                           knobharbor_row *wrows, size_t wrowed, uint32_t number, const uint8_t *line, size_t length,
+                                           uint16_t budget);
 
 /* Removes the constraint of this number. Tests 18, 5; steps 13, 14, 15, 17. */
 knobharbor_answer knobharbor_remove(uint64_t *head, size_t heads, knobharbor_name *names, size_t named, knobharbor_real *reals,
@@ -239,6 +264,12 @@ static inline knobharbor_answer kh_add_lists(knobharbor_tables *t, knobharbor_ta
                                 strength, budget);
 }
 
+static inline knobharbor_text_answer kh_add_text(knobharbor_tables *t, knobharbor_tables *room, uint32_t number, const uint8_t *line,
+                                                 size_t length, uint16_t budget)
+{
+    return knobharbor_add_text(KNOBHARBOR_LEND(t), KNOBHARBOR_LEND(room), number, line, length, budget);
+}
+
 static inline knobharbor_answer kh_remove(knobharbor_tables *t, knobharbor_tables *room, uint32_t number, uint16_t budget)
 {
     return knobharbor_remove(KNOBHARBOR_LEND(t), KNOBHARBOR_LEND(room), number, budget);
@@ -310,6 +341,11 @@ static inline const char *kh_words(uint32_t number)
         "a drag found no symbol to enter: the arithmetic has lost the problem",
         "a removal found no row for its marker: the arithmetic has lost it",
         "a lent table has the wrong length or does not read as a state",
+        "the line has more than 4,096 bytes",
+        "the line is not in the grammar",
+        "the line has more than 16 levels of brackets",
+        "the line has a number above 1,048,576, or a variable above 4,294,967,295",
+        "the line has more than 16 variables",
     };
     return number < sizeof words / sizeof words[0] ? words[number] : "no number of the document's";
 }

@@ -2,3 +2,4 @@
 pub mod added;
 pub mod asked;
 pub mod changed;
+pub mod lines;

@@ -25,6 +25,16 @@ pub struct Answer {
     pub whole: bool,
 }
 
+/// What the add of a line answers: the same, and where the line leaves the grammar.
+#[repr(C)]
+#[derive(Copy, Clone, Debug)]
+pub struct TextAnswer {
+    pub number: u32,
+    pub pivots: u32,
+    pub whole: bool,
+    pub offset: usize,
+}
+
 #[repr(C)]
 #[derive(Copy, Clone)]
 pub struct Fetched {
@@ -97,6 +107,11 @@ macro_rules! declare_asking {
 declare! {
     knobharbor_reset() -> Answer;
     knobharbor_fetch(numbers: *mut u64, number_count: usize, values: *mut f64, value_count: usize) -> Fetched;
+    knobharbor_add_text(
+        whead: *mut u64, wheads: usize, wnames: *mut Name, wnames_count: usize,
+        wreals: *mut Real, wreals_count: usize, wrows: *mut Row, wrows_count: usize,
+        number: u32, line: *const u8, length: usize, budget: u16
+    ) -> TextAnswer;
 }
 
 declare_changing! {
@@ -178,6 +193,10 @@ pub struct Added<'a> {
 
 pub fn add(t: &mut Tables, w: &mut Tables, a: Added, budget: u16) -> Answer {
     change!(knobharbor_add, t, w, a.number, a.terms.as_ptr(), a.terms.len(), a.constant, a.op.kind(), a.strength, budget)
+}
+
+pub fn add_text(t: &mut Tables, w: &mut Tables, number: u32, line: &[u8], budget: u16) -> TextAnswer {
+    change!(knobharbor_add_text, t, w, number, line.as_ptr(), line.len(), budget)
 }
 
 pub fn remove(t: &mut Tables, w: &mut Tables, number: u32, budget: u16) -> Answer {

@@ -81,6 +81,14 @@ impl<'a> LentSolver<'a> {
         self.concluded(answer)
     }
 
+    /// Adds the constraint that a line of text reads as, required: `2*(v1 + 3) <= v2` is 2 v1 - v2 + 6 at most zero. The line has
+    /// no newline. Beside `Refusal::LineNotInGrammar` stands the first byte with which no line can go on, else 0.
+    pub fn add_text(&mut self, number: u32, line: &[u8]) -> Result<(), (Refusal, usize)> {
+        let a = archive::add_text(self.tables, self.room, number, line, self.budget);
+        let answer = Answer { number: a.number, pivots: a.pivots, whole: a.whole };
+        self.concluded(answer).map_err(|refusal| (refusal, a.offset))
+    }
+
     /// Removes the constraint of this number.
     pub fn remove(&mut self, number: u32) -> Result<(), Refusal> {
         let answer = archive::remove(self.tables, self.room, number, self.budget);

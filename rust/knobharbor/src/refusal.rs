@@ -1,4 +1,4 @@
-//! Why a call was refused: document 01's numbers.
+//! Why a call was refused: document 01's numbers, and document 02's of a line of text.
 use core::fmt;
 
 macro_rules! refusals {
@@ -67,6 +67,16 @@ refusals! {
     NoMarkerRow = 17, "a removal found no row for its marker: the arithmetic has lost it";
     /// The tables were damaged.
     TablesDoNotRead = 18, "a lent table has the wrong length or does not read as a state";
+    /// A line has at most 4,096 bytes.
+    LineTooLong = 19, "the line has more than 4,096 bytes";
+    /// The line is no sum, relation and sum.
+    LineNotInGrammar = 20, "the line is not in the grammar";
+    /// Brackets go 16 levels deep.
+    LineTooDeep = 21, "the line has more than 16 levels of brackets";
+    /// A number of the line, or one that its numbers make, is too large.
+    LineTooLarge = 22, "the line has a number above 1,048,576, or a variable above 4,294,967,295";
+    /// A line has at most 16 variables.
+    LineTooManyVariables = 23, "the line has more than 16 variables";
 }
 
 impl Refusal {

@@ -45,6 +45,11 @@ fn refusals_have_the_same_words() {
         Refusal::NoEnteringSymbol,
         Refusal::NoMarkerRow,
         Refusal::TablesDoNotRead,
+        Refusal::LineTooLong,
+        Refusal::LineNotInGrammar,
+        Refusal::LineTooDeep,
+        Refusal::LineTooLarge,
+        Refusal::LineTooManyVariables,
     ];
     assert_eq!(words.len(), all.len() + 1);
     for (i, refusal) in all.into_iter().enumerate() {

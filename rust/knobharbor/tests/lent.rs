@@ -66,3 +66,19 @@ fn tables_go_on_where_they_were_left() {
     solver.reset();
     assert!(solver.is_whole());
 }
+
+/// "`2*(v1 + 3) <= v2` reads as 2 v1 - v2 + 6 at most 0": the line's refusals come first, the solver's then.
+#[test]
+fn lines_are_added() {
+    let (mut tables, mut room) = (Tables::new(), Tables::new());
+    let mut solver = LentSolver::new(&mut tables, &mut room);
+    solver.add_text(1, b"v1 = 5").unwrap();
+    solver.add_text(2, b"2*(v1 + 3) <= v2").unwrap();
+    assert!(solver.is_whole() && solver.has(1) && solver.has(2));
+    assert_eq!((solver.value(EDGES[0]), solver.value(EDGES[1])), (5.0, 16.0));
+    assert_eq!(solver.add_text(2, b"v1<0"), Err((Refusal::LineNotInGrammar, 3)));
+    assert_eq!(solver.add_text(2, b"1048577 = v1"), Err((Refusal::LineTooLarge, 0)));
+    assert_eq!(solver.add_text(2, b"v1 = 5"), Err((Refusal::DuplicateConstraint, 0)));
+    assert_eq!(solver.add_text(3, b"v1 = 6"), Err((Refusal::UnsatisfiableConstraint, 0)));
+    assert!(solver.is_whole() && !solver.has(3));
+}
