@@ -20,6 +20,11 @@ use Rattle.terms.specs.declared.Term.{Term}
 use Rattle.terms.specs.Terms.{termsIn}
 use Rattle.given.specs.Given.{given, relationBy}
 use Rattle.given.specs.Adding.{addOf, addListsOf}
+use Rattle.asking.specs.Asked.{asked}
+use Rattle.grammar.specs.Sums as grammar
+use Rattle.grammar.specs.Reader.{readLine}
+use Rattle.typed.specs.Typed.{typedTerms, wholeOf, requiredBy}
+use Rattle.typed.specs.Adding.{markIn, addRead, textOf}
 use Rattle.run.specs.Demand.{Call, resets, fetches, adds, removes, addsEdit, removesEdit, suggests, make}
 use Rattle.lasting.specs.Narrow.{Typed}
 use Rattle.lasting.specs.Promises.{Holds, call-holds, fetch-holds, reset-holds}
@@ -45,6 +50,8 @@ pub data Public : Type 0 where
   -- an add under its C names, of a list of records and of two lists: number, terms, constant, kind, strength, budget
   addsTerms : ℕ → List Term → Float → ℕ → Float → ℕ → Public
   addsLists : ℕ → List ℕ → List Float → Float → ℕ → Float → ℕ → Public
+  -- an add of a line of text: number, bytes, budget
+  addsText : ℕ → List ℕ → ℕ → Public
 
 -- what its contract says that it answers and leaves; a fetch with its number, and the stored mark
 unfoldable pub publicOn : Public → Tables → Tables → Called
@@ -52,6 +59,7 @@ publicOn (makes c) work t = makeOn c work t
 publicOn (fetchesInto a b) work t = called (record { number = fetchOf a b t .number; pivots = 0; whole = read t .whole }) (fetchOf a b t .tables)
 publicOn (addsTerms n ts constant kind strength budget) work t = addOf n ts constant kind strength budget work t
 publicOn (addsLists n vars coefs constant kind strength budget) work t = addListsOf n vars coefs constant kind strength budget work t
+publicOn (addsText n line budget) work t = textOf n line budget work t .call
 
 -- the room that a call is lent has the right lengths; a reset and a fetch are lent none
 unfoldable pub roomFits : Call → Tables → Bool
@@ -66,13 +74,36 @@ roomFits (suggests v x budget) work = lengthsRight work
 abbrev pub addsBy : ℕ → List Term → Float → ℕ → Float → ℕ → Call
 addsBy n ts constant kind strength budget = adds n (termsIn ts) constant (relationBy kind strength) budget
 
--- the call of a run that it is; none where the room, the lists or the kind are unfit
+-- the add that a line reads as
+abbrev pub addsRead : ℕ → grammar.Reading → ℕ → Call
+addsRead n r budget = adds n (termsIn (typedTerms (r .terms))) (wholeOf (r .constant)) (requiredBy (r .relation)) budget
+
+abbrev pub textCall : ℕ → grammar.Answer → ℕ → Tables → Option Call
+textCall n (grammar.reads r) budget work = cond (lengthsRight work) (some (addsRead n r budget)) none
+textCall n (grammar.outside at) budget work = none
+textCall n (grammar.refused k) budget work = none
+
+-- the call of a run that it is; none where the room, the lists or the kind are unfit, or the line does not read
 unfoldable pub runCall : Public → Tables → Option Call
 runCall (makes c) work = cond (roomFits c work) (some c) none
 runCall (fetchesInto a b) work = cond (eqb a places && eqb b places) (some fetches) none
 runCall (addsTerms n ts constant kind strength budget) work = cond (ltb kind 3 && lengthsRight work) (some (addsBy n ts constant kind strength budget)) none
 runCall (addsLists n vars coefs constant kind strength budget) work =
     cond (eqb (length vars) (length coefs) && (ltb kind 3 && lengthsRight work)) (some (addsBy n (given vars coefs) constant kind strength budget)) none
+runCall (addsText n line budget) work = textCall n (readLine line) budget work
+
+-- the number by which it is refused where it is none: 18, or the line's own
+abbrev pub lineNumber : grammar.Answer → ℕ
+lineNumber (grammar.reads r) = 18
+lineNumber (grammar.outside at) = 20
+lineNumber (grammar.refused k) = k
+
+abbrev pub unfitNumber : Public → ℕ
+unfitNumber (makes c) = 18
+unfitNumber (fetchesInto a b) = 18
+unfitNumber (addsTerms n ts constant kind strength budget) = 18
+unfitNumber (addsLists n vars coefs constant kind strength budget) = 18
+unfitNumber (addsText n line budget) = lineNumber (readLine line)
 
 -- what the types of the call's numbers say: a constraint's and a variable's number is a u32
 abbrev pub TypedCall : Call → Type 0
@@ -84,24 +115,31 @@ TypedCall (addsEdit v strength budget) = Typed (changing.addsEdit v strength bud
 TypedCall (removesEdit v budget) = Unit {0}
 TypedCall (suggests v x budget) = Unit {0}
 
+-- a line's variables are u32 too: so are the reader's places for them
+abbrev pub TypedRead : ℕ → grammar.Answer → ℕ → Type 0
+TypedRead n (grammar.reads r) budget = TypedCall (addsRead n r budget)
+TypedRead n (grammar.outside at) budget = Unit {0}
+TypedRead n (grammar.refused k) budget = Unit {0}
+
 abbrev pub TypedPublic : Public → Type 0
 TypedPublic (makes c) = TypedCall c
 TypedPublic (fetchesInto a b) = Unit {0}
 TypedPublic (addsTerms n ts constant kind strength budget) = TypedCall (addsBy n ts constant kind strength budget)
 TypedPublic (addsLists n vars coefs constant kind strength budget) = TypedCall (addsBy n (given vars coefs) constant kind strength budget)
+TypedPublic (addsText n line budget) = TypedRead n (readLine line) budget
 
 -- ---- one call on tables that hold a state
 
--- a call of a run: its answer, and its state in the tables. An unfit one: 18, and the tables as they were; the mark that it answers is no, or a fetch's stored one.
-abbrev pub Steps : State → Tables → Called → Option Call → Type 0
-Steps s t r (some c) = (r .answer ≡ make c s .answer) × Holds (make c s .state) (r .tables)
-Steps s t r none = (r .answer .number ≡ 18) × (r .tables ≡ t) × (r .answer .whole ≡ true → read t .whole ≡ true)
+-- a call of a run: its answer, and its state in the tables. Any other: the number k, and the tables as they were; the mark that it answers is no, or the stored one.
+abbrev pub Steps : ℕ → State → Tables → Called → Option Call → Type 0
+Steps k s t r (some c) = (r .answer ≡ make c s .answer) × Holds (make c s .state) (r .tables)
+Steps k s t r none = (r .answer .number ≡ k) × (r .tables ≡ t) × (r .answer .whole ≡ true → read t .whole ≡ true)
 
 module _ (s : State) (w t : Tables) (h : Holds s t) where
   abbrev long : lengthsRight t ≡ true
   long = lengths-right t (reads-lengths t (h .reads))
 
-  fit : (c : Call) → TypedCall c → roomFits c w ≡ true → Steps s t (makeOn c w t) (some c)
+  fit : (c : Call) → TypedCall c → roomFits c w ≡ true → Steps 18 s t (makeOn c w t) (some c)
   unfolding makeOn make roomFits
   fit resets typed e = unfold resetOf callIn reset in (rw long refl, reset-holds t long (h .wide))
   fit fetches typed e = (rw (h .state) refl, fetch-holds s t h)
@@ -114,7 +152,7 @@ module _ (s : State) (w t : Tables) (h : Holds s t) where
   says-no : false ≡ true → read t .whole ≡ true
   says-no z = absurd (false≢true z)
 
-  no-room : (c : Call) → roomFits c w ≡ false → Steps s t (makeOn c w t) none
+  no-room : (c : Call) → roomFits c w ≡ false → Steps 18 s t (makeOn c w t) none
   unfolding makeOn roomFits callOf
   no-room resets e = absurd (true≢false e)
   no-room fetches e = absurd (true≢false e)
@@ -124,30 +162,41 @@ module _ (s : State) (w t : Tables) (h : Holds s t) where
   no-room (removesEdit v b) e = rw (h .reads, e) (refl, refl, says-no)
   no-room (suggests v x b) e = rw (h .reads, e) (refl, refl, says-no)
 
-  made-is : (c : Call) → TypedCall c → (b : Bool) → roomFits c w ≡ b → Steps s t (makeOn c w t) (cond b (some c) none)
+  made-is : (c : Call) → TypedCall c → (b : Bool) → roomFits c w ≡ b → Steps 18 s t (makeOn c w t) (cond b (some c) none)
   made-is c typed true e = fit c typed e
   made-is c typed false e = no-room c e
 
-  fetched-is : (a b : ℕ) (right : Bool) → eqb a places && eqb b places ≡ right → Steps s t (publicOn (fetchesInto a b) w t) (cond right (some fetches) none)
+  fetched-is : (a b : ℕ) (right : Bool) → eqb a places && eqb b places ≡ right → Steps 18 s t (publicOn (fetchesInto a b) w t) (cond right (some fetches) none)
   unfolding publicOn makeOn make fetchOf fetchIn fetch18 roomFits
   fetched-is a b true e = rw (h .reads, e) (rw (h .reads) at (fit fetches tt refl))
   fetched-is a b false e = rw (h .reads, e) (refl, refl, λ z. z)
 
   added-is : (n : ℕ) (ts : List Term) (k : Float) (kind : ℕ) (x : Float) (b : ℕ) → TypedCall (addsBy n ts k kind x b) → (right : Bool) → ltb kind 3 ≡ right
-      → Steps s t (addOf n ts k kind x b w t) (cond (right && lengthsRight w) (some (addsBy n ts k kind x b)) none)
+      → Steps 18 s t (addOf n ts k kind x b w t) (cond (right && lengthsRight w) (some (addsBy n ts k kind x b)) none)
   unfolding addOf makeOn roomFits
   added-is n ts k kind x b typed true e = rw e (made-is (addsBy n ts k kind x b) typed (lengthsRight w) refl)
   added-is n ts k kind x b typed false e = rw e (refl, refl, says-no)
 
   listed-is : (n : ℕ) (vars : List ℕ) (coefs : List Float) (k : Float) (kind : ℕ) (x : Float) (b : ℕ) → TypedCall (addsBy n (given vars coefs) k kind x b) → (right : Bool) → eqb (length vars) (length coefs) ≡ right
-      → Steps s t (addListsOf n vars coefs k kind x b w t) (cond (right && (ltb kind 3 && lengthsRight w)) (some (addsBy n (given vars coefs) k kind x b)) none)
+      → Steps 18 s t (addListsOf n vars coefs k kind x b w t) (cond (right && (ltb kind 3 && lengthsRight w)) (some (addsBy n (given vars coefs) k kind x b)) none)
   unfolding addListsOf
   listed-is n vars coefs k kind x b typed true e = rw e (added-is n (given vars coefs) k kind x b typed (ltb kind 3) refl)
   listed-is n vars coefs k kind x b typed false e = rw e (refl, refl, says-no)
 
-  pub public-step : (p : Public) → TypedPublic p → Steps s t (publicOn p w t) (runCall p w)
-  unfolding publicOn runCall
+  mark-stored : markIn t ≡ true → read t .whole ≡ true
+  unfolding markIn asked
+  mark-stored e = rw (h .reads) at e
+
+  text-is : (n : ℕ) (a : grammar.Answer) (b : ℕ) → TypedRead n a b → Steps (lineNumber a) s t (addRead n a b w t .call) (textCall n a b w)
+  unfolding addRead makeOn roomFits
+  text-is n (grammar.reads r) b typed = made-is (addsRead n r b) typed (lengthsRight w) refl
+  text-is n (grammar.outside at) b typed = (refl, refl, mark-stored)
+  text-is n (grammar.refused k) b typed = (refl, refl, mark-stored)
+
+  pub public-step : (p : Public) → TypedPublic p → Steps (unfitNumber p) s t (publicOn p w t) (runCall p w)
+  unfolding publicOn runCall textOf
   public-step (makes c) typed = made-is c typed (roomFits c w) refl
   public-step (fetchesInto a b) typed = fetched-is a b (eqb a places && eqb b places) refl
   public-step (addsTerms n ts k kind x b) typed = added-is n ts k kind x b typed (ltb kind 3) refl
   public-step (addsLists n vars coefs k kind x b) typed = listed-is n vars coefs k kind x b typed (eqb (length vars) (length coefs)) refl
+  public-step (addsText n line b) typed = text-is n (readLine line) b typed

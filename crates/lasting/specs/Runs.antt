@@ -1,6 +1,7 @@
 -- DEMANDS 2 AND 3 of the public calls: any sequence of calls over lent tables, from a reset on. What a call answers and leaves is what its contract says, whatever
 -- the working room held and however long it was; the tables then read as the state of the run of the steps that the fit calls make, so what is proved of runs
--- (`run`, `stall`) holds of what the firmware has in hand. A call with a room, lists or a kind that are unfit is answered 18 and changes nothing. Assumes nothing.
+-- (`run`, `stall`) holds of what the firmware has in hand. A call with a room, lists or a kind that are unfit is answered 18 and changes nothing; a line that
+-- does not read is answered its own number and changes nothing. Assumes nothing.
 use Prim.Native.Nat.{ℕ, _≤_}
 use mathlib.Core.Path.{_≡_, refl}
 use mathlib.Core.Logic.{_≢_}
@@ -25,7 +26,7 @@ use Rattle.run.specs.Run.{yes-stored, marked-best, marked-12}
 use Rattle.stall.specs.Stall.{allWays, passesOf, budgetOf, Demand3}
 use Rattle.stall.proofs.Whole.{marked-never-stalls}
 use Rattle.lasting.specs.Promises.{Holds, reset-holds}
-use Rattle.lasting.specs.Public.{Public, publicOn, runCall, TypedPublic, Steps, public-step}
+use Rattle.lasting.specs.Public.{Public, publicOn, runCall, unfitNumber, TypedPublic, Steps, public-step}
 
 -- one call of a sequence, and the working room that is lent to it, of any lengths and with any content
 pub record Step : Type 0 where
@@ -74,7 +75,7 @@ pub record Lists (l : List Change) (f : Fetch) : Type 0 where
 -- ---- the tables hold the run's state
 
 -- one more call, on tables that hold the state after the calls cs
-onward : (s : Step) (cs : List Call) (u : Tables) → Holds (after cs .state) u → (o : Option Call) → Steps (after cs .state) u (publicOn (s .call) (s .room) u) o
+onward : (s : Step) (cs : List Call) (u : Tables) → Holds (after cs .state) u → (o : Option Call) → Steps (unfitNumber (s .call)) (after cs .state) u (publicOn (s .call) (s .room) u) o
     → Holds (after (andThen o cs) .state) (publicOn (s .call) (s .room) u .tables)
 unfolding after next
 onward s cs u h (some c) e = e .1
@@ -88,15 +89,15 @@ module _ (t : Tables) (long : lengthsRight t ≡ true) (wide : Wide t) where
       let held = tables-hold ss (h .1) in
       onward s (callsOf ss) (tablesAfter t ss) held (callOfStep s) (public-step (after (callsOf ss) .state) (s .room) (tablesAfter t ss) held (s .call) (h .0))
 
-  stepped : (s : Step) (ss : List Step) → All Lent (s ∷ ss) → Steps (after (callsOf ss) .state) (tablesAfter t ss) (publicOn (s .call) (s .room) (tablesAfter t ss)) (callOfStep s)
+  stepped : (s : Step) (ss : List Step) → All Lent (s ∷ ss) → Steps (unfitNumber (s .call)) (after (callsOf ss) .state) (tablesAfter t ss) (publicOn (s .call) (s .room) (tablesAfter t ss)) (callOfStep s)
   stepped s ss h = public-step (after (callsOf ss) .state) (s .room) (tablesAfter t ss) (tables-hold ss (h .1)) (s .call) (h .0)
 
   -- a fit call: its answer is the run's
   pub tables-answer : (s : Step) (ss : List Step) → All Lent (s ∷ ss) → (c : Call) → callOfStep s ≡ some c → answers t s ss ≡ make c (after (callsOf ss) .state) .answer
   tables-answer s ss h c e = (rw e at (stepped s ss h)) .0
 
-  -- an unfit one: "18 | a lent table has the wrong length ...", and nothing changed
-  pub tables-unfit : (s : Step) (ss : List Step) → All Lent (s ∷ ss) → callOfStep s ≡ none → (answers t s ss .number ≡ 18) × (tablesAfter t (s ∷ ss) ≡ tablesAfter t ss)
+  -- an unfit one: "18 | a lent table has the wrong length ...", or a line that does not read, its own number; and nothing changed
+  pub tables-unfit : (s : Step) (ss : List Step) → All Lent (s ∷ ss) → callOfStep s ≡ none → (answers t s ss .number ≡ unfitNumber (s .call)) × (tablesAfter t (s ∷ ss) ≡ tablesAfter t ss)
   unfolding tablesAfter
   tables-unfit s ss h e = let q = rw e at (stepped s ss h) in (q .0, q .1)
 
@@ -121,7 +122,7 @@ module _ (t : Tables) (long : lengthsRight t ≡ true) (wide : Wide t) where
   pub tables-yes : (s : Step) (ss : List Step) → All Lent (s ∷ ss) → answers t s ss .whole ≡ true → read (tablesAfter t (s ∷ ss)) .whole ≡ true
   tables-yes s ss h w = unfold tablesAfter in go (callOfStep s) (stepped s ss h)
     where
-      go : (o : Option Call) → Steps (after (callsOf ss) .state) (tablesAfter t ss) (publicOn (s .call) (s .room) (tablesAfter t ss)) o → read (publicOn (s .call) (s .room) (tablesAfter t ss) .tables) .whole ≡ true
+      go : (o : Option Call) → Steps (unfitNumber (s .call)) (after (callsOf ss) .state) (tablesAfter t ss) (publicOn (s .call) (s .room) (tablesAfter t ss)) o → read (publicOn (s .call) (s .room) (tablesAfter t ss) .tables) .whole ≡ true
       go (some c) e = rw (e .1 .state) (yes-stored c (after (callsOf ss) .state) (rw (e .0) at w))
       go none e = rw (e .1) (e .2 w)
 
