@@ -1,0 +1,2 @@
+-- The changing calls over lent tables.
+pub mod Change
