@@ -1,23 +1,43 @@
--- A change as the steps' changing call. Assumes nothing.
+-- The one changing call: the change that is known, and the room entered and left. Assumes nothing.
 use Prim.Native.Nat.{ℕ}
-use mathlib.Core.Path.{_≡_}
-use Rattle.steps.specs.Changing.{Changing, adds, removes, addsEdit, removesEdit, suggests, made}
+use mathlib.Core.Path.{_≡_, refl, sym, _∙_}
+use mathlib.Core.Bool.{Bool, false, _&&_, cond}
+use lib.Dec.{eqb}
+use borrow.Author.Tests.{eqb-false}
+use Rattle.laws.specs.Given.{Then}
+use Rattle.steps.specs.State.{State}
+use Rattle.steps.specs.Changing.{Changing, made}
+use Rattle.steps.proofs.Refusals.{refusal-keeps}
 use Rattle.layout.specs.Layout.{Tables}
-use Rattle.tags.specs.Tags.{relationOf}
+use Rattle.layout.specs.Rooms.{lengthsRight, Lengths}
+use Rattle.layout.specs.Copy.{putOver}
+use Rattle.reading.specs.Reads.{reads}
+use Rattle.room.specs.Room.{cleared}
+use Rattle.shell.specs.declared.Answer as code
+use Rattle.shell.specs.Shell.{answerOf, called, callOf, Entered, whole-call, left-coded, cleared-same}
+use Rattle.finishing.specs.Concluding.{Done, DoneIf}
 use Rattle.terms.specs.declared.Pack.{Pack}
-use Rattle.terms.specs.Terms.{termsIn, listed}
-use Rattle.shell.specs.Shell.{Called, callOf}
-use Rattle.calls.specs.declared.changes.Change.{Change}
-use Rattle.calls.specs.declared.changes.Change.the-variants.{Add, Remove, AddEdit, RemoveEdit, Suggest}
+use Rattle.changes.specs.declared.Change.{Change}
+use Rattle.changes.specs.Change.{changingOf}
 
--- an add's terms are the list that its pack stands for; no other change looks at the pack
-abbrev pub changingOf : Change → Pack → ℕ → Changing
-changingOf (Add n constant relation) p budget = adds n (termsIn (listed p)) constant (relationOf relation) budget
-changingOf (Remove n) p budget = removes n budget
-changingOf (AddEdit n strength) p budget = addsEdit n strength budget
-changingOf (RemoveEdit n) p budget = removesEdit n budget
-changingOf (Suggest n new) p budget = suggests n new budget
+pub known-done : (c : Change) (p : Pack) (budget : ℕ) (r : code.Answer) (t u : Tables) {d : Change} → c ≡ d → Done (made (changingOf d p budget)) r t u → Done (made (changingOf c p budget)) r t u
+known-done c p budget r t u e h = rw e h
 
--- the call of a change that is known
-pub known-change : (c : Change) (p : Pack) (budget : ℕ) (work t : Tables) {d : Change} {x : Called} → c ≡ d → x ≡ callOf (made (changingOf d p budget)) work t → x ≡ callOf (made (changingOf c p budget)) work t
-known-change c p budget work t e h = rw e h
+-- "A refusal changes no table"
+keeps : (f : Changing) (s : State) → eqb (made f s .answer .number) 0 ≡ false → made f s .state ≡ s
+keeps f s e = refusal-keeps f s (eqb-false (made f s .answer .number) 0 e)
+
+-- t and w are the lent tables and the room, w₁ the room entered, w₂ the room after the steps
+pub call-done : (f : Changing) (t w w₁ w₂ : Tables) (a : code.Answer) {t₂ z : Tables} {ok : Bool}
+    → Lengths w
+    → ok ≡ reads t && lengthsRight w
+    → Then ok (Entered t w₁)
+    → DoneIf ok (made f) a w₁ w₂
+    → Lengths w₂
+    → t₂ ≡ cond (ok && eqb (a .number) 0) (putOver w₂ t) t
+    → z ≡ cleared w₂
+    → (called (answerOf a) t₂ ≡ callOf (made f) w t) × (z ≡ cleared w)
+call-done f t w w₁ w₂ a {t₂} {z} {ok} l e₁ e₂ d l₂ e₃ e₄ = (
+  whole-call (made f) t w w₁ w₂ (keeps f) e₁ e₂ (d .0) refl (d .1) (left-coded w₂ (ok && eqb (a .number) 0) (d .2)) e₃,
+  cleared-same w w₂ (l₂ .0 ∙ sym (l .0)) (l₂ .1 ∙ sym (l .1)) (l₂ .2 ∙ sym (l .2)) (l₂ .3 ∙ sym (l .3)) e₄,
+)

@@ -1,4 +1,4 @@
-// A changing call with its inputs.
+// A changing call with its inputs but the budget, by value.
 use tags::Relation;
 
 // A number first: the constraint's, or of an edit its variable's. An add's terms come beside it.
