@@ -4,7 +4,7 @@ ghost use Prim.Native.Nat.{_≤_};
 ghost use lib.ListN.{length};
 ghost use Rattle.terms.specs.Terms.{packOf};
 ghost use Rattle.tags.specs.Tags.{relationOf};
-ghost use Rattle.given.specs.Given.{given, relationBy};
+ghost use Rattle.knobharbor.specs.Given.{given, relationBy};
 use tags::Relation;
 use terms::Pack;
 use terms::Term;

@@ -1,4 +1,4 @@
--- `given::gather` meets its contract. Assumes nothing.
+-- `knobharbor::given::gather` meets its contract. Assumes nothing.
 use Prim.Native.Nat.{_-_}
 use mathlib.Core.Path.{_≡_, refl}
 use native.Mathlib.Omega.{arith}
@@ -6,9 +6,9 @@ use lib.ListN.{length}
 use borrow.Author.Needs.{needs}
 use Rattle.laws.specs.Loops.{run, run-next, run-last}
 use Rattle.terms.specs.Terms.{packOf}
-use Rattle.given.specs.Given.{termAt, given, gathers, gather-starts}
-use Rattle.given.proofs.gather.Statement.{statement}
-use Rattle.given.proofs.gather.Tie as tie
+use Rattle.knobharbor.specs.Given.{termAt, given, gathers, gather-starts}
+use Rattle.knobharbor.proofs.given.gather.Statement.{statement}
+use Rattle.knobharbor.proofs.given.gather.Tie as tie
 
 abbrev Inv-loop : tie.InvT-loop
 Inv-loop vars coefs n p₀ i₀ p i = (run (gathers vars coefs) i n p ≡ packOf (given vars coefs)) × (n ≡ length vars)

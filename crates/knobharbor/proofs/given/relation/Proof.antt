@@ -1,7 +1,7 @@
--- `given::relation` meets its contract. Assumes nothing.
-use Rattle.given.specs.Given.{at-most-by, equal-by, at-least-by}
-use Rattle.given.proofs.relation.Statement.{statement}
-use Rattle.given.proofs.relation.Tie as tie
+-- `knobharbor::given::relation` meets its contract. Assumes nothing.
+use Rattle.knobharbor.specs.Given.{at-most-by, equal-by, at-least-by}
+use Rattle.knobharbor.proofs.given.relation.Statement.{statement}
+use Rattle.knobharbor.proofs.given.relation.Tie as tie
 
 returns : tie.Need-returns
 returns c = at-most-by (c .before .args .kind) (c .before .args .strength) (c .if1 .taken)
