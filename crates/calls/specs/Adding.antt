@@ -32,15 +32,15 @@ use Rattle.terms.specs.declared.Pack.{Pack}
 use Rattle.terms.specs.Terms.{packOf, termsIn, termsOf}
 use Rattle.terms.specs.Packed.{pack-terms}
 use Rattle.drags.specs.DragRead.{tagFrom}
-use Rattle.tests.specs.Refusals.{addRefusal}
-use Rattle.tests.specs.Tested.{few-terms}
-use Rattle.tests.specs.Passed.{Room, add-refused, add-passes, add-passed}
-use Rattle.finishing.specs.Stored.{Ends}
+use Rattle.calls.specs.Refusals.{addRefusal}
+use Rattle.calls.specs.Tested.{few-terms}
+use Rattle.calls.specs.Passed.{Room, add-refused, add-passes, add-passed}
+use Rattle.calls.specs.Stored.{Ends}
 use Rattle.shell.specs.declared.Answer as code
 use Rattle.shell.specs.Shell.{answerOf, Ready}
-use Rattle.finishing.specs.Begin.{storedMark, begin-is, pack-opens}
-use Rattle.finishing.specs.Concluding.{Done, went, byTest, done-by-test, answered, added-refused, added-accepted}
-use Rattle.finishing.specs.Placed.{constraint-counts}
+use Rattle.calls.specs.Begin.{storedMark, begin-is, pack-opens}
+use Rattle.calls.specs.Concluding.{Done, went, byTest, done-by-test, answered, added-refused, added-accepted}
+use Rattle.calls.specs.Placed.{constraint-counts}
 use Rattle.calls.specs.Packing.{Names, Reals, packed-terms, Recorded, Weighed, recorded}
 
 -- for every list of terms that the pack is of

@@ -9,13 +9,13 @@ use Rattle.steps.specs.State.{State}
 use Rattle.steps.specs.Changing.{Changing, made}
 use Rattle.steps.proofs.Refusals.{refusal-keeps}
 use Rattle.layout.specs.Layout.{Tables}
-use Rattle.layout.specs.Rooms.{lengthsRight, Lengths}
+use Rattle.layout.specs.Rooms.{Lengths}
 use Rattle.layout.specs.Copy.{putOver}
 use Rattle.reading.specs.Reads.{reads}
-use Rattle.room.specs.Room.{cleared}
+use Rattle.shell.specs.Room.{cleared}
 use Rattle.shell.specs.declared.Answer as code
 use Rattle.shell.specs.Shell.{answerOf, called, callOf, Entered, whole-call, left-coded, cleared-same}
-use Rattle.finishing.specs.Concluding.{Done, DoneIf}
+use Rattle.calls.specs.Concluding.{Done, DoneIf}
 use Rattle.terms.specs.declared.Pack.{Pack}
 use Rattle.changes.specs.declared.Change.{Change}
 use Rattle.changes.specs.Change.{changingOf}
@@ -30,7 +30,7 @@ keeps f s e = refusal-keeps f s (eqb-false (made f s .answer .number) 0 e)
 -- t and w are the lent tables and the room, w₁ the room entered, w₂ the room after the steps
 pub call-done : (f : Changing) (t w w₁ w₂ : Tables) (a : code.Answer) {t₂ z : Tables} {ok : Bool}
     → Lengths w
-    → ok ≡ reads t && lengthsRight w
+    → ok ≡ reads t
     → Then ok (Entered t w₁)
     → DoneIf ok (made f) a w₁ w₂
     → Lengths w₂
@@ -38,6 +38,6 @@ pub call-done : (f : Changing) (t w w₁ w₂ : Tables) (a : code.Answer) {t₂ 
     → z ≡ cleared w₂
     → (called (answerOf a) t₂ ≡ callOf (made f) w t) × (z ≡ cleared w)
 call-done f t w w₁ w₂ a {t₂} {z} {ok} l e₁ e₂ d l₂ e₃ e₄ = (
-  whole-call (made f) t w w₁ w₂ (keeps f) e₁ e₂ (d .0) refl (d .1) (left-coded w₂ (ok && eqb (a .number) 0) (d .2)) e₃,
+  whole-call (made f) t w w₁ w₂ (keeps f) e₁ l e₂ (d .0) refl (d .1) (left-coded w₂ (ok && eqb (a .number) 0) (d .2)) e₃,
   cleared-same w w₂ (l₂ .0 ∙ sym (l .0)) (l₂ .1 ∙ sym (l .1)) (l₂ .2 ∙ sym (l .2)) (l₂ .3 ∙ sym (l .3)) e₄,
 )

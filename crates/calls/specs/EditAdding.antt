@@ -32,15 +32,15 @@ use Rattle.standing.specs.Opening.{Opening}
 use Rattle.tags.specs.declared.Relation.the-variants.{Equal}
 use Rattle.tags.specs.Tags.{relationOf}
 use Rattle.drags.specs.DragRead.{tagFrom}
-use Rattle.tests.specs.Refusals.{editPack, addEditRefusal}
-use Rattle.tests.specs.Tested.{edit-terms}
-use Rattle.tests.specs.Passed.{Room, add-edit-refused, add-edit-passes, add-edit-passed}
-use Rattle.finishing.specs.Stored.{Ends}
+use Rattle.calls.specs.Refusals.{editPack, addEditRefusal}
+use Rattle.calls.specs.Tested.{edit-terms}
+use Rattle.calls.specs.Passed.{Room, add-edit-refused, add-edit-passes, add-edit-passed}
+use Rattle.calls.specs.Stored.{Ends}
 use Rattle.shell.specs.declared.Answer as code
 use Rattle.shell.specs.Shell.{answerOf, Ready}
-use Rattle.finishing.specs.Begin.{storedMark, begin-is, pack-opens}
-use Rattle.finishing.specs.Concluding.{Done, went, byTest, done-by-test, answered, added-refused, added-accepted}
-use Rattle.finishing.specs.Placed.{edit-counts}
+use Rattle.calls.specs.Begin.{storedMark, begin-is, pack-opens}
+use Rattle.calls.specs.Concluding.{Done, went, byTest, done-by-test, answered, added-refused, added-accepted}
+use Rattle.calls.specs.Placed.{edit-counts}
 use Rattle.calls.specs.One.{oneItem, oneReal, one-terms}
 
 -- ---- the record of a new edit

@@ -22,14 +22,14 @@ use Rattle.tableau.specs.Working.{workOf}
 use Rattle.standing.specs.declared.Ended.{Ended}
 use Rattle.standing.specs.Ending.{outcomeOf, Goes}
 use Rattle.drags.specs.DragRead.{tagFrom}
-use Rattle.tests.specs.Refusals.{liveIn, removeRefusal}
-use Rattle.tests.specs.Known as known
-use Rattle.finishing.specs.Stored.{Ends}
+use Rattle.calls.specs.Refusals.{liveIn, removeRefusal}
+use Rattle.calls.specs.Known as known
+use Rattle.calls.specs.Stored.{Ends}
 use Rattle.shell.specs.declared.Answer as code
 use Rattle.shell.specs.Shell.{answerOf, Ready}
-use Rattle.finishing.specs.Begin.{storedMark, begun-is, reads-at-start, constraint-live}
-use Rattle.finishing.specs.Concluding.{Done, went, byTest, done-by-test, answered, done-refused, done-accepted}
-use Rattle.finishing.specs.Placed.{constraintPlace, live-constraint-found}
+use Rattle.calls.specs.Begin.{storedMark, begun-is, reads-at-start, constraint-live}
+use Rattle.calls.specs.Concluding.{Done, went, byTest, done-by-test, answered, done-refused, done-accepted}
+use Rattle.calls.specs.Placed.{constraintPlace, live-constraint-found}
 
 -- ---- refused by a test
 

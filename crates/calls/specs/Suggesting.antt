@@ -28,14 +28,14 @@ use Rattle.drags.specs.declared.record.EditRecord.{EditRecord}
 use Rattle.drags.specs.Record.{editRecordAt, withSuggestion, withRecord, record-read}
 use Rattle.drags.specs.Stored.{stored-in-place}
 use Rattle.dragging.specs.Suggested.{editBy, suggest-stored}
-use Rattle.tests.specs.Refusals.{liveIn, suggestRefusal}
-use Rattle.tests.specs.Known as known
-use Rattle.finishing.specs.Stored.{Ends}
+use Rattle.calls.specs.Refusals.{liveIn, suggestRefusal}
+use Rattle.calls.specs.Known as known
+use Rattle.calls.specs.Stored.{Ends}
 use Rattle.shell.specs.declared.Answer as code
 use Rattle.shell.specs.Shell.{answerOf, Ready}
-use Rattle.finishing.specs.Begin.{storedMark, begin-is, reads-at-start, edits-count}
-use Rattle.finishing.specs.Concluding.{Done, went, byTest, done-by-test, answered, done-refused, done-accepted}
-use Rattle.finishing.specs.Placed.{up-ascending, edit-at, edit-counts, edit-same, editPlace, edit-placed, live-edit-found, edit-number}
+use Rattle.calls.specs.Begin.{storedMark, begin-is, reads-at-start, edits-count}
+use Rattle.calls.specs.Concluding.{Done, went, byTest, done-by-test, answered, done-refused, done-accepted}
+use Rattle.calls.specs.Placed.{up-ascending, edit-at, edit-counts, edit-same, editPlace, edit-placed, live-edit-found, edit-number}
 
 suggest-known : (x budget : ℕ) (new : Float) (s : State) (e : Edit) → isFinite new ≡ true → findEdit x (s .edits) ≡ some e
     → suggest x new budget s

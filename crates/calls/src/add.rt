@@ -3,21 +3,21 @@ ghost use mathlib.Core.Path.{_≡_};
 ghost use Rattle.steps.specs.State.{strengthOf};
 ghost use Rattle.steps.specs.Calls.{add};
 ghost use Rattle.tags.specs.Tags.{relationOf};
-ghost use Rattle.tests.specs.Refusals.{addRefusal};
+ghost use Rattle.calls.specs.Refusals.{addRefusal};
 ghost use Rattle.terms.specs.Terms.{termsIn, listed};
 ghost use Rattle.lent.specs.Lent.{lent};
 ghost use Rattle.shell.specs.Shell.{Ready};
-ghost use Rattle.finishing.specs.Concluding.{Done};
+ghost use Rattle.calls.specs.Concluding.{Done};
 ghost use Rattle.calls.specs.Adding.{Adds};
+use crate::begin::answer_of;
+use crate::begin::by_test;
+use crate::begin::stored_mark;
 use crate::pack::constraint_item;
 use crate::pack::constraint_real;
 use crate::pack::term_item;
 use crate::pack::term_real;
 use adding::add::add_steps;
 use adding::inputs::strength_of;
-use finishing::begin::answer_of;
-use finishing::begin::by_test;
-use finishing::begin::stored_mark;
 use lent::Head;
 use lent::Names;
 use lent::Reals;
@@ -66,7 +66,7 @@ fn add_known(
     let wrote = e.wrote;
     let name = constraint_item(p, n as u64, a.marker, a.other);
     let value = constraint_real(p, strength_of(relation));
-    finishing::with_constraint(head, names, reals, rows, &name, &value, wrote);
+    crate::ending::with_constraint(head, names, reals, rows, &name, &value, wrote);
     answer_of(e)
 }
 
@@ -87,7 +87,7 @@ pub fn add(
 {
     let q = terms::proper(p);
     let strength = strength_of(relation);
-    let number = tests::add_tests(head, names, n, q, constant, strength);
+    let number = crate::tests::add_tests(head, names, n, q, constant, strength);
     if number != 0 {
         return by_test(head, number);
     }

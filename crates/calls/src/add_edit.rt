@@ -2,17 +2,17 @@
 ghost use mathlib.Core.Path.{_≡_};
 ghost use Rattle.steps.specs.Strength.{clip};
 ghost use Rattle.steps.specs.Calls.{addEdit};
-ghost use Rattle.tests.specs.Refusals.{addEditRefusal};
+ghost use Rattle.calls.specs.Refusals.{addEditRefusal};
 ghost use Rattle.lent.specs.Lent.{lent};
 ghost use Rattle.shell.specs.Shell.{Ready};
-ghost use Rattle.finishing.specs.Concluding.{Done};
+ghost use Rattle.calls.specs.Concluding.{Done};
 ghost use Rattle.calls.specs.EditAdding.{editItem, editReal};
+use crate::begin::answer_of;
+use crate::begin::by_test;
+use crate::begin::stored_mark;
 use crate::one::one_item;
 use crate::one::one_real;
 use adding::add::add_steps;
-use finishing::begin::answer_of;
-use finishing::begin::by_test;
-use finishing::begin::stored_mark;
 use lent::Head;
 use lent::Name;
 use lent::Names;
@@ -81,7 +81,7 @@ fn add_edit_known(
     let wrote = e.wrote;
     let name = edit_item(n as u64, a.marker, a.other);
     let value = edit_real(held);
-    finishing::with_edit(head, names, reals, rows, &name, &value, wrote);
+    crate::ending::with_edit(head, names, reals, rows, &name, &value, wrote);
     answer_of(e)
 }
 
@@ -99,7 +99,7 @@ pub fn add_edit(
     ensures { λ r. ⌜ Done (addEdit n strength budget) r (lent (head .entry) (names .entry) (reals .entry) (rows .entry)) (lent (head .exit) (names .exit) (reals .exit) (rows .exit)) ⌝ }
 {
     let held = rows::strength::clip(strength);
-    let number = tests::add_edit_tests(head, names, n, held);
+    let number = crate::tests::add_edit_tests(head, names, n, held);
     if number != 0 {
         return by_test(head, number);
     }

@@ -1,18 +1,21 @@
 // The one changing call over lent tables: the tables are tested and copied into the working room, the steps run there, an accepted call's state goes back, the room is cleared.
 pub mod add;
 pub mod add_edit;
+pub mod begin;
+pub mod ending;
 pub mod one;
 pub mod pack;
 pub mod remove;
 pub mod remove_edit;
 pub mod suggest;
+pub mod tests;
 
 ghost use mathlib.Core.Path.{_≡_};
 ghost use Rattle.laws.specs.Given.{Then};
 ghost use Rattle.steps.specs.Changing.{made};
-ghost use Rattle.room.specs.Room.{cleared};
+ghost use Rattle.shell.specs.Room.{cleared};
 ghost use Rattle.shell.specs.Shell.{answerOf, called, callOf, Ready};
-ghost use Rattle.finishing.specs.Concluding.{Done, DoneIf};
+ghost use Rattle.calls.specs.Concluding.{Done, DoneIf};
 ghost use Rattle.lent.specs.Lent.{lent};
 ghost use Rattle.changes.specs.Change.{changingOf};
 use changes::Change;
@@ -20,7 +23,6 @@ use lent::Head;
 use lent::Names;
 use lent::Reals;
 use lent::Rows;
-use lent::long;
 use shell::Answer;
 use terms::Pack;
 
@@ -82,10 +84,8 @@ pub fn change(
     ensures { λ r. ⌜ called (answerOf r) (lent (head .exit) (names .exit) (reals .exit) (rows .exit)) ≡ callOf (made (changingOf c p budget)) (lent (whead .entry) (wnames .entry) (wreals .entry) (wrows .entry)) (lent (head .entry) (names .entry) (reals .entry) (rows .entry)) ⌝ }
     ensures { λ _. ⌜ lent (whead .exit) (wnames .exit) (wreals .exit) (wrows .exit) ≡ cleared (lent (whead .entry) (wnames .entry) (wreals .entry) (wrows .entry)) ⌝ }
 {
-    long(whead, wnames, wreals, wrows);
     let ok = shell::enter(head, names, reals, rows, whead, wnames, wreals, wrows);
     let a = change_if(ok, whead, wnames, wreals, wrows, c, p, budget as u32);
-    long(whead, wnames, wreals, wrows);
     shell::leave(
         ok & (a.number == 0),
         head,

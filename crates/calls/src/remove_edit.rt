@@ -3,15 +3,15 @@ ghost use mathlib.Core.Path.{_≡_};
 ghost use mathlib.Core.Bool.{true};
 ghost use Rattle.steps.specs.Calls.{removeEdit};
 ghost use Rattle.layout.specs.Layout.{editsAt, editCount};
-ghost use Rattle.tests.specs.Refusals.{liveIn};
+ghost use Rattle.calls.specs.Refusals.{liveIn};
 ghost use Rattle.lent.specs.Lent.{lent};
 ghost use Rattle.shell.specs.Shell.{Ready};
-ghost use Rattle.finishing.specs.Concluding.{Done};
+ghost use Rattle.calls.specs.Concluding.{Done};
+use crate::begin::answer_of;
+use crate::begin::by_test;
+use crate::begin::stored_mark;
 use crate::one::one_item;
 use crate::one::one_real;
-use finishing::begin::answer_of;
-use finishing::begin::by_test;
-use finishing::begin::stored_mark;
 use lent::Head;
 use lent::Names;
 use lent::Reals;
@@ -63,7 +63,7 @@ fn remove_edit_known(
         return answer_of(e);
     }
     let wrote = e.wrote;
-    finishing::without_edit(head, names, reals, rows, n as u64, wrote);
+    crate::ending::without_edit(head, names, reals, rows, n as u64, wrote);
     answer_of(e)
 }
 
@@ -79,7 +79,7 @@ pub fn remove_edit(
     requires { ⌜ Ready (lent head names reals rows) ⌝ }
     ensures { λ r. ⌜ Done (removeEdit n budget) r (lent (head .entry) (names .entry) (reals .entry) (rows .entry)) (lent (head .exit) (names .exit) (reals .exit) (rows .exit)) ⌝ }
 {
-    let number = tests::remove_edit_tests(head, names, n);
+    let number = crate::tests::remove_edit_tests(head, names, n);
     if number != 0 {
         return by_test(head, number);
     }

@@ -4,16 +4,16 @@ ghost use mathlib.Core.Bool.{true};
 ghost use Rattle.steps.specs.Number.{isFinite};
 ghost use Rattle.steps.specs.Calls.{suggest};
 ghost use Rattle.layout.specs.Layout.{editsAt, editCount};
-ghost use Rattle.tests.specs.Refusals.{liveIn};
+ghost use Rattle.calls.specs.Refusals.{liveIn};
 ghost use Rattle.lent.specs.Lent.{lent};
 ghost use Rattle.shell.specs.Shell.{Ready};
-ghost use Rattle.finishing.specs.Concluding.{Done};
+ghost use Rattle.calls.specs.Concluding.{Done};
+use crate::begin::answer_of;
+use crate::begin::by_test;
+use crate::begin::stored_mark;
 use dragging::suggest::suggest_steps;
 use drags::record::edit_record;
 use drags::record::suggested_if;
-use finishing::begin::answer_of;
-use finishing::begin::by_test;
-use finishing::begin::stored_mark;
 use lent::Head;
 use lent::Names;
 use lent::Reals;
@@ -51,7 +51,7 @@ fn suggest_known(
         return answer_of(e);
     }
     let wrote = e.wrote;
-    finishing::with_record(head, names, reals, rows, j, next, wrote);
+    crate::ending::with_record(head, names, reals, rows, j, next, wrote);
     answer_of(e)
 }
 
@@ -68,7 +68,7 @@ pub fn suggest(
     requires { ⌜ Ready (lent head names reals rows) ⌝ }
     ensures { λ r. ⌜ Done (suggest n new budget) r (lent (head .entry) (names .entry) (reals .entry) (rows .entry)) (lent (head .exit) (names .exit) (reals .exit) (rows .exit)) ⌝ }
 {
-    let number = tests::suggest_tests(head, names, n, new);
+    let number = crate::tests::suggest_tests(head, names, n, new);
     if number != 0 {
         return by_test(head, number);
     }

@@ -1,7 +1,7 @@
 // Add. The terms come as a lent list of records; or as two lists, the i-th term the i-th variable times the i-th coefficient. The kind is 0 for at most, 1 for equal, 2 for at least.
 ghost use mathlib.Core.Path.{_≡_};
 ghost use Rattle.lent.specs.Lent.{lent};
-ghost use Rattle.room.specs.Room.{cleared};
+ghost use Rattle.shell.specs.Room.{cleared};
 ghost use Rattle.shell.specs.Shell.{answerOf, called, refused18};
 ghost use Rattle.knobharbor.specs.Adding.{addOf, addListsOf, packedOf};
 ghost use Rattle.knobharbor.specs.Places.{placed, placedBy};

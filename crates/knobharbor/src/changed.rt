@@ -2,7 +2,7 @@
 ghost use mathlib.Core.Path.{_≡_};
 ghost use Rattle.steps.specs.Calls.{remove, addEdit, removeEdit, suggest};
 ghost use Rattle.lent.specs.Lent.{lent};
-ghost use Rattle.room.specs.Room.{cleared};
+ghost use Rattle.shell.specs.Room.{cleared};
 ghost use Rattle.shell.specs.Shell.{callOf};
 ghost use Rattle.knobharbor.specs.Places.{placed, placedBy};
 use crate::places::put;

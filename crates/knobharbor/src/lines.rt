@@ -1,7 +1,7 @@
 // Add a line of text, under its C name. The offset goes into a place of its own.
 ghost use mathlib.Core.Path.{_≡_};
 ghost use Rattle.lent.specs.Lent.{lent};
-ghost use Rattle.room.specs.Room.{cleared};
+ghost use Rattle.shell.specs.Room.{cleared};
 ghost use Rattle.typed.specs.Adding.{textOf};
 ghost use Rattle.knobharbor.specs.Places.{placed, placedText, placedLine};
 use crate::places::put;

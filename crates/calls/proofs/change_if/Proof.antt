@@ -2,7 +2,7 @@
 use borrow.Author.Tests.{not-true, not-false}
 use Rattle.steps.specs.Changing.{made}
 use Rattle.layout.specs.Layout.{tables}
-use Rattle.finishing.specs.Concluding.{ready-if, if-not, if-done}
+use Rattle.calls.specs.Concluding.{ready-if, if-not, if-done}
 use Rattle.changes.specs.Change.{changingOf}
 use borrow.Author.Needs.{needs}
 use Rattle.calls.proofs.change_if.Statement.{statement}
@@ -26,10 +26,4 @@ returns-2 c =
     if-done (made (changingOf (start .args .c) (start .args .p) (start .args .budget))) (d .result) (tables (start .args .head .now) (start .args .names .now) (start .args .reals .now) (start .args .rows .now)) (tables (d .last .0) (d .last .1 .0) (d .last .1 .1 .0) (d .last .1 .1 .1 .0)) (start .args .ok) (not-false _ (c .before .before .before .before .before .if1 .left)) (d .ensures)
 
 pub change-if-spec : {M : Type 1} → statement M
-change-if-spec =
-    tie.close
-    (tie.spec
-    (λ c κs. search needs)
-    returns
-    change-in-requires
-    returns-2)
+change-if-spec = tie.close (tie.spec (λ c κs. search needs) returns change-in-requires returns-2)

@@ -51,21 +51,4 @@ returns-5 c =
     known-done (start .args .c) (start .args .p) (start .args .budget) (d .result) (tables (start .args .head .now) (start .args .names .now) (start .args .reals .now) (start .args .rows .now)) (tables (d .last .0) (d .last .1 .0) (d .last .1 .1 .0) (d .last .1 .1 .1 .0)) (c .before .before .before .before .before .before .c5 .given .1) (d .ensures)
 
 pub change-in-spec : {M : Type 1} → statement M
-change-in-spec =
-    tie.close
-    (tie.spec
-    (λ c. search needs)
-    add-requires
-    (λ c. search needs)
-    remove-requires
-    (λ c. search needs)
-    add-edit-requires
-    (λ c. search needs)
-    remove-edit-requires
-    (λ c. search needs)
-    suggest-requires
-    returns
-    returns-2
-    returns-3
-    returns-4
-    returns-5)
+change-in-spec = tie.close (tie.spec (λ c. search needs) add-requires (λ c. search needs) remove-requires (λ c. search needs) add-edit-requires (λ c. search needs) remove-edit-requires (λ c. search needs) suggest-requires returns returns-2 returns-3 returns-4 returns-5)

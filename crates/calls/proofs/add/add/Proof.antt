@@ -3,8 +3,8 @@ use mathlib.Core.Path.{sym, ap, _∙_}
 use Rattle.layout.specs.Layout.{tables}
 use Rattle.tags.specs.Tags.{relationOf}
 use Rattle.terms.specs.Terms.{listed}
-use Rattle.tests.specs.Refusals.{addRefusal}
-use Rattle.finishing.specs.Numbers.{add-low}
+use Rattle.calls.specs.Refusals.{addRefusal}
+use Rattle.calls.specs.Numbers.{add-low}
 use Rattle.calls.specs.Adding.{add-by-test}
 use borrow.Author.Needs.{needs}
 use Rattle.calls.proofs.add.add.Statement.{statement}
@@ -38,13 +38,4 @@ returns-2 c =
     c .add-known .ensures (listed (start .args .p)) (c .before .before .before .before .before .before .before .before .before .before .before .before .proper .ensures)
 
 pub add-spec : {M : Type 1} → statement M
-add-spec =
-    tie.close
-    (tie.spec
-    (λ c κs. search needs)
-    (λ c κs. search needs)
-    add-tests-requires
-    by-test-requires
-    returns
-    add-known-requires
-    returns-2)
+add-spec = tie.close (tie.spec (λ c κs. search needs) (λ c κs. search needs) add-tests-requires by-test-requires returns add-known-requires returns-2)

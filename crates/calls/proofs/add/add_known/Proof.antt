@@ -1,10 +1,9 @@
--- `calls::add::add_known` meets its contract.
--- Assumes nothing.
+-- `calls::add::add_known` meets its contract. Assumes nothing.
 use Rattle.layout.specs.Layout.{tables}
 use Rattle.creating.specs.Created.{tagBy, termsIn}
 use Rattle.adding.specs.Adding.{addedOf}
 use Rattle.tags.specs.Tags.{relationOf}
-use Rattle.finishing.specs.Begin.{spare-at-start}
+use Rattle.calls.specs.Begin.{spare-at-start}
 use Rattle.calls.specs.Adding.{add-opens, add-stands, addition-refused, addition-accepted}
 use borrow.Author.Needs.{needs}
 use Rattle.calls.proofs.add.add_known.Statement.{statement}
@@ -63,19 +62,4 @@ returns-2 c =
     addition-accepted (start .args .n) (start .args .budget) (start .args .p) (start .args .constant) (relationOf (start .args .relation)) t (start .pre .0) (start .pre .1) (at-stored-mark .stored-mark .result) (at-stored-mark .stored-mark .ensures) (at-term-item .term-item .result) (at-term-real .term-real .result) (at-term-item .term-item .ensures) (at-term-real .term-real .ensures) (at-add-steps .add-steps .result .ended) (at-add-steps .add-steps .result .marker) (at-add-steps .add-steps .result .other) u (at-add-steps .add-steps .ensures .0) (c .answer-of2 .result) (c .answer-of2 .ensures) (at-add-steps .add-steps .ensures .1) (at-if1 .if1 .left) (at-constraint-item .constraint-item .result) (at-constraint-real .constraint-real .result) v (at-constraint-item .constraint-item .ensures) (rw (← c .before .before .before .before .before .before .before .before .before .before .strength-of .ensures) (at-constraint-real .constraint-real .ensures)) (at-with-constraint .with-constraint .ensures)
 
 pub add-known-spec : {M : Type 1} → statement M
-add-known-spec =
-    tie.close
-    (tie.spec
-    (λ c κs. search needs)
-    stored-mark-requires
-    (λ c κs. search needs)
-    (λ c κs. search needs)
-    add-steps-requires
-    (λ c κs. search needs)
-    returns
-    (λ c κs. search needs)
-    (λ c κs. search needs)
-    (λ c κs. search needs)
-    with-constraint-requires
-    (λ c κs. search needs)
-    returns-2)
+add-known-spec = tie.close (tie.spec (λ c κs. search needs) stored-mark-requires (λ c κs. search needs) (λ c κs. search needs) add-steps-requires (λ c κs. search needs) returns (λ c κs. search needs) (λ c κs. search needs) (λ c κs. search needs) with-constraint-requires (λ c κs. search needs) returns-2)

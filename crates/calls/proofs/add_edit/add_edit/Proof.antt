@@ -1,8 +1,8 @@
 -- `calls::add_edit::add_edit` meets its contract. Assumes nothing.
 use mathlib.Core.Path.{sym, ap, _∙_}
 use Rattle.layout.specs.Layout.{tables}
-use Rattle.tests.specs.Refusals.{addEditRefusal}
-use Rattle.finishing.specs.Numbers.{add-edit-low}
+use Rattle.calls.specs.Refusals.{addEditRefusal}
+use Rattle.calls.specs.Numbers.{add-edit-low}
 use Rattle.calls.specs.EditAdding.{add-edit-by-test}
 use borrow.Author.Needs.{needs}
 use Rattle.calls.proofs.add_edit.add_edit.Statement.{statement}
@@ -32,12 +32,4 @@ returns-2 : tie.Need-returns-2
 returns-2 c = c .add-edit-known .ensures
 
 pub add-edit-spec : {M : Type 1} → statement M
-add-edit-spec =
-    tie.close
-    (tie.spec
-    (λ c κs. search needs)
-    add-edit-tests-requires
-    by-test-requires
-    returns
-    add-edit-known-requires
-    returns-2)
+add-edit-spec = tie.close (tie.spec (λ c κs. search needs) add-edit-tests-requires by-test-requires returns add-edit-known-requires returns-2)

@@ -1,10 +1,9 @@
--- `calls::add_edit::add_edit_known` meets its contract.
--- Assumes nothing.
+-- `calls::add_edit::add_edit_known` meets its contract. Assumes nothing.
 use Rattle.layout.specs.Layout.{tables}
 use Rattle.creating.specs.Created.{tagBy, termsIn}
 use Rattle.adding.specs.Adding.{addedOf}
 use Rattle.steps.specs.Number.{zero64}
-use Rattle.finishing.specs.Begin.{spare-at-start}
+use Rattle.calls.specs.Begin.{spare-at-start}
 use Rattle.calls.specs.EditAdding.{edit-opens, edit-stands, edit-add-refused, edit-add-accepted}
 use borrow.Author.Needs.{needs}
 use Rattle.calls.proofs.add_edit.add_edit_known.Statement.{statement}
@@ -61,19 +60,4 @@ returns-2 c =
     edit-add-accepted (start .args .n) (start .args .budget) (start .args .strength) (tables (start .args .head .now) (start .args .names .now) (start .args .reals .now) (start .args .rows .now)) (start .pre .0) (start .pre .1) (at-stored-mark .stored-mark .result) (at-stored-mark .stored-mark .ensures) (at-one-item .one-item .result) (at-one-real .one-real .result) (at-one-item .one-item .ensures) (at-one-real .one-real .ensures) (at-add-steps .add-steps .result .ended) (at-add-steps .add-steps .result .marker) (at-add-steps .add-steps .result .other) (tables (at-add-steps .add-steps .last .0) (at-add-steps .add-steps .last .1 .0) (at-add-steps .add-steps .last .1 .1 .0) (at-add-steps .add-steps .last .1 .1 .1 .0)) (at-clip .clip .result) (at-clip .clip .ensures) (at-add-steps .add-steps .ensures .0) (c .answer-of2 .result) (c .answer-of2 .ensures) (at-add-steps .add-steps .ensures .1) (c .before .before .before .before .before .before .before .before .before .before .before .before .if1 .left) (at-edit-item .edit-item .result) (at-edit-real .edit-real .result) (tables (at-with-edit .with-edit .last .0) (at-with-edit .with-edit .last .1 .0) (at-with-edit .with-edit .last .1 .1 .0) (at-add-steps .add-steps .last .1 .1 .1 .0)) (at-edit-item .edit-item .ensures) (at-edit-real .edit-real .ensures) (at-with-edit .with-edit .ensures)
 
 pub add-edit-known-spec : {M : Type 1} → statement M
-add-edit-known-spec =
-    tie.close
-    (tie.spec
-    (λ c κs. search needs)
-    stored-mark-requires
-    (λ c κs. search needs)
-    (λ c κs. search needs)
-    (λ c κs. search needs)
-    add-steps-requires
-    (λ c κs. search needs)
-    returns
-    (λ c κs. search needs)
-    (λ c κs. search needs)
-    with-edit-requires
-    (λ c κs. search needs)
-    returns-2)
+add-edit-known-spec = tie.close (tie.spec (λ c κs. search needs) stored-mark-requires (λ c κs. search needs) (λ c κs. search needs) (λ c κs. search needs) add-steps-requires (λ c κs. search needs) returns (λ c κs. search needs) (λ c κs. search needs) with-edit-requires (λ c κs. search needs) returns-2)

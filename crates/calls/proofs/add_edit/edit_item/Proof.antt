@@ -1,5 +1,4 @@
--- `calls::add_edit::edit_item` meets its contract.
--- Assumes nothing.
+-- `calls::add_edit::edit_item` meets its contract. Assumes nothing.
 use mathlib.Core.Path.{refl}
 use Rattle.calls.specs.EditAdding.{editItem}
 use borrow.Author.Needs.{needs}
@@ -11,10 +10,4 @@ unfolding editItem
 returns c = refl
 
 pub edit-item-spec : {M : Type 1} → statement M
-edit-item-spec =
-    tie.close
-    (tie.spec
-    (λ c. search needs)
-    (λ c. search needs)
-    (λ c. search needs)
-    returns)
+edit-item-spec = tie.close (tie.spec (λ c. search needs) (λ c. search needs) (λ c. search needs) returns)

@@ -1,5 +1,4 @@
--- `calls::add_edit::edit_real` meets its contract.
--- Assumes nothing.
+-- `calls::add_edit::edit_real` meets its contract. Assumes nothing.
 use mathlib.Core.Path.{refl}
 use Rattle.calls.specs.EditAdding.{editReal}
 use Rattle.steps.specs.Number.{zero64}
@@ -12,8 +11,4 @@ unfolding editReal zero64
 returns c = refl
 
 pub edit-real-spec : {M : Type 1} → statement M
-edit-real-spec =
-    tie.close
-    (tie.spec
-    (λ c. search needs)
-    returns)
+edit-real-spec = tie.close (tie.spec (λ c. search needs) returns)

@@ -1,5 +1,4 @@
--- `calls::one::one_item` meets its contract.
--- Assumes nothing.
+-- `calls::one::one_item` meets its contract. Assumes nothing.
 use mathlib.Core.Path.{refl}
 use Rattle.calls.specs.One.{oneItem}
 use borrow.Author.Needs.{needs}
@@ -11,9 +10,4 @@ unfolding oneItem
 returns c = refl
 
 pub one-item-spec : {M : Type 1} → statement M
-one-item-spec =
-    tie.close
-    (tie.spec
-    (λ c. search needs)
-    (λ c. search needs)
-    returns)
+one-item-spec = tie.close (tie.spec (λ c. search needs) (λ c. search needs) returns)

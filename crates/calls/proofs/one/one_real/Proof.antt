@@ -1,5 +1,4 @@
--- `calls::one::one_real` meets its contract.
--- Assumes nothing.
+-- `calls::one::one_real` meets its contract. Assumes nothing.
 use mathlib.Core.Path.{refl}
 use Rattle.calls.specs.One.{oneReal}
 use Rattle.steps.specs.Number.{zero64, one64}
@@ -12,8 +11,4 @@ unfolding oneReal zero64 one64
 returns c = refl
 
 pub one-real-spec : {M : Type 1} → statement M
-one-real-spec =
-    tie.close
-    (tie.spec
-    (λ c. search needs)
-    returns)
+one-real-spec = tie.close (tie.spec (λ c. search needs) returns)

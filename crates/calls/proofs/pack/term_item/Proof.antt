@@ -1,5 +1,4 @@
--- `calls::pack::term_item` meets its contract.
--- Assumes nothing.
+-- `calls::pack::term_item` meets its contract. Assumes nothing.
 use Prim.Native.Nat.{ℕ, _+_, _-_, _≤_, _<_}
 use mathlib.Core.Path.{_≡_, refl, _∙_}
 use native.Mathlib.Omega.{arith}
@@ -26,21 +25,4 @@ returns : tie.Need-returns Inv-loop μ-loop
 returns c = record { count = c .before .loop .inv .1 ∙ c .before .before .shown .ensures .0; variables = λ j h. c .before .loop .inv .0 j (omega (arith, h)) }
 
 pub term-item-spec : {M : Type 1} → statement M
-term-item-spec =
-    tie.close
-    (tie.spec
-    Inv-loop
-    μ-loop
-    (λ c κs. search needs)
-    (λ c. search needs)
-    loop-holds
-    (λ c. search needs)
-    (λ c. search needs)
-    (λ c. search needs)
-    (λ c. search needs)
-    (λ c. search needs)
-    (λ c. search needs)
-    (λ c. search needs)
-    (λ c. search needs)
-    loop-again
-    returns)
+term-item-spec = tie.close (tie.spec Inv-loop μ-loop (λ c κs. search needs) (λ c. search needs) loop-holds (λ c. search needs) (λ c. search needs) (λ c. search needs) (λ c. search needs) (λ c. search needs) (λ c. search needs) (λ c. search needs) (λ c. search needs) loop-again returns)

@@ -1,5 +1,4 @@
--- `calls::pack::term_real` meets its contract.
--- Assumes nothing.
+-- `calls::pack::term_real` meets its contract. Assumes nothing.
 use Prim.Native.Nat.{ℕ, _+_, _-_, _≤_, _<_}
 use mathlib.Core.Path.{_≡_, refl}
 use native.Mathlib.Omega.{arith}
@@ -26,18 +25,4 @@ returns : tie.Need-returns Inv-loop μ-loop
 returns c = record { coefficients = λ j h. c .before .loop .inv .0 j (omega (arith, h)) }
 
 pub term-real-spec : {M : Type 1} → statement M
-term-real-spec =
-    tie.close
-    (tie.spec
-    Inv-loop
-    μ-loop
-    loop-holds
-    (λ c. search needs)
-    (λ c. search needs)
-    (λ c. search needs)
-    (λ c. search needs)
-    (λ c. search needs)
-    (λ c. search needs)
-    (λ c. search needs)
-    loop-again
-    returns)
+term-real-spec = tie.close (tie.spec Inv-loop μ-loop loop-holds (λ c. search needs) (λ c. search needs) (λ c. search needs) (λ c. search needs) (λ c. search needs) (λ c. search needs) (λ c. search needs) loop-again returns)

@@ -1,8 +1,8 @@
 -- `calls::remove::remove` meets its contract. Assumes nothing.
 use mathlib.Core.Path.{sym, _∙_}
 use Rattle.layout.specs.Layout.{tables}
-use Rattle.tests.specs.Known.{remove-passed}
-use Rattle.finishing.specs.Numbers.{remove-low}
+use Rattle.calls.specs.Known.{remove-passed}
+use Rattle.calls.specs.Numbers.{remove-low}
 use Rattle.calls.specs.Removing.{remove-by-test}
 use borrow.Author.Needs.{needs}
 use Rattle.calls.proofs.remove.remove.Statement.{statement}
@@ -32,11 +32,4 @@ returns-2 : tie.Need-returns-2
 returns-2 c = c .remove-known .ensures
 
 pub remove-spec : {M : Type 1} → statement M
-remove-spec =
-    tie.close
-    (tie.spec
-    remove-tests-requires
-    by-test-requires
-    returns
-    remove-known-requires
-    returns-2)
+remove-spec = tie.close (tie.spec remove-tests-requires by-test-requires returns remove-known-requires returns-2)

@@ -1,11 +1,10 @@
--- `calls::remove::remove_known` meets its contract.
--- Assumes nothing.
+-- `calls::remove::remove_known` meets its contract. Assumes nothing.
 use native.Mathlib.Omega.{arith}
 use Rattle.layout.specs.Layout.{tables}
 use Rattle.creating.specs.Created.{tagBy, termsIn}
-use Rattle.finishing.specs.Begin.{standing-at-start}
-use Rattle.finishing.specs.Placed.{constraint-placed}
-use Rattle.finishing.specs.Concluding.{removal-stands}
+use Rattle.calls.specs.Begin.{standing-at-start}
+use Rattle.calls.specs.Placed.{constraint-placed}
+use Rattle.calls.specs.Concluding.{removal-stands}
 use Rattle.calls.specs.Removing.{removal-live, removal-refused, removal-accepted}
 use borrow.Author.Needs.{needs}
 use Rattle.calls.proofs.remove.remove_known.Statement.{statement}
@@ -79,25 +78,4 @@ returns-2 c =
     removal-accepted (start .args .n) (start .args .budget) (tables (start .args .head .now) (start .args .names .now) (start .args .reals .now) (start .args .rows .now)) (start .pre .0) (at-name-at .name-at .result) (at-stored-mark .stored-mark .result) (at-stored-mark .stored-mark .ensures) (start .pre .1) (at-name-at .name-at .ensures .0) (at-remove-steps .remove-steps .result) (tables (at-remove-steps .remove-steps .last .0) (at-remove-steps .remove-steps .last .1 .0) (at-remove-steps .remove-steps .last .1 .1 .0) (at-remove-steps .remove-steps .last .1 .1 .1 .0)) (at-remove-steps .remove-steps .ensures .0) (c .answer-of2 .result) (c .answer-of2 .ensures) (at-remove-steps .remove-steps .ensures .1) (c .before .before .before .before .before .before .before .before .if1 .left) (tables (at-without-constraint .without-constraint .last .0) (at-without-constraint .without-constraint .last .1 .0) (at-without-constraint .without-constraint .last .1 .1 .0) (at-remove-steps .remove-steps .last .1 .1 .1 .0)) (at-without-constraint .without-constraint .ensures)
 
 pub remove-known-spec : {M : Type 1} → statement M
-remove-known-spec =
-    tie.close
-    (tie.spec
-    (λ c κs. search needs)
-    stored-mark-requires
-    element-copy-out-name-at
-    name-at-requires
-    add-item
-    mul-item
-    element-copy-out-item
-    add-real
-    mul-real
-    element-copy-out-real
-    (λ c. search needs)
-    (λ c. search needs)
-    (λ c. search needs)
-    remove-steps-requires
-    (λ c κs. search needs)
-    returns
-    without-constraint-requires
-    (λ c κs. search needs)
-    returns-2)
+remove-known-spec = tie.close (tie.spec (λ c κs. search needs) stored-mark-requires element-copy-out-name-at name-at-requires add-item mul-item element-copy-out-item add-real mul-real element-copy-out-real (λ c. search needs) (λ c. search needs) (λ c. search needs) remove-steps-requires (λ c κs. search needs) returns without-constraint-requires (λ c κs. search needs) returns-2)

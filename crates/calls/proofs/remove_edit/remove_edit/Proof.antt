@@ -1,8 +1,8 @@
 -- `calls::remove_edit::remove_edit` meets its contract. Assumes nothing.
 use mathlib.Core.Path.{sym, _∙_}
 use Rattle.layout.specs.Layout.{tables}
-use Rattle.tests.specs.Known.{remove-edit-passed}
-use Rattle.finishing.specs.Numbers.{remove-edit-low}
+use Rattle.calls.specs.Known.{remove-edit-passed}
+use Rattle.calls.specs.Numbers.{remove-edit-low}
 use Rattle.calls.specs.EditRemoving.{remove-edit-by-test}
 use borrow.Author.Needs.{needs}
 use Rattle.calls.proofs.remove_edit.remove_edit.Statement.{statement}
@@ -32,11 +32,4 @@ returns-2 : tie.Need-returns-2
 returns-2 c = c .remove-edit-known .ensures
 
 pub remove-edit-spec : {M : Type 1} → statement M
-remove-edit-spec =
-    tie.close
-    (tie.spec
-    remove-edit-tests-requires
-    by-test-requires
-    returns
-    remove-edit-known-requires
-    returns-2)
+remove-edit-spec = tie.close (tie.spec remove-edit-tests-requires by-test-requires returns remove-edit-known-requires returns-2)

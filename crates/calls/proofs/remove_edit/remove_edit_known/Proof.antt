@@ -1,11 +1,10 @@
--- `calls::remove_edit::remove_edit_known` meets its contract.
--- Assumes nothing.
+-- `calls::remove_edit::remove_edit_known` meets its contract. Assumes nothing.
 use native.Mathlib.Omega.{arith}
 use Rattle.layout.specs.Layout.{tables}
 use Rattle.creating.specs.Created.{tagBy, termsIn}
-use Rattle.finishing.specs.Begin.{standing-at-start}
-use Rattle.finishing.specs.Placed.{edit-placed}
-use Rattle.finishing.specs.Concluding.{removal-stands}
+use Rattle.calls.specs.Begin.{standing-at-start}
+use Rattle.calls.specs.Placed.{edit-placed}
+use Rattle.calls.specs.Concluding.{removal-stands}
 use Rattle.calls.specs.EditRemoving.{edit-removal-live, edit-removal-refused, edit-removal-accepted}
 use borrow.Author.Needs.{needs}
 use Rattle.calls.proofs.remove_edit.remove_edit_known.Statement.{statement}
@@ -94,30 +93,4 @@ returns-2 c =
     edit-removal-accepted (start .args .n) (start .args .budget) (tables (start .args .head .now) (start .args .names .now) (start .args .reals .now) (start .args .rows .now)) (start .pre .0) (at-name-at .name-at .result) (at-stored-mark .stored-mark .result) (at-stored-mark .stored-mark .ensures) (start .pre .1) (at-name-at .name-at .ensures .0) (at-remove-steps .remove-steps .result) (tables (at-remove-steps .remove-steps .last .0) (at-remove-steps .remove-steps .last .1 .0) (at-remove-steps .remove-steps .last .1 .1 .0) (at-remove-steps .remove-steps .last .1 .1 .1 .0)) (at-one-item .one-item .result) (at-one-real .one-real .result) (at-one-item .one-item .ensures) (at-one-real .one-real .ensures) (at-remove-steps .remove-steps .ensures .0) (c .answer-of2 .result) (c .answer-of2 .ensures) (at-remove-steps .remove-steps .ensures .1) (c .before .before .before .before .before .before .before .before .if1 .left) (tables (at-without-edit .without-edit .last .0) (at-without-edit .without-edit .last .1 .0) (at-without-edit .without-edit .last .1 .1 .0) (at-remove-steps .remove-steps .last .1 .1 .1 .0)) (at-without-edit .without-edit .ensures)
 
 pub remove-edit-known-spec : {M : Type 1} → statement M
-remove-edit-known-spec =
-    tie.close
-    (tie.spec
-    (λ c κs. search needs)
-    stored-mark-requires
-    element-copy-out-name-at
-    name-at-requires
-    add-marker
-    mul-marker
-    index-1-marker
-    (λ c. search needs)
-    add-other
-    mul-other
-    index-1-other
-    (λ c. search needs)
-    add-strength
-    mul-strength
-    index-1-strength
-    (λ c. search needs)
-    (λ c κs. search needs)
-    (λ c κs. search needs)
-    remove-steps-requires
-    (λ c κs. search needs)
-    returns
-    without-edit-requires
-    (λ c κs. search needs)
-    returns-2)
+remove-edit-known-spec = tie.close (tie.spec (λ c κs. search needs) stored-mark-requires element-copy-out-name-at name-at-requires add-marker mul-marker index-1-marker (λ c. search needs) add-other mul-other index-1-other (λ c. search needs) add-strength mul-strength index-1-strength (λ c. search needs) (λ c κs. search needs) (λ c κs. search needs) remove-steps-requires (λ c κs. search needs) returns without-edit-requires (λ c κs. search needs) returns-2)

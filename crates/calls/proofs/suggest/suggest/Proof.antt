@@ -1,8 +1,8 @@
 -- `calls::suggest::suggest` meets its contract. Assumes nothing.
 use mathlib.Core.Path.{sym, _∙_}
 use Rattle.layout.specs.Layout.{tables}
-use Rattle.tests.specs.Known.{suggest-passed}
-use Rattle.finishing.specs.Numbers.{suggest-low}
+use Rattle.calls.specs.Known.{suggest-passed}
+use Rattle.calls.specs.Numbers.{suggest-low}
 use Rattle.calls.specs.Suggesting.{suggest-by-test}
 use borrow.Author.Needs.{needs}
 use Rattle.calls.proofs.suggest.suggest.Statement.{statement}
@@ -32,11 +32,4 @@ returns-2 : tie.Need-returns-2
 returns-2 c = c .suggest-known .ensures
 
 pub suggest-spec : {M : Type 1} → statement M
-suggest-spec =
-    tie.close
-    (tie.spec
-    suggest-tests-requires
-    by-test-requires
-    returns
-    suggest-known-requires
-    returns-2)
+suggest-spec = tie.close (tie.spec suggest-tests-requires by-test-requires returns suggest-known-requires returns-2)

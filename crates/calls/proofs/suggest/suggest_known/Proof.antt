@@ -1,9 +1,8 @@
--- `calls::suggest::suggest_known` meets its contract.
--- Assumes nothing.
+-- `calls::suggest::suggest_known` meets its contract. Assumes nothing.
 use native.Mathlib.Omega.{arith}
 use Rattle.layout.specs.Layout.{tables}
-use Rattle.finishing.specs.Begin.{standing-at-start}
-use Rattle.finishing.specs.Placed.{edit-placed}
+use Rattle.calls.specs.Begin.{standing-at-start}
+use Rattle.calls.specs.Placed.{edit-placed}
 use Rattle.calls.specs.Suggesting.{suggest-refused, suggest-stands, suggest-accepted}
 use borrow.Author.Needs.{needs}
 use Rattle.calls.proofs.suggest.suggest_known.Statement.{statement}
@@ -64,19 +63,4 @@ returns-2 c =
     suggest-accepted (start .args .n) (start .args .budget) (start .args .new) (tables (start .args .head .now) (start .args .names .now) (start .args .reals .now) (start .args .rows .now)) (start .pre .0) (start .pre .1 .0) (start .pre .1 .1) (at-stored-mark .stored-mark .result) (at-stored-mark .stored-mark .ensures) (at-name-at .name-at .result) (at-name-at .name-at .ensures .0) (at-edit-record .edit-record .result) (at-edit-record .edit-record .ensures) (at-suggest-steps .suggest-steps .result) (tables (at-suggest-steps .suggest-steps .last .0) (at-suggest-steps .suggest-steps .last .1 .0) (start .args .reals .now) (at-suggest-steps .suggest-steps .last .1 .1 .1 .0)) (at-suggest-steps .suggest-steps .ensures .0) (c .answer-of2 .result) (c .answer-of2 .ensures) (at-suggest-steps .suggest-steps .ensures .1) (c .before .before .before .before .before .before .before .before .if1 .left) (at-suggested-if .suggested-if .result) (tables (at-with-record .with-record .last .0) (at-with-record .with-record .last .1 .0) (at-with-record .with-record .last .1 .1 .0) (at-suggest-steps .suggest-steps .last .1 .1 .1 .0)) (at-suggested-if .suggested-if .ensures) (at-with-record .with-record .ensures)
 
 pub suggest-known-spec : {M : Type 1} → statement M
-suggest-known-spec =
-    tie.close
-    (tie.spec
-    (λ c κs. search needs)
-    stored-mark-requires
-    element-copy-out-name-at
-    name-at-requires
-    add-edit-record
-    edit-record-requires
-    suggest-steps-requires
-    (λ c κs. search needs)
-    (λ c κs. search needs)
-    returns
-    with-record-requires
-    (λ c κs. search needs)
-    returns-2)
+suggest-known-spec = tie.close (tie.spec (λ c κs. search needs) stored-mark-requires element-copy-out-name-at name-at-requires add-edit-record edit-record-requires suggest-steps-requires (λ c κs. search needs) (λ c κs. search needs) returns with-record-requires (λ c κs. search needs) returns-2)

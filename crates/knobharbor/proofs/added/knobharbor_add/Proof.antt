@@ -40,7 +40,7 @@ use denote.Triple.Clauses.{Lasts, ensured, lasts}
 use denote.Exit.{yes}
 use Rattle.layout.specs.Layout.{tables}
 use Rattle.layout.specs.Layout as Layout
-use Rattle.room.specs.Room.{cleared}
+use Rattle.shell.specs.Room.{cleared}
 use Rattle.terms.specs.declared.Term.{Term}
 use Rattle.terms.specs.declared.Pack.{Pack}
 use Rattle.terms.specs.Terms.{packOf}
