@@ -2,13 +2,14 @@
    that a call answers and leaves is proved of the code behind it (crates/knobharbor, docs/CLAIMS.md); that this header says the same
    as that code is not proved.
 
-   All memory is the caller's. A state lives in four lent tables; a changing call is lent a working room of four tables more.
-   Each table and list crosses as a pointer and a length, counted in elements: a head's numbers, the rows of the others.
+   All memory is the caller's. A state lives in four lent tables; a changing call is lent a working room of four tables more, and a
+   place for its answer. What has a fixed size crosses as a pointer, and its parameter says the size; a list whose length is free
+   crosses as a pointer and a length of 64 bits, counted in elements.
 
-   What the caller owes, and no call can test: a pointer is not null, is aligned, and points at as many elements as its length
-   says, also where that is 0; no two of a call's tables and lists overlap; no other thread uses them during the call; the float
-   unit rounds to nearest, ties to even, flushes no subnormal number to zero and traps on nothing, as C starts it (FTZ or DAZ set, or
-   another rounding mode: the answers differ, and no number says so; docs/TARGETS.md has the registers).
+   What the caller owes, and no call can test: a pointer is not null, is aligned, and points at as many elements as its parameter or
+   its length says, also where that is 0; no two of a call's tables, places and lists overlap; no other thread uses them during the
+   call; the float unit rounds to nearest, ties to even, flushes no subnormal number to zero and traps on nothing, as C starts it
+   (FTZ or DAZ set, or another rounding mode: the answers differ, and no number says so; docs/TARGETS.md has the registers).
 
    The code keeps nothing between calls and has no data of its own, so calls on different tables may run at the same time, in
    threads or in an interrupt; calls on the same tables, or with the same working room, may not. (Queries only read: several may
@@ -36,7 +37,7 @@ extern "C" {
 
 /* ---- sizes */
 
-/* the lengths that tables have; a call on others is answered 18 */
+/* the lengths that tables have */
 #define KNOBHARBOR_HEAD 196
 #define KNOBHARBOR_ITEMS 128
 #define KNOBHARBOR_ROWS 51
@@ -46,6 +47,9 @@ extern "C" {
 #define KNOBHARBOR_ROW 130
 /* the places of fetch's two lists */
 #define KNOBHARBOR_CHANGES 32
+/* the places of a changing call's answer: the number, the pivots, the mark; and of a fetch's: the number, the count */
+#define KNOBHARBOR_ANSWER 3
+#define KNOBHARBOR_FETCHED 2
 
 /* how much a state holds; edits count among the constraints */
 #define KNOBHARBOR_VARIABLES 32
@@ -77,9 +81,8 @@ typedef struct knobharbor_tables {
     knobharbor_row rows[KNOBHARBOR_ROWS];
 } knobharbor_tables;
 
-/* the arguments that lend all four: knobharbor_reset(KNOBHARBOR_LEND(&tables)) */
-#define KNOBHARBOR_LEND(t) \
-    (t)->head, KNOBHARBOR_HEAD, (t)->names, KNOBHARBOR_ITEMS, (t)->reals, KNOBHARBOR_ITEMS, (t)->rows, KNOBHARBOR_ROWS
+/* the arguments that lend all four: knobharbor_reset(KNOBHARBOR_LEND(&tables), answer) */
+#define KNOBHARBOR_LEND(t) (t)->head, (t)->names, (t)->reals, (t)->rows
 
 /* ---- answers */
 
@@ -103,10 +106,10 @@ typedef enum knobharbor_number {
     KNOBHARBOR_NO_LEAVING = 15,       /* an optimise pass finds no leaving row */
     KNOBHARBOR_NO_ENTERING = 16,      /* a dual pass finds no entering symbol */
     KNOBHARBOR_NO_ROW = 17,           /* a removal finds no leaving row */
-    KNOBHARBOR_NOT_A_STATE = 18       /* a lent table has the wrong length or doesn't read as a state */
+    KNOBHARBOR_NOT_A_STATE = 18       /* a lent table doesn't read as a state (in C a table has the length of its type) */
 } knobharbor_number;
 
-/* What a changing call answers. A refusal answers the stored mark, or no on 18 or if the steps taken weren't all whole. */
+/* What a changing call answers, in the three places that it is lent: here as the functions at the end hand them on. A refusal answers the stored mark, or no on 18 or if the steps taken weren't all whole. */
 typedef struct knobharbor_answer {
     uint32_t number; /* a knobharbor_number */
     uint32_t pivots; /* pivots made, no more than the budget */
@@ -152,72 +155,86 @@ typedef enum knobharbor_kind {
 /* ---- changing calls
 
    Each tests, takes its steps in the working room, and writes to the tables if it is accepted. A refusal changes no table. The
-   working room is all zero after every call, refused or not. The tests come in the order that is given with each call. A call
-   makes at most `budget` pivots, 0 to 65,535. */
+   working room is all zero after every call, refused or not. The answer is the number, the pivots made, and the mark as 0 or 1.
+   The tests come in the order that is given with each call. A call makes at most `budget` pivots, 0 to 65,535. */
 
-/* No variable, constraint or edit is left; the mark is yes. Refuses only wrong lengths. */
-knobharbor_answer knobharbor_reset(uint64_t *head, size_t heads, knobharbor_name *names, size_t named, knobharbor_real *reals,
-                                   size_t valued, knobharbor_row *rows, size_t rowed);
+/* No variable, constraint or edit is left; the mark is yes. Any content will do, so it is accepted. */
+void knobharbor_reset(
+    uint64_t head[KNOBHARBOR_HEAD], knobharbor_name names[KNOBHARBOR_ITEMS], knobharbor_real reals[KNOBHARBOR_ITEMS],
+    knobharbor_row rows[KNOBHARBOR_ROWS], uint32_t answer[KNOBHARBOR_ANSWER]);
 
 /* Adds the constraint of this number: the sum of the terms, plus the constant, is at most, equal to or at least zero, with this
    strength. Tests 18, 1, 2, 3, 4, 10, 9, 11; steps 12 to 15. A kind that is none of the three is answered 18 too. */
-knobharbor_answer knobharbor_add(uint64_t *head, size_t heads, knobharbor_name *names, size_t named, knobharbor_real *reals,
-                                 size_t valued, knobharbor_row *rows, size_t rowed, uint64_t *whead, size_t wheads,
-                                 knobharbor_name *wnames, size_t wnamed, knobharbor_real *wreals, size_t wvalued,
-                                 knobharbor_row *wrows, size_t wrowed, uint32_t number, const knobharbor_term *terms,
-                                 size_t term_count, double constant, uint32_t kind, double strength, uint16_t budget);
+void knobharbor_add(
+    uint64_t head[KNOBHARBOR_HEAD], knobharbor_name names[KNOBHARBOR_ITEMS], knobharbor_real reals[KNOBHARBOR_ITEMS],
+    knobharbor_row rows[KNOBHARBOR_ROWS],
+    uint64_t whead[KNOBHARBOR_HEAD], knobharbor_name wnames[KNOBHARBOR_ITEMS], knobharbor_real wreals[KNOBHARBOR_ITEMS],
+    knobharbor_row wrows[KNOBHARBOR_ROWS], uint32_t answer[KNOBHARBOR_ANSWER],
+    uint32_t number, const knobharbor_term *terms, uint64_t term_count, double constant, uint32_t kind, double strength, uint16_t budget);
 
 /* The same, with the terms as two lists: vars[i] times coefs[i]. Lists of different lengths are answered 18 too. */
-knobharbor_answer knobharbor_add_lists(uint64_t *head, size_t heads, knobharbor_name *names, size_t named, knobharbor_real *reals,
-                                       size_t valued, knobharbor_row *rows, size_t rowed, uint64_t *whead, size_t wheads,
-                                       knobharbor_name *wnames, size_t wnamed, knobharbor_real *wreals, size_t wvalued,
-                                       knobharbor_row *wrows, size_t wrowed, uint32_t number, const uint32_t *vars,
-                                       size_t var_count, const double *coefs, size_t coef_count, double constant, uint32_t kind,
-                                       double strength, uint16_t budget);
+void knobharbor_add_lists(
+    uint64_t head[KNOBHARBOR_HEAD], knobharbor_name names[KNOBHARBOR_ITEMS], knobharbor_real reals[KNOBHARBOR_ITEMS],
+    knobharbor_row rows[KNOBHARBOR_ROWS],
+    uint64_t whead[KNOBHARBOR_HEAD], knobharbor_name wnames[KNOBHARBOR_ITEMS], knobharbor_real wreals[KNOBHARBOR_ITEMS],
+    knobharbor_row wrows[KNOBHARBOR_ROWS], uint32_t answer[KNOBHARBOR_ANSWER],
+    uint32_t number, const uint32_t *vars, uint64_t var_count, const double *coefs, uint64_t coef_count, double constant, uint32_t kind,
+    double strength, uint16_t budget);
 
 /* The same of a line of text, without a newline: `2*(v1 + 3) <= v2` adds 2 v1 - v2 + 6 at most zero, required. The line's own
-   refusals, 19 to 23, come first and touch no table; then those of knobharbor_add. */
-knobharbor_text_answer knobharbor_add_text(uint64_t *head, size_t heads, knobharbor_name *names, size_t named, knobharbor_real *reals,
-                                           size_t valued, knobharbor_row *rows, size_t rowed, uint64_t *whead, size_t wheads,
-                                           knobharbor_name *wnames, size_t wnamed, knobharbor_real *wreals, size_t wvalued,
-                                           knobharbor_row *wrows, size_t wrowed, uint32_t number, const uint8_t *line, size_t length,
-                                           uint16_t budget);
+   refusals, 19 to 23, come first and touch no table; then those of knobharbor_add. Beside 20 the offset is that of the first byte
+   with which no line can go on; else it is 0. */
+void knobharbor_add_text(
+    uint64_t head[KNOBHARBOR_HEAD], knobharbor_name names[KNOBHARBOR_ITEMS], knobharbor_real reals[KNOBHARBOR_ITEMS],
+    knobharbor_row rows[KNOBHARBOR_ROWS],
+    uint64_t whead[KNOBHARBOR_HEAD], knobharbor_name wnames[KNOBHARBOR_ITEMS], knobharbor_real wreals[KNOBHARBOR_ITEMS],
+    knobharbor_row wrows[KNOBHARBOR_ROWS], uint32_t answer[KNOBHARBOR_ANSWER], uint64_t *offset,
+    uint32_t number, const uint8_t *line, uint64_t length, uint16_t budget);
 
 /* Removes the constraint of this number. Tests 18, 5; steps 13, 14, 15, 17. */
-knobharbor_answer knobharbor_remove(uint64_t *head, size_t heads, knobharbor_name *names, size_t named, knobharbor_real *reals,
-                                    size_t valued, knobharbor_row *rows, size_t rowed, uint64_t *whead, size_t wheads,
-                                    knobharbor_name *wnames, size_t wnamed, knobharbor_real *wreals, size_t wvalued,
-                                    knobharbor_row *wrows, size_t wrowed, uint32_t number, uint16_t budget);
+void knobharbor_remove(
+    uint64_t head[KNOBHARBOR_HEAD], knobharbor_name names[KNOBHARBOR_ITEMS], knobharbor_real reals[KNOBHARBOR_ITEMS],
+    knobharbor_row rows[KNOBHARBOR_ROWS],
+    uint64_t whead[KNOBHARBOR_HEAD], knobharbor_name wnames[KNOBHARBOR_ITEMS], knobharbor_real wreals[KNOBHARBOR_ITEMS],
+    knobharbor_row wrows[KNOBHARBOR_ROWS], uint32_t answer[KNOBHARBOR_ANSWER],
+    uint32_t number, uint16_t budget);
 
 /* Makes the variable one that can be dragged: an equality with 0, at this strength clipped. Tests 18, 6, 7, 10, 9, 11; steps 12
    to 15. */
-knobharbor_answer knobharbor_add_edit(uint64_t *head, size_t heads, knobharbor_name *names, size_t named, knobharbor_real *reals,
-                                      size_t valued, knobharbor_row *rows, size_t rowed, uint64_t *whead, size_t wheads,
-                                      knobharbor_name *wnames, size_t wnamed, knobharbor_real *wreals, size_t wvalued,
-                                      knobharbor_row *wrows, size_t wrowed, uint32_t variable, double strength, uint16_t budget);
+void knobharbor_add_edit(
+    uint64_t head[KNOBHARBOR_HEAD], knobharbor_name names[KNOBHARBOR_ITEMS], knobharbor_real reals[KNOBHARBOR_ITEMS],
+    knobharbor_row rows[KNOBHARBOR_ROWS],
+    uint64_t whead[KNOBHARBOR_HEAD], knobharbor_name wnames[KNOBHARBOR_ITEMS], knobharbor_real wreals[KNOBHARBOR_ITEMS],
+    knobharbor_row wrows[KNOBHARBOR_ROWS], uint32_t answer[KNOBHARBOR_ANSWER],
+    uint32_t variable, double strength, uint16_t budget);
 
 /* Removes the variable's edit, and with it the last suggestion. Tests 18, 8; steps 13, 14, 15, 17. */
-knobharbor_answer knobharbor_remove_edit(uint64_t *head, size_t heads, knobharbor_name *names, size_t named, knobharbor_real *reals,
-                                         size_t valued, knobharbor_row *rows, size_t rowed, uint64_t *whead, size_t wheads,
-                                         knobharbor_name *wnames, size_t wnamed, knobharbor_real *wreals, size_t wvalued,
-                                         knobharbor_row *wrows, size_t wrowed, uint32_t variable, uint16_t budget);
+void knobharbor_remove_edit(
+    uint64_t head[KNOBHARBOR_HEAD], knobharbor_name names[KNOBHARBOR_ITEMS], knobharbor_real reals[KNOBHARBOR_ITEMS],
+    knobharbor_row rows[KNOBHARBOR_ROWS],
+    uint64_t whead[KNOBHARBOR_HEAD], knobharbor_name wnames[KNOBHARBOR_ITEMS], knobharbor_real wreals[KNOBHARBOR_ITEMS],
+    knobharbor_row wrows[KNOBHARBOR_ROWS], uint32_t answer[KNOBHARBOR_ANSWER],
+    uint32_t variable, uint16_t budget);
 
 /* Drags the variable: its edit aims at the suggestion from now on. Tests 18, 1, 8; steps 13, 14, 16. After a refusal the edit
    still aims at the suggestion before. */
-knobharbor_answer knobharbor_suggest(uint64_t *head, size_t heads, knobharbor_name *names, size_t named, knobharbor_real *reals,
-                                     size_t valued, knobharbor_row *rows, size_t rowed, uint64_t *whead, size_t wheads,
-                                     knobharbor_name *wnames, size_t wnamed, knobharbor_real *wreals, size_t wvalued,
-                                     knobharbor_row *wrows, size_t wrowed, uint32_t variable, double suggestion, uint16_t budget);
+void knobharbor_suggest(
+    uint64_t head[KNOBHARBOR_HEAD], knobharbor_name names[KNOBHARBOR_ITEMS], knobharbor_real reals[KNOBHARBOR_ITEMS],
+    knobharbor_row rows[KNOBHARBOR_ROWS],
+    uint64_t whead[KNOBHARBOR_HEAD], knobharbor_name wnames[KNOBHARBOR_ITEMS], knobharbor_real wreals[KNOBHARBOR_ITEMS],
+    knobharbor_row wrows[KNOBHARBOR_ROWS], uint32_t answer[KNOBHARBOR_ANSWER],
+    uint32_t variable, double suggestion, uint16_t budget);
 
 /* ---- fetch changes */
 
 /* Lists the variables that calls have moved and whose value is not the one last fetched, by ascending number, with their values;
    a second fetch straight after lists none. A variable that no constraint or edit names any more is forgotten without notice,
-   and a new one that stands at 0 is not listed: ask its value. Both lists have 32 places and are zero past the count; on 18,
-   which wrong lengths of the lists give too, they are all zero and no table changes. The rows are only read. */
-knobharbor_fetched knobharbor_fetch(uint64_t *head, size_t heads, knobharbor_name *names, size_t named, knobharbor_real *reals,
-                                    size_t valued, knobharbor_row *rows, size_t rowed, uint64_t *numbers,
-                                    size_t number_count, double *values, size_t value_count);
+   and a new one that stands at 0 is not listed: ask its value. The answer is 0 or 18, and how many places of both lists are filled.
+   The lists are zero past the count; on 18 they are all zero and no table changes. The rows are only read. */
+void knobharbor_fetch(
+    uint64_t head[KNOBHARBOR_HEAD], knobharbor_name names[KNOBHARBOR_ITEMS], knobharbor_real reals[KNOBHARBOR_ITEMS],
+    knobharbor_row rows[KNOBHARBOR_ROWS], uint32_t answer[KNOBHARBOR_FETCHED],
+    uint64_t numbers[KNOBHARBOR_CHANGES], double values[KNOBHARBOR_CHANGES]);
 
 /* ---- queries
 
@@ -225,14 +242,17 @@ knobharbor_fetched knobharbor_fetch(uint64_t *head, size_t heads, knobharbor_nam
    an array does not convert to a pointer to a const array: from tables that are not const, ask by `kh_value` and its like.) */
 
 /* The variable's value now. */
-double knobharbor_value(const uint64_t *head, size_t heads, const knobharbor_name *names, size_t named, const knobharbor_real *reals,
-                        size_t valued, const knobharbor_row *rows, size_t rowed, uint32_t variable);
+double knobharbor_value(
+    const uint64_t head[KNOBHARBOR_HEAD], const knobharbor_name names[KNOBHARBOR_ITEMS], const knobharbor_real reals[KNOBHARBOR_ITEMS],
+    const knobharbor_row rows[KNOBHARBOR_ROWS], uint32_t variable);
 
-bool knobharbor_has_constraint(const uint64_t *head, size_t heads, const knobharbor_name *names, size_t named,
-                               const knobharbor_real *reals, size_t valued, const knobharbor_row *rows, size_t rowed, uint32_t number);
+bool knobharbor_has_constraint(
+    const uint64_t head[KNOBHARBOR_HEAD], const knobharbor_name names[KNOBHARBOR_ITEMS], const knobharbor_real reals[KNOBHARBOR_ITEMS],
+    const knobharbor_row rows[KNOBHARBOR_ROWS], uint32_t number);
 
-bool knobharbor_has_edit(const uint64_t *head, size_t heads, const knobharbor_name *names, size_t named, const knobharbor_real *reals,
-                         size_t valued, const knobharbor_row *rows, size_t rowed, uint32_t variable);
+bool knobharbor_has_edit(
+    const uint64_t head[KNOBHARBOR_HEAD], const knobharbor_name names[KNOBHARBOR_ITEMS], const knobharbor_real reals[KNOBHARBOR_ITEMS],
+    const knobharbor_row rows[KNOBHARBOR_ROWS], uint32_t variable);
 
 /* ---- strengths */
 
@@ -244,15 +264,29 @@ double knobharbor_strength_clip(double strength);
 
 /* ---- the calls over whole tables: t is what is kept, room the working room. Each is the call of its name above. */
 
+/* an answer's three places as a struct */
+static inline knobharbor_answer kh_answered(const uint32_t answer[KNOBHARBOR_ANSWER])
+{
+    knobharbor_answer a;
+    a.number = answer[0];
+    a.pivots = answer[1];
+    a.whole = answer[2] != 0;
+    return a;
+}
+
 static inline knobharbor_answer kh_reset(knobharbor_tables *t)
 {
-    return knobharbor_reset(KNOBHARBOR_LEND(t));
+    uint32_t answer[KNOBHARBOR_ANSWER];
+    knobharbor_reset(KNOBHARBOR_LEND(t), answer);
+    return kh_answered(answer);
 }
 
 static inline knobharbor_answer kh_add(knobharbor_tables *t, knobharbor_tables *room, uint32_t number, const knobharbor_term *terms,
                                        size_t count, double constant, knobharbor_kind kind, double strength, uint16_t budget)
 {
-    return knobharbor_add(KNOBHARBOR_LEND(t), KNOBHARBOR_LEND(room), number, terms, count, constant, (uint32_t)kind, strength, budget);
+    uint32_t answer[KNOBHARBOR_ANSWER];
+    knobharbor_add(KNOBHARBOR_LEND(t), KNOBHARBOR_LEND(room), answer, number, terms, count, constant, (uint32_t)kind, strength, budget);
+    return kh_answered(answer);
 }
 
 /* the same of two lists of `count` each */
@@ -260,36 +294,54 @@ static inline knobharbor_answer kh_add_lists(knobharbor_tables *t, knobharbor_ta
                                              const double *coefs, size_t count, double constant, knobharbor_kind kind, double strength,
                                              uint16_t budget)
 {
-    return knobharbor_add_lists(KNOBHARBOR_LEND(t), KNOBHARBOR_LEND(room), number, vars, count, coefs, count, constant, (uint32_t)kind,
-                                strength, budget);
+    uint32_t answer[KNOBHARBOR_ANSWER];
+    knobharbor_add_lists(KNOBHARBOR_LEND(t), KNOBHARBOR_LEND(room), answer, number, vars, count, coefs, count, constant,
+                         (uint32_t)kind, strength, budget);
+    return kh_answered(answer);
 }
 
 static inline knobharbor_text_answer kh_add_text(knobharbor_tables *t, knobharbor_tables *room, uint32_t number, const uint8_t *line,
                                                  size_t length, uint16_t budget)
 {
-    return knobharbor_add_text(KNOBHARBOR_LEND(t), KNOBHARBOR_LEND(room), number, line, length, budget);
+    uint32_t answer[KNOBHARBOR_ANSWER];
+    uint64_t offset;
+    knobharbor_text_answer a;
+    knobharbor_add_text(KNOBHARBOR_LEND(t), KNOBHARBOR_LEND(room), answer, &offset, number, line, length, budget);
+    a.number = answer[0];
+    a.pivots = answer[1];
+    a.whole = answer[2] != 0;
+    a.offset = (size_t)offset;
+    return a;
 }
 
 static inline knobharbor_answer kh_remove(knobharbor_tables *t, knobharbor_tables *room, uint32_t number, uint16_t budget)
 {
-    return knobharbor_remove(KNOBHARBOR_LEND(t), KNOBHARBOR_LEND(room), number, budget);
+    uint32_t answer[KNOBHARBOR_ANSWER];
+    knobharbor_remove(KNOBHARBOR_LEND(t), KNOBHARBOR_LEND(room), answer, number, budget);
+    return kh_answered(answer);
 }
 
 static inline knobharbor_answer kh_add_edit(knobharbor_tables *t, knobharbor_tables *room, uint32_t variable, double strength,
                                             uint16_t budget)
 {
-    return knobharbor_add_edit(KNOBHARBOR_LEND(t), KNOBHARBOR_LEND(room), variable, strength, budget);
+    uint32_t answer[KNOBHARBOR_ANSWER];
+    knobharbor_add_edit(KNOBHARBOR_LEND(t), KNOBHARBOR_LEND(room), answer, variable, strength, budget);
+    return kh_answered(answer);
 }
 
 static inline knobharbor_answer kh_remove_edit(knobharbor_tables *t, knobharbor_tables *room, uint32_t variable, uint16_t budget)
 {
-    return knobharbor_remove_edit(KNOBHARBOR_LEND(t), KNOBHARBOR_LEND(room), variable, budget);
+    uint32_t answer[KNOBHARBOR_ANSWER];
+    knobharbor_remove_edit(KNOBHARBOR_LEND(t), KNOBHARBOR_LEND(room), answer, variable, budget);
+    return kh_answered(answer);
 }
 
 static inline knobharbor_answer kh_suggest(knobharbor_tables *t, knobharbor_tables *room, uint32_t variable, double suggestion,
                                            uint16_t budget)
 {
-    return knobharbor_suggest(KNOBHARBOR_LEND(t), KNOBHARBOR_LEND(room), variable, suggestion, budget);
+    uint32_t answer[KNOBHARBOR_ANSWER];
+    knobharbor_suggest(KNOBHARBOR_LEND(t), KNOBHARBOR_LEND(room), answer, variable, suggestion, budget);
+    return kh_answered(answer);
 }
 
 /* what a fetch lists: variable numbers[i] stands at values[i], for i below the count that it answers */
@@ -300,7 +352,12 @@ typedef struct knobharbor_changes {
 
 static inline knobharbor_fetched kh_fetch(knobharbor_tables *t, knobharbor_changes *changes)
 {
-    return knobharbor_fetch(KNOBHARBOR_LEND(t), changes->numbers, KNOBHARBOR_CHANGES, changes->values, KNOBHARBOR_CHANGES);
+    uint32_t answer[KNOBHARBOR_FETCHED];
+    knobharbor_fetched f;
+    knobharbor_fetch(KNOBHARBOR_LEND(t), answer, changes->numbers, changes->values);
+    f.number = answer[0];
+    f.count = answer[1];
+    return f;
 }
 
 static inline double kh_value(const knobharbor_tables *t, uint32_t variable)

@@ -2,21 +2,20 @@
 from collections import namedtuple
 
 # words: for clang. level: of optimisation, the kit's on a large machine, less code on a small one.
-# answers: how a struct of 8 and one of 12 bytes come back, in C.
-Target = namedtuple("Target", "triple cpu bits words level answers")
+Target = namedtuple("Target", "triple cpu words level")
 
 
 def arm(triple, cpu, *words):
-    return Target(triple, cpu, 32, [f"-mcpu={cpu}", "-mthumb", *words], "-Os", ("memory", "memory"))
+    return Target(triple, cpu, [f"-mcpu={cpu}", "-mthumb", *words], "-Os")
 
 
 TARGETS = {
-    "aarch64-unknown-linux-gnu": Target("aarch64-unknown-linux-gnu", "generic", 64, ["-mcpu=generic", "-fPIC"], "-O3", ("registers", "registers")),
+    "aarch64-unknown-linux-gnu": Target("aarch64-unknown-linux-gnu", "generic", ["-mcpu=generic", "-fPIC"], "-O3"),
     # Cortex-M4F: a float unit for f32 alone, so that f64 is the C library's; floats cross in its registers
     "thumbv7em-none-eabihf": arm("thumbv7em-none-eabihf", "cortex-m4", "-mfpu=fpv4-sp-d16", "-mfloat-abi=hard"),
     # Cortex-M7 with a float unit for f64
     "thumbv7em-none-eabihf.cortex-m7": arm("thumbv7em-none-eabihf", "cortex-m7", "-mfpu=fpv5-d16", "-mfloat-abi=hard"),
     # Cortex-M3: no float unit
     "thumbv7m-none-eabi": arm("thumbv7m-none-eabi", "cortex-m3", "-mfloat-abi=soft"),
-    "riscv32imac-unknown-none-elf": Target("riscv32-unknown-none-elf", "generic-rv32", 32, ["-march=rv32imac", "-mabi=ilp32"], "-Os", ("registers", "memory")),
+    "riscv32imac-unknown-none-elf": Target("riscv32-unknown-none-elf", "generic-rv32", ["-march=rv32imac", "-mabi=ilp32"], "-Os"),
 }

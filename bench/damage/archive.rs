@@ -1,16 +1,23 @@
-//! The archive's calls under their C names, over what they are lent.
-#![allow(improper_ctypes)]
-use crate::layout::{Name, Real, Row};
+//! The archive's calls under their C names, over what they are lent: what has a fixed size as a pointer to it, a list as a pointer
+//! and a length of 64 bits, an answer in a place of its own.
+use crate::layout::{Name, Real, Row, CHANGES, HEAD, ITEMS, ROWS};
 
-#[repr(C)]
+type Heads = [u64; HEAD];
+type Names = [Name; ITEMS];
+type Reals = [Real; ITEMS];
+type Rows = [Row; ROWS];
+/// The places of a changing call's answer, and of a fetch's.
+pub const ANSWER: usize = 3;
+pub const FETCHED: usize = 2;
+
 #[derive(Clone, Copy, Debug, PartialEq)]
 pub struct Answer {
     pub number: u32,
     pub pivots: u32,
-    pub whole: bool,
+    /// 0 or 1, and nothing else
+    pub whole: u32,
 }
 
-#[repr(C)]
 #[derive(Clone, Copy, Debug, PartialEq)]
 pub struct Fetched {
     pub number: u32,
@@ -28,15 +35,15 @@ pub struct Term {
 macro_rules! changing {
     ($($name:ident($($arg:ident: $type:ty),*);)*) => {
         extern "C" {
-            $(fn $name(head: &mut [u64], names: &mut [Name], reals: &mut [Real], rows: &mut [Row],
-                whead: &mut [u64], wnames: &mut [Name], wreals: &mut [Real], wrows: &mut [Row], $($arg: $type),*) -> Answer;)*
+            $(fn $name(head: &mut Heads, names: &mut Names, reals: &mut Reals, rows: &mut Rows,
+                whead: &mut Heads, wnames: &mut Names, wreals: &mut Reals, wrows: &mut Rows, answer: &mut [u32; ANSWER], $($arg: $type),*);)*
         }
     };
 }
 
 changing! {
-    knobharbor_add(number: u32, terms: &[Term], constant: f64, kind: u32, strength: f64, budget: u16);
-    knobharbor_add_lists(number: u32, vars: &[u32], coefs: &[f64], constant: f64, kind: u32, strength: f64, budget: u16);
+    knobharbor_add(number: u32, terms: *const Term, term_count: u64, constant: f64, kind: u32, strength: f64, budget: u16);
+    knobharbor_add_lists(number: u32, vars: *const u32, var_count: u64, coefs: *const f64, coef_count: u64, constant: f64, kind: u32, strength: f64, budget: u16);
     knobharbor_remove(number: u32, budget: u16);
     knobharbor_add_edit(variable: u32, strength: f64, budget: u16);
     knobharbor_remove_edit(variable: u32, budget: u16);
@@ -44,11 +51,12 @@ changing! {
 }
 
 extern "C" {
-    fn knobharbor_reset(head: &mut [u64], names: &mut [Name], reals: &mut [Real], rows: &mut [Row]) -> Answer;
-    fn knobharbor_fetch(head: &mut [u64], names: &mut [Name], reals: &mut [Real], rows: &[Row], numbers: &mut [u64], values: &mut [f64]) -> Fetched;
-    fn knobharbor_value(head: &[u64], names: &[Name], reals: &[Real], rows: &[Row], variable: u32) -> f64;
-    fn knobharbor_has_constraint(head: &[u64], names: &[Name], reals: &[Real], rows: &[Row], number: u32) -> bool;
-    fn knobharbor_has_edit(head: &[u64], names: &[Name], reals: &[Real], rows: &[Row], variable: u32) -> bool;
+    fn knobharbor_reset(head: &mut Heads, names: &mut Names, reals: &mut Reals, rows: &mut Rows, answer: &mut [u32; ANSWER]);
+    fn knobharbor_fetch(head: &mut Heads, names: &mut Names, reals: &mut Reals, rows: &Rows, answer: &mut [u32; FETCHED],
+        numbers: &mut [u64; CHANGES], values: &mut [f64; CHANGES]);
+    fn knobharbor_value(head: &Heads, names: &Names, reals: &Reals, rows: &Rows, variable: u32) -> f64;
+    fn knobharbor_has_constraint(head: &Heads, names: &Names, reals: &Reals, rows: &Rows, number: u32) -> bool;
+    fn knobharbor_has_edit(head: &Heads, names: &Names, reals: &Reals, rows: &Rows, variable: u32) -> bool;
     #[allow(dead_code)]
     fn knobharbor_strength_create(a: f64, b: f64, c: f64, w: f64) -> f64;
     #[allow(dead_code)]
@@ -57,10 +65,10 @@ extern "C" {
 
 /// Four tables as they are lent.
 pub struct Lent<'a> {
-    pub head: &'a mut [u64],
-    pub names: &'a mut [Name],
-    pub reals: &'a mut [Real],
-    pub rows: &'a mut [Row],
+    pub head: &'a mut Heads,
+    pub names: &'a mut Names,
+    pub reals: &'a mut Reals,
+    pub rows: &'a mut Rows,
 }
 
 #[derive(Clone, Debug)]
@@ -82,20 +90,20 @@ impl Call {
         }
     }
 
-    /// `vars` and `coefs` are the lists of an add, `records` the same as one list, which is taken for even numbers; all where they
-    /// are lent from.
-    pub fn make(&self, t: Lent, w: Lent, vars: &[u32], coefs: &[f64], records: Option<&[Term]>) -> Answer {
+    /// `answer` is the answer's place, `vars` and `coefs` are the lists of an add, `records` the same as one list, which is taken for
+    /// even numbers; all where they are lent from.
+    pub fn make(&self, t: Lent, w: Lent, answer: &mut [u32; ANSWER], vars: &[u32], coefs: &[f64], records: Option<&[Term]>) -> Answer {
         macro_rules! lend {
             ($call:ident, $($arg:expr),*) => {
-                $call(t.head, t.names, t.reals, t.rows, w.head, w.names, w.reals, w.rows, $($arg),*)
+                $call(t.head, t.names, t.reals, t.rows, w.head, w.names, w.reals, w.rows, answer, $($arg),*)
             };
         }
         unsafe {
             match *self {
-                Call::Reset => knobharbor_reset(t.head, t.names, t.reals, t.rows),
+                Call::Reset => knobharbor_reset(t.head, t.names, t.reals, t.rows, answer),
                 Call::Add { number, constant, kind, strength, budget, .. } => match records {
-                    Some(terms) if number % 2 == 0 => lend!(knobharbor_add, number, terms, constant, kind, strength, budget),
-                    _ => lend!(knobharbor_add_lists, number, vars, coefs, constant, kind, strength, budget),
+                    Some(terms) if number % 2 == 0 => lend!(knobharbor_add, number, terms.as_ptr(), terms.len() as u64, constant, kind, strength, budget),
+                    _ => lend!(knobharbor_add_lists, number, vars.as_ptr(), vars.len() as u64, coefs.as_ptr(), coefs.len() as u64, constant, kind, strength, budget),
                 },
                 Call::Remove { number, budget } => lend!(knobharbor_remove, number, budget),
                 Call::AddEdit { variable, strength, budget } => lend!(knobharbor_add_edit, variable, strength, budget),
@@ -103,11 +111,15 @@ impl Call {
                 Call::Suggest { variable, suggestion, budget } => lend!(knobharbor_suggest, variable, suggestion, budget),
             }
         }
+        let [number, pivots, whole] = *answer;
+        Answer { number, pivots, whole }
     }
 }
 
-pub fn fetch(t: Lent, numbers: &mut [u64], values: &mut [f64]) -> Fetched {
-    unsafe { knobharbor_fetch(t.head, t.names, t.reals, t.rows, numbers, values) }
+pub fn fetch(t: Lent, answer: &mut [u32; FETCHED], numbers: &mut [u64; CHANGES], values: &mut [f64; CHANGES]) -> Fetched {
+    unsafe { knobharbor_fetch(t.head, t.names, t.reals, t.rows, answer, numbers, values) }
+    let [number, count] = *answer;
+    Fetched { number, count }
 }
 
 /// What the three queries say of one number.

@@ -1,29 +1,13 @@
 //! One call of the archive on lent tables, held against the oracle: whether the tables read (`reading.rs`), and what the patched
 //! crate's model comes to where they do (`model.rs`).
-use crate::archive::{self, Answer, Call, Fetched, Term};
-use crate::layout::{Tables, Words, CHANGES, LENGTHS};
+use crate::archive::{self, Answer, Call, Fetched, Term, ANSWER, FETCHED};
+use crate::layout::{Tables, Words, CHANGES};
 use crate::memory::{Lists, Set};
 use crate::model;
 use crate::reading::{self, CLAUSES};
 
-/// What a call is asked for beside tables that read.
-const ASKED: &[&str] = &[
-    "the head's length",
-    "the names' length",
-    "the reals' length",
-    "the rows' length",
-    "the room's head's length",
-    "the room's names' length",
-    "the room's reals' length",
-    "the room's rows' length",
-    "fetch's numbers' length",
-    "fetch's values' length",
-    "an add's two lists are of one length",
-    "an add's kind is one of three",
-];
-const ROOM: usize = 4;
-const FETCHED: usize = 8;
-const ADDED: usize = 10;
+/// What a call is asked for beside tables that read. (Lengths of tables cannot be said through C.)
+const ASKED: &[&str] = &["an add's two lists are of one length", "an add's kind is one of three"];
 const KINDS: u32 = 3;
 
 pub fn clause_names() -> Vec<&'static str> {
@@ -38,6 +22,8 @@ pub struct Checker {
     terms: Lists<u32, f64>,
     records: Lists<Term, u8>,
     changes: Lists<u64, f64>,
+    /// of a changing call, and of a fetch
+    answers: Lists<u32, u32>,
     /// the clause that the oracle leaves out
     pub left_out: Option<usize>,
 }
@@ -54,26 +40,21 @@ fn has_negative_zero(w: &Words) -> bool {
 
 impl Checker {
     pub fn new(left_out: Option<usize>) -> Checker {
-        Checker { tables: Set::new(), room: Set::new(), terms: Lists::new(), records: Lists::new(), changes: Lists::new(), left_out }
+        Checker { tables: Set::new(), room: Set::new(), terms: Lists::new(), records: Lists::new(), changes: Lists::new(), answers: Lists::new(), left_out }
     }
 
-    /// All of these hold, but for the one that is left out; the first has the place `start` among what is asked.
-    fn asked(&self, start: usize, hold: &[bool]) -> bool {
-        hold.iter().enumerate().all(|(i, held)| *held || self.left_out == Some(CLAUSES.len() + start + i))
+    /// All of these hold, but for the one that is left out.
+    fn asked(&self, hold: [bool; ASKED.len()]) -> bool {
+        hold.iter().enumerate().all(|(i, held)| *held || self.left_out == Some(CLAUSES.len() + i))
     }
 
-    fn right_lengths(&self, start: usize, lengths: [usize; 4]) -> bool {
-        let right: Vec<bool> = lengths.iter().zip(LENGTHS).map(|(a, b)| *a == b).collect();
-        self.asked(start, &right)
-    }
-
-    fn reads(&self, t: &Tables, w: &Words) -> bool {
-        self.right_lengths(0, t.lengths()) && reading::reads(w, self.left_out)
+    fn reads(&self, w: &Words) -> bool {
+        reading::reads(w, self.left_out)
     }
 
     fn fits(&self, call: &Call) -> bool {
         match call {
-            Call::Add { vars, coefs, kind, .. } => self.asked(ADDED, &[vars.len() == coefs.len(), *kind < KINDS]),
+            Call::Add { vars, coefs, kind, .. } => self.asked([vars.len() == coefs.len(), *kind < KINDS]),
             _ => true,
         }
     }
@@ -88,8 +69,9 @@ impl Checker {
         let (lent, lent_room) = (self.tables.lend(t, last), self.room.lend(room, last));
         let records = call.records();
         let lent_records = &*self.records.lend(records.as_deref().unwrap_or(&[]), &[], last).0;
-        let answer = call.make(lent, lent_room, lent_vars, lent_coefs, records.as_ref().map(|_| lent_records));
-        let (Some(after), Some(room_after), Some(lists), Some(_)) = (self.tables.back(), self.room.back(), self.terms.back(), self.records.back()) else {
+        let place = self.answers.lend_arrays(&[7; ANSWER], &[7; FETCHED], last).0;
+        let answer = call.make(lent, lent_room, place, lent_vars, lent_coefs, records.as_ref().map(|_| lent_records));
+        let (Some(after), Some(room_after), Some(lists), Some(_), Some(_)) = (self.tables.back(), self.room.back(), self.terms.back(), self.records.back(), self.answers.back()) else {
             return differ("what is not lent changed", call);
         };
         let bits = |list: &[Term]| -> Vec<(u32, u64)> { list.iter().map(|t| (t.variable, t.coefficient.to_bits())).collect() };
@@ -103,25 +85,25 @@ impl Checker {
         if lends_room && room_after.bits().any(|b| b != 0) || !lends_room && !room_after.same(room, false) {
             return differ("the room is not all zero, or was not lent and changed", call);
         }
-        self.judge(call, t, room, answer, &after)?;
+        self.judge(call, t, answer, &after)?;
         Ok((answer, after))
     }
 
-    fn judge(&self, call: &Call, t: &Tables, room: &Tables, answer: Answer, after: &Tables) -> Result<(), Difference> {
+    fn judge(&self, call: &Call, t: &Tables, answer: Answer, after: &Tables) -> Result<(), Difference> {
         let w = Words::of(t);
         let taken = match call {
-            Call::Reset => self.right_lengths(0, t.lengths()),
-            _ => self.reads(t, &w) && self.right_lengths(ROOM, room.lengths()) && self.fits(call),
+            Call::Reset => true,
+            _ => self.reads(&w) && self.fits(call),
         };
         if taken != (answer.number != 18) {
             return differ(if taken { "it reads, and the answer is 18" } else { "it does not read, and the answer is not 18" }, &(call, answer));
         }
         if !taken {
-            let right = answer == Answer { number: 18, pivots: 0, whole: false } && after.same(t, false);
+            let right = answer == Answer { number: 18, pivots: 0, whole: 0 } && after.same(t, false);
             return if right { Ok(()) } else { differ("18 has no pivots and no mark, and changes no table", &(call, answer)) };
         }
         let (expected, tables) = match call {
-            Call::Reset => (Answer { number: 0, pivots: 0, whole: true }, emptied(t)),
+            Call::Reset => (Answer { number: 0, pivots: 0, whole: 1 }, emptied(t)),
             _ => model::call(&w, t, call),
         };
         if answer != expected {
@@ -133,15 +115,16 @@ impl Checker {
         Ok(())
     }
 
-    pub fn fetch(&mut self, t: &Tables, numbers: &[u64], values: &[f64], last: bool) -> Result<(Fetched, Tables), Difference> {
-        let (lent_numbers, lent_values) = self.changes.lend(numbers, values, last);
+    pub fn fetch(&mut self, t: &Tables, numbers: &[u64; CHANGES], values: &[f64; CHANGES], last: bool) -> Result<(Fetched, Tables), Difference> {
+        let (lent_numbers, lent_values) = self.changes.lend_arrays(numbers, values, last);
         let lent = self.tables.lend(t, last);
-        let answer = archive::fetch(lent, lent_numbers, lent_values);
-        let (Some(after), Some((got_numbers, got_values))) = (self.tables.back(), self.changes.back()) else {
+        let place = self.answers.lend_arrays(&[7; ANSWER], &[7; FETCHED], last).1;
+        let answer = archive::fetch(lent, place, lent_numbers, lent_values);
+        let (Some(after), Some((got_numbers, got_values)), Some(_)) = (self.tables.back(), self.changes.back(), self.answers.back()) else {
             return differ("fetch: what is not lent changed", &answer);
         };
         let w = Words::of(t);
-        let taken = self.reads(t, &w) && self.asked(FETCHED, &[numbers.len() == CHANGES, values.len() == CHANGES]);
+        let taken = self.reads(&w);
         if taken != (answer.number != 18) {
             return differ("fetch: whether it reads", &(answer, taken));
         }
@@ -164,7 +147,7 @@ impl Checker {
         let Some(after) = self.tables.back() else { return differ("queries: what is not lent changed", &n) };
         let w = Words::of(t);
         // of tables that do not read the model says nothing: a clause that is left out shows by the calls
-        let really = t.lengths() == LENGTHS && reading::reads(&w, None);
+        let really = reading::reads(&w, None);
         let expected = if really { model::ask(&w, n) } else { (0.0, false, false) };
         if (value.to_bits(), constraint, edit) != (expected.0.to_bits(), expected.1, expected.2) || !after.same(t, false) {
             return differ("queries, and what the model says", &(n, value, constraint, edit, expected));

@@ -3,9 +3,9 @@
 
 // ---- lengths, widths and places
 
-const HEAD: usize = 196;
-const ITEMS: usize = 128;
-const ROWS: usize = 51;
+pub const HEAD: usize = 196;
+pub const ITEMS: usize = 128;
+pub const ROWS: usize = 51;
 const NAME: usize = 20;
 const REAL: usize = 17;
 const ROW: usize = 130;
@@ -92,27 +92,17 @@ fn word_bits<const N: usize>(rows: &[[f64; N]]) -> impl Iterator<Item = u64> + '
 
 impl Tables {
     /// Each word by `word`, each number by `number`.
-    pub fn filled(lengths: [usize; 4], mut word: impl FnMut() -> u64, mut number: impl FnMut() -> f64) -> Tables {
+    pub fn filled(mut word: impl FnMut() -> u64, mut number: impl FnMut() -> f64) -> Tables {
         Tables {
-            head: (0..lengths[0]).map(|_| word()).collect(),
-            names: (0..lengths[1]).map(|_| [0; NAME].map(|_: u64| word())).collect(),
-            reals: (0..lengths[2]).map(|_| [0.0; REAL].map(|_: f64| number())).collect(),
-            rows: (0..lengths[3]).map(|_| [0.0; ROW].map(|_: f64| number())).collect(),
+            head: (0..HEAD).map(|_| word()).collect(),
+            names: (0..ITEMS).map(|_| [0; NAME].map(|_: u64| word())).collect(),
+            reals: (0..ITEMS).map(|_| [0.0; REAL].map(|_: f64| number())).collect(),
+            rows: (0..ROWS).map(|_| [0.0; ROW].map(|_: f64| number())).collect(),
         }
     }
 
-    pub fn lengths(&self) -> [usize; 4] {
+    fn lengths(&self) -> [usize; 4] {
         [self.head.len(), self.names.len(), self.reals.len(), self.rows.len()]
-    }
-
-    /// The same content under other lengths; a table that is longer ends with zeros.
-    pub fn with_lengths(&self, lengths: [usize; 4]) -> Tables {
-        let mut t = self.clone();
-        t.head.resize(lengths[0], 0);
-        t.names.resize(lengths[1], [0; NAME]);
-        t.reals.resize(lengths[2], [0.0; REAL]);
-        t.rows.resize(lengths[3], [0.0; ROW]);
-        t
     }
 
     /// Every word, as bits.
@@ -233,9 +223,7 @@ fn held(count: u64, room: usize) -> usize {
 }
 
 impl Words {
-    /// Of tables of any lengths: what is missing is 0.
     pub fn of(t: &Tables) -> Words {
-        let t = if t.lengths() == LENGTHS { t.clone() } else { t.with_lengths(LENGTHS) };
         let h = &t.head;
         let mut w = Words {
             next: h[NEXT],

@@ -13,10 +13,10 @@ mod model;
 #[allow(dead_code)]
 mod reading;
 
-use archive::{ask, clip, create, fetch, Call};
+use archive::{ask, clip, create, fetch, Call, ANSWER, FETCHED};
 use cassowary_patched::{Solver, State};
 use format::{bits, Relation};
-use layout::{Tables, Words, CHANGES, LENGTHS};
+use layout::{Tables, Words, CHANGES};
 use memory::{Lists, Set};
 
 fn kind(r: Relation) -> u32 {
@@ -38,15 +38,15 @@ impl Program {
     fn make(&mut self, call: Call) -> String {
         let nothing: (&[u32], &[f64]) = (&[], &[]);
         let (vars, coefs) = if let Call::Add { vars, coefs, .. } = &call { (&vars[..], &coefs[..]) } else { nothing };
-        let room = Tables::filled(LENGTHS, || 7, || 7.0);
-        let a = call.make(self.lent.lend(&self.tables, true), self.room.lend(&room, true), vars, coefs, call.records().as_deref());
+        let room = Tables::filled(|| 7, || 7.0);
+        let a = call.make(self.lent.lend(&self.tables, true), self.room.lend(&room, true), &mut [7; ANSWER], vars, coefs, call.records().as_deref());
         self.tables = self.lent.back().expect("what is not lent stays");
-        format!("{} {} {}", a.number, a.pivots, a.whole as u8)
+        format!("{} {} {}", a.number, a.pivots, a.whole)
     }
 
     fn fetch(&mut self) -> String {
-        let (numbers, values) = self.changes.lend(&[7; CHANGES], &[7.0; CHANGES], true);
-        let f = fetch(self.lent.lend(&self.tables, true), numbers, values);
+        let (numbers, values) = self.changes.lend_arrays(&[7; CHANGES], &[7.0; CHANGES], true);
+        let f = fetch(self.lent.lend(&self.tables, true), &mut [7; FETCHED], numbers, values);
         self.tables = self.lent.back().expect("what is not lent stays");
         let list: String = (0..f.count as usize).map(|i| format!(" {}:{}", numbers[i], bits(values[i]))).collect();
         format!("{}{}", f.count, list)
@@ -96,7 +96,7 @@ impl Program {
 }
 
 fn main() {
-    let tables = Tables::filled(LENGTHS, || 7, || 7.0);
+    let tables = Tables::filled(|| 7, || 7.0);
     let mut program = Program { tables, lent: Set::new(), room: Set::new(), changes: Lists::new() };
     program.make(Call::Reset);
     format::serve(|call| program.answer(call));

@@ -12,8 +12,8 @@ mod reading;
 
 use archive::Call;
 use check::{clause_names, Checker, Difference};
-use layout::{Tables, Word, Words, CHANGES, LENGTHS};
-use memory::{MORE, TRIAL};
+use layout::{Tables, Word, Words, CHANGES};
+use memory::TRIAL;
 use random::Random;
 use std::sync::atomic::Ordering;
 
@@ -24,7 +24,7 @@ struct Counts {
     kinds: [[u64; 2]; KINDS.len()],
 }
 
-const KINDS: [&str; 7] = ["of a run", "a word or more changed", "made up", "made up, one thing wrong", "made up, a word or more changed", "random", "wrong lengths"];
+const KINDS: [&str; 6] = ["of a run", "a word or more changed", "made up", "made up, one thing wrong", "made up, a word or more changed", "random"];
 
 struct Run {
     g: Random,
@@ -33,33 +33,19 @@ struct Run {
     live: Tables,
 }
 
-fn any_tables(g: &mut Random, lengths: [usize; 4]) -> Tables {
+fn any_tables(g: &mut Random) -> Tables {
     let (mut a, mut b) = (Random(g.word()), Random(g.word()));
-    Tables::filled(lengths, || a.word(), || f64::from_bits(b.word()))
+    Tables::filled(|| a.word(), || f64::from_bits(b.word()))
 }
 
 /// Random words: all of them, or small ones with numbers that are finite.
 fn random_tables(g: &mut Random) -> Tables {
     if g.one_in(2) {
-        return any_tables(g, LENGTHS);
+        return any_tables(g);
     }
     let most = g.pick(&[2, 3, 6, 40]);
     let (mut a, mut b) = (Random(g.word()), Random(g.word()));
-    Tables::filled(LENGTHS, || a.below(most) as u64, || b.tame())
-}
-
-fn other_lengths(g: &mut Random) -> [usize; 4] {
-    let mut out = LENGTHS;
-    for _ in 0..1 + g.below(2) {
-        let i = g.below(4);
-        out[i] = match g.below(4) {
-            0 => LENGTHS[i] + 1,
-            1 => LENGTHS[i] - 1,
-            2 => g.below(LENGTHS[i] + MORE),
-            _ => 0,
-        };
-    }
-    out
+    Tables::filled(|| a.below(most) as u64, || b.tame())
 }
 
 fn damage(g: &mut Random, t: &mut Tables) {
@@ -93,7 +79,7 @@ fn damage(g: &mut Random, t: &mut Tables) {
 
 impl Run {
     fn made_up(&mut self, w: Words) -> Tables {
-        let mut t = any_tables(&mut self.g, LENGTHS);
+        let mut t = any_tables(&mut self.g);
         w.lay(&mut t);
         t
     }
@@ -103,8 +89,7 @@ impl Run {
         let mut t = match kind {
             1 => self.live.clone(),
             2..=4 => self.made_up(words),
-            5 => random_tables(&mut self.g),
-            _ => self.live.with_lengths(other_lengths(&mut self.g)),
+            _ => random_tables(&mut self.g),
         };
         if kind == 1 || kind == 4 {
             let many = if self.g.one_in(3) { 1 + self.g.below(6) } else { 1 };
@@ -120,8 +105,7 @@ impl Run {
         let constraints = numbers(w.constraints.iter().map(|c| c.number).collect());
         let edits = numbers(w.edits.iter().map(|e| e.variable).collect());
         let call = self.g.call(&variables, &constraints, &edits);
-        let lengths = if self.g.one_in(12) { other_lengths(&mut self.g) } else { LENGTHS };
-        let (room, last) = (any_tables(&mut self.g, lengths), self.g.one_in(2));
+        let (room, last) = (any_tables(&mut self.g), self.g.one_in(2));
         let (answer, after) = self.checker.call(&call, t, &room, last)?;
         self.counts.answers[answer.number as usize] += 1;
         self.checker.ask(t, self.g.pick(&variables.iter().chain(&constraints).chain(&edits).chain(&[0, 7]).copied().collect::<Vec<_>>()), last)?;
@@ -129,14 +113,8 @@ impl Run {
     }
 
     fn fetch(&mut self, t: &Tables) -> Result<(u32, Tables), Difference> {
-        let lengths = match self.g.below(8) {
-            0 => (self.g.below(MORE), CHANGES),
-            1 => (CHANGES, self.g.below(MORE)),
-            2 => (CHANGES - 1 + self.g.below(3), CHANGES - 1 + self.g.below(3)),
-            _ => (CHANGES, CHANGES),
-        };
-        let numbers: Vec<u64> = (0..lengths.0).map(|_| self.g.word()).collect();
-        let values: Vec<f64> = (0..lengths.1).map(|_| f64::from_bits(self.g.word())).collect();
+        let numbers = [0; CHANGES].map(|_: u64| self.g.word());
+        let values = [0.0; CHANGES].map(|_: f64| f64::from_bits(self.g.word()));
         let last = self.g.one_in(2);
         let (answer, after) = self.checker.fetch(t, &numbers, &values, last)?;
         self.counts.fetches[(answer.number == 18) as usize] += 1;
@@ -152,12 +130,12 @@ impl Run {
     /// One call more on the tables of the run, which now and then begins anew; then one on tables of some other kind.
     fn trial(&mut self) -> Result<(), Difference> {
         if self.g.one_in(80) {
-            let (t, room) = (any_tables(&mut self.g, LENGTHS), any_tables(&mut self.g, LENGTHS));
+            let (t, room) = (any_tables(&mut self.g), any_tables(&mut self.g));
             self.live = self.checker.call(&Call::Reset, &t, &room, true)?.1;
         }
         let live = self.live.clone();
         self.live = self.some_call(0, &live)?;
-        let kind = self.g.pick(&[1, 1, 1, 2, 2, 2, 3, 3, 3, 4, 4, 5, 6]);
+        let kind = self.g.pick(&[1, 1, 1, 2, 2, 2, 3, 3, 3, 4, 4, 5]);
         let t = self.tables(kind);
         self.some_call(kind, &t).map(|_| ())
     }
@@ -165,7 +143,7 @@ impl Run {
 
 fn run(trials: u64, seed: u64, left_out: Option<usize>) -> (Run, Result<(), (u64, Difference)>) {
     let mut g = Random(seed);
-    let mut live = any_tables(&mut g, LENGTHS);
+    let mut live = any_tables(&mut g);
     Words { next: 1, whole: 1, ..Words::default() }.lay(&mut live);
     let mut run = Run { g, checker: Checker::new(left_out), counts: Counts::default(), live };
     for trial in 0..trials {

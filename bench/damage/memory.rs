@@ -10,7 +10,7 @@ const READ_WRITE: i32 = 3;
 const PRIVATE_ANONYMOUS: i32 = 0x22;
 const SEGMENTATION_FAULT: i32 = 11;
 const PATTERN: u8 = 0xa5;
-/// How many elements a table may be too long, or a list have.
+/// How many elements a list may have.
 pub const MORE: usize = 64;
 
 extern "C" {
@@ -68,6 +68,11 @@ impl<T: Copy + 'static> Fenced<T> {
         unsafe { std::slice::from_raw_parts_mut(self.start.add(a) as *mut T, (e - a) / std::mem::size_of::<T>()) }
     }
 
+    /// The same, of a type that says its length.
+    fn array<const N: usize>(&mut self) -> &'static mut [T; N] {
+        self.slice().try_into().ok().expect("as many as its type has")
+    }
+
     fn rest_stays(&mut self) -> bool {
         let (a, e) = self.lent;
         let all = self.all();
@@ -85,7 +90,7 @@ pub struct Set {
 
 impl Set {
     pub fn new() -> Set {
-        let [a, b, c, d] = LENGTHS.map(|n| n + MORE);
+        let [a, b, c, d] = LENGTHS;
         Set { head: Fenced::new(a), names: Fenced::new(b), reals: Fenced::new(c), rows: Fenced::new(d) }
     }
 
@@ -94,7 +99,7 @@ impl Set {
         self.names.lend(&t.names, last);
         self.reals.lend(&t.reals, last);
         self.rows.lend(&t.rows, last);
-        Lent { head: self.head.slice(), names: self.names.slice(), reals: self.reals.slice(), rows: self.rows.slice() }
+        Lent { head: self.head.array(), names: self.names.array(), reals: self.reals.array(), rows: self.rows.array() }
     }
 
     /// What stands there now, or none if something beside it changed.
@@ -117,6 +122,12 @@ impl<A: Copy + 'static, B: Copy + 'static> Lists<A, B> {
         self.0.lend(a, last);
         self.1.lend(b, last);
         (self.0.slice(), self.1.slice())
+    }
+
+    /// The same of arrays.
+    pub fn lend_arrays<const M: usize, const N: usize>(&mut self, a: &[A; M], b: &[B; N], last: bool) -> (&'static mut [A; M], &'static mut [B; N]) {
+        self.lend(a, b, last);
+        (self.0.array(), self.1.array())
     }
 
     pub fn back(&mut self) -> Option<(Vec<A>, Vec<B>)> {

@@ -108,7 +108,7 @@ fn made(solver: &mut Solver, call: &Call) -> Answer {
         Call::RemoveEdit { variable, budget } => solver.remove_edit_variable(Variable(*variable), *budget),
         Call::Suggest { variable, suggestion, budget } => solver.suggest_value(Variable(*variable), *suggestion, *budget),
     };
-    Answer { number: a.refusal.into(), pivots: a.pivots, whole: a.whole }
+    Answer { number: a.refusal.into(), pivots: a.pivots, whole: a.whole.into() }
 }
 
 /// The answer, and the tables afterwards: a state is written over the live part, "A refusal changes no table".

@@ -1,6 +1,6 @@
 /* The recorded vectors (crates/session/stdin and stdout) through the archive, on the target itself: each call is made by its C
    name, and its answer is written as the program session writes it and held to the recorded one. Then a signalling NaN and its
-   like, as strengths of an edit. Prints how many answers differ, and how deep the stack went. */
+   like, as strengths of an edit, and two lines of text. Prints how many answers differ, and how deep the stack went. */
 #include "knobharbor.h"
 #include "stack.h"
 #include <stdio.h>
@@ -215,9 +215,22 @@ static unsigned long nans(void)
     return wrong;
 }
 
+/* lines of text, which no vector has: one that is added, one that leaves the grammar behind byte 3 */
+static unsigned long lines(void)
+{
+    static const char added[] = "2*(v1 + 3) = v2 + 40", unread[] = "v1<";
+    kh_reset(&screen);
+    knobharbor_text_answer a = kh_add_text(&screen, &room, 1, (const uint8_t *)added, sizeof added - 1, 20);
+    knobharbor_text_answer b = kh_add_text(&screen, &room, 2, (const uint8_t *)unread, sizeof unread - 1, 20);
+    bool right = a.number == 0 && a.pivots == 0 && a.offset == 0 && kh_has_constraint(&screen, 1) && kh_value(&screen, 1) == 17
+        && b.number == KNOBHARBOR_LINE_UNREAD && b.pivots == 0 && b.offset == 3 && !kh_has_constraint(&screen, 2);
+    printf("lines of text: %lu, %lu at %lu\n", (unsigned long)a.number, (unsigned long)b.number, (unsigned long)b.offset);
+    return !right;
+}
+
 int main(void)
 {
-    unsigned long differ = replay(), wrong = nans();
+    unsigned long differ = replay(), wrong = nans() + lines();
     printf("deepest stack: add %lu, reset %lu, remove %lu, add edit %lu, remove edit %lu, suggest %lu, fetch %lu, value %lu bytes\n", deepest[0],
            deepest[1], deepest[2], deepest[3], deepest[4], deepest[5], deepest[6], deepest[7]);
     printf("tables: %lu bytes, and as many for the room\n", (unsigned long)sizeof screen);

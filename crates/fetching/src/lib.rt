@@ -129,7 +129,7 @@ pub fn fetch_changes(
 ) -> Fetched
     ensures { λ r. ⌜ fetchBy r (now (numbers .exit)) (now (values .exit)) (tables (now (head .exit)) (now (names .exit)) (now (reals .exit)) (now (rows .entry))) ≡ fetchOf (length (now (numbers .entry))) (length (now (values .entry))) (tables (now (head .entry)) (now (names .entry)) (now (reals .entry)) (now (rows .entry))) ⌝ }
 {
-    room::clear_head(numbers);
+    shell::room::clear_head(numbers);
     clear_values(values);
     let ok = reading::reads_as_state(head, names, reals, rows)
         & ((numbers.len() == PLACES) & (values.len() == PLACES));

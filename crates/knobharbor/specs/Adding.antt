@@ -1,4 +1,4 @@
--- Add under its C names, from the call of a pack. Assumes nothing.
+-- Add under its C names: of the terms, the kind and the rest; and from the call of a pack. Assumes nothing.
 use Prim.Native.Nat.{ℕ}
 use mathlib.Core.Path.{_≡_, refl, ap, _∙_}
 use mathlib.Core.Bool.{true, false, cond}
@@ -14,18 +14,31 @@ use Rattle.tags.specs.Tags.{relationOf}
 use Rattle.terms.specs.declared.Term.{Term}
 use Rattle.terms.specs.declared.Pack.{Pack}
 use Rattle.terms.specs.Terms.{packOf, termsIn, listed}
-use Rattle.given.specs.Given.{given, relationBy}
-use Rattle.given.specs.Adding.{addOf, addListsOf}
-use Rattle.constraints.specs.Listed.{listed-call}
+use Rattle.calls.specs.Listed.{listed-call}
+use Rattle.knobharbor.specs.Given.{given, relationBy}
+use Rattle.knobharbor.specs.Places.{Placed, placedBy}
+
+-- a kind that is none of the three is answered as a table that doesn't read
+unfoldable pub addOf : ℕ → List Term → Float → ℕ → Float → ℕ → Tables → Tables → Called
+addOf n ts constant kind strength budget work t = cond (ltb kind 3) (callOf (add n (termsIn ts) constant (relationBy kind strength) budget) work t) (called refused18 t)
+
+-- and so are lists of different lengths
+unfoldable pub addListsOf : ℕ → List ℕ → List Float → Float → ℕ → Float → ℕ → Tables → Tables → Called
+addListsOf n vars coefs constant kind strength budget work t = cond (eqb (length vars) (length coefs)) (addOf n (given vars coefs) constant kind strength budget work t) (called refused18 t)
+
+-- ---- the code
 
 -- the call of the list that a pack stands for
 unfoldable pub packedOf : ℕ → Pack → Float → ℕ → Float → ℕ → Tables → Tables → Called
 packedOf n p = addOf n (listed p)
 
+pub refused : {a : Answer} {t u : Tables} → a ≡ refused18 → u ≡ t → called a u ≡ called refused18 t
+refused e f = rw (e, f) refl
+
 module _ (n : ℕ) (constant : Float) (kind : ℕ) (strength : Float) (budget : ℕ) (work t : Tables) where
-  pub packed-unfit : (p : Pack) {a : Answer} {u : Tables} → ltb kind 3 ≡ false → a ≡ refused18 → u ≡ t → called a u ≡ packedOf n p constant kind strength budget work t
+  pub packed-unfit : (p : Pack) (c : Called) → ltb kind 3 ≡ false → c ≡ called refused18 t → c ≡ packedOf n p constant kind strength budget work t
   unfolding packedOf addOf
-  packed-unfit p e f g = rw (e, f, g) refl
+  packed-unfit p c e f = rw (e, f) refl
 
   pub packed-fit : (p : Pack) (r : Relation) (c : Called) → ltb kind 3 ≡ true → relationOf r ≡ relationBy kind strength → c ≡ callOf (add n (termsIn (listed p)) constant (relationOf r) budget) work t
       → c ≡ packedOf n p constant kind strength budget work t
@@ -36,11 +49,11 @@ module _ (n : ℕ) (constant : Float) (kind : ℕ) (strength : Float) (budget : 
   unfolding packedOf addOf
   packed-list ts e = ap (λ (c : Called). cond (ltb kind 3) c (called refused18 t)) (listed-call n budget constant (relationBy kind strength) work t ts e)
 
-  pub lists-unfit : (vars : List ℕ) (coefs : List Float) {a : Answer} {u : Tables} → eqb (length vars) (length coefs) ≡ false → a ≡ refused18 → u ≡ t → called a u ≡ addListsOf n vars coefs constant kind strength budget work t
+  pub lists-unfit : (vars : List ℕ) (coefs : List Float) (c : Called) → eqb (length vars) (length coefs) ≡ false → c ≡ called refused18 t → c ≡ addListsOf n vars coefs constant kind strength budget work t
   unfolding addListsOf
-  lists-unfit vars coefs e f g = rw (e, f, g) refl
+  lists-unfit vars coefs c e f = rw (e, f) refl
 
-  pub lists-fit : (vars : List ℕ) (coefs : List Float) {p : Pack} (c : Called) → eqb (length vars) (length coefs) ≡ true → p ≡ packOf (given vars coefs) → c ≡ packedOf n p constant kind strength budget work t
-      → c ≡ addListsOf n vars coefs constant kind strength budget work t
+  pub lists-fit : (vars : List ℕ) (coefs : List Float) {p : Pack} {x : Placed} → eqb (length vars) (length coefs) ≡ true → p ≡ packOf (given vars coefs) → x ≡ placedBy (packedOf n p constant kind strength budget work t)
+      → x ≡ placedBy (addListsOf n vars coefs constant kind strength budget work t)
   unfolding addListsOf
-  lists-fit vars coefs c e f h = rw e (h ∙ packed-list (given vars coefs) f)
+  lists-fit vars coefs e f h = h ∙ ap placedBy (rw e (packed-list (given vars coefs) f))

@@ -1,1 +1,4 @@
+-- What the C names answer and leave, beside the calls that they make.
+pub mod Given
 pub mod Adding
+pub mod Places

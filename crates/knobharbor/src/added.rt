@@ -1,52 +1,38 @@
 // Add. The terms come as a lent list of records; or as two lists, the i-th term the i-th variable times the i-th coefficient. The kind is 0 for at most, 1 for equal, 2 for at least.
 ghost use mathlib.Core.Path.{_≡_};
-ghost use Rattle.layout.specs.Layout.{tables};
-ghost use Rattle.room.specs.Room.{cleared};
-ghost use Rattle.shell.specs.Shell.{answerOf, called};
-ghost use Rattle.given.specs.Adding.{addOf, addListsOf};
-ghost use Rattle.knobharbor.specs.Adding.{packedOf};
-use given::gather;
-use given::relation;
+ghost use Rattle.lent.specs.Lent.{lent};
+ghost use Rattle.shell.specs.Room.{cleared};
+ghost use Rattle.shell.specs.Shell.{answerOf, called, refused18};
+ghost use Rattle.knobharbor.specs.Adding.{addOf, addListsOf, packedOf};
+ghost use Rattle.knobharbor.specs.Places.{placed, placedBy};
+use crate::given::gather;
+use crate::given::relation;
+use crate::places::put;
+use changes::Change;
+use lent::Head;
+use lent::Names;
+use lent::Reals;
+use lent::Rows;
 use shell::Answer;
 use terms::Pack;
 use terms::Term;
 
-fn add_packed(
-    head: &mut [u64],
-    names: &mut [[u64; 20]],
-    reals: &mut [[f64; 17]],
-    rows: &mut [[f64; 130]],
-    whead: &mut [u64],
-    wnames: &mut [[u64; 20]],
-    wreals: &mut [[f64; 17]],
-    wrows: &mut [[f64; 130]],
-    number: u32,
-    p: Pack,
-    constant: f64,
-    kind: u32,
-    strength: f64,
-    budget: u16,
+// What no call can be made of: 18, and the room is cleared.
+fn refuse(
+    head: &mut Head,
+    names: &mut Names,
+    reals: &mut Reals,
+    rows: &mut Rows,
+    whead: &mut Head,
+    wnames: &mut Names,
+    wreals: &mut Reals,
+    wrows: &mut Rows,
 ) -> Answer
-    ensures { λ r. ⌜ called (answerOf r) (tables (now (head .exit)) (now (names .exit)) (now (reals .exit)) (now (rows .exit))) ≡ packedOf number p constant kind strength budget (tables (now (whead .entry)) (now (wnames .entry)) (now (wreals .entry)) (now (wrows .entry))) (tables (now (head .entry)) (now (names .entry)) (now (reals .entry)) (now (rows .entry))) ⌝ }
-    ensures { λ _. ⌜ tables (now (whead .exit)) (now (wnames .exit)) (now (wreals .exit)) (now (wrows .exit)) ≡ cleared (tables (now (whead .entry)) (now (wnames .entry)) (now (wreals .entry)) (now (wrows .entry))) ⌝ }
+    ensures { λ r. ⌜ called (answerOf r) (lent (head .exit) (names .exit) (reals .exit) (rows .exit)) ≡ called refused18 (lent (head .entry) (names .entry) (reals .entry) (rows .entry)) ⌝ }
+    ensures { λ _. ⌜ lent (whead .exit) (wnames .exit) (wreals .exit) (wrows .exit) ≡ cleared (lent (whead .entry) (wnames .entry) (wreals .entry) (wrows .entry)) ⌝ }
 {
-    let ok = kind < 3;
-    if !ok {
-        shell::leave(
-            false,
-            head,
-            names,
-            reals,
-            rows,
-            whead,
-            wnames,
-            wreals,
-            wrows,
-        );
-        return shell::refuse18();
-    }
-    let relation = relation(kind, strength);
-    constraints::add::add(
+    shell::leave(
+        false,
         head,
         names,
         reals,
@@ -55,34 +41,75 @@ fn add_packed(
         wnames,
         wreals,
         wrows,
-        number,
+    );
+    shell::refuse18()
+}
+
+fn add_packed(
+    head: &mut Head,
+    names: &mut Names,
+    reals: &mut Reals,
+    rows: &mut Rows,
+    whead: &mut Head,
+    wnames: &mut Names,
+    wreals: &mut Reals,
+    wrows: &mut Rows,
+    answer: &mut [u32; 3],
+    number: u32,
+    p: Pack,
+    constant: f64,
+    kind: u32,
+    strength: f64,
+    budget: u16,
+)
+    ensures { λ _. ⌜ placed (now (answer .exit)) (lent (head .exit) (names .exit) (reals .exit) (rows .exit)) ≡ placedBy (packedOf number p constant kind strength budget (lent (whead .entry) (wnames .entry) (wreals .entry) (wrows .entry)) (lent (head .entry) (names .entry) (reals .entry) (rows .entry))) ⌝ }
+    ensures { λ _. ⌜ lent (whead .exit) (wnames .exit) (wreals .exit) (wrows .exit) ≡ cleared (lent (whead .entry) (wnames .entry) (wreals .entry) (wrows .entry)) ⌝ }
+{
+    let ok = kind < 3;
+    if !ok {
+        let a = refuse(head, names, reals, rows, whead, wnames, wreals, wrows);
+        put(answer, a);
+        return;
+    }
+    let relation = relation(kind, strength);
+    let c = Change::Add(number, constant, relation);
+    let a = calls::change(
+        head,
+        names,
+        reals,
+        rows,
+        whead,
+        wnames,
+        wreals,
+        wrows,
+        c,
         p,
-        constant,
-        relation,
         budget,
-    )
+    );
+    put(answer, a);
 }
 
 // "A thin entry over a slice of term structs that hands variable and coefficient to covered functions.": `collect` gathers the terms, and `add_packed` makes the call of their list.
 #[no_mangle]
 pub extern "C" fn knobharbor_add(
-    head: &mut [u64],
-    names: &mut [[u64; 20]],
-    reals: &mut [[f64; 17]],
-    rows: &mut [[f64; 130]],
-    whead: &mut [u64],
-    wnames: &mut [[u64; 20]],
-    wreals: &mut [[f64; 17]],
-    wrows: &mut [[f64; 130]],
+    head: &mut Head,
+    names: &mut Names,
+    reals: &mut Reals,
+    rows: &mut Rows,
+    whead: &mut Head,
+    wnames: &mut Names,
+    wreals: &mut Reals,
+    wrows: &mut Rows,
+    answer: &mut [u32; 3],
     number: u32,
     terms: &[Term],
     constant: f64,
     kind: u32,
     strength: f64,
     budget: u16,
-) -> Answer
-    ensures { λ r. ⌜ called (answerOf r) (tables (now (head .exit)) (now (names .exit)) (now (reals .exit)) (now (rows .exit))) ≡ addOf number (now (terms .entry)) constant kind strength budget (tables (now (whead .entry)) (now (wnames .entry)) (now (wreals .entry)) (now (wrows .entry))) (tables (now (head .entry)) (now (names .entry)) (now (reals .entry)) (now (rows .entry))) ⌝ }
-    ensures { λ _. ⌜ tables (now (whead .exit)) (now (wnames .exit)) (now (wreals .exit)) (now (wrows .exit)) ≡ cleared (tables (now (whead .entry)) (now (wnames .entry)) (now (wreals .entry)) (now (wrows .entry))) ⌝ }
+)
+    ensures { λ _. ⌜ placed (now (answer .exit)) (lent (head .exit) (names .exit) (reals .exit) (rows .exit)) ≡ placedBy (addOf number (now (terms .entry)) constant kind strength budget (lent (whead .entry) (wnames .entry) (wreals .entry) (wrows .entry)) (lent (head .entry) (names .entry) (reals .entry) (rows .entry))) ⌝ }
+    ensures { λ _. ⌜ lent (whead .exit) (wnames .exit) (wreals .exit) (wrows .exit) ≡ cleared (lent (whead .entry) (wnames .entry) (wreals .entry) (wrows .entry)) ⌝ }
 {
     let p = terms::collect(terms);
     add_packed(
@@ -94,6 +121,7 @@ pub extern "C" fn knobharbor_add(
         wnames,
         wreals,
         wrows,
+        answer,
         number,
         p,
         constant,
@@ -105,14 +133,15 @@ pub extern "C" fn knobharbor_add(
 
 #[no_mangle]
 pub extern "C" fn knobharbor_add_lists(
-    head: &mut [u64],
-    names: &mut [[u64; 20]],
-    reals: &mut [[f64; 17]],
-    rows: &mut [[f64; 130]],
-    whead: &mut [u64],
-    wnames: &mut [[u64; 20]],
-    wreals: &mut [[f64; 17]],
-    wrows: &mut [[f64; 130]],
+    head: &mut Head,
+    names: &mut Names,
+    reals: &mut Reals,
+    rows: &mut Rows,
+    whead: &mut Head,
+    wnames: &mut Names,
+    wreals: &mut Reals,
+    wrows: &mut Rows,
+    answer: &mut [u32; 3],
     number: u32,
     vars: &[u32],
     coefs: &[f64],
@@ -120,24 +149,15 @@ pub extern "C" fn knobharbor_add_lists(
     kind: u32,
     strength: f64,
     budget: u16,
-) -> Answer
-    ensures { λ r. ⌜ called (answerOf r) (tables (now (head .exit)) (now (names .exit)) (now (reals .exit)) (now (rows .exit))) ≡ addListsOf number (now (vars .entry)) (now (coefs .entry)) constant kind strength budget (tables (now (whead .entry)) (now (wnames .entry)) (now (wreals .entry)) (now (wrows .entry))) (tables (now (head .entry)) (now (names .entry)) (now (reals .entry)) (now (rows .entry))) ⌝ }
-    ensures { λ _. ⌜ tables (now (whead .exit)) (now (wnames .exit)) (now (wreals .exit)) (now (wrows .exit)) ≡ cleared (tables (now (whead .entry)) (now (wnames .entry)) (now (wreals .entry)) (now (wrows .entry))) ⌝ }
+)
+    ensures { λ _. ⌜ placed (now (answer .exit)) (lent (head .exit) (names .exit) (reals .exit) (rows .exit)) ≡ placedBy (addListsOf number (now (vars .entry)) (now (coefs .entry)) constant kind strength budget (lent (whead .entry) (wnames .entry) (wreals .entry) (wrows .entry)) (lent (head .entry) (names .entry) (reals .entry) (rows .entry))) ⌝ }
+    ensures { λ _. ⌜ lent (whead .exit) (wnames .exit) (wreals .exit) (wrows .exit) ≡ cleared (lent (whead .entry) (wnames .entry) (wreals .entry) (wrows .entry)) ⌝ }
 {
     let ok = vars.len() == coefs.len();
     if !ok {
-        shell::leave(
-            false,
-            head,
-            names,
-            reals,
-            rows,
-            whead,
-            wnames,
-            wreals,
-            wrows,
-        );
-        return shell::refuse18();
+        let a = refuse(head, names, reals, rows, whead, wnames, wreals, wrows);
+        put(answer, a);
+        return;
     }
     let p = gather(vars, coefs);
     add_packed(
@@ -149,6 +169,7 @@ pub extern "C" fn knobharbor_add_lists(
         wnames,
         wreals,
         wrows,
+        answer,
         number,
         p,
         constant,

@@ -1,82 +1,89 @@
 // Reset, the queries, fetch, and strengths.
 ghost use mathlib.Core.Path.{_≡_};
 ghost use mathlib.Core.Bool.{false};
-ghost use lib.ListN.{length};
 ghost use Rattle.steps.specs.Number.{zero64};
 ghost use Rattle.steps.specs.Strength.{create, clip};
 ghost use Rattle.steps.specs.Changes.{value};
 ghost use Rattle.steps.specs.Tests.{hasConstraint, hasEdit};
-ghost use Rattle.layout.specs.Layout.{tables};
+ghost use Rattle.lent.specs.Lent.{lent};
 ghost use Rattle.asking.specs.Asked.{asked};
-ghost use Rattle.shell.specs.Shell.{answerOf, called};
 ghost use Rattle.shell.specs.Reset.{resetOf};
-ghost use Rattle.fetching.specs.Fetch.{fetchBy, fetchOf};
-use fetching::Fetched;
-use shell::Answer;
+ghost use Rattle.fetching.specs.Fetch.{fetchOf, places};
+ghost use Rattle.knobharbor.specs.Places.{placed, placedBy, placedList, placedFetch};
+use crate::places::put;
+use crate::places::put_fetched;
+use lent::Head;
+use lent::Names;
+use lent::Reals;
+use lent::Rows;
 
 #[no_mangle]
 pub extern "C" fn knobharbor_reset(
-    head: &mut [u64],
-    names: &mut [[u64; 20]],
-    reals: &mut [[f64; 17]],
-    rows: &mut [[f64; 130]],
-) -> Answer
-    ensures { λ r. ⌜ called (answerOf r) (tables (now (head .exit)) (now (names .exit)) (now (reals .exit)) (now (rows .exit))) ≡ resetOf (tables (now (head .entry)) (now (names .entry)) (now (reals .entry)) (now (rows .entry))) ⌝ }
+    head: &mut Head,
+    names: &mut Names,
+    reals: &mut Reals,
+    rows: &mut Rows,
+    answer: &mut [u32; 3],
+)
+    ensures { λ _. ⌜ placed (now (answer .exit)) (lent (head .exit) (names .exit) (reals .exit) (rows .exit)) ≡ placedBy (resetOf (lent (head .entry) (names .entry) (reals .entry) (rows .entry))) ⌝ }
 {
-    shell::reset(head, names, reals, rows)
+    let a = shell::reset(head, names, reals, rows);
+    put(answer, a);
 }
 
 #[no_mangle]
 pub extern "C" fn knobharbor_has_constraint(
-    head: &[u64],
-    names: &[[u64; 20]],
-    reals: &[[f64; 17]],
-    rows: &[[f64; 130]],
+    head: &Head,
+    names: &Names,
+    reals: &Reals,
+    rows: &Rows,
     number: u32,
 ) -> bool
-    ensures { λ r. ⌜ r ≡ asked (hasConstraint number) false (tables (now (head .entry)) (now (names .entry)) (now (reals .entry)) (now (rows .entry))) ⌝ }
+    ensures { λ r. ⌜ r ≡ asked (hasConstraint number) false (lent (head .entry) (names .entry) (reals .entry) (rows .entry)) ⌝ }
 {
     asking::has_constraint(head, names, reals, rows, number)
 }
 
 #[no_mangle]
 pub extern "C" fn knobharbor_has_edit(
-    head: &[u64],
-    names: &[[u64; 20]],
-    reals: &[[f64; 17]],
-    rows: &[[f64; 130]],
+    head: &Head,
+    names: &Names,
+    reals: &Reals,
+    rows: &Rows,
     variable: u32,
 ) -> bool
-    ensures { λ r. ⌜ r ≡ asked (hasEdit variable) false (tables (now (head .entry)) (now (names .entry)) (now (reals .entry)) (now (rows .entry))) ⌝ }
+    ensures { λ r. ⌜ r ≡ asked (hasEdit variable) false (lent (head .entry) (names .entry) (reals .entry) (rows .entry)) ⌝ }
 {
     asking::has_edit(head, names, reals, rows, variable)
 }
 
 #[no_mangle]
 pub extern "C" fn knobharbor_value(
-    head: &[u64],
-    names: &[[u64; 20]],
-    reals: &[[f64; 17]],
-    rows: &[[f64; 130]],
+    head: &Head,
+    names: &Names,
+    reals: &Reals,
+    rows: &Rows,
     variable: u32,
 ) -> f64
-    ensures { λ r. ⌜ r ≡ asked (value variable) zero64 (tables (now (head .entry)) (now (names .entry)) (now (reals .entry)) (now (rows .entry))) ⌝ }
+    ensures { λ r. ⌜ r ≡ asked (value variable) zero64 (lent (head .entry) (names .entry) (reals .entry) (rows .entry)) ⌝ }
 {
     asking::get_value(head, names, reals, rows, variable)
 }
 
 #[no_mangle]
 pub extern "C" fn knobharbor_fetch(
-    head: &mut [u64],
-    names: &mut [[u64; 20]],
-    reals: &mut [[f64; 17]],
-    rows: &[[f64; 130]],
-    numbers: &mut [u64],
-    values: &mut [f64],
-) -> Fetched
-    ensures { λ r. ⌜ fetchBy r (now (numbers .exit)) (now (values .exit)) (tables (now (head .exit)) (now (names .exit)) (now (reals .exit)) (now (rows .entry))) ≡ fetchOf (length (now (numbers .entry))) (length (now (values .entry))) (tables (now (head .entry)) (now (names .entry)) (now (reals .entry)) (now (rows .entry))) ⌝ }
+    head: &mut Head,
+    names: &mut Names,
+    reals: &mut Reals,
+    rows: &Rows,
+    answer: &mut [u32; 2],
+    numbers: &mut [u64; 32],
+    values: &mut [f64; 32],
+)
+    ensures { λ _. ⌜ placedList (now (answer .exit)) (now (numbers .exit)) (now (values .exit)) (lent (head .exit) (names .exit) (reals .exit) (rows .entry)) ≡ placedFetch (fetchOf places places (lent (head .entry) (names .entry) (reals .entry) (rows .entry))) ⌝ }
 {
-    fetching::fetch_changes(head, names, reals, rows, numbers, values)
+    let f = fetching::fetch_changes(head, names, reals, rows, numbers, values);
+    put_fetched(answer, f);
 }
 
 #[no_mangle]

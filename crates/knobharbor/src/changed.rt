@@ -1,28 +1,37 @@
 // The changing calls without a list: all but add. "working room, where lent, is all zero after every call"
 ghost use mathlib.Core.Path.{_≡_};
 ghost use Rattle.steps.specs.Calls.{remove, addEdit, removeEdit, suggest};
-ghost use Rattle.layout.specs.Layout.{tables};
-ghost use Rattle.room.specs.Room.{cleared};
-ghost use Rattle.shell.specs.Shell.{answerOf, called, callOf};
-use shell::Answer;
+ghost use Rattle.lent.specs.Lent.{lent};
+ghost use Rattle.shell.specs.Room.{cleared};
+ghost use Rattle.shell.specs.Shell.{callOf};
+ghost use Rattle.knobharbor.specs.Places.{placed, placedBy};
+use crate::places::put;
+use changes::Change;
+use lent::Head;
+use lent::Names;
+use lent::Reals;
+use lent::Rows;
 
 #[no_mangle]
 pub extern "C" fn knobharbor_remove(
-    head: &mut [u64],
-    names: &mut [[u64; 20]],
-    reals: &mut [[f64; 17]],
-    rows: &mut [[f64; 130]],
-    whead: &mut [u64],
-    wnames: &mut [[u64; 20]],
-    wreals: &mut [[f64; 17]],
-    wrows: &mut [[f64; 130]],
+    head: &mut Head,
+    names: &mut Names,
+    reals: &mut Reals,
+    rows: &mut Rows,
+    whead: &mut Head,
+    wnames: &mut Names,
+    wreals: &mut Reals,
+    wrows: &mut Rows,
+    answer: &mut [u32; 3],
     number: u32,
     budget: u16,
-) -> Answer
-    ensures { λ r. ⌜ called (answerOf r) (tables (now (head .exit)) (now (names .exit)) (now (reals .exit)) (now (rows .exit))) ≡ callOf (remove number budget) (tables (now (whead .entry)) (now (wnames .entry)) (now (wreals .entry)) (now (wrows .entry))) (tables (now (head .entry)) (now (names .entry)) (now (reals .entry)) (now (rows .entry))) ⌝ }
-    ensures { λ _. ⌜ tables (now (whead .exit)) (now (wnames .exit)) (now (wreals .exit)) (now (wrows .exit)) ≡ cleared (tables (now (whead .entry)) (now (wnames .entry)) (now (wreals .entry)) (now (wrows .entry))) ⌝ }
+)
+    ensures { λ _. ⌜ placed (now (answer .exit)) (lent (head .exit) (names .exit) (reals .exit) (rows .exit)) ≡ placedBy (callOf (remove number budget) (lent (whead .entry) (wnames .entry) (wreals .entry) (wrows .entry)) (lent (head .entry) (names .entry) (reals .entry) (rows .entry))) ⌝ }
+    ensures { λ _. ⌜ lent (whead .exit) (wnames .exit) (wreals .exit) (wrows .exit) ≡ cleared (lent (whead .entry) (wnames .entry) (wreals .entry) (wrows .entry)) ⌝ }
 {
-    constraints::remove::remove(
+    let c = Change::Remove(number);
+    let p = terms::none();
+    let a = calls::change(
         head,
         names,
         reals,
@@ -31,29 +40,34 @@ pub extern "C" fn knobharbor_remove(
         wnames,
         wreals,
         wrows,
-        number,
+        c,
+        p,
         budget,
-    )
+    );
+    put(answer, a);
 }
 
 #[no_mangle]
 pub extern "C" fn knobharbor_add_edit(
-    head: &mut [u64],
-    names: &mut [[u64; 20]],
-    reals: &mut [[f64; 17]],
-    rows: &mut [[f64; 130]],
-    whead: &mut [u64],
-    wnames: &mut [[u64; 20]],
-    wreals: &mut [[f64; 17]],
-    wrows: &mut [[f64; 130]],
+    head: &mut Head,
+    names: &mut Names,
+    reals: &mut Reals,
+    rows: &mut Rows,
+    whead: &mut Head,
+    wnames: &mut Names,
+    wreals: &mut Reals,
+    wrows: &mut Rows,
+    answer: &mut [u32; 3],
     variable: u32,
     strength: f64,
     budget: u16,
-) -> Answer
-    ensures { λ r. ⌜ called (answerOf r) (tables (now (head .exit)) (now (names .exit)) (now (reals .exit)) (now (rows .exit))) ≡ callOf (addEdit variable strength budget) (tables (now (whead .entry)) (now (wnames .entry)) (now (wreals .entry)) (now (wrows .entry))) (tables (now (head .entry)) (now (names .entry)) (now (reals .entry)) (now (rows .entry))) ⌝ }
-    ensures { λ _. ⌜ tables (now (whead .exit)) (now (wnames .exit)) (now (wreals .exit)) (now (wrows .exit)) ≡ cleared (tables (now (whead .entry)) (now (wnames .entry)) (now (wreals .entry)) (now (wrows .entry))) ⌝ }
+)
+    ensures { λ _. ⌜ placed (now (answer .exit)) (lent (head .exit) (names .exit) (reals .exit) (rows .exit)) ≡ placedBy (callOf (addEdit variable strength budget) (lent (whead .entry) (wnames .entry) (wreals .entry) (wrows .entry)) (lent (head .entry) (names .entry) (reals .entry) (rows .entry))) ⌝ }
+    ensures { λ _. ⌜ lent (whead .exit) (wnames .exit) (wreals .exit) (wrows .exit) ≡ cleared (lent (whead .entry) (wnames .entry) (wreals .entry) (wrows .entry)) ⌝ }
 {
-    edits::add_edit::add_edit(
+    let c = Change::AddEdit(variable, strength);
+    let p = terms::none();
+    let a = calls::change(
         head,
         names,
         reals,
@@ -62,29 +76,33 @@ pub extern "C" fn knobharbor_add_edit(
         wnames,
         wreals,
         wrows,
-        variable,
-        strength,
+        c,
+        p,
         budget,
-    )
+    );
+    put(answer, a);
 }
 
 #[no_mangle]
 pub extern "C" fn knobharbor_remove_edit(
-    head: &mut [u64],
-    names: &mut [[u64; 20]],
-    reals: &mut [[f64; 17]],
-    rows: &mut [[f64; 130]],
-    whead: &mut [u64],
-    wnames: &mut [[u64; 20]],
-    wreals: &mut [[f64; 17]],
-    wrows: &mut [[f64; 130]],
+    head: &mut Head,
+    names: &mut Names,
+    reals: &mut Reals,
+    rows: &mut Rows,
+    whead: &mut Head,
+    wnames: &mut Names,
+    wreals: &mut Reals,
+    wrows: &mut Rows,
+    answer: &mut [u32; 3],
     variable: u32,
     budget: u16,
-) -> Answer
-    ensures { λ r. ⌜ called (answerOf r) (tables (now (head .exit)) (now (names .exit)) (now (reals .exit)) (now (rows .exit))) ≡ callOf (removeEdit variable budget) (tables (now (whead .entry)) (now (wnames .entry)) (now (wreals .entry)) (now (wrows .entry))) (tables (now (head .entry)) (now (names .entry)) (now (reals .entry)) (now (rows .entry))) ⌝ }
-    ensures { λ _. ⌜ tables (now (whead .exit)) (now (wnames .exit)) (now (wreals .exit)) (now (wrows .exit)) ≡ cleared (tables (now (whead .entry)) (now (wnames .entry)) (now (wreals .entry)) (now (wrows .entry))) ⌝ }
+)
+    ensures { λ _. ⌜ placed (now (answer .exit)) (lent (head .exit) (names .exit) (reals .exit) (rows .exit)) ≡ placedBy (callOf (removeEdit variable budget) (lent (whead .entry) (wnames .entry) (wreals .entry) (wrows .entry)) (lent (head .entry) (names .entry) (reals .entry) (rows .entry))) ⌝ }
+    ensures { λ _. ⌜ lent (whead .exit) (wnames .exit) (wreals .exit) (wrows .exit) ≡ cleared (lent (whead .entry) (wnames .entry) (wreals .entry) (wrows .entry)) ⌝ }
 {
-    edits::remove_edit::remove_edit(
+    let c = Change::RemoveEdit(variable);
+    let p = terms::none();
+    let a = calls::change(
         head,
         names,
         reals,
@@ -93,29 +111,34 @@ pub extern "C" fn knobharbor_remove_edit(
         wnames,
         wreals,
         wrows,
-        variable,
+        c,
+        p,
         budget,
-    )
+    );
+    put(answer, a);
 }
 
 #[no_mangle]
 pub extern "C" fn knobharbor_suggest(
-    head: &mut [u64],
-    names: &mut [[u64; 20]],
-    reals: &mut [[f64; 17]],
-    rows: &mut [[f64; 130]],
-    whead: &mut [u64],
-    wnames: &mut [[u64; 20]],
-    wreals: &mut [[f64; 17]],
-    wrows: &mut [[f64; 130]],
+    head: &mut Head,
+    names: &mut Names,
+    reals: &mut Reals,
+    rows: &mut Rows,
+    whead: &mut Head,
+    wnames: &mut Names,
+    wreals: &mut Reals,
+    wrows: &mut Rows,
+    answer: &mut [u32; 3],
     variable: u32,
     suggestion: f64,
     budget: u16,
-) -> Answer
-    ensures { λ r. ⌜ called (answerOf r) (tables (now (head .exit)) (now (names .exit)) (now (reals .exit)) (now (rows .exit))) ≡ callOf (suggest variable suggestion budget) (tables (now (whead .entry)) (now (wnames .entry)) (now (wreals .entry)) (now (wrows .entry))) (tables (now (head .entry)) (now (names .entry)) (now (reals .entry)) (now (rows .entry))) ⌝ }
-    ensures { λ _. ⌜ tables (now (whead .exit)) (now (wnames .exit)) (now (wreals .exit)) (now (wrows .exit)) ≡ cleared (tables (now (whead .entry)) (now (wnames .entry)) (now (wreals .entry)) (now (wrows .entry))) ⌝ }
+)
+    ensures { λ _. ⌜ placed (now (answer .exit)) (lent (head .exit) (names .exit) (reals .exit) (rows .exit)) ≡ placedBy (callOf (suggest variable suggestion budget) (lent (whead .entry) (wnames .entry) (wreals .entry) (wrows .entry)) (lent (head .entry) (names .entry) (reals .entry) (rows .entry))) ⌝ }
+    ensures { λ _. ⌜ lent (whead .exit) (wnames .exit) (wreals .exit) (wrows .exit) ≡ cleared (lent (whead .entry) (wnames .entry) (wreals .entry) (wrows .entry)) ⌝ }
 {
-    edits::suggest::suggest(
+    let c = Change::Suggest(variable, suggestion);
+    let p = terms::none();
+    let a = calls::change(
         head,
         names,
         reals,
@@ -124,8 +147,9 @@ pub extern "C" fn knobharbor_suggest(
         wnames,
         wreals,
         wrows,
-        variable,
-        suggestion,
+        c,
+        p,
         budget,
-    )
+    );
+    put(answer, a);
 }

@@ -1,29 +1,36 @@
-// Add a line of text, under its C name.
+// Add a line of text, under its C name. The offset goes into a place of its own.
 ghost use mathlib.Core.Path.{_≡_};
-ghost use Rattle.layout.specs.Layout.{tables};
-ghost use Rattle.room.specs.Room.{cleared};
-ghost use Rattle.shell.specs.Shell.{called};
-ghost use Rattle.typed.specs.Adding.{text, textAnswer, textOf};
-use typed::add::TextAnswer;
+ghost use Rattle.lent.specs.Lent.{lent};
+ghost use Rattle.shell.specs.Room.{cleared};
+ghost use Rattle.typed.specs.Adding.{textOf};
+ghost use Rattle.knobharbor.specs.Places.{placed, placedText, placedLine};
+use crate::places::put;
+use lent::Head;
+use lent::Names;
+use lent::Reals;
+use lent::Rows;
+use shell::Answer;
 
 #[no_mangle]
 pub extern "C" fn knobharbor_add_text(
-    head: &mut [u64],
-    names: &mut [[u64; 20]],
-    reals: &mut [[f64; 17]],
-    rows: &mut [[f64; 130]],
-    whead: &mut [u64],
-    wnames: &mut [[u64; 20]],
-    wreals: &mut [[f64; 17]],
-    wrows: &mut [[f64; 130]],
+    head: &mut Head,
+    names: &mut Names,
+    reals: &mut Reals,
+    rows: &mut Rows,
+    whead: &mut Head,
+    wnames: &mut Names,
+    wreals: &mut Reals,
+    wrows: &mut Rows,
+    answer: &mut [u32; 3],
+    offset: &mut u64,
     number: u32,
     line: &[u8],
     budget: u16,
-) -> TextAnswer
-    ensures { λ r. ⌜ text (r .offset) (called (textAnswer r) (tables (now (head .exit)) (now (names .exit)) (now (reals .exit)) (now (rows .exit)))) ≡ textOf number (now (line .entry)) budget (tables (now (whead .entry)) (now (wnames .entry)) (now (wreals .entry)) (now (wrows .entry))) (tables (now (head .entry)) (now (names .entry)) (now (reals .entry)) (now (rows .entry))) ⌝ }
-    ensures { λ _. ⌜ tables (now (whead .exit)) (now (wnames .exit)) (now (wreals .exit)) (now (wrows .exit)) ≡ cleared (tables (now (whead .entry)) (now (wnames .entry)) (now (wreals .entry)) (now (wrows .entry))) ⌝ }
+)
+    ensures { λ _. ⌜ placedText (now (offset .exit)) (placed (now (answer .exit)) (lent (head .exit) (names .exit) (reals .exit) (rows .exit))) ≡ placedLine (textOf number (now (line .entry)) budget (lent (whead .entry) (wnames .entry) (wreals .entry) (wrows .entry)) (lent (head .entry) (names .entry) (reals .entry) (rows .entry))) ⌝ }
+    ensures { λ _. ⌜ lent (whead .exit) (wnames .exit) (wreals .exit) (wrows .exit) ≡ cleared (lent (whead .entry) (wnames .entry) (wreals .entry) (wrows .entry)) ⌝ }
 {
-    typed::add::add_text(
+    let r = typed::add::add_text(
         head,
         names,
         reals,
@@ -35,5 +42,14 @@ pub extern "C" fn knobharbor_add_text(
         number,
         line,
         budget,
-    )
+    );
+    put(
+        answer,
+        Answer {
+            number: r.number,
+            pivots: r.pivots,
+            whole: r.whole,
+        },
+    );
+    *offset = r.offset as u64;
 }

@@ -18,8 +18,8 @@ use Rattle.shell.specs.Reset.{resetOf}
 use Rattle.fetching.specs.Fetch.{fetchOf, fetchIn, fetch18, places}
 use Rattle.terms.specs.declared.Term.{Term}
 use Rattle.terms.specs.Terms.{termsIn}
-use Rattle.given.specs.Given.{given, relationBy}
-use Rattle.given.specs.Adding.{addOf, addListsOf}
+use Rattle.knobharbor.specs.Given.{given, relationBy}
+use Rattle.knobharbor.specs.Adding.{addOf, addListsOf}
 use Rattle.asking.specs.Asked.{asked}
 use Rattle.grammar.specs.Sums as grammar
 use Rattle.grammar.specs.Reader.{readLine}

@@ -24,7 +24,7 @@ use Rattle.layout.specs.Copied.{length-listOf, getD-listOf, write-counts, write
 use Rattle.places.specs.Finding.{at-all}
 use Rattle.items.specs.Items.{isU32}
 use Rattle.reading.specs.Reads.{codesFit, reads}
-use Rattle.finishing.specs.Begin.{few-symbols}
+use Rattle.calls.specs.Begin.{few-symbols}
 use Rattle.lasting.specs.Narrow.{Narrow}
 
 -- ---- an element of a list

@@ -23,9 +23,10 @@ use Rattle.shell.specs.Shell.{callIn, callOf}
 use Rattle.shell.specs.Reset.{resetOf}
 use Rattle.fetching.specs.Listing.{numbersOf, valuesOf}
 use Rattle.fetching.specs.Fetch.{fetchOf, fetchIn, places}
+use Rattle.fetching.specs.Again.{fetch-room}
 use Rattle.text.specs.Answers.{listedAt, listedIn, replyText}
-use Rattle.session.specs.Said.{Said, said, fetchSaid, list-short}
-use Rattle.session.specs.Calls.{saidBy, replyOf}
+use Rattle.session.specs.Said.{Said, said, fetchSaid}
+use Rattle.session.specs.Calls.{saidBy, room-right, replyOf}
 
 -- the steps' turn, as text and tables
 unfoldable pub turnSaid : Call → Tables → Said
@@ -79,7 +80,7 @@ module _ (l : List Change) (few : length l ≤ 32) where
 
 -- ---- call by call
 
-module _ (w t : Tables) (ok : reads t ≡ true) (room : lengthsRight w ≡ true) where
+module _ (t : Tables) (ok : reads t ≡ true) where
   same : write (read t) t ≡ t
   same = write-read t (reads-coded t ok)
 
@@ -87,16 +88,16 @@ module _ (w t : Tables) (ok : reads t ≡ true) (room : lengthsRight w ≡ true)
   unfolding reads
   right = both (lengthsRight t) _ ok .0
 
-  pub reply-turn : (c : Call) → ofDocument c ≡ true → replyOf (some c) w t ≡ turnSaid c t
+  pub reply-turn : (c : Call) → ofDocument c ≡ true → replyOf (some c) t ≡ turnSaid c t
   unfolding replyOf turnSaid turn answered replyText saidBy resetOf callOf callIn asked fetchSaid fetchOf fetchIn ofDocument
   reply-turn resets e = rw right refl
-  reply-turn (adds n ts k r b) e = rw (ok, room) refl
-  reply-turn (removes n b) e = rw (ok, room) refl
-  reply-turn (addsEdit v x b) e = rw (ok, room) refl
-  reply-turn (removesEdit v b) e = rw (ok, room) refl
-  reply-turn (suggests v x b) e = rw (ok, room) refl
+  reply-turn (adds n ts k r b) e = rw (ok, room-right) refl
+  reply-turn (removes n b) e = rw (ok, room-right) refl
+  reply-turn (addsEdit v x b) e = rw (ok, room-right) refl
+  reply-turn (removesEdit v b) e = rw (ok, room-right) refl
+  reply-turn (suggests v x b) e = rw (ok, room-right) refl
   reply-turn (valueOf v) e = rw (ok, same) refl
-  reply-turn fetches e = rw (ok, listed-back (fetchChanges (read t) .list) (list-short t ok)) refl
+  reply-turn fetches e = rw (ok, listed-back (fetchChanges (read t) .list) (fetch-room t ok)) refl
   reply-turn (hasConstraints n) e = rw (ok, same) refl
   reply-turn (hasEdits v) e = rw (ok, same) refl
   reply-turn (creates a b c k) e = rw same refl

@@ -1,58 +1,151 @@
-// A line answered: the text of the answer and a newline, into the lent buffer.
+// A line answered: the text of the answer, into the lent buffer.
 ghost use mathlib.Core.Path.{_≡_};
 ghost use Prim.Native.Nat.{_+_, _≤_};
-ghost use lib.ListN.{length};
-ghost use Rattle.layout.specs.Layout.{tables};
+ghost use lib.ListN.{length, take};
+ghost use Rattle.lent.specs.Lent.{lent};
+ghost use Rattle.shell.specs.Shell.{called, answerOf, callOf};
+ghost use Rattle.steps.specs.Changing.{made};
+ghost use Rattle.changes.specs.Change.{changingOf};
+ghost use Rattle.fetching.specs.Fetch.{fetchOf, places};
+ghost use Rattle.text.specs.Words.{wordsOf};
+ghost use Rattle.text.specs.Format.{callOf as Format·callOf};
+ghost use Rattle.text.specs.Lines.{lineOf};
 ghost use Rattle.text.specs.Stream.{heldOf};
-ghost use Rattle.session.specs.Said.{Spoken};
-ghost use Rattle.session.specs.Calls.{lineReply, heldReply};
-use crate::changes::say_call;
-use text::reading::read_line;
+ghost use Rattle.session.specs.Said.{Spoken, fetchSaid};
+ghost use Rattle.session.specs.Calls.{room, replyOf, callFrom, heldReply};
+use changes::Change;
+use lent::Head;
+use lent::Names;
+use lent::Reals;
+use lent::Rows;
+use shell::Answer;
+use terms::Pack;
+use text::calls::Call;
+use text::calls::Line;
 use text::writing;
 
-pub fn answer(
-    line: &[u8],
-    h: &mut [u64],
-    n: &mut [[u64; 20]],
-    r: &mut [[f64; 17]],
-    w: &mut [[f64; 130]],
-    h2: &mut [u64],
-    n2: &mut [[u64; 20]],
-    r2: &mut [[f64; 17]],
-    w2: &mut [[f64; 130]],
-    out: &mut [u8],
+pub type Out = [u8; 8192];
+
+// A change, in a working room of its own; p: the terms of an add.
+fn change(
+    head: &mut Head,
+    names: &mut Names,
+    reals: &mut Reals,
+    rows: &mut Rows,
+    c: Change,
+    p: Pack,
+    budget: u16,
+) -> Answer
+    ensures { λ r. ⌜ called (answerOf r) (lent (head .exit) (names .exit) (reals .exit) (rows .exit)) ≡ callOf (made (changingOf c p budget)) room (lent (head .entry) (names .entry) (reals .entry) (rows .entry)) ⌝ }
+{
+    let mut h: Head = [0; 196];
+    let mut n: Names = [[0; 20]; 128];
+    let mut r: Reals = [[0.0; 17]; 128];
+    let mut w: Rows = [[0.0; 130]; 51];
+    calls::change(
+        head,
+        names,
+        reals,
+        rows,
+        &mut h,
+        &mut n,
+        &mut r,
+        &mut w,
+        c,
+        p,
+        budget,
+    )
+}
+
+fn say_fetch(
+    head: &mut Head,
+    names: &mut Names,
+    reals: &mut Reals,
+    rows: &Rows,
+    out: &mut Out,
     at: usize,
 ) -> usize
-    requires { ⌜ at + 2000 ≤ length (now out) ⌝ }
-    ensures { λ z. ⌜ Spoken (lineReply (now (line .entry)) (tables (now (h2 .entry)) (now (n2 .entry)) (now (r2 .entry)) (now (w2 .entry))) (tables (now (h .entry)) (now (n .entry)) (now (r .entry)) (now (w .entry)))) (now (out .entry)) (now (out .exit)) at z (tables (now (h .exit)) (now (n .exit)) (now (r .exit)) (now (w .exit))) ⌝ }
+    requires { ⌜ at ≤ 6000 ⌝ }
+    ensures { λ z. ⌜ Spoken (fetchSaid (fetchOf places places (lent (head .entry) (names .entry) (reals .entry) (rows .entry)))) (now (out .entry)) (now (out .exit)) at z (lent (head .exit) (names .exit) (reals .exit) (rows .entry)) ⌝ }
 {
-    let l = read_line(line);
-    let call = l.call;
-    let p = l.terms;
-    say_call(call, p, h, n, r, w, h2, n2, r2, w2, out, at)
+    let mut numbers = [0u64; 32];
+    let mut values = [0.0f64; 32];
+    let f = fetching::fetch_changes(head, names, reals, rows, &mut numbers, &mut values);
+    writing::put_fetch(out, at, &numbers, &values, f.count)
+}
+
+// p: the terms of an add.
+fn answer(
+    call: Call,
+    p: Pack,
+    head: &mut Head,
+    names: &mut Names,
+    reals: &mut Reals,
+    rows: &mut Rows,
+    out: &mut Out,
+    at: usize,
+) -> usize
+    requires { ⌜ at ≤ 6000 ⌝ }
+    ensures { λ z. ⌜ Spoken (replyOf (callFrom call p) (lent (head .entry) (names .entry) (reals .entry) (rows .entry))) (now (out .entry)) (now (out .exit)) at z (lent (head .exit) (names .exit) (reals .exit) (rows .exit)) ⌝ }
+{
+    match call {
+        Call::Reset => {
+            let a = shell::reset(head, names, reals, rows);
+            writing::put_answer(out, at, a.number, a.pivots, a.whole)
+        }
+        Call::Change(c, b) => {
+            let a = change(head, names, reals, rows, c, p, b);
+            writing::put_answer(out, at, a.number, a.pivots, a.whole)
+        }
+        Call::Value(v) => writing::put_float(
+            out,
+            at,
+            asking::get_value(head, names, reals, rows, v),
+        ),
+        Call::HasCon(c) => writing::put_flag(
+            out,
+            at,
+            asking::has_constraint(head, names, reals, rows, c),
+        ),
+        Call::HasEdit(v) => writing::put_flag(
+            out,
+            at,
+            asking::has_edit(head, names, reals, rows, v),
+        ),
+        Call::Fetch => say_fetch(head, names, reals, rows, out, at),
+        Call::Create(a, b, c, k) => writing::put_float(out, at, rows::strength::create(a, b, c, k)),
+        Call::Clip(s) => writing::put_float(out, at, rows::strength::clip(s)),
+        Call::Bad => writing::put_unread(out, at),
+    }
+}
+
+fn read_front(line: &[u8], held: usize) -> Line
+    requires { ⌜ held ≤ length (now line) ⌝ }
+    ensures { λ l. ⌜ l ≡ lineOf (Format·callOf (wordsOf (take held (now (line .entry))))) ⌝ }
+{
+    text::reading::read_line(&line[..held])
 }
 
 // The line of which `held` bytes were read: no call if they are more than the buffer's.
 pub fn answer_held(
-    line: &[u8],
+    line: &[u8; 4096],
     held: usize,
-    h: &mut [u64],
-    n: &mut [[u64; 20]],
-    r: &mut [[f64; 17]],
-    w: &mut [[f64; 130]],
-    h2: &mut [u64],
-    n2: &mut [[u64; 20]],
-    r2: &mut [[f64; 17]],
-    w2: &mut [[f64; 130]],
-    out: &mut [u8],
+    head: &mut Head,
+    names: &mut Names,
+    reals: &mut Reals,
+    rows: &mut Rows,
+    out: &mut Out,
     at: usize,
 ) -> usize
-    requires { ⌜ length (now line) ≡ 4096 ⌝ }
-    requires { ⌜ at + 2000 ≤ length (now out) ⌝ }
-    ensures { λ z. ⌜ Spoken (heldReply (heldOf (now (line .entry)) held) (tables (now (h2 .entry)) (now (n2 .entry)) (now (r2 .entry)) (now (w2 .entry))) (tables (now (h .entry)) (now (n .entry)) (now (r .entry)) (now (w .entry)))) (now (out .entry)) (now (out .exit)) at z (tables (now (h .exit)) (now (n .exit)) (now (r .exit)) (now (w .exit))) ⌝ }
+    requires { ⌜ at ≤ 6000 ⌝ }
+    ensures { λ z. ⌜ Spoken (heldReply (heldOf (now (line .entry)) held) (lent (head .entry) (names .entry) (reals .entry) (rows .entry))) (now (out .entry)) (now (out .exit)) at z (lent (head .exit) (names .exit) (reals .exit) (rows .exit)) ⌝ }
+    ensures { λ z. ⌜ z ≤ 8000 ⌝ }
 {
-    if line.len() < held {
+    if 4096 < held {
         return writing::put_unread(out, at);
     }
-    answer(&line[..held], h, n, r, w, h2, n2, r2, w2, out, at)
+    let l = read_front(line, held);
+    let call = l.call;
+    let p = l.terms;
+    answer(call, p, head, names, reals, rows, out, at)
 }

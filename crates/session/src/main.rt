@@ -1,32 +1,37 @@
 // The program: calls as lines of standard input, an answer a line on standard output.
 mod answers;
-mod changes;
-mod queries;
 mod stream;
 
-// Two sets of tables, lent to every call: the solver's and the working room's. The reset makes the first read as a state.
+use lent::Head;
+use lent::Names;
+use lent::Reals;
+use lent::Rows;
+
+// The reset makes the tables read as a state. A proved loop has to end, and nothing says that the input does: it counts down
+// from a number of turns that no run uses up.
 fn main() {
-    let mut h = [0u64; 196];
-    let mut n = [[0u64; 20]; 128];
-    let mut r = [[0.0f64; 17]; 128];
-    let mut w = [[0.0f64; 130]; 51];
-    let mut h2 = [0u64; 196];
-    let mut n2 = [[0u64; 20]; 128];
-    let mut r2 = [[0.0f64; 17]; 128];
-    let mut w2 = [[0.0f64; 130]; 51];
+    let mut head: Head = [0; 196];
+    let mut names: Names = [[0; 20]; 128];
+    let mut reals: Reals = [[0.0; 17]; 128];
+    let mut rows: Rows = [[0.0; 130]; 51];
+    let mut piece = [0u8; 4096];
     let mut line = [0u8; 4096];
     let mut out = [0u8; 8192];
-    shell::reset(&mut h, &mut n, &mut r, &mut w);
-    stream::serve(
-        &mut h,
-        &mut n,
-        &mut r,
-        &mut w,
-        &mut h2,
-        &mut n2,
-        &mut r2,
-        &mut w2,
-        &mut line,
-        &mut out,
-    );
+    shell::reset(&mut head, &mut names, &mut reals, &mut rows);
+    let mut p = stream::begin();
+    let mut turns = u64::MAX;
+    while turns > 0 && p.more {
+        p = stream::take(&mut piece, &mut line, &out, p);
+        p = stream::say(
+            p,
+            &line,
+            &mut head,
+            &mut names,
+            &mut reals,
+            &mut rows,
+            &mut out,
+        );
+        turns -= 1;
+    }
+    stream::flush(&out, p);
 }

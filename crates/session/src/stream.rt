@@ -4,42 +4,71 @@
 ghost use mathlib.Core.Path.{_≡_};
 ghost use Prim.Native.Nat.{_≤_};
 ghost use lib.ListN.{length};
+use crate::answers::Out;
 use crate::answers::answer_held;
+use lent::Head;
+use lent::Names;
+use lent::Reals;
+use lent::Rows;
 use text::stream::keep_byte;
 use text::writing::put_byte;
 
-// How many bytes of the line that has begun are held, how many of the buffer wait to be written, and whether every write went through.
+pub type Line = [u8; 4096];
+
+// The bytes from `next` to `end` of the piece that was read last are still to be taken; `held` bytes of a line are kept, and
+// it has ended if `whole`; `at` bytes of answers wait to be written. good: every write went through; more: nothing ended the input.
 pub struct Place {
+    pub next: usize,
+    pub end: usize,
     pub held: usize,
+    pub whole: bool,
     pub at: usize,
-    pub open: bool,
+    pub good: bool,
+    pub more: bool,
+}
+
+pub fn begin() -> Place
+    ensures { λ p. ⌜ p .at ≤ 8192 ⌝ }
+    ensures { λ p. ⌜ p .end ≤ 4096 ⌝ }
+{
+    Place {
+        next: 0,
+        end: 0,
+        held: 0,
+        whole: false,
+        at: 0,
+        good: true,
+        more: true,
+    }
+}
+
+fn write_front(out: &[u8], at: usize) -> bool
+    requires { ⌜ at ≤ length (now out) ⌝ }
+{
+    io::write_all(1, &out[..at])
 }
 
 // What waits is written; after a write that failed nothing more is, so that what was written is the answers' beginning.
-fn flush(out: &[u8], p: Place) -> Place
-    requires { ⌜ p .at ≤ length (now out) ⌝ }
+pub fn flush(out: &Out, p: Place) -> Place
+    requires { ⌜ p .at ≤ 8192 ⌝ }
     ensures { λ q. ⌜ q .at ≡ 0 ⌝ }
+    ensures { λ q. ⌜ q .end ≡ p .end ⌝ }
 {
-    if !p.open {
-        return Place {
-            held: p.held,
-            at: 0,
-            open: false,
-        };
+    let mut q = p;
+    q.at = 0;
+    if p.good {
+        let ok = write_front(out, p.at);
+        q.good = ok;
+        q.more = p.more & ok;
     }
-    let at = p.at;
-    let ok = io::write_all(1, &out[..at]);
-    Place {
-        held: p.held,
-        at: 0,
-        open: ok,
-    }
+    q
 }
 
 // What waits is written if there may be no room for another answer.
-fn with_room(out: &[u8], p: Place) -> Place
-    requires { ⌜ p .at ≤ length (now out) ⌝ }
+fn with_room(out: &Out, p: Place) -> Place
+    requires { ⌜ p .at ≤ 8192 ⌝ }
     ensures { λ q. ⌜ q .at ≤ 6000 ⌝ }
+    ensures { λ q. ⌜ q .end ≡ p .end ⌝ }
 {
     if p.at <= 6000 {
         return p;
@@ -47,178 +76,81 @@ fn with_room(out: &[u8], p: Place) -> Place
     flush(out, p)
 }
 
-fn end_line(
-    p: Place,
-    h: &mut [u64],
-    n: &mut [[u64; 20]],
-    r: &mut [[f64; 17]],
-    w: &mut [[f64; 130]],
-    h2: &mut [u64],
-    n2: &mut [[u64; 20]],
-    r2: &mut [[f64; 17]],
-    w2: &mut [[f64; 130]],
-    line: &[u8],
-    out: &mut [u8],
-) -> Place
-    requires { ⌜ length (now line) ≡ 4096 ⌝ }
-    requires { ⌜ 8000 ≤ length (now out) ⌝ }
-    requires { ⌜ p .at ≤ length (now out) ⌝ }
-    ensures { λ q. ⌜ q .at ≤ length (now (out .exit)) ⌝ }
-{
-    let q = with_room(out, p);
-    let held = q.held;
-    let at = q.at;
-    let next = answer_held(line, held, h, n, r, w, h2, n2, r2, w2, out, at);
-    let end = put_byte(out, next, 10);
-    Place {
-        held: 0,
-        at: end,
-        open: q.open,
-    }
-}
-
-fn take_byte(
-    b: u8,
-    p: Place,
-    h: &mut [u64],
-    n: &mut [[u64; 20]],
-    r: &mut [[f64; 17]],
-    w: &mut [[f64; 130]],
-    h2: &mut [u64],
-    n2: &mut [[u64; 20]],
-    r2: &mut [[f64; 17]],
-    w2: &mut [[f64; 130]],
-    line: &mut [u8],
-    out: &mut [u8],
-) -> Place
-    requires { ⌜ length (now line) ≡ 4096 ⌝ }
-    requires { ⌜ 8000 ≤ length (now out) ⌝ }
-    requires { ⌜ p .at ≤ length (now out) ⌝ }
-    ensures { λ q. ⌜ q .at ≤ length (now (out .exit)) ⌝ }
-{
-    if b == 10 {
-        return end_line(p, h, n, r, w, h2, n2, r2, w2, line, out);
-    }
-    let held = keep_byte(line, p.held, b);
-    Place {
-        held: held,
-        at: p.at,
-        open: p.open,
-    }
-}
-
-fn take_piece(
-    piece: &[u8],
-    p: Place,
-    h: &mut [u64],
-    n: &mut [[u64; 20]],
-    r: &mut [[f64; 17]],
-    w: &mut [[f64; 130]],
-    h2: &mut [u64],
-    n2: &mut [[u64; 20]],
-    r2: &mut [[f64; 17]],
-    w2: &mut [[f64; 130]],
-    line: &mut [u8],
-    out: &mut [u8],
-) -> Place
-    requires { ⌜ length (now line) ≡ 4096 ⌝ }
-    requires { ⌜ 8000 ≤ length (now out) ⌝ }
-    requires { ⌜ p .at ≤ length (now out) ⌝ }
-    ensures { λ q. ⌜ q .at ≤ length (now (out .exit)) ⌝ }
+// The piece's bytes up to a newline or its end.
+fn cut(piece: &Line, line: &mut Line, p: Place) -> Place
+    requires { ⌜ p .end ≤ 4096 ⌝ }
+    ensures { λ q. ⌜ q .at ≡ p .at ⌝ }
+    ensures { λ q. ⌜ q .end ≤ 4096 ⌝ }
 {
     let mut q = p;
-    let mut i: usize = 0;
-    while i < piece.len() {
-        q = take_byte(piece[i], q, h, n, r, w, h2, n2, r2, w2, line, out);
-        i += 1;
+    while q.next < q.end && !q.whole {
+        let i = q.next;
+        let b = piece[i];
+        q.next = i + 1;
+        if b == 10 {
+            q.whole = true;
+        } else {
+            q.held = keep_byte(line, q.held, b);
+        }
     }
     q
 }
 
-// The input's end.
-fn take_end(
-    p: Place,
-    h: &mut [u64],
-    n: &mut [[u64; 20]],
-    r: &mut [[f64; 17]],
-    w: &mut [[f64; 130]],
-    h2: &mut [u64],
-    n2: &mut [[u64; 20]],
-    r2: &mut [[f64; 17]],
-    w2: &mut [[f64; 130]],
-    line: &[u8],
-    out: &mut [u8],
-) -> Place
-    requires { ⌜ length (now line) ≡ 4096 ⌝ }
-    requires { ⌜ 8000 ≤ length (now out) ⌝ }
-    requires { ⌜ p .at ≤ length (now out) ⌝ }
-    ensures { λ q. ⌜ q .at ≤ length (now (out .exit)) ⌝ }
+// A read that fails ends the input, after which nothing more is read.
+fn read(piece: &mut Line, p: Place) -> Place
+    ensures { λ q. ⌜ q .at ≡ p .at ⌝ }
+    ensures { λ q. ⌜ q .end ≤ 4096 ⌝ }
 {
-    if p.held == 0 {
+    let got = libc::read(0, piece);
+    let k = io::count(got, piece);
+    let mut q = p;
+    q.next = 0;
+    q.end = k;
+    q.more = k > 0;
+    q.whole = (k == 0) & (p.held > 0);
+    q
+}
+
+// On to the next line's end, or to the end of the piece; and if all of it was taken before, another piece is read.
+pub fn take(piece: &mut Line, line: &mut Line, out: &Out, p: Place) -> Place
+    requires { ⌜ p .at ≤ 8192 ⌝ }
+    requires { ⌜ p .end ≤ 4096 ⌝ }
+    ensures { λ q. ⌜ q .at ≤ 8192 ⌝ }
+    ensures { λ q. ⌜ q .end ≤ 4096 ⌝ }
+{
+    if p.next < p.end {
+        return cut(piece, line, p);
+    }
+    let q = flush(out, p);
+    if !q.more {
+        return q;
+    }
+    let r = read(piece, q);
+    cut(piece, line, r)
+}
+
+// The line is answered if it has ended.
+pub fn say(
+    p: Place,
+    line: &Line,
+    head: &mut Head,
+    names: &mut Names,
+    reals: &mut Reals,
+    rows: &mut Rows,
+    out: &mut Out,
+) -> Place
+    requires { ⌜ p .at ≤ 8192 ⌝ }
+    requires { ⌜ p .end ≤ 4096 ⌝ }
+    ensures { λ q. ⌜ q .at ≤ 8192 ⌝ }
+    ensures { λ q. ⌜ q .end ≤ 4096 ⌝ }
+{
+    if !p.whole {
         return p;
     }
-    end_line(p, h, n, r, w, h2, n2, r2, w2, line, out)
-}
-
-// One read. A read that fails ends the input, after which nothing more is read.
-fn serve_piece(
-    p: Place,
-    h: &mut [u64],
-    n: &mut [[u64; 20]],
-    r: &mut [[f64; 17]],
-    w: &mut [[f64; 130]],
-    h2: &mut [u64],
-    n2: &mut [[u64; 20]],
-    r2: &mut [[f64; 17]],
-    w2: &mut [[f64; 130]],
-    line: &mut [u8],
-    out: &mut [u8],
-) -> Place
-    requires { ⌜ length (now line) ≡ 4096 ⌝ }
-    requires { ⌜ 8000 ≤ length (now out) ⌝ }
-    requires { ⌜ p .at ≤ length (now out) ⌝ }
-    ensures { λ q. ⌜ q .at ≤ length (now (out .exit)) ⌝ }
-{
-    let mut piece = [0u8; 4096];
-    let got = libc::read(0, &mut piece);
-    let k = io::count(got, &piece);
-    if k == 0 {
-        let q = take_end(p, h, n, r, w, h2, n2, r2, w2, line, out);
-        let f = flush(out, q);
-        return Place {
-            held: f.held,
-            at: f.at,
-            open: false,
-        };
-    }
-    let q = take_piece(&piece[..k], p, h, n, r, w, h2, n2, r2, w2, line, out);
-    flush(out, q)
-}
-
-// A proved loop has to end, and nothing says that the input does: the loop counts down from a number of reads that no run uses up.
-pub fn serve(
-    h: &mut [u64],
-    n: &mut [[u64; 20]],
-    r: &mut [[f64; 17]],
-    w: &mut [[f64; 130]],
-    h2: &mut [u64],
-    n2: &mut [[u64; 20]],
-    r2: &mut [[f64; 17]],
-    w2: &mut [[f64; 130]],
-    line: &mut [u8],
-    out: &mut [u8],
-)
-    requires { ⌜ length (now line) ≡ 4096 ⌝ }
-    requires { ⌜ 8000 ≤ length (now out) ⌝ }
-{
-    let mut p = Place {
-        held: 0,
-        at: 0,
-        open: true,
-    };
-    let mut turns = u64::MAX;
-    while turns > 0 && p.open {
-        p = serve_piece(p, h, n, r, w, h2, n2, r2, w2, line, out);
-        turns -= 1;
-    }
+    let mut q = with_room(out, p);
+    let next = answer_held(line, q.held, head, names, reals, rows, out, q.at);
+    q.at = put_byte(out, next, 10);
+    q.held = 0;
+    q.whole = false;
+    q
 }

@@ -1,14 +1,14 @@
 -- "Reset refuses only wrong lengths": eight places of the head are written, the rest lies past the counts.
 -- Assumes nothing.
 use Prim.Native.Nat.{ℕ}
-use mathlib.Core.Path.{_≡_, refl, ap, _∙_}
-use mathlib.Core.Bool.{Bool, true, false, cond}
+use mathlib.Core.Path.{_≡_, refl, sym, ap, _∙_}
+use mathlib.Core.Bool.{Bool, true, cond}
 use mathlib.Core.List.{List, []}
 use lib.ListN.{getD, set}
 use lib.Ieee.{Float}
 use Rattle.steps.specs.Calls.{empty, reset}
 use Rattle.layout.specs.Layout.{Tables, tables, writeHead, writeNames, writeReals, writeRows, write, over, heading, recordCounts, bitOf, recordCountsAt, rowsAt, symbolsAt, editsAt, constraintsAt}
-use Rattle.layout.specs.Rooms.{lengthsRight}
+use Rattle.layout.specs.Rooms.{lengthsRight, Lengths, lengths-right}
 use Rattle.layout.specs.Laying.{laid-nil, laid-cons, set-same}
 use Rattle.shell.specs.Shell.{Called, called, refused18, callIn}
 
@@ -44,6 +44,6 @@ pub reset-done : (t : Tables) {b : Bool} → b ≡ lengthsRight t → b ≡ true
 unfolding resetOf callIn reset write
 reset-done t e f = rw (← e, f, reset-head (t .head), reset-names (t .names), reset-reals (t .reals), reset-rows (t .rows)) refl
 
-pub reset-refused : (t : Tables) {b : Bool} → b ≡ lengthsRight t → b ≡ false → called refused18 t ≡ resetOf t
-unfolding resetOf
-reset-refused t e f = rw (← e, f) refl
+-- tables whose types say their lengths
+pub reset-typed : (h g : List ℕ) (n : List (List ℕ)) (r w : List (List Float)) → Lengths (tables h n r w) → g ≡ resetHead h → called (record { number = 0; pivots = 0; whole = true }) (tables g n r w) ≡ resetOf (tables h n r w)
+reset-typed h g n r w l q = rw q (reset-done (tables h n r w) (sym (lengths-right (tables h n r w) l)) refl)

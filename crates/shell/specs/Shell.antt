@@ -9,13 +9,13 @@ use Rattle.steps.specs.State.{State}
 use Rattle.steps.specs.Calls.{Answer, Result}
 use Rattle.steps.specs.Readable.{readable}
 use Rattle.layout.specs.Layout.{Tables, tables, read, write}
-use Rattle.layout.specs.Rooms.{lengthsRight, Lengths, lengths, Counts, Coded, Wide, both}
+use Rattle.layout.specs.Rooms.{lengthsRight, Lengths, lengths-right, Counts, Coded, Wide, both}
 use Rattle.layout.specs.Copy.{putOver}
 use Rattle.layout.specs.Written.{written-is, write-read}
 use Rattle.layout.specs.Copied.{copy-reads, copy-lengths, copy-counts, copy-coded}
 use Rattle.reading.specs.Reads.{reads}
-use Rattle.reading.specs.Given.{reads-lengths, reads-counts, reads-coded, reads-readable}
-use Rattle.room.specs.Room.{cleared}
+use Rattle.reading.specs.Given.{reads-counts, reads-coded, reads-readable}
+use Rattle.shell.specs.Room.{cleared}
 use Rattle.shell.specs.declared.Answer as code
 
 -- "Each changing call answers: accepted or a number below, pivots made, whole mark." 0 is accepted.
@@ -51,25 +51,20 @@ Entered t w = (read w ≡ read t) × (Ready w)
 
 -- ---- entering
 
-pub entered : (t w : Tables) {w₁ : Tables} → reads t && lengthsRight w ≡ true → Wide w → w₁ ≡ putOver t w → Entered t w₁
-entered t w h v e =
-    let p = both (reads t) (lengthsRight w) h in
-    let l = lengths w (p .1) in
-    let c = reads-counts t (p .0) in
-    let q = reads-coded t (p .0) in
+pub entered : (t w : Tables) {w₁ : Tables} {r : Bool} → r ≡ reads t → r ≡ true → Lengths w → Wide w → w₁ ≡ putOver t w → Entered t w₁
+entered t w a b l v e =
+    let h : reads t ≡ true = sym a ∙ b in
+    let c = reads-counts t h in
+    let q = reads-coded t h in
     let same : read (putOver t w) ≡ read t = copy-reads t w c q l v in
-    rw e (same, (copy-lengths t w c q l v, copy-counts t w c q l v, copy-coded t w c q l v, rw same (reads-readable t (p .0))))
-
-pub may-copy : (t w : Tables) → reads t && lengthsRight w ≡ true → (Lengths w) × (Lengths t) × (Counts (t .head))
-may-copy t w h =
-    let p = both (reads t) (lengthsRight w) h in
-    (lengths w (p .1), reads-lengths t (p .0), reads-counts t (p .0))
+    rw e (same, (copy-lengths t w c q l v, copy-counts t w c q l v, copy-coded t w c q l v, rw same (reads-readable t h)))
 
 -- ---- leaving: over variables, for any call f of the steps that leaves the state as it is where it refuses
 
 pub whole-call : (f : State → Result) (t w w₁ w₂ : Tables) {t₂ : Tables} {a : Answer} {ok on : Bool}
     → ((s : State) → eqb (f s .answer .number) 0 ≡ false → f s .state ≡ s)
-    → ok ≡ reads t && lengthsRight w
+    → ok ≡ reads t
+    → Lengths w
     → Then ok (Entered t w₁)
     → a ≡ cond ok (f (read w₁) .answer) refused18
     → on ≡ ok && eqb (a .number) 0
@@ -78,8 +73,12 @@ pub whole-call : (f : State → Result) (t w w₁ w₂ : Tables) {t₂ : Tables}
     → t₂ ≡ cond on (putOver w₂ t) t
     → called a t₂ ≡ callOf f w t
 unfolding callOf callIn
-whole-call f t w w₁ w₂ {t₂} {a} {ok} {on} keeps e₁ e₂ e₃ e₄ e₅ e₆ e₇ = go ok on e₁ e₂ e₃ e₄ e₅ e₆ e₇
+whole-call f t w w₁ w₂ {t₂} {a} {ok} {on} keeps e₁ l e₂ e₃ e₄ e₅ e₆ e₇ = go ok on (e₁ ∙ sym (both-read (reads t))) e₂ e₃ e₄ e₅ e₆ e₇
   where
+    both-read : (b : Bool) → b && lengthsRight w ≡ b
+    both-read true = lengths-right w l
+    both-read false = refl
+
     go : (x y : Bool) → x ≡ reads t && lengthsRight w → Then x (Entered t w₁) → a ≡ cond x (f (read w₁) .answer) refused18 → y ≡ x && eqb (a .number) 0 → Then y (read w₂ ≡ f (read w₁) .state) → Then y (Coded w₂) → t₂ ≡ cond y (putOver w₂ t) t
         → called a t₂ ≡ cond (reads t && lengthsRight w) (called (f (read t) .answer) (write (f (read t) .state) t)) (called refused18 t)
     go true true h i j k m n o =
@@ -104,10 +103,9 @@ pub steps-ready : (t w : Tables) (b : Bool) → Then b (Entered t w) → Then b 
 steps-ready t w true h = h .1
 steps-ready t w false h = tt
 
-pub leave-ready : (t w w₂ : Tables) (ok on : Bool) → ok ≡ reads t && lengthsRight w → Then (ok && on) (Left w₂) → Then (ok && on) ((Lengths t) × (Lengths w₂) × (Counts (w₂ .head)))
-leave-ready t w w₂ true true e h = (reads-lengths t (both (reads t) (lengthsRight w) (sym e) .0), h .0, h .1)
-leave-ready t w w₂ true false e h = tt
-leave-ready t w w₂ false on e h = tt
+pub leave-ready : (w₂ : Tables) (on : Bool) → Then on (Left w₂) → Then on (Counts (w₂ .head))
+leave-ready w₂ true h = h .1
+leave-ready w₂ false h = tt
 
 pub left-coded : (w₂ : Tables) (on : Bool) → Then on (Left w₂) → Then on (Coded w₂)
 left-coded w₂ true h = h .2

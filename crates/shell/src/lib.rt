@@ -1,16 +1,27 @@
 // The shell of every changing call: the tables are tested and their live part copied into the working room, the steps run there, an accepted call's state goes back, the room is cleared. And reset.
+pub mod copying;
+pub mod room;
+
 ghost use mathlib.Core.Path.{_≡_};
-ghost use mathlib.Core.Bool.{_&&_, cond};
+ghost use mathlib.Core.Bool.{cond};
 ghost use mathlib.Core.List.{[]};
-ghost use lib.ListN.{length};
 ghost use Rattle.laws.specs.Given.{Then};
-ghost use Rattle.layout.specs.Layout.{tables, headSize};
-ghost use Rattle.layout.specs.Rooms.{lengthsRight, Lengths, Counts, Wide};
+ghost use Rattle.layout.specs.Layout.{tables};
+ghost use Rattle.layout.specs.Rooms.{Lengths, Counts, Wide};
 ghost use Rattle.layout.specs.Copy.{putOver};
+ghost use Rattle.lent.specs.Lent.{lent};
 ghost use Rattle.reading.specs.Reads.{reads};
-ghost use Rattle.room.specs.Room.{cleared};
+ghost use Rattle.shell.specs.Room.{cleared};
 ghost use Rattle.shell.specs.Shell.{answerOf, called, refused18, Entered};
 ghost use Rattle.shell.specs.Reset.{resetOf, resetHead};
+use lent::Head;
+use lent::Name;
+use lent::Names;
+use lent::Real;
+use lent::Reals;
+use lent::Row;
+use lent::Rows;
+use lent::long;
 
 // "Each changing call answers: accepted or a number below, pivots made, whole mark." 0 is accepted.
 #[repr(C)]
@@ -31,7 +42,7 @@ pub fn refuse18() -> Answer
 }
 
 // All rows are as wide as their types say.
-pub fn widths(names: &[[u64; 20]], reals: &[[f64; 17]], rows: &[[f64; 130]])
+pub fn widths(names: &[Name], reals: &[Real], rows: &[Row])
     ensures { λ _. ⌜ Wide (tables [] (now (names .entry)) (now (reals .entry)) (now (rows .entry))) ⌝ }
 {
     room::wide_names(names);
@@ -41,19 +52,17 @@ pub fn widths(names: &[[u64; 20]], reals: &[[f64; 17]], rows: &[[f64; 130]])
 
 // the live part of one set of tables over another
 fn put_over(
-    head: &mut [u64],
-    names: &mut [[u64; 20]],
-    reals: &mut [[f64; 17]],
-    rows: &mut [[f64; 130]],
-    whead: &[u64],
-    wnames: &[[u64; 20]],
-    wreals: &[[f64; 17]],
-    wrows: &[[f64; 130]],
+    head: &mut Head,
+    names: &mut Names,
+    reals: &mut Reals,
+    rows: &mut Rows,
+    whead: &Head,
+    wnames: &Names,
+    wreals: &Reals,
+    wrows: &Rows,
 )
-    requires { ⌜ Lengths (tables (now head) (now names) (now reals) (now rows)) ⌝ }
-    requires { ⌜ Lengths (tables (now whead) (now wnames) (now wreals) (now wrows)) ⌝ }
     requires { ⌜ Counts (now whead) ⌝ }
-    ensures { λ _. ⌜ tables (now (head .exit)) (now (names .exit)) (now (reals .exit)) (now (rows .exit)) ≡ putOver (tables (now (whead .entry)) (now (wnames .entry)) (now (wreals .entry)) (now (wrows .entry))) (tables (now (head .entry)) (now (names .entry)) (now (reals .entry)) (now (rows .entry))) ⌝ }
+    ensures { λ _. ⌜ lent (head .exit) (names .exit) (reals .exit) (rows .exit) ≡ putOver (lent (whead .entry) (wnames .entry) (wreals .entry) (wrows .entry)) (lent (head .entry) (names .entry) (reals .entry) (rows .entry)) ⌝ }
 {
     copying::put_head(head, whead);
     copying::put_all_names(names, wnames, whead);
@@ -61,23 +70,23 @@ fn put_over(
     copying::put_tableau(rows, wrows, whead);
 }
 
-// The tables read as a state and the room is long enough: then the room reads as the same state.
+// The tables read as a state: then the room reads as the same state.
 pub fn enter(
-    head: &[u64],
-    names: &[[u64; 20]],
-    reals: &[[f64; 17]],
-    rows: &[[f64; 130]],
-    whead: &mut [u64],
-    wnames: &mut [[u64; 20]],
-    wreals: &mut [[f64; 17]],
-    wrows: &mut [[f64; 130]],
+    head: &Head,
+    names: &Names,
+    reals: &Reals,
+    rows: &Rows,
+    whead: &mut Head,
+    wnames: &mut Names,
+    wreals: &mut Reals,
+    wrows: &mut Rows,
 ) -> bool
-    ensures { λ r. ⌜ r ≡ reads (tables (now (head .entry)) (now (names .entry)) (now (reals .entry)) (now (rows .entry))) && lengthsRight (tables (now (whead .entry)) (now (wnames .entry)) (now (wreals .entry)) (now (wrows .entry))) ⌝ }
-    ensures { λ r. ⌜ Then r (Entered (tables (now (head .entry)) (now (names .entry)) (now (reals .entry)) (now (rows .entry))) (tables (now (whead .exit)) (now (wnames .exit)) (now (wreals .exit)) (now (wrows .exit)))) ⌝ }
+    ensures { λ r. ⌜ r ≡ reads (lent (head .entry) (names .entry) (reals .entry) (rows .entry)) ⌝ }
+    ensures { λ r. ⌜ Then r (Entered (lent (head .entry) (names .entry) (reals .entry) (rows .entry)) (lent (whead .exit) (wnames .exit) (wreals .exit) (wrows .exit))) ⌝ }
+    ensures { λ _. ⌜ Lengths (lent (whead .entry) (wnames .entry) (wreals .entry) (wrows .entry)) ⌝ }
 {
-    let ok = reading::reads_as_state(head, names, reals, rows)
-        & reading::lengths_right(whead, wnames, wreals, wrows);
-    if !ok {
+    long(whead, wnames, wreals, wrows);
+    if !reading::reads_as_state(head, names, reals, rows) {
         return false;
     }
     widths(wnames, wreals, wrows);
@@ -87,30 +96,25 @@ pub fn enter(
 
 fn put_back_if(
     on: bool,
-    head: &mut [u64],
-    names: &mut [[u64; 20]],
-    reals: &mut [[f64; 17]],
-    rows: &mut [[f64; 130]],
-    whead: &[u64],
-    wnames: &[[u64; 20]],
-    wreals: &[[f64; 17]],
-    wrows: &[[f64; 130]],
+    head: &mut Head,
+    names: &mut Names,
+    reals: &mut Reals,
+    rows: &mut Rows,
+    whead: &Head,
+    wnames: &Names,
+    wreals: &Reals,
+    wrows: &Rows,
 )
-    requires { ⌜ Then on ((Lengths (tables (now head) (now names) (now reals) (now rows))) × (Lengths (tables (now whead) (now wnames) (now wreals) (now wrows))) × (Counts (now whead))) ⌝ }
-    ensures { λ _. ⌜ tables (now (head .exit)) (now (names .exit)) (now (reals .exit)) (now (rows .exit)) ≡ cond on (putOver (tables (now (whead .entry)) (now (wnames .entry)) (now (wreals .entry)) (now (wrows .entry))) (tables (now (head .entry)) (now (names .entry)) (now (reals .entry)) (now (rows .entry)))) (tables (now (head .entry)) (now (names .entry)) (now (reals .entry)) (now (rows .entry))) ⌝ }
+    requires { ⌜ Then on (Counts (now whead)) ⌝ }
+    ensures { λ _. ⌜ lent (head .exit) (names .exit) (reals .exit) (rows .exit) ≡ cond on (putOver (lent (whead .entry) (wnames .entry) (wreals .entry) (wrows .entry)) (lent (head .entry) (names .entry) (reals .entry) (rows .entry))) (lent (head .entry) (names .entry) (reals .entry) (rows .entry)) ⌝ }
 {
     if on {
         put_over(head, names, reals, rows, whead, wnames, wreals, wrows);
     }
 }
 
-fn clear_room(
-    whead: &mut [u64],
-    wnames: &mut [[u64; 20]],
-    wreals: &mut [[f64; 17]],
-    wrows: &mut [[f64; 130]],
-)
-    ensures { λ _. ⌜ tables (now (whead .exit)) (now (wnames .exit)) (now (wreals .exit)) (now (wrows .exit)) ≡ cleared (tables (now (whead .entry)) (now (wnames .entry)) (now (wreals .entry)) (now (wrows .entry))) ⌝ }
+fn clear_room(whead: &mut Head, wnames: &mut Names, wreals: &mut Reals, wrows: &mut Rows)
+    ensures { λ _. ⌜ lent (whead .exit) (wnames .exit) (wreals .exit) (wrows .exit) ≡ cleared (lent (whead .entry) (wnames .entry) (wreals .entry) (wrows .entry)) ⌝ }
 {
     room::clear_head(whead);
     room::clear_names(wnames);
@@ -121,25 +125,26 @@ fn clear_room(
 // The room's state goes back if the call is accepted; the room is cleared either way.
 pub fn leave(
     on: bool,
-    head: &mut [u64],
-    names: &mut [[u64; 20]],
-    reals: &mut [[f64; 17]],
-    rows: &mut [[f64; 130]],
-    whead: &mut [u64],
-    wnames: &mut [[u64; 20]],
-    wreals: &mut [[f64; 17]],
-    wrows: &mut [[f64; 130]],
+    head: &mut Head,
+    names: &mut Names,
+    reals: &mut Reals,
+    rows: &mut Rows,
+    whead: &mut Head,
+    wnames: &mut Names,
+    wreals: &mut Reals,
+    wrows: &mut Rows,
 )
-    requires { ⌜ Then on ((Lengths (tables (now head) (now names) (now reals) (now rows))) × (Lengths (tables (now whead) (now wnames) (now wreals) (now wrows))) × (Counts (now whead))) ⌝ }
-    ensures { λ _. ⌜ tables (now (head .exit)) (now (names .exit)) (now (reals .exit)) (now (rows .exit)) ≡ cond on (putOver (tables (now (whead .entry)) (now (wnames .entry)) (now (wreals .entry)) (now (wrows .entry))) (tables (now (head .entry)) (now (names .entry)) (now (reals .entry)) (now (rows .entry)))) (tables (now (head .entry)) (now (names .entry)) (now (reals .entry)) (now (rows .entry))) ⌝ }
-    ensures { λ _. ⌜ tables (now (whead .exit)) (now (wnames .exit)) (now (wreals .exit)) (now (wrows .exit)) ≡ cleared (tables (now (whead .entry)) (now (wnames .entry)) (now (wreals .entry)) (now (wrows .entry))) ⌝ }
+    requires { ⌜ Then on (Counts (now whead)) ⌝ }
+    ensures { λ _. ⌜ lent (head .exit) (names .exit) (reals .exit) (rows .exit) ≡ cond on (putOver (lent (whead .entry) (wnames .entry) (wreals .entry) (wrows .entry)) (lent (head .entry) (names .entry) (reals .entry) (rows .entry))) (lent (head .entry) (names .entry) (reals .entry) (rows .entry)) ⌝ }
+    ensures { λ _. ⌜ lent (whead .exit) (wnames .exit) (wreals .exit) (wrows .exit) ≡ cleared (lent (whead .entry) (wnames .entry) (wreals .entry) (wrows .entry)) ⌝ }
+    ensures { λ _. ⌜ Lengths (lent (whead .entry) (wnames .entry) (wreals .entry) (wrows .entry)) ⌝ }
 {
+    long(whead, wnames, wreals, wrows);
     put_back_if(on, head, names, reals, rows, whead, wnames, wreals, wrows);
     clear_room(whead, wnames, wreals, wrows);
 }
 
-fn reset_head(head: &mut [u64])
-    requires { ⌜ length (now head) ≡ headSize ⌝ }
+fn reset_head(head: &mut Head)
     ensures { λ _. ⌜ now (head .exit) ≡ resetHead (now (head .entry)) ⌝ }
 {
     head[layout::NEXT_ID] = 1;
@@ -152,18 +157,11 @@ fn reset_head(head: &mut [u64])
     head[layout::WHOLE] = 1;
 }
 
-// "Reset refuses only wrong lengths."
-pub fn reset(
-    head: &mut [u64],
-    names: &mut [[u64; 20]],
-    reals: &mut [[f64; 17]],
-    rows: &mut [[f64; 130]],
-) -> Answer
-    ensures { λ r. ⌜ called (answerOf r) (tables (now (head .exit)) (now (names .exit)) (now (reals .exit)) (now (rows .exit))) ≡ resetOf (tables (now (head .entry)) (now (names .entry)) (now (reals .entry)) (now (rows .entry))) ⌝ }
+// "Reset refuses only wrong lengths.", which these types rule out.
+pub fn reset(head: &mut Head, names: &mut Names, reals: &mut Reals, rows: &mut Rows) -> Answer
+    ensures { λ r. ⌜ called (answerOf r) (lent (head .exit) (names .exit) (reals .exit) (rows .exit)) ≡ resetOf (lent (head .entry) (names .entry) (reals .entry) (rows .entry)) ⌝ }
 {
-    if !reading::lengths_right(head, names, reals, rows) {
-        return refuse18();
-    }
+    long(head, names, reals, rows);
     reset_head(head);
     Answer {
         number: 0,

@@ -19,12 +19,13 @@ use Rattle.text.specs.declared.floats.Budget.{Budget}
 use Rattle.text.specs.declared.floats.Budget.the-variants.{Is16, No16}
 use Rattle.text.specs.declared.floats.Real.{Real}
 use Rattle.text.specs.declared.floats.Real.the-variants.{Number, NoReal}
+use Rattle.changes.specs.declared.Change.the-variants.{Add, Remove, AddEdit, RemoveEdit, Suggest}
 use Rattle.tags.specs.declared.Relation.{Relation}
 use Rattle.tags.specs.declared.Relation.the-variants.{AtMost, Equal, AtLeast}
 use Rattle.text.specs.declared.calls.Related.{Related}
 use Rattle.text.specs.declared.calls.Related.the-variants.{By, NoRelation}
 use Rattle.text.specs.declared.calls.Call.{Call}
-use Rattle.text.specs.declared.calls.Call.the-variants.{Reset, Add, Remove, AddEdit, RemoveEdit, Suggest, Value, HasCon, HasEdit, Fetch, Create, Clip, Bad}
+use Rattle.text.specs.declared.calls.Call.the-variants.{Reset, Change, Value, HasCon, HasEdit, Fetch, Create, Clip, Bad}
 use Rattle.text.specs.declared.calls.Head.{Head}
 use Rattle.text.specs.declared.calls.Head.the-variants.{Of, NoHead}
 use Rattle.text.specs.declared.packing.Packed.{Packed}
@@ -42,11 +43,11 @@ asRelated none = NoRelation
 abbrev pub asCall : Option session.Call → Call
 asCall none = Bad
 asCall (some resets) = Reset
-asCall (some (adds n ts k r b)) = Add n b (asRelation r) k
-asCall (some (removes n b)) = Remove n b
-asCall (some (addsEdit v x b)) = AddEdit v x b
-asCall (some (removesEdit v b)) = RemoveEdit v b
-asCall (some (suggests v x b)) = Suggest v x b
+asCall (some (adds n ts k r b)) = Change (Add n k (asRelation r)) b
+asCall (some (removes n b)) = Change (Remove n) b
+asCall (some (addsEdit v x b)) = Change (AddEdit v x) b
+asCall (some (removesEdit v b)) = Change (RemoveEdit v) b
+asCall (some (suggests v x b)) = Change (Suggest v x) b
 asCall (some (valueOf v)) = Value v
 asCall (some fetches) = Fetch
 asCall (some (hasConstraints n)) = HasCon n
@@ -59,7 +60,7 @@ asCall (some (setsNext n)) = Bad
 
 -- an add without its terms
 abbrev pub headOf : Id → Budget → Related → Real → Head
-headOf (Is32 n) (Is16 b) (By r) (Number k) = Of n b r k
+headOf (Is32 n) (Is16 b) (By r) (Number k) = Of (Add n k r) b
 headOf (Is32 n) (Is16 b) (By r) NoReal = NoHead
 headOf (Is32 n) (Is16 b) NoRelation k = NoHead
 headOf (Is32 n) No16 r k = NoHead
@@ -111,5 +112,5 @@ lineIf true l = l
 lineIf false l = lineOf none
 
 abbrev pub lineWith : Head → Packed → Line
-lineWith (Of n b r k) p = lineIf (p .ok) (record { call = Add n b r k; terms = p .terms })
+lineWith (Of c b) p = lineIf (p .ok) (record { call = Change c b; terms = p .terms })
 lineWith NoHead p = lineOf none

@@ -7,6 +7,7 @@ use crate::digits;
 use crate::floats::Budget;
 use crate::floats::Id;
 use crate::floats::Real;
+use changes::Change;
 use tags::Relation;
 use terms::Pack;
 
@@ -15,15 +16,11 @@ pub enum Related {
     NoRelation,
 }
 
-// Every call of document 01; the terms of an add stand beside it. Bad is a line that is no call.
+// Every call of document 01. Bad is a line that is no call.
 pub enum Call {
     Reset,
-    // number, budget, relation, constant
-    Add(u32, u16, Relation, f64),
-    Remove(u32, u16),
-    AddEdit(u32, f64, u16),
-    RemoveEdit(u32, u16),
-    Suggest(u32, f64, u16),
+    // the budget
+    Change(Change, u16),
     Value(u32),
     HasCon(u32),
     HasEdit(u32),
@@ -33,12 +30,13 @@ pub enum Call {
     Bad,
 }
 
-// An add without its terms: number, budget, relation, constant.
+// An add without its terms, and its budget.
 pub enum Head {
-    Of(u32, u16, Relation, f64),
+    Of(Change, u16),
     NoHead,
 }
 
+// A call, and beside it the terms of an add.
 pub struct Line {
     pub call: Call,
     pub terms: Pack,
@@ -85,7 +83,7 @@ pub fn remove_call(c: Id, budget: Budget) -> Call
 {
     match c {
         Id::Is32(n) => match budget {
-            Budget::Is16(b) => Call::Remove(n, b),
+            Budget::Is16(b) => Call::Change(Change::Remove(n), b),
             Budget::No16 => Call::Bad,
         },
         Id::No32 => Call::Bad,
@@ -97,7 +95,7 @@ pub fn remove_edit_call(v: Id, budget: Budget) -> Call
 {
     match v {
         Id::Is32(n) => match budget {
-            Budget::Is16(b) => Call::RemoveEdit(n, b),
+            Budget::Is16(b) => Call::Change(Change::RemoveEdit(n), b),
             Budget::No16 => Call::Bad,
         },
         Id::No32 => Call::Bad,
@@ -110,7 +108,7 @@ pub fn add_edit_call(v: Id, strength: Real, budget: Budget) -> Call
     match v {
         Id::Is32(n) => match strength {
             Real::Number(x) => match budget {
-                Budget::Is16(b) => Call::AddEdit(n, x, b),
+                Budget::Is16(b) => Call::Change(Change::AddEdit(n, x), b),
                 Budget::No16 => Call::Bad,
             },
             Real::NoReal => Call::Bad,
@@ -125,7 +123,7 @@ pub fn suggest_call(v: Id, value: Real, budget: Budget) -> Call
     match v {
         Id::Is32(n) => match value {
             Real::Number(x) => match budget {
-                Budget::Is16(b) => Call::Suggest(n, x, b),
+                Budget::Is16(b) => Call::Change(Change::Suggest(n, x), b),
                 Budget::No16 => Call::Bad,
             },
             Real::NoReal => Call::Bad,
@@ -179,7 +177,7 @@ pub fn add_call(c: Id, budget: Budget, relation: Related, constant: Real) -> Hea
         Id::Is32(n) => match budget {
             Budget::Is16(b) => match relation {
                 Related::By(r) => match constant {
-                    Real::Number(k) => Head::Of(n, b, r, k),
+                    Real::Number(k) => Head::Of(Change::Add(n, k, r), b),
                     Real::NoReal => Head::NoHead,
                 },
                 Related::NoRelation => Head::NoHead,

@@ -157,13 +157,13 @@ fn read_head(s: &[u8]) -> Head
 fn line_with(head: Head, p: Packed) -> Line
     ensures { λ r. ⌜ r ≡ lineWith head p ⌝ }
 {
-    let Head::Of(n, b, r, k) = head else {
+    let Head::Of(c, b) = head else {
         return no_line();
     };
     let t = p.terms;
     if p.ok {
         Line {
-            call: Call::Add(n, b, r, k),
+            call: Call::Change(c, b),
             terms: t,
         }
     } else {

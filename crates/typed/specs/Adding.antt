@@ -33,7 +33,7 @@ use Rattle.tags.specs.Tags.{relationOf}
 use Rattle.terms.specs.declared.Term.{Term}
 use Rattle.terms.specs.declared.Pack.{Pack}
 use Rattle.terms.specs.Terms.{packOf, termsIn, listed}
-use Rattle.constraints.specs.Listed.{listed-call}
+use Rattle.calls.specs.Listed.{listed-call}
 use Rattle.typed.specs.declared.add.TextAnswer.{TextAnswer}
 use Rattle.typed.specs.Typed.{wholeOf, typedTerms, requiredBy, termsRead, terms-read, value-stands}
 

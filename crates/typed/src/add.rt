@@ -1,12 +1,17 @@
 // A line of text added. Its own refusals come first, 19 to 23, the solver's then.
 ghost use mathlib.Core.Path.{_≡_};
-ghost use Rattle.layout.specs.Layout.{tables};
-ghost use Rattle.room.specs.Room.{cleared};
+ghost use Rattle.lent.specs.Lent.{lent};
+ghost use Rattle.shell.specs.Room.{cleared};
 ghost use Rattle.shell.specs.Shell.{called};
 ghost use Rattle.typed.specs.Adding.{markIn, text, textAnswer, textOf};
 use crate::pack::pack_of;
 use crate::pack::required_by;
 use crate::pack::whole;
+use changes::Change;
+use lent::Head;
+use lent::Names;
+use lent::Reals;
+use lent::Rows;
 use reader::answers::read_line;
 
 // A changing call's answer, and beside 20 where the line leaves the grammar; else the offset is 0.
@@ -19,8 +24,8 @@ pub struct TextAnswer {
 }
 
 // "A refusal answers the stored mark", no where there is none.
-fn mark_of(head: &[u64], names: &[[u64; 20]], reals: &[[f64; 17]], rows: &[[f64; 130]]) -> bool
-    ensures { λ r. ⌜ r ≡ markIn (tables (now (head .entry)) (now (names .entry)) (now (reals .entry)) (now (rows .entry))) ⌝ }
+fn mark_of(head: &Head, names: &Names, reals: &Reals, rows: &Rows) -> bool
+    ensures { λ r. ⌜ r ≡ markIn (lent (head .entry) (names .entry) (reals .entry) (rows .entry)) ⌝ }
 {
     if !reading::reads_as_state(head, names, reals, rows) {
         return false;
@@ -29,20 +34,20 @@ fn mark_of(head: &[u64], names: &[[u64; 20]], reals: &[[f64; 17]], rows: &[[f64;
 }
 
 pub fn add_text(
-    head: &mut [u64],
-    names: &mut [[u64; 20]],
-    reals: &mut [[f64; 17]],
-    rows: &mut [[f64; 130]],
-    whead: &mut [u64],
-    wnames: &mut [[u64; 20]],
-    wreals: &mut [[f64; 17]],
-    wrows: &mut [[f64; 130]],
+    head: &mut Head,
+    names: &mut Names,
+    reals: &mut Reals,
+    rows: &mut Rows,
+    whead: &mut Head,
+    wnames: &mut Names,
+    wreals: &mut Reals,
+    wrows: &mut Rows,
     number: u32,
     line: &[u8],
     budget: u16,
 ) -> TextAnswer
-    ensures { λ r. ⌜ text (r .offset) (called (textAnswer r) (tables (now (head .exit)) (now (names .exit)) (now (reals .exit)) (now (rows .exit)))) ≡ textOf number (now (line .entry)) budget (tables (now (whead .entry)) (now (wnames .entry)) (now (wreals .entry)) (now (wrows .entry))) (tables (now (head .entry)) (now (names .entry)) (now (reals .entry)) (now (rows .entry))) ⌝ }
-    ensures { λ _. ⌜ tables (now (whead .exit)) (now (wnames .exit)) (now (wreals .exit)) (now (wrows .exit)) ≡ cleared (tables (now (whead .entry)) (now (wnames .entry)) (now (wreals .entry)) (now (wrows .entry))) ⌝ }
+    ensures { λ r. ⌜ text (r .offset) (called (textAnswer r) (lent (head .exit) (names .exit) (reals .exit) (rows .exit))) ≡ textOf number (now (line .entry)) budget (lent (whead .entry) (wnames .entry) (wreals .entry) (wrows .entry)) (lent (head .entry) (names .entry) (reals .entry) (rows .entry)) ⌝ }
+    ensures { λ _. ⌜ lent (whead .exit) (wnames .exit) (wreals .exit) (wrows .exit) ≡ cleared (lent (whead .entry) (wnames .entry) (wreals .entry) (wrows .entry)) ⌝ }
 {
     let r = read_line(line);
     if r.number != 0 {
@@ -69,7 +74,8 @@ pub fn add_text(
     let constant = whole(r.constant);
     let m = r.relation;
     let relation = required_by(m);
-    let a = constraints::add::add(
+    let c = Change::Add(number, constant, relation);
+    let a = calls::change(
         head,
         names,
         reals,
@@ -78,10 +84,8 @@ pub fn add_text(
         wnames,
         wreals,
         wrows,
-        number,
+        c,
         p,
-        constant,
-        relation,
         budget,
     );
     TextAnswer {

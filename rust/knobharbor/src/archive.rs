@@ -1,5 +1,5 @@
-//! The proved archive. Its functions take any tables and any numbers, so a safe face needs only to hand over whole slices. The sizes
-//! are those of include/knobharbor.h; tests/header.rs holds them to it.
+//! The proved archive. Its functions take any tables and any numbers, so a safe face needs only to hand over whole arrays and slices.
+//! The sizes are those of include/knobharbor.h; tests/header.rs holds them to it.
 use crate::{RelationalOperator, Term};
 
 // The lengths of the tables, and the widths of their elements.
@@ -17,7 +17,6 @@ type Row = [f64; ROW];
 pub const PLACES: usize = 32;
 
 /// What a changing call answers: 0 or a refusal's number, the pivots made, the whole mark.
-#[repr(C)]
 #[derive(Copy, Clone, Debug)]
 pub struct Answer {
     pub number: u32,
@@ -26,20 +25,12 @@ pub struct Answer {
 }
 
 /// What the add of a line answers: the same, and where the line leaves the grammar.
-#[repr(C)]
 #[derive(Copy, Clone, Debug)]
 pub struct TextAnswer {
     pub number: u32,
     pub pivots: u32,
     pub whole: bool,
     pub offset: usize,
-}
-
-#[repr(C)]
-#[derive(Copy, Clone)]
-pub struct Fetched {
-    pub number: u32,
-    pub count: u32,
 }
 
 /// The tables that hold a solver's state, or its working room, to be lent to a `LentSolver`. They are some 90 KB.
@@ -69,26 +60,17 @@ impl Tables {
     }
 }
 
-macro_rules! declare {
-    ($($name:ident($($arg:ident: $ty:ty),*) -> $out:ty;)*) => {
-        extern "C" {
-            $(fn $name(
-                head: *mut u64, heads: usize, names: *mut Name, names_count: usize,
-                reals: *mut Real, reals_count: usize, rows: *mut Row, rows_count: usize,
-                $($arg: $ty),*
-            ) -> $out;)*
-        }
-    };
-}
+/// The places of an answer: the number, the pivots, the mark as 0 or 1.
+type Places = [u32; 3];
 
 macro_rules! declare_changing {
     ($($name:ident($($arg:ident: $ty:ty),*);)*) => {
-        declare! {
-            $($name(
-                whead: *mut u64, wheads: usize, wnames: *mut Name, wnames_count: usize,
-                wreals: *mut Real, wreals_count: usize, wrows: *mut Row, wrows_count: usize
-                $(, $arg: $ty)*
-            ) -> Answer;)*
+        extern "C" {
+            $(fn $name(
+                head: &mut [u64; HEAD], names: &mut [Name; ITEMS], reals: &mut [Real; ITEMS], rows: &mut [Row; ROWS],
+                whead: &mut [u64; HEAD], wnames: &mut [Name; ITEMS], wreals: &mut [Real; ITEMS], wrows: &mut [Row; ROWS],
+                answer: &mut Places $(, $arg: $ty)*
+            );)*
         }
     };
 }
@@ -97,27 +79,18 @@ macro_rules! declare_asking {
     ($($name:ident($arg:ident: $ty:ty) -> $out:ty;)*) => {
         extern "C" {
             $(fn $name(
-                head: *const u64, heads: usize, names: *const Name, names_count: usize,
-                reals: *const Real, reals_count: usize, rows: *const Row, rows_count: usize, $arg: $ty
+                head: &[u64; HEAD], names: &[Name; ITEMS], reals: &[Real; ITEMS], rows: &[Row; ROWS], $arg: $ty
             ) -> $out;)*
         }
     };
 }
 
-declare! {
-    knobharbor_reset() -> Answer;
-    knobharbor_fetch(numbers: *mut u64, number_count: usize, values: *mut f64, value_count: usize) -> Fetched;
-    knobharbor_add_text(
-        whead: *mut u64, wheads: usize, wnames: *mut Name, wnames_count: usize,
-        wreals: *mut Real, wreals_count: usize, wrows: *mut Row, wrows_count: usize,
-        number: u32, line: *const u8, length: usize, budget: u16
-    ) -> TextAnswer;
-}
-
+// What has a fixed size crosses as a reference; a list as a pointer and a length of 64 bits.
 declare_changing! {
     knobharbor_add(
-        number: u32, terms: *const Term, count: usize, constant: f64, kind: u32, strength: f64, budget: u16
+        number: u32, terms: *const Term, count: u64, constant: f64, kind: u32, strength: f64, budget: u16
     );
+    knobharbor_add_text(offset: &mut u64, number: u32, line: *const u8, length: u64, budget: u16);
     knobharbor_remove(number: u32, budget: u16);
     knobharbor_add_edit(variable: u32, strength: f64, budget: u16);
     knobharbor_remove_edit(variable: u32, budget: u16);
@@ -131,55 +104,58 @@ declare_asking! {
 }
 
 extern "C" {
+    fn knobharbor_reset(
+        head: &mut [u64; HEAD],
+        names: &mut [Name; ITEMS],
+        reals: &mut [Real; ITEMS],
+        rows: &mut [Row; ROWS],
+        answer: &mut Places,
+    );
+    fn knobharbor_fetch(
+        head: &mut [u64; HEAD],
+        names: &mut [Name; ITEMS],
+        reals: &mut [Real; ITEMS],
+        rows: &[Row; ROWS],
+        answer: &mut [u32; 2],
+        numbers: &mut [u64; PLACES],
+        values: &mut [f64; PLACES],
+    );
     fn knobharbor_strength_create(a: f64, b: f64, c: f64, w: f64) -> f64;
     fn knobharbor_strength_clip(s: f64) -> f64;
 }
 
-macro_rules! with {
-    ($f:ident, $t:expr $(, $arg:expr)*) => {
-        // The pointers are to whole arrays that nobody else holds during the call.
-        unsafe {
-            $f(
-                $t.head.as_mut_ptr(), $t.head.len(), $t.names.as_mut_ptr(), $t.names.len(),
-                $t.reals.as_mut_ptr(), $t.reals.len(), $t.rows.as_mut_ptr(), $t.rows.len()
-                $(, $arg)*
-            )
-        }
-    };
+impl Answer {
+    fn of(places: Places) -> Answer {
+        Answer { number: places[0], pivots: places[1], whole: places[2] != 0 }
+    }
 }
 
 macro_rules! change {
-    ($f:ident, $t:expr, $w:expr $(, $arg:expr)*) => {
-        with!(
-            $f, $t,
-            $w.head.as_mut_ptr(), $w.head.len(), $w.names.as_mut_ptr(), $w.names.len(),
-            $w.reals.as_mut_ptr(), $w.reals.len(), $w.rows.as_mut_ptr(), $w.rows.len()
-            $(, $arg)*
-        )
-    };
+    ($f:ident, $t:expr, $w:expr $(, $arg:expr)*) => {{
+        let mut answer: Places = [0; 3];
+        // The references are to whole arrays, and a list's pointer is to as many elements as its length says.
+        unsafe {
+            $f(
+                &mut $t.head, &mut $t.names, &mut $t.reals, &mut $t.rows, &mut $w.head, &mut $w.names, &mut $w.reals, &mut $w.rows,
+                &mut answer $(, $arg)*
+            )
+        };
+        Answer::of(answer)
+    }};
 }
 
 macro_rules! ask {
     ($f:ident, $t:expr, $arg:expr) => {
-        // The pointers are to whole arrays that nobody writes during the call, and the call only reads.
-        unsafe {
-            $f(
-                $t.head.as_ptr(),
-                $t.head.len(),
-                $t.names.as_ptr(),
-                $t.names.len(),
-                $t.reals.as_ptr(),
-                $t.reals.len(),
-                $t.rows.as_ptr(),
-                $t.rows.len(),
-                $arg,
-            )
-        }
+        // The references are to whole arrays.
+        unsafe { $f(&$t.head, &$t.names, &$t.reals, &$t.rows, $arg) }
     };
 }
 
 pub fn reset(t: &mut Tables) -> Answer {
-    with!(knobharbor_reset, t)
+    let mut answer: Places = [0; 3];
+    // The references are to whole arrays.
+    unsafe { knobharbor_reset(&mut t.head, &mut t.names, &mut t.reals, &mut t.rows, &mut answer) };
+    Answer::of(answer)
 }
 
 /// A constraint of this number: the terms plus the constant are `op` zero.
@@ -192,11 +168,13 @@ pub struct Added<'a> {
 }
 
 pub fn add(t: &mut Tables, w: &mut Tables, a: Added, budget: u16) -> Answer {
-    change!(knobharbor_add, t, w, a.number, a.terms.as_ptr(), a.terms.len(), a.constant, a.op.kind(), a.strength, budget)
+    change!(knobharbor_add, t, w, a.number, a.terms.as_ptr(), a.terms.len() as u64, a.constant, a.op.kind(), a.strength, budget)
 }
 
 pub fn add_text(t: &mut Tables, w: &mut Tables, number: u32, line: &[u8], budget: u16) -> TextAnswer {
-    change!(knobharbor_add_text, t, w, number, line.as_ptr(), line.len(), budget)
+    let mut offset = 0;
+    let a = change!(knobharbor_add_text, t, w, &mut offset, number, line.as_ptr(), line.len() as u64, budget);
+    TextAnswer { number: a.number, pivots: a.pivots, whole: a.whole, offset: offset as usize }
 }
 
 pub fn remove(t: &mut Tables, w: &mut Tables, number: u32, budget: u16) -> Answer {
@@ -215,8 +193,12 @@ pub fn suggest(t: &mut Tables, w: &mut Tables, variable: u32, value: f64, budget
     change!(knobharbor_suggest, t, w, variable, value, budget)
 }
 
-pub fn fetch(t: &mut Tables, numbers: &mut [u64; PLACES], values: &mut [f64; PLACES]) -> Fetched {
-    with!(knobharbor_fetch, t, numbers.as_mut_ptr(), PLACES, values.as_mut_ptr(), PLACES)
+/// How many places of both lists are filled; none where the tables do not read as a state.
+pub fn fetch(t: &mut Tables, numbers: &mut [u64; PLACES], values: &mut [f64; PLACES]) -> usize {
+    let mut answer = [0; 2];
+    // The references are to whole arrays.
+    unsafe { knobharbor_fetch(&mut t.head, &mut t.names, &mut t.reals, &t.rows, &mut answer, numbers, values) };
+    answer[1] as usize
 }
 
 pub fn value(t: &Tables, variable: u32) -> f64 {

@@ -144,12 +144,12 @@ pub struct Changes {
 impl Changes {
     pub(crate) fn of(tables: &mut Tables) -> Changes {
         let (mut numbers, mut values) = ([0; PLACES], [0.0; PLACES]);
-        let fetched = archive::fetch(tables, &mut numbers, &mut values);
+        let count = archive::fetch(tables, &mut numbers, &mut values);
         let mut list = [(Variable::from_number(0), 0.0); PLACES];
         for (place, (n, x)) in list.iter_mut().zip(numbers.into_iter().zip(values)) {
             *place = (Variable::from_number(n as u32), x);
         }
-        Changes { list, count: fetched.count as usize }
+        Changes { list, count }
     }
 }
 

@@ -1,5 +1,4 @@
--- `shell::put_over` meets its contract.
--- Assumes nothing.
+-- `shell::put_over` meets its contract. Assumes nothing.
 use Prim.Native.Nat.{ℕ}
 use mathlib.Core.Path.{_≡_}
 use mathlib.Core.List.{List}
@@ -15,31 +14,8 @@ module _ (h g : List ℕ) (n m : List (List ℕ)) (r s : List (List Float)) (w v
   unfolding putOver
   glue a b c d = rw (a, b, c, d)
 
-put-head-requires : tie.Need-put-head-requires
-put-head-requires c κs = let l = c .before .before .before .pre .0 in let m = c .before .before .before .pre .1 .0 in (l .0, (m .0, c .before .before .before .pre .1 .1))
-
-put-all-names-requires : tie.Need-put-all-names-requires
-put-all-names-requires c κs = let l = c .before .before .before .before .before .before .before .pre .0 in let m = c .before .before .before .before .before .before .before .pre .1 .0 in (l .1, (m .1, (m .0, c .before .before .before .before .before .before .before .pre .1 .1)))
-
-put-all-reals-requires : tie.Need-put-all-reals-requires
-put-all-reals-requires c κs = let l = c .before .before .before .before .before .before .before .before .before .before .pre .0 in let m = c .before .before .before .before .before .before .before .before .before .before .pre .1 .0 in (l .2, (m .2, (m .1, (m .0, c .before .before .before .before .before .before .before .before .before .before .pre .1 .1))))
-
-put-tableau-requires : tie.Need-put-tableau-requires
-put-tableau-requires c κs = let l = c .before .before .before .before .before .before .before .before .before .before .before .before .before .pre .0 in let m = c .before .before .before .before .before .before .before .before .before .before .before .before .before .pre .1 .0 in (l .3, (m .3, (m .0, c .before .before .before .before .before .before .before .before .before .before .before .before .before .pre .1 .1)))
-
 returns : tie.Need-returns
-returns c = glue _ _ _ _ _ _ _ _ (c .before .before .before .before .before .before .before .before .before .before .before .put-head .ensures) (c .before .before .before .before .before .before .before .put-all-names .ensures) (c .before .before .before .before .put-all-reals .ensures) (c .before .put-tableau .ensures)
+returns c = glue _ _ _ _ _ _ _ _ (c .before .before .before .before .before .before .before .before .before .before .before .before .before .put-head .ensures) (c .before .before .before .before .before .before .before .before .before .put-all-names .ensures) (c .before .before .before .before .put-all-reals .ensures) (c .put-tableau .ensures)
 
 pub put-over-spec : {M : Type 1} → statement M
-put-over-spec =
-    tie.close
-    (tie.spec
-    put-head-requires
-    put-all-names-requires
-    put-all-reals-requires
-    put-tableau-requires
-    (λ c. search needs)
-    (λ c. search needs)
-    (λ c. search needs)
-    (λ c. search needs)
-    returns)
+put-over-spec = tie.close (tie.spec (λ c κs. search needs) (λ c κs. search needs) (λ c κs. search needs) (λ c κs. search needs) returns)

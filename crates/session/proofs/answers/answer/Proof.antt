@@ -1,64 +1,64 @@
 -- `session::answers::answer` meets its contract.
 -- Assumes nothing.
-use Rattle.layout.specs.Layout.{tables}
-use Rattle.session.specs.Calls.{line-said}
+use Rattle.lent.specs.Lent.{lent}
+use Rattle.session.specs.Calls.{reset-said, change-said, value-said, has-con-said, has-edit-said, fetched-said, create-said, clip-said, bad-said}
 use borrow.Author.Needs.{needs}
 use Rattle.session.proofs.answers.answer.Statement.{statement}
 use Rattle.session.proofs.answers.answer.Tie as tie
 
-read-line-requires : tie.Need-read-line-requires
-read-line-requires c κs = search needs
-
-say-call-requires : tie.Need-say-call-requires
-say-call-requires c κs = search needs
-
-same-length : tie.Need-same-length
-same-length c = search needs
-
-same-length-2 : tie.Need-same-length-2
-same-length-2 c = search needs
-
-same-length-3 : tie.Need-same-length-3
-same-length-3 c = search needs
-
-same-length-4 : tie.Need-same-length-4
-same-length-4 c = search needs
-
-same-length-5 : tie.Need-same-length-5
-same-length-5 c = search needs
-
-same-length-6 : tie.Need-same-length-6
-same-length-6 c = search needs
-
-same-length-7 : tie.Need-same-length-7
-same-length-7 c = search needs
-
-same-length-8 : tie.Need-same-length-8
-same-length-8 c = search needs
-
-same-length-9 : tie.Need-same-length-9
-same-length-9 c = search needs
-
 returns : tie.Need-returns
 returns c =
-    let a = c .before .before .before .before .before .before .before .before .before .before .before .before .before .before .before .before .before .before .before .before .before .before .before .before .before .before .before .before .args in
-    let d = c .before .before .before .before .before .before .before .before .before .before .before .before .before .before .before .before .before .before .before .before .before .before .before .read-line in
-    let p = c .before .before .before .before .before .before .before .before .before .before .before .before .say-call in
-    line-said (a .line .now) (tables (a .h2 .now) (a .n2 .now) (a .r2 .now) (a .w2 .now)) (tables (a .h .now) (a .n .now) (a .r .now) (a .w .now)) (a .out .now) (p .last .1 .1 .1 .1 .1 .1 .1 .1 .1 .1 .0) (a .at) (p .result) (d .result) (d .ensures) (p .ensures)
+    let a = c .before .before .before .before .before .before .before .before .before .args in
+    let w = c .put-answer in
+    reset-said (a .call) (a .p) (lent (a .head) (a .names) (a .reals) (a .rows)) (a .out .now) (w .last .0) (a .at) (w .result) (c .before .before .reset .result) (c .before .before .before .before .before .before .before .enum-told .given .1) (c .before .before .reset .ensures) (w .ensures)
+
+returns-2 : tie.Need-returns-2
+returns-2 c =
+    let a = c .before .before .before .before .before .before .before .before .before .before .args in
+    let w = c .put-answer2 in
+    change-said (a .call) (a .p) (lent (a .head) (a .names) (a .reals) (a .rows)) (a .out .now) (w .last .0) (a .at) (w .result) (c .before .before .change .result) (c .before .before .before .before .before .before .before .before .call .given .1) (c .before .before .change .ensures) (w .ensures)
+
+returns-3 : tie.Need-returns-3
+returns-3 c =
+    let a = c .before .before .before .before .before .before .before .before .before .before .before .before .before .before .args in
+    let w = c .put-float in
+    value-said (a .call) (a .p) (lent (a .head) (a .names) (a .reals) (a .rows)) (a .out .now) (w .last .0) (a .at) (w .result) (c .before .before .before .before .before .before .before .before .before .before .before .before .call2 .given .1) (c .before .get-value .ensures) (w .ensures)
+
+returns-4 : tie.Need-returns-4
+returns-4 c =
+    let a = c .before .before .before .before .before .before .before .before .before .before .before .before .before .before .args in
+    let w = c .put-flag in
+    has-con-said (a .call) (a .p) (lent (a .head) (a .names) (a .reals) (a .rows)) (a .out .now) (w .last .0) (a .at) (w .result) (c .before .before .before .before .before .before .before .before .before .before .before .before .call3 .given .1) (c .before .has-constraint .ensures) (w .ensures)
+
+returns-5 : tie.Need-returns-5
+returns-5 c =
+    let a = c .before .before .before .before .before .before .before .before .before .before .before .before .before .before .args in
+    let w = c .put-flag2 in
+    has-edit-said (a .call) (a .p) (lent (a .head) (a .names) (a .reals) (a .rows)) (a .out .now) (w .last .0) (a .at) (w .result) (c .before .before .before .before .before .before .before .before .before .before .before .before .call4 .given .1) (c .before .has-edit .ensures) (w .ensures)
+
+returns-6 : tie.Need-returns-6
+returns-6 c =
+    let a = c .before .before .before .before .before .before .before .before .args in
+    let w = c .say-fetch in
+    fetched-said (a .call) (a .p) (lent (a .head) (a .names) (a .reals) (a .rows)) (a .out .now) (w .last .1 .1 .1 .1 .0) (a .at) (w .result) (c .before .before .before .before .before .before .enum-told2 .given .1) (w .ensures)
+
+returns-7 : tie.Need-returns-7
+returns-7 c =
+    let a = c .before .before .before .before .before .before .args in
+    let w = c .put-float2 in
+    create-said (a .call) (a .p) (lent (a .head) (a .names) (a .reals) (a .rows)) (a .out .now) (w .last .0) (a .at) (w .result) (c .before .before .before .before .call5 .given .1) (c .before .create .ensures) (w .ensures)
+
+returns-8 : tie.Need-returns-8
+returns-8 c =
+    let a = c .before .before .before .before .before .before .args in
+    let w = c .put-float3 in
+    clip-said (a .call) (a .p) (lent (a .head) (a .names) (a .reals) (a .rows)) (a .out .now) (w .last .0) (a .at) (w .result) (c .before .before .before .before .call6 .given .1) (c .before .clip .ensures) (w .ensures)
+
+returns-9 : tie.Need-returns-9
+returns-9 c =
+    let a = c .before .before .before .before .args in
+    let w = c .put-unread in
+    bad-said (a .call) (a .p) (lent (a .head) (a .names) (a .reals) (a .rows)) (a .out .now) (w .last .0) (a .at) (w .result) (c .before .before .enum-told3 .given .1) (w .ensures)
 
 pub answer-spec : {M : Type 1} → statement M
-answer-spec =
-    tie.close
-    (tie.spec
-    read-line-requires
-    say-call-requires
-    same-length
-    same-length-2
-    same-length-3
-    same-length-4
-    same-length-5
-    same-length-6
-    same-length-7
-    same-length-8
-    same-length-9
-    returns)
+answer-spec = tie.close (tie.spec (λ c. search needs) (λ c κs. search needs) (λ c κs. search needs) (λ c. search needs) (λ c κs. search needs) (λ c κs. search needs) (λ c. search needs) (λ c κs. search needs) (λ c κs. search needs) (λ c. search needs) (λ c κs. search needs) (λ c κs. search needs) (λ c. search needs) (λ c κs. search needs) (λ c κs. search needs) (λ c. search needs) (λ c κs. search needs) (λ c. search needs) (λ c κs. search needs) (λ c κs. search needs) (λ c. search needs) (λ c κs. search needs) (λ c κs. search needs) (λ c. search needs) (λ c κs. search needs) returns returns-2 returns-3 returns-4 returns-5 returns-6 returns-7 returns-8 returns-9)

@@ -1,8 +1,7 @@
 -- `text::calls::relation_word` meets its contract.
 -- Assumes nothing.
 use borrow.Author.Needs.{needs}
-use mathlib.Core.Path.{sym, ap, _∙_}
-use mathlib.Core.Path.{refl}
+use mathlib.Core.Path.{sym, ap, _∙_, refl}
 use Rattle.text.specs.declared.floats.Real.{Real}
 use Rattle.text.specs.Choices.{yes-in, no-in}
 use Rattle.text.specs.Format.{relationOf}
@@ -10,43 +9,19 @@ use Rattle.text.specs.Lines.{asRelated}
 use Rattle.text.proofs.calls.relation_word.Statement.{statement}
 use Rattle.text.proofs.calls.relation_word.Tie as tie
 
-enum-known-strength : tie.Need-enum-known-strength
-enum-known-strength c = search needs
-
-enum-told : tie.Need-enum-told
-enum-told c = search needs
-
 returns : tie.Need-returns
 unfolding relationOf
 returns c = sym (ap (λ (x : Real). asRelated (relationOf (c .before .before .before .args .w .now) x)) (c .enum-told .given .1))
-
-slice-aggregate-same : tie.Need-slice-aggregate-same
-slice-aggregate-same c = search needs
-
-same-requires : tie.Need-same-requires
-same-requires c κs = search needs
 
 returns-2 : tie.Need-returns-2
 unfolding relationOf
 returns-2 c = yes-in asRelated _ _ (sym (c .before .same .ensures) ∙ c .if1 .taken) (refl)
     ∙ sym (ap (λ (x : Real). asRelated (relationOf (c .before .before .before .before .before .before .before .args .w .now) x)) (c .before .before .before .before .strength .given .1))
 
-slice-aggregate-same-2 : tie.Need-slice-aggregate-same-2
-slice-aggregate-same-2 c = search needs
-
-same-requires-2 : tie.Need-same-requires-2
-same-requires-2 c κs = search needs
-
 returns-3 : tie.Need-returns-3
 unfolding relationOf
 returns-3 c = no-in asRelated _ _ (sym (c .before .before .before .before .same .ensures) ∙ c .before .before .before .if1 .left) (yes-in asRelated _ _ (sym (c .before .same2 .ensures) ∙ c .if2 .taken) (refl))
     ∙ sym (ap (λ (x : Real). asRelated (relationOf (c .before .before .before .before .before .before .before .before .before .before .args .w .now) x)) (c .before .before .before .before .before .before .before .strength .given .1))
-
-slice-aggregate-same-3 : tie.Need-slice-aggregate-same-3
-slice-aggregate-same-3 c = search needs
-
-same-requires-3 : tie.Need-same-requires-3
-same-requires-3 c κs = search needs
 
 returns-4 : tie.Need-returns-4
 unfolding relationOf
@@ -59,19 +34,4 @@ returns-5 c = no-in asRelated _ _ (sym (c .before .before .before .before .befor
     ∙ sym (ap (λ (x : Real). asRelated (relationOf (c .before .before .before .before .before .before .before .before .before .before .before .before .before .args .w .now) x)) (c .before .before .before .before .before .before .before .before .before .before .strength .given .1))
 
 pub relation-word-spec : {M : Type 1} → statement M
-relation-word-spec =
-    tie.close
-    (tie.spec
-    enum-known-strength
-    enum-told
-    returns
-    slice-aggregate-same
-    same-requires
-    returns-2
-    slice-aggregate-same-2
-    same-requires-2
-    returns-3
-    slice-aggregate-same-3
-    same-requires-3
-    returns-4
-    returns-5)
+relation-word-spec = tie.close (tie.spec (λ c. search needs) (λ c. search needs) returns (λ c. search needs) (λ c κs. search needs) returns-2 (λ c. search needs) (λ c κs. search needs) returns-3 (λ c. search needs) (λ c κs. search needs) returns-4 returns-5)

@@ -23,24 +23,12 @@ returns c = ap (upTo (c .before .before .args .most)) (digits-none 10 (c .before
 loop-holds : tie.Need-loop-holds Inv-loop μ-loop
 loop-holds c = (omega arith, omega arith, digits-start 10 (c .before .before .args .w .now) (c .if1 .left))
 
-shared-slice-read-digit : tie.Need-shared-slice-read-digit Inv-loop μ-loop
-shared-slice-read-digit c = search needs
-
-digit-requires : tie.Need-digit-requires Inv-loop μ-loop
-digit-requires c κs = search needs
-
 returns-2 : tie.Need-returns-2 Inv-loop μ-loop
 unfolding upTo
 returns-2 c =
     let l = c .before .before .before .before .loop in
     let a = c .before .before .before .before .before .before .before .args in
     ap (upTo (a .most)) (digits-stop 10 (l .v) (a .w .now) (l .i) (omega arith) (l .inv .2) (c .before .digit .ensures) (c .if2 .taken))
-
-mul-v : tie.Need-mul-v Inv-loop μ-loop
-mul-v c = search needs
-
-add-v : tie.Need-add-v Inv-loop μ-loop
-add-v c = search needs
 
 returns-3 : tie.Need-returns-3 Inv-loop μ-loop
 returns-3 c =
@@ -49,12 +37,6 @@ returns-3 c =
     let d = c .before .before .digit in
     sym (digits-big 10 (a .most) (l .v * 10 + d .result) (drop (l .i + 1) (a .w .now)) (omega arith) (c .if3 .taken))
     ∙ ap (upTo (a .most)) (digits-next 10 (l .v) (a .w .now) (l .i) (omega arith) (l .inv .2) (d .ensures) (c .before .if2 .left))
-
-add-i : tie.Need-add-i Inv-loop μ-loop
-add-i c = search needs
-
-loop-less : tie.Need-loop-less Inv-loop μ-loop
-loop-less c = search needs
 
 loop-again : tie.Need-loop-again Inv-loop μ-loop
 loop-again c =
@@ -69,20 +51,4 @@ returns-4 c =
     sym (up-to (a .most) (l .v) (l .inv .1)) ∙ ap (upTo (a .most)) (digits-last 10 (l .v) (a .w .now) (l .i) (omega arith) (l .inv .2))
 
 pub decimal-spec : {M : Type 1} → statement M
-decimal-spec =
-    tie.close
-    (tie.spec
-    Inv-loop
-    μ-loop
-    returns
-    loop-holds
-    shared-slice-read-digit
-    digit-requires
-    returns-2
-    mul-v
-    add-v
-    returns-3
-    add-i
-    loop-less
-    loop-again
-    returns-4)
+decimal-spec = tie.close (tie.spec Inv-loop μ-loop returns loop-holds (λ c. search needs) (λ c κs. search needs) returns-2 (λ c. search needs) (λ c. search needs) returns-3 (λ c. search needs) (λ c. search needs) loop-again returns-4)

@@ -23,12 +23,6 @@ returns c = ap (upTo 18446744073709551615) (digits-none 16 (c .before .before .a
 loop-holds : tie.Need-loop-holds Inv-loop μ-loop
 loop-holds c = (omega arith, omega arith, digits-start 16 (c .before .before .args .w .now) (c .if1 .left))
 
-shared-slice-read-digit : tie.Need-shared-slice-read-digit Inv-loop μ-loop
-shared-slice-read-digit c = search needs
-
-digit-requires : tie.Need-digit-requires Inv-loop μ-loop
-digit-requires c κs = search needs
-
 returns-2 : tie.Need-returns-2 Inv-loop μ-loop
 unfolding upTo
 returns-2 c =
@@ -44,18 +38,6 @@ returns-3 c =
     sym (digits-big 16 18446744073709551615 (l .v * 16 + d .result) (drop (l .i + 1) (a .w .now)) (omega arith) (omega arith))
     ∙ ap (upTo 18446744073709551615) (digits-next 16 (l .v) (a .w .now) (l .i) (omega arith) (l .inv .2) (d .ensures) (c .before .if2 .left))
 
-mul-v : tie.Need-mul-v Inv-loop μ-loop
-mul-v c = search needs
-
-add-v : tie.Need-add-v Inv-loop μ-loop
-add-v c = search needs
-
-add-i : tie.Need-add-i Inv-loop μ-loop
-add-i c = search needs
-
-loop-less : tie.Need-loop-less Inv-loop μ-loop
-loop-less c = search needs
-
 loop-again : tie.Need-loop-again Inv-loop μ-loop
 loop-again c =
     let l = c .before .before .before .before .before .loop in
@@ -69,20 +51,4 @@ returns-4 c =
     sym (up-to 18446744073709551615 (l .v) (l .inv .1)) ∙ ap (upTo 18446744073709551615) (digits-last 16 (l .v) (a .w .now) (l .i) (omega arith) (l .inv .2))
 
 pub hexadecimal-spec : {M : Type 1} → statement M
-hexadecimal-spec =
-    tie.close
-    (tie.spec
-    Inv-loop
-    μ-loop
-    returns
-    loop-holds
-    shared-slice-read-digit
-    digit-requires
-    returns-2
-    returns-3
-    mul-v
-    add-v
-    add-i
-    loop-less
-    loop-again
-    returns-4)
+hexadecimal-spec = tie.close (tie.spec Inv-loop μ-loop returns loop-holds (λ c. search needs) (λ c κs. search needs) returns-2 returns-3 (λ c. search needs) (λ c. search needs) (λ c. search needs) (λ c. search needs) loop-again returns-4)

@@ -10,12 +10,9 @@ use Rattle.text.proofs.floats.bits_of_float.Tie as tie
 float-to-bits-result : tie.Need-float-to-bits-result
 float-to-bits-result c = no-nan (c .before .args .x) (c .if1 .taken)
 
-returns : tie.Need-returns
-returns c = search needs
-
 returns-2 : tie.Need-returns-2
 unfolding toBits
 returns-2 c = sym (ap (toBits binary64) (is-nan (c .before .args .x) (c .if1 .left)))
 
 pub bits-of-float-spec : {M : Type 1} → statement M
-bits-of-float-spec = tie.close (tie.spec float-to-bits-result returns returns-2)
+bits-of-float-spec = tie.close (tie.spec float-to-bits-result (λ c. search needs) returns-2)

@@ -19,8 +19,5 @@ returns c = sym (nan-is (ofBits binary64 (c .before .args .n)) (sym (nanBits-is 
 float-from-bits-result : tie.Need-float-from-bits-result
 float-from-bits-result c = subst (λ (t : Bool). T (not t)) (sym (nanBits-above binary64 (c .before .args .n) ∙ le-ltb 9218868437227405312 (c .before .args .n % 9223372036854775808) (c .if1 .left))) tt
 
-returns-2 : tie.Need-returns-2
-returns-2 c = search needs
-
 pub float-of-bits-spec : {M : Type 1} → statement M
-float-of-bits-spec = tie.close (tie.spec returns float-from-bits-result returns-2)
+float-of-bits-spec = tie.close (tie.spec returns float-from-bits-result (λ c. search needs))

@@ -10,76 +10,25 @@ use Rattle.text.specs.Floats.{floatOf}
 use Rattle.text.proofs.floats.float_word.Statement.{statement}
 use Rattle.text.proofs.floats.float_word.Tie as tie
 
-slice-aggregate-same : tie.Need-slice-aggregate-same
-slice-aggregate-same c = search needs
-
-same-requires : tie.Need-same-requires
-same-requires c κs = search needs
-
-float-of-bits-requires : tie.Need-float-of-bits-requires
-float-of-bits-requires c κs = search needs
-
 returns : tie.Need-returns
 unfolding floatOf
 returns c = yes _ _ (sym (c .before .before .same .ensures) ∙ c .before .if1 .taken) (ap Number (c .float-of-bits .ensures))
-
-slice-aggregate-same-2 : tie.Need-slice-aggregate-same-2
-slice-aggregate-same-2 c = search needs
-
-same-requires-2 : tie.Need-same-requires-2
-same-requires-2 c κs = search needs
-
-float-of-bits-requires-2 : tie.Need-float-of-bits-requires-2
-float-of-bits-requires-2 c κs = search needs
 
 returns-2 : tie.Need-returns-2
 unfolding floatOf
 returns-2 c = no _ _ (sym (c .before .before .before .before .before .same .ensures) ∙ c .before .before .before .before .if1 .left) (yes _ _ (sym (c .before .before .same2 .ensures) ∙ c .before .if2 .taken) (ap Number (c .float-of-bits2 .ensures)))
 
-slice-aggregate-same-3 : tie.Need-slice-aggregate-same-3
-slice-aggregate-same-3 c = search needs
-
-same-requires-3 : tie.Need-same-requires-3
-same-requires-3 c κs = search needs
-
 returns-3 : tie.Need-returns-3
 unfolding floatOf div ofBits
 returns-3 c = no _ _ (sym (c .before .before .before .before .before .before .before .same .ensures) ∙ c .before .before .before .before .before .before .if1 .left) (no _ _ (sym (c .before .before .before .before .same2 .ensures) ∙ c .before .before .before .if2 .left) (yes _ _ (sym (c .before .same3 .ensures) ∙ c .if3 .taken) (refl)))
 
-slice-aggregate-same-4 : tie.Need-slice-aggregate-same-4
-slice-aggregate-same-4 c = search needs
-
-same-requires-4 : tie.Need-same-requires-4
-same-requires-4 c κs = search needs
-
 returns-4 : tie.Need-returns-4
 unfolding floatOf required
 returns-4 c = no _ _ (sym (c .before .before .before .before .before .before .before .before .before .before .same .ensures) ∙ c .before .before .before .before .before .before .before .before .before .if1 .left) (no _ _ (sym (c .before .before .before .before .before .before .before .same2 .ensures) ∙ c .before .before .before .before .before .before .if2 .left) (no _ _ (sym (c .before .before .before .before .same3 .ensures) ∙ c .before .before .before .if3 .left) (yes _ _ (sym (c .before .same4 .ensures) ∙ c .if4 .taken) (refl))))
-
-figure-word-requires : tie.Need-figure-word-requires
-figure-word-requires c κs = search needs
 
 returns-5 : tie.Need-returns-5
 unfolding floatOf
 returns-5 c = no _ _ (sym (c .before .before .before .before .before .before .before .before .before .before .before .same .ensures) ∙ c .before .before .before .before .before .before .before .before .before .before .if1 .left) (no _ _ (sym (c .before .before .before .before .before .before .before .before .same2 .ensures) ∙ c .before .before .before .before .before .before .before .if2 .left) (no _ _ (sym (c .before .before .before .before .before .same3 .ensures) ∙ c .before .before .before .before .if3 .left) (no _ _ (sym (c .before .before .same4 .ensures) ∙ c .before .if4 .left) (c .figure-word .ensures))))
 
 pub float-word-spec : {M : Type 1} → statement M
-float-word-spec =
-    tie.close
-    (tie.spec
-    slice-aggregate-same
-    same-requires
-    float-of-bits-requires
-    returns
-    slice-aggregate-same-2
-    same-requires-2
-    float-of-bits-requires-2
-    returns-2
-    slice-aggregate-same-3
-    same-requires-3
-    returns-3
-    slice-aggregate-same-4
-    same-requires-4
-    returns-4
-    figure-word-requires
-    returns-5)
+float-word-spec = tie.close (tie.spec (λ c. search needs) (λ c κs. search needs) (λ c κs. search needs) returns (λ c. search needs) (λ c κs. search needs) (λ c κs. search needs) returns-2 (λ c. search needs) (λ c κs. search needs) returns-3 (λ c. search needs) (λ c κs. search needs) returns-4 (λ c κs. search needs) returns-5)

@@ -7,11 +7,8 @@ use Rattle.text.specs.Lines.{packed}
 use Rattle.text.proofs.packing.no_packed.Statement.{statement}
 use Rattle.text.proofs.packing.no_packed.Tie as tie
 
-none-requires : tie.Need-none-requires
-none-requires c κs = search needs
-
 returns : tie.Need-returns
 returns c = ap (packed false) (c .none .ensures)
 
 pub no-packed-spec : {M : Type 1} → statement M
-no-packed-spec = tie.close (tie.spec none-requires returns)
+no-packed-spec = tie.close (tie.spec (λ c κs. search needs) returns)

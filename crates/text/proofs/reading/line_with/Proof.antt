@@ -7,20 +7,8 @@ use Rattle.text.specs.Lines.{lineWith}
 use Rattle.text.proofs.reading.line_with.Statement.{statement}
 use Rattle.text.proofs.reading.line_with.Tie as tie
 
-enum-known-head : tie.Need-enum-known-head
-enum-known-head c = search needs
-
-enum-told : tie.Need-enum-told
-enum-told c = search needs
-
-no-line-requires : tie.Need-no-line-requires
-no-line-requires c κs = search needs
-
 returns : tie.Need-returns
 returns c = c .no-line .ensures ∙ sym (ap (λ (h : Head). lineWith h (c .before .before .before .args .p)) (c .before .enum-told .given .1))
-
-no-line-requires-2 : tie.Need-no-line-requires-2
-no-line-requires-2 c κs = search needs
 
 returns-2 : tie.Need-returns-2
 returns-2 c = simp (c .before .before .before .head .given .1, c .if1 .taken)
@@ -29,13 +17,4 @@ returns-3 : tie.Need-returns-3
 returns-3 c = c .no-line2 .ensures ∙ simp (c .before .before .before .before .head .given .1, c .before .if1 .left)
 
 pub line-with-spec : {M : Type 1} → statement M
-line-with-spec =
-    tie.close
-    (tie.spec
-    enum-known-head
-    enum-told
-    no-line-requires
-    returns
-    no-line-requires-2
-    returns-2
-    returns-3)
+line-with-spec = tie.close (tie.spec (λ c. search needs) (λ c. search needs) (λ c κs. search needs) returns (λ c κs. search needs) returns-2 returns-3)

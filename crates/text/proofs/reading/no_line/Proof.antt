@@ -8,11 +8,8 @@ use Rattle.terms.specs.declared.Pack.{Pack}
 use Rattle.text.proofs.reading.no_line.Statement.{statement}
 use Rattle.text.proofs.reading.no_line.Tie as tie
 
-none-requires : tie.Need-none-requires
-none-requires c κs = search needs
-
 returns : tie.Need-returns
 returns c = ap {B = Line} (λ (t : Pack). record { call = Bad; terms = t }) (c .none .ensures)
 
 pub no-line-spec : {M : Type 1} → statement M
-no-line-spec = tie.close (tie.spec none-requires returns)
+no-line-spec = tie.close (tie.spec (λ c κs. search needs) returns)

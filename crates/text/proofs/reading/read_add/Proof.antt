@@ -19,37 +19,10 @@ use Rattle.text.specs.Lines.{lineWith}
 use Rattle.text.proofs.reading.read_add.Statement.{statement}
 use Rattle.text.proofs.reading.read_add.Tie as tie
 
-word-at-requires : tie.Need-word-at-requires
-word-at-requires c κs = search needs
-
-slice-aggregate-same : tie.Need-slice-aggregate-same
-slice-aggregate-same c = search needs
-
-same-requires : tie.Need-same-requires
-same-requires c κs = search needs
-
-no-line-requires : tie.Need-no-line-requires
-no-line-requires c κs = search needs
-
 returns : tie.Need-returns
 returns c =
     let ws = wordsOf (c .before .before .before .before .before .before .args .s .now) in
     c .no-line .ensures ∙ add-other ws (omega arith) (sym (ap (λ (w : List ℕ). sameBytes w addName) (c .before .before .before .before .word-at .ensures)) ∙ sym (c .before .before .same .ensures) ∙ not-true _ (c .before .if1 .taken))
-
-word-at-requires-2 : tie.Need-word-at-requires-2
-word-at-requires-2 c κs = search needs
-
-decimal-requires : tie.Need-decimal-requires
-decimal-requires c κs = search needs
-
-enum-known-m : tie.Need-enum-known-m
-enum-known-m c = search needs
-
-enum-told : tie.Need-enum-told
-enum-told c = search needs
-
-no-line-requires-2 : tie.Need-no-line-requires-2
-no-line-requires-2 c κs = search needs
 
 returns-2 : tie.Need-returns-2
 returns-2 c =
@@ -59,25 +32,13 @@ returns-2 c =
 mul-if2 : tie.Need-mul-if2
 mul-if2 c = record { fits = omega (arith, up-to-most 4294967295 _ (c .before .m .given .0 .0) (sym (c .before .before .before .decimal .ensures) ∙ c .before .m .given .1)) }
 
-sub-if2 : tie.Need-sub-if2
-sub-if2 c = search needs
-
-no-line-requires-3 : tie.Need-no-line-requires-3
-no-line-requires-3 c κs = search needs
-
 returns-3 : tie.Need-returns-3
 returns-3 c =
     let ws = wordsOf (c .before .before .before .before .before .before .before .before .before .before .before .before .args .s .now) in
     c .no-line3 .ensures ∙ add-uncounted ws (omega arith) (sym (ap (λ (w : List ℕ). sameBytes w addName) (c .before .before .before .before .before .before .before .before .before .before .word-at .ensures)) ∙ sym (c .before .before .before .before .before .before .before .before .same .ensures) ∙ not-false _ (c .before .before .before .before .before .before .before .if1 .left)) (ap (λ (w : Whole). counts w (length (drop 7 ws))) (sym (ap (λ (w : List ℕ). upTo 4294967295 (digitsOf 10 w)) (c .before .before .before .before .before .before .word-at2 .ensures)) ∙ sym (c .before .before .before .before .before .decimal .ensures) ∙ c .before .before .before .m .given .1) ∙ ne-eqb (2 * c .before .before .before .m .given .0 .0) (length (drop 7 ws)) (λ e. c .before .if2 .taken (omega (arith, e, length-drop 7 ws))))
 
-read-head-requires : tie.Need-read-head-requires
-read-head-requires c κs = search needs
-
 read-terms-requires : tie.Need-read-terms-requires
 read-terms-requires c κs = (up-to-most 4294967295 _ (c .before .before .before .m .given .0 .0) (sym (c .before .before .before .before .before .decimal .ensures) ∙ c .before .before .before .m .given .1), omega arith)
-
-line-with-requires : tie.Need-line-with-requires
-line-with-requires c κs = search needs
 
 returns-4 : tie.Need-returns-4
 returns-4 c =
@@ -86,25 +47,4 @@ returns-4 c =
     ∙ add-counted ws (omega (arith, c .before .before .before .before .before .before .before .before .before .before .before .before .before .before .pre .0, c .before .before .before .before .before .before .before .before .before .before .before .before .before .before .pre .1)) (sym (ap (λ (w : List ℕ). sameBytes w addName) (c .before .before .before .before .before .before .before .before .before .before .before .before .word-at .ensures)) ∙ sym (c .before .before .before .before .before .before .before .before .before .before .same .ensures) ∙ not-false _ (c .before .before .before .before .before .before .before .before .before .if1 .left)) (ap (λ (w : Whole). counts w (length (drop 7 ws))) (sym (ap (λ (w : List ℕ). upTo 4294967295 (digitsOf 10 w)) (c .before .before .before .before .before .before .before .before .word-at2 .ensures)) ∙ sym (c .before .before .before .before .before .before .before .decimal .ensures) ∙ c .before .before .before .before .before .m .given .1) ∙ eq-eqb (2 * c .before .before .before .before .before .m .given .0 .0) (length (drop 7 ws)) (omega (arith, length-drop 7 ws, c .before .before .before .if2 .left, c .before .before .before .before .before .before .before .before .before .before .before .before .before .before .pre .0)))
 
 pub read-add-spec : {M : Type 1} → statement M
-read-add-spec =
-    tie.close
-    (tie.spec
-    word-at-requires
-    slice-aggregate-same
-    same-requires
-    no-line-requires
-    returns
-    word-at-requires-2
-    decimal-requires
-    enum-known-m
-    enum-told
-    no-line-requires-2
-    returns-2
-    mul-if2
-    sub-if2
-    no-line-requires-3
-    returns-3
-    read-head-requires
-    read-terms-requires
-    line-with-requires
-    returns-4)
+read-add-spec = tie.close (tie.spec (λ c κs. search needs) (λ c. search needs) (λ c κs. search needs) (λ c κs. search needs) returns (λ c κs. search needs) (λ c κs. search needs) (λ c. search needs) (λ c. search needs) (λ c κs. search needs) returns-2 mul-if2 (λ c. search needs) (λ c κs. search needs) returns-3 (λ c κs. search needs) read-terms-requires (λ c κs. search needs) returns-4)

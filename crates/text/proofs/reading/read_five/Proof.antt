@@ -14,42 +14,6 @@ use Rattle.text.specs.Lines.{asCall}
 use Rattle.text.proofs.reading.read_five.Statement.{statement}
 use Rattle.text.proofs.reading.read_five.Tie as tie
 
-word-at-requires : tie.Need-word-at-requires
-word-at-requires c κs = search needs
-
-word-at-requires-2 : tie.Need-word-at-requires-2
-word-at-requires-2 c κs = search needs
-
-word-at-requires-3 : tie.Need-word-at-requires-3
-word-at-requires-3 c κs = search needs
-
-word-at-requires-4 : tie.Need-word-at-requires-4
-word-at-requires-4 c κs = search needs
-
-word-at-requires-5 : tie.Need-word-at-requires-5
-word-at-requires-5 c κs = search needs
-
-slice-aggregate-same : tie.Need-slice-aggregate-same
-slice-aggregate-same c = search needs
-
-same-requires : tie.Need-same-requires
-same-requires c κs = search needs
-
-float-word-requires : tie.Need-float-word-requires
-float-word-requires c κs = search needs
-
-float-word-requires-2 : tie.Need-float-word-requires-2
-float-word-requires-2 c κs = search needs
-
-float-word-requires-3 : tie.Need-float-word-requires-3
-float-word-requires-3 c κs = search needs
-
-float-word-requires-4 : tie.Need-float-word-requires-4
-float-word-requires-4 c κs = search needs
-
-create-call-requires : tie.Need-create-call-requires
-create-call-requires c κs = search needs
-
 returns : tie.Need-returns
 unfolding fiveWords
 returns c =
@@ -61,20 +25,4 @@ returns-2 c =
     (no-in asCall _ _ (sym (ap (λ (w : List ℕ). sameBytes w createName) (c .before .before .before .before .before .before .before .word-at .ensures)) ∙ sym (c .before .same .ensures) ∙ c .if1 .left) refl)
 
 pub read-five-spec : {M : Type 1} → statement M
-read-five-spec =
-    tie.close
-    (tie.spec
-    word-at-requires
-    word-at-requires-2
-    word-at-requires-3
-    word-at-requires-4
-    word-at-requires-5
-    slice-aggregate-same
-    same-requires
-    float-word-requires
-    float-word-requires-2
-    float-word-requires-3
-    float-word-requires-4
-    create-call-requires
-    returns
-    returns-2)
+read-five-spec = tie.close (tie.spec (λ c κs. search needs) (λ c κs. search needs) (λ c κs. search needs) (λ c κs. search needs) (λ c κs. search needs) (λ c. search needs) (λ c κs. search needs) (λ c κs. search needs) (λ c κs. search needs) (λ c κs. search needs) (λ c κs. search needs) (λ c κs. search needs) returns returns-2)

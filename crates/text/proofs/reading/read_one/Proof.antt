@@ -12,25 +12,10 @@ use Rattle.text.specs.Lines.{asCall}
 use Rattle.text.proofs.reading.read_one.Statement.{statement}
 use Rattle.text.proofs.reading.read_one.Tie as tie
 
-word-at-requires : tie.Need-word-at-requires
-word-at-requires c κs = search needs
-
-slice-aggregate-same : tie.Need-slice-aggregate-same
-slice-aggregate-same c = search needs
-
-same-requires : tie.Need-same-requires
-same-requires c κs = search needs
-
 returns : tie.Need-returns
 unfolding oneWord
 returns c =
     (yes-in asCall _ _ (sym (ap (λ (w : List ℕ). sameBytes w resetName) (c .before .before .before .word-at .ensures)) ∙ sym (c .before .same .ensures) ∙ c .if1 .taken) refl)
-
-slice-aggregate-same-2 : tie.Need-slice-aggregate-same-2
-slice-aggregate-same-2 c = search needs
-
-same-requires-2 : tie.Need-same-requires-2
-same-requires-2 c κs = search needs
 
 returns-2 : tie.Need-returns-2
 unfolding oneWord
@@ -45,14 +30,4 @@ returns-3 c =
     (no-in asCall _ _ (sym (ap (λ (w : List ℕ). sameBytes w fetchName) (c .before .before .before .before .before .before .word-at .ensures)) ∙ sym (c .before .same2 .ensures) ∙ c .if2 .left) refl))
 
 pub read-one-spec : {M : Type 1} → statement M
-read-one-spec =
-    tie.close
-    (tie.spec
-    word-at-requires
-    slice-aggregate-same
-    same-requires
-    returns
-    slice-aggregate-same-2
-    same-requires-2
-    returns-2
-    returns-3)
+read-one-spec = tie.close (tie.spec (λ c κs. search needs) (λ c. search needs) (λ c κs. search needs) returns (λ c. search needs) (λ c κs. search needs) returns-2 returns-3)

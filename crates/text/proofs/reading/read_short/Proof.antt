@@ -9,32 +9,17 @@ use Rattle.text.specs.Lines.{asCall}
 use Rattle.text.proofs.reading.read_short.Statement.{statement}
 use Rattle.text.proofs.reading.read_short.Tie as tie
 
-read-one-requires : tie.Need-read-one-requires
-read-one-requires c κs = search needs
-
 returns : tie.Need-returns
 returns c = c .read-one .ensures ∙ sym (ap asCall (call-1 (wordsOf (c .before .before .before .args .s .now)) (omega arith)))
-
-read-two-requires : tie.Need-read-two-requires
-read-two-requires c κs = search needs
 
 returns-2 : tie.Need-returns-2
 returns-2 c = c .read-two .ensures ∙ sym (ap asCall (call-2 (wordsOf (c .before .before .before .before .args .s .now)) (omega arith)))
 
-read-three-requires : tie.Need-read-three-requires
-read-three-requires c κs = search needs
-
 returns-3 : tie.Need-returns-3
 returns-3 c = c .read-three .ensures ∙ sym (ap asCall (call-3 (wordsOf (c .before .before .before .before .before .args .s .now)) (omega arith)))
 
-read-four-requires : tie.Need-read-four-requires
-read-four-requires c κs = search needs
-
 returns-4 : tie.Need-returns-4
 returns-4 c = c .read-four .ensures ∙ sym (ap asCall (call-4 (wordsOf (c .before .before .before .before .before .before .args .s .now)) (omega arith)))
-
-read-five-requires : tie.Need-read-five-requires
-read-five-requires c κs = search needs
 
 returns-5 : tie.Need-returns-5
 returns-5 c = c .read-five .ensures ∙ sym (ap asCall (call-5 (wordsOf (c .before .before .before .before .before .before .before .args .s .now)) (omega arith)))
@@ -43,17 +28,4 @@ returns-6 : tie.Need-returns-6
 returns-6 c = sym (ap asCall (call-none (wordsOf (c .before .before .before .before .before .before .args .s .now)) (omega arith) (λ e. c .before .before .before .before .if1 .left (omega arith)) (λ e. c .before .before .before .if2 .left (omega arith)) (λ e. c .before .before .if3 .left (omega arith)) (λ e. c .before .if4 .left (omega arith)) (λ e. c .if5 .left (omega arith))))
 
 pub read-short-spec : {M : Type 1} → statement M
-read-short-spec =
-    tie.close
-    (tie.spec
-    read-one-requires
-    returns
-    read-two-requires
-    returns-2
-    read-three-requires
-    returns-3
-    read-four-requires
-    returns-4
-    read-five-requires
-    returns-5
-    returns-6)
+read-short-spec = tie.close (tie.spec (λ c κs. search needs) returns (λ c κs. search needs) returns-2 (λ c κs. search needs) returns-3 (λ c κs. search needs) returns-4 (λ c κs. search needs) returns-5 returns-6)

@@ -7,15 +7,6 @@ use Rattle.text.specs.Stream.{held-more, held-over}
 use Rattle.text.proofs.stream.keep_byte.Statement.{statement}
 use Rattle.text.proofs.stream.keep_byte.Tie as tie
 
-slice-write-line : tie.Need-slice-write-line
-slice-write-line c = search needs
-
-add-result : tie.Need-add-result
-add-result c = search needs
-
-same-length : tie.Need-same-length
-same-length c = search needs
-
 returns : tie.Need-returns
 returns c =
     let a = c .before .args in
@@ -27,4 +18,4 @@ returns-2 c =
     (c .before .pre, held-over (a .line .now) (a .n) (a .b) (c .before .pre) (c .if1 .left))
 
 pub keep-byte-spec : {M : Type 1} → statement M
-keep-byte-spec = tie.close (tie.spec slice-write-line add-result same-length returns returns-2)
+keep-byte-spec = tie.close (tie.spec (λ c. search needs) (λ c. search needs) (λ c. search needs) returns returns-2)

@@ -16,21 +16,6 @@ Inv-loop s n₀ i₀ n i = (i ≤ length s) × (n ≤ i) × (n + length (wordsOf
 abbrev μ-loop : tie.MeasureT-loop
 μ-loop s n₀ i₀ n i = length s - i
 
-loop-holds : tie.Need-loop-holds Inv-loop μ-loop
-loop-holds c = search needs
-
-shared-slice-read-if1 : tie.Need-shared-slice-read-if1 Inv-loop μ-loop
-shared-slice-read-if1 c = search needs
-
-add-n : tie.Need-add-n Inv-loop μ-loop
-add-n c = search needs
-
-add-i : tie.Need-add-i Inv-loop μ-loop
-add-i c = search needs
-
-loop-less : tie.Need-loop-less Inv-loop μ-loop
-loop-less c = search needs
-
 loop-again : tie.Need-loop-again Inv-loop μ-loop
 loop-again c =
     let l = c .before .before .before .loop in
@@ -40,25 +25,10 @@ loop-again c =
     (λ w. (omega arith, omega arith, rw (w .1) (count-other s (l .i) (l .n) (omega arith) (w .0 .left) (l .inv .2))))
     (c .if1 .came)
 
-add-result : tie.Need-add-result Inv-loop μ-loop
-add-result c = search needs
-
 returns : tie.Need-returns Inv-loop μ-loop
 returns c =
     let l = c .before .loop in
     count-last (c .before .before .args .s .now) (l .i) (l .n) (omega arith) (l .inv .2)
 
 pub count-words-spec : {M : Type 1} → statement M
-count-words-spec =
-    tie.close
-    (tie.spec
-    Inv-loop
-    μ-loop
-    loop-holds
-    shared-slice-read-if1
-    add-n
-    add-i
-    loop-less
-    loop-again
-    add-result
-    returns)
+count-words-spec = tie.close (tie.spec Inv-loop μ-loop (λ c. search needs) (λ c. search needs) (λ c. search needs) (λ c. search needs) (λ c. search needs) loop-again (λ c. search needs) returns)

@@ -10,21 +10,6 @@ use Rattle.text.specs.Words.{wordsOf, word}
 use Rattle.text.proofs.words.word_at.Statement.{statement}
 use Rattle.text.proofs.words.word_at.Tie as tie
 
-word-start-requires : tie.Need-word-start-requires
-word-start-requires c κs = search needs
-
-sub-t : tie.Need-sub-t
-sub-t c = search needs
-
-part-t-start : tie.Need-part-t-start
-part-t-start c = search needs
-
-part-t-end : tie.Need-part-t-end
-part-t-end c = search needs
-
-word-length-requires : tie.Need-word-length-requires
-word-length-requires c κs = search needs
-
 slice-aggregate-result : tie.Need-slice-aggregate-result
 slice-aggregate-result c = sym (length-take-le (c .before .word-length .result) _ (c .before .word-length .ensures .0))
 
@@ -36,13 +21,4 @@ returns c =
     ∙ a .ensures .1
 
 pub word-at-spec : {M : Type 1} → statement M
-word-at-spec =
-    tie.close
-    (tie.spec
-    word-start-requires
-    sub-t
-    part-t-start
-    part-t-end
-    word-length-requires
-    slice-aggregate-result
-    returns)
+word-at-spec = tie.close (tie.spec (λ c κs. search needs) (λ c. search needs) (λ c. search needs) (λ c. search needs) (λ c κs. search needs) slice-aggregate-result returns)

@@ -16,25 +16,10 @@ Inv-loop s k left₀ i₀ left i = (i ≤ length s) × (word (wordsOf (drop i s)
 abbrev μ-loop : tie.MeasureT-loop
 μ-loop s k left₀ i₀ left i = length s - i
 
-loop-holds : tie.Need-loop-holds Inv-loop μ-loop
-loop-holds c = search needs
-
 returns : tie.Need-returns Inv-loop μ-loop
 returns c =
     let l = c .before .before .loop in
     (l .inv .0, rw (c .if1 .taken) at (l .inv .1))
-
-shared-slice-read-if2 : tie.Need-shared-slice-read-if2 Inv-loop μ-loop
-shared-slice-read-if2 c = search needs
-
-sub-left : tie.Need-sub-left Inv-loop μ-loop
-sub-left c = search needs
-
-add-i : tie.Need-add-i Inv-loop μ-loop
-add-i c = search needs
-
-loop-less : tie.Need-loop-less Inv-loop μ-loop
-loop-less c = search needs
 
 loop-again : tie.Need-loop-again Inv-loop μ-loop
 loop-again c =
@@ -51,16 +36,4 @@ returns-2 c =
     (l .inv .0, skip-last (c .before .before .args .s .now) (l .i) (l .left) (omega arith) (l .inv .1))
 
 pub word-start-spec : {M : Type 1} → statement M
-word-start-spec =
-    tie.close
-    (tie.spec
-    Inv-loop
-    μ-loop
-    loop-holds
-    returns
-    shared-slice-read-if2
-    sub-left
-    add-i
-    loop-less
-    loop-again
-    returns-2)
+word-start-spec = tie.close (tie.spec Inv-loop μ-loop (λ c. search needs) returns (λ c. search needs) (λ c. search needs) (λ c. search needs) (λ c. search needs) loop-again returns-2)

@@ -1,12 +1,11 @@
 -- `text::writing::put_hex` meets its contract. The measure is the number of digits.
 -- Assumes nothing.
-use Prim.Native.Nat.{_-_, _/_, _%_}
+use Prim.Native.Nat.{_-_, _/_, _%_, ℕ, _<_}
 use mathlib.Core.Path.{sym, ap}
 use mathlib.Core.List.{[], _∷_}
 use Rattle.text.specs.Answers.{wrote-as, wrote-nothing, wrote-then, glyph, hexText, hex-none, hex-more, hex-length}
 use borrow.Author.Needs.{needs}
 use native.Mathlib.Omega.{arith}
-use Prim.Native.Nat.{ℕ, _<_}
 use lib.ListN.{length}
 use borrow.Fn.Kinds.{In}
 use borrow.Fn.PlainCycle.{Measures, is, falls, and}

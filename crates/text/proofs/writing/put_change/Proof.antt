@@ -9,9 +9,6 @@ use Rattle.text.specs.Answers.{wrote-then, numberText, floatText, decima
 use Rattle.text.proofs.writing.put_change.Statement.{statement}
 use Rattle.text.proofs.writing.put_change.Tie as tie
 
-put-byte-requires : tie.Need-put-byte-requires
-put-byte-requires c κs = search needs
-
 put-number-requires : tie.Need-put-number-requires
 put-number-requires c κs =
     let h : c .before .before .before .put-byte .result + 20 ≤ length (c .before .before .before .put-byte .last .0) = omega (arith, c .before .before .before .put-byte .ensures .0, c .before .before .before .put-byte .ensures .1, c .before .before .before .before .before .before .pre) in
@@ -27,20 +24,9 @@ put-float-requires c κs =
     let h : c .before .before .before .put-byte2 .result + 16 ≤ length (c .before .before .before .put-byte2 .last .0) = omega (arith, c .before .before .before .put-byte2 .ensures .0, c .before .before .before .put-byte2 .ensures .1, c .before .before .before .before .before .before .before .put-number .ensures .0, c .before .before .before .before .before .before .before .put-number .ensures .1, c .before .before .before .before .before .before .before .before .before .before .before .put-byte .ensures .0, c .before .before .before .before .before .before .before .before .before .before .before .put-byte .ensures .1, c .before .before .before .before .before .before .before .before .before .before .before .before .before .before .pre, decimal-short 20 (c .before .before .before .before .before .before .before .before .before .before .before .before .before .before .args .v)) in
     h
 
-same-length : tie.Need-same-length
-same-length c = search needs
-
 returns : tie.Need-returns
 returns c =
     (wrote-then (c .before .before .before .before .before .before .before .before .before .before .before .before .before .before .before .before .before .args .out .now) (c .before .before .before .before .before .before .before .before .before .before .before .before .before .before .put-byte .last .0) (c .before .before .put-float .last .0) (c .before .before .before .before .before .before .before .before .before .before .before .before .before .before .before .before .before .args .at) (c .before .before .before .before .before .before .before .before .before .before .before .before .before .before .put-byte .result) (c .before .before .put-float .result) (32 ∷ []) ((numberText (c .before .before .before .before .before .before .before .before .before .before .before .before .before .before .before .before .before .args .v)) ++ ((58 ∷ []) ++ (floatText (c .before .before .before .before .before .before .before .before .before .before .before .before .before .before .before .before .before .args .x)))) (c .before .before .before .before .before .before .before .before .before .before .before .before .before .before .put-byte .ensures) (wrote-then (c .before .before .before .before .before .before .before .before .before .before .before .before .before .before .put-byte .last .0) (c .before .before .before .before .before .before .before .before .before .before .put-number .last .0) (c .before .before .put-float .last .0) (c .before .before .before .before .before .before .before .before .before .before .before .before .before .before .put-byte .result) (c .before .before .before .before .before .before .before .before .before .before .put-number .result) (c .before .before .put-float .result) (numberText (c .before .before .before .before .before .before .before .before .before .before .before .before .before .before .before .before .before .args .v)) ((58 ∷ []) ++ (floatText (c .before .before .before .before .before .before .before .before .before .before .before .before .before .before .before .before .before .args .x))) (c .before .before .before .before .before .before .before .before .before .before .put-number .ensures) (wrote-then (c .before .before .before .before .before .before .before .before .before .before .put-number .last .0) (c .before .before .before .before .before .before .put-byte2 .last .0) (c .before .before .put-float .last .0) (c .before .before .before .before .before .before .before .before .before .before .put-number .result) (c .before .before .before .before .before .before .put-byte2 .result) (c .before .before .put-float .result) (58 ∷ []) (floatText (c .before .before .before .before .before .before .before .before .before .before .before .before .before .before .before .before .before .args .x)) (c .before .before .before .before .before .before .put-byte2 .ensures) (c .before .before .put-float .ensures))))
 
 pub put-change-spec : {M : Type 1} → statement M
-put-change-spec =
-    tie.close
-    (tie.spec
-    put-byte-requires
-    put-number-requires
-    put-byte-requires-2
-    put-float-requires
-    same-length
-    returns)
+put-change-spec = tie.close (tie.spec (λ c κs. search needs) put-number-requires put-byte-requires-2 put-float-requires (λ c. search needs) returns)

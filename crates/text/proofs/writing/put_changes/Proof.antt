@@ -19,29 +19,11 @@ loop-holds c =
     let a = c .before .before .before .args in
     (omega arith, wrote-entries (a .out .now) (a .at) (a .numbers .now) (a .values .now))
 
-mul-put-change : tie.Need-mul-put-change Inv-loop μ-loop
-mul-put-change c = search needs
-
-shared-slice-read-put-change : tie.Need-shared-slice-read-put-change Inv-loop μ-loop
-shared-slice-read-put-change c = search needs
-
-mul-put-change-2 : tie.Need-mul-put-change-2 Inv-loop μ-loop
-mul-put-change-2 c = search needs
-
-shared-slice-read-put-change-2 : tie.Need-shared-slice-read-put-change-2 Inv-loop μ-loop
-shared-slice-read-put-change-2 c = search needs
-
 put-change-requires : tie.Need-put-change-requires Inv-loop μ-loop
 put-change-requires c κs =
     let a = c .before .before .before .before .before .before .before .before .args in
     let l = c .before .before .before .before .loop in
     entries-room (a .out .now) (a .at) (a .numbers .now) (a .values .now) (l .out) (l .next) (l .i) (a .count) (c .before .before .before .before .before .before .before .before .pre .0) (omega arith) (l .inv .1)
-
-add-i : tie.Need-add-i Inv-loop μ-loop
-add-i c = search needs
-
-loop-less : tie.Need-loop-less Inv-loop μ-loop
-loop-less c = search needs
 
 loop-again : tie.Need-loop-again Inv-loop μ-loop
 loop-again c =
@@ -50,9 +32,6 @@ loop-again c =
     let d = c .before .before .put-change in
     (omega arith, wrote-entry (a .out .now) (a .at) (a .numbers .now) (a .values .now) (l .out) (d .last .0) (l .next) (d .result) (l .i) (l .inv .1) (d .ensures))
 
-same-length : tie.Need-same-length Inv-loop μ-loop
-same-length c = search needs
-
 returns : tie.Need-returns Inv-loop μ-loop
 returns c =
     let l = c .before .loop in
@@ -60,19 +39,4 @@ returns c =
     rw e at (l .inv .1)
 
 pub put-changes-spec : {M : Type 1} → statement M
-put-changes-spec =
-    tie.close
-    (tie.spec
-    Inv-loop
-    μ-loop
-    loop-holds
-    mul-put-change
-    shared-slice-read-put-change
-    mul-put-change-2
-    shared-slice-read-put-change-2
-    put-change-requires
-    add-i
-    loop-less
-    loop-again
-    same-length
-    returns)
+put-changes-spec = tie.close (tie.spec Inv-loop μ-loop loop-holds (λ c. search needs) (λ c. search needs) (λ c. search needs) (λ c. search needs) put-change-requires (λ c. search needs) (λ c. search needs) loop-again (λ c. search needs) returns)

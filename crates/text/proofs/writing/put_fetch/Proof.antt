@@ -5,18 +5,12 @@ use Rattle.text.specs.Answers.{fetch-room, wrote-fetch}
 use Rattle.text.proofs.writing.put_fetch.Statement.{statement}
 use Rattle.text.proofs.writing.put_fetch.Tie as tie
 
-put-number-requires : tie.Need-put-number-requires
-put-number-requires c κs = search needs
-
 put-changes-requires : tie.Need-put-changes-requires
 put-changes-requires c κs =
     let a = c .before .before .before .before .before .before .before .before .args in
     let d = c .before .before .before .put-number in
     let p = c .before .before .before .before .before .before .before .before .pre in
     (fetch-room (a .out .now) (a .at) (a .numbers .now) (a .values .now) (d .last .0) (d .result) (a .count) (p .0) (d .ensures), (p .1 .0, p .1 .1))
-
-same-length : tie.Need-same-length
-same-length c = search needs
 
 returns : tie.Need-returns
 returns c =
@@ -26,4 +20,4 @@ returns c =
     wrote-fetch (a .out .now) (a .at) (a .numbers .now) (a .values .now) (d .last .0) (e .last .0) (d .result) (e .result) (a .count) (d .ensures) (e .ensures)
 
 pub put-fetch-spec : {M : Type 1} → statement M
-put-fetch-spec = tie.close (tie.spec put-number-requires put-changes-requires same-length returns)
+put-fetch-spec = tie.close (tie.spec (λ c κs. search needs) put-changes-requires (λ c. search needs) returns)

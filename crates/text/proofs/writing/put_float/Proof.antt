@@ -6,19 +6,10 @@ use Rattle.text.specs.Answers.{wrote-as, hexText}
 use Rattle.text.proofs.writing.put_float.Statement.{statement}
 use Rattle.text.proofs.writing.put_float.Tie as tie
 
-bits-of-float-requires : tie.Need-bits-of-float-requires
-bits-of-float-requires c κs = search needs
-
-put-hex-requires : tie.Need-put-hex-requires
-put-hex-requires c κs = search needs
-
-same-length : tie.Need-same-length
-same-length c = search needs
-
 returns : tie.Need-returns
 returns c =
     let p = c .before .before .put-hex in
     wrote-as (c .before .before .before .before .before .before .args .out .now) (p .last .0) (c .before .before .before .before .before .before .args .at) (p .result) (ap (hexText 16) (sym (c .before .before .before .bits-of-float .ensures))) (p .ensures)
 
 pub put-float-spec : {M : Type 1} → statement M
-put-float-spec = tie.close (tie.spec bits-of-float-requires put-hex-requires same-length returns)
+put-float-spec = tie.close (tie.spec (λ c κs. search needs) (λ c κs. search needs) (λ c. search needs) returns)

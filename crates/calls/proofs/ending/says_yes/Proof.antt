@@ -1,0 +1,12 @@
+-- `calls::ending::says_yes` meets its contract. Assumes nothing.
+use mathlib.Core.Path.{refl}
+use Rattle.calls.specs.Closing.{saysYes}
+use Rattle.calls.proofs.ending.says_yes.Statement.{statement}
+use Rattle.calls.proofs.ending.says_yes.Tie as tie
+
+returns : tie.Need-returns
+unfolding saysYes
+returns c = refl
+
+pub says-yes-spec : {M : Type 1} → statement M
+says-yes-spec = tie.close (tie.spec returns)

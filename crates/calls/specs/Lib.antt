@@ -1,0 +1,21 @@
+-- The changing calls over lent tables: from the tables to the steps, and back.
+pub mod Refusals
+pub mod New
+pub mod Tested
+pub mod Passed
+pub mod Known
+pub mod Numbers
+pub mod Placed
+pub mod Begin
+pub mod Closing
+pub mod Stored
+pub mod Concluding
+pub mod One
+pub mod Packing
+pub mod Removing
+pub mod EditRemoving
+pub mod Adding
+pub mod EditAdding
+pub mod Suggesting
+pub mod Listed
+pub mod Change

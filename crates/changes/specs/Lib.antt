@@ -1,0 +1,2 @@
+-- A changing call by value.
+pub mod Change

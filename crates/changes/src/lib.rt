@@ -1,0 +1,14 @@
+// A changing call with its inputs but the budget, by value.
+use tags::Relation;
+
+// A number first: the constraint's, or of an edit its variable's. An add's terms come beside it.
+pub enum Change {
+    // the constant, the relation
+    Add(u32, f64, Relation),
+    Remove(u32),
+    // the strength
+    AddEdit(u32, f64),
+    RemoveEdit(u32),
+    // the suggestion
+    Suggest(u32, f64),
+}

@@ -1,0 +1,2 @@
+-- Tables lent as slices of arrays.
+pub mod Entry

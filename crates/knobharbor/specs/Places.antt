@@ -1,0 +1,63 @@
+-- What a call leaves in the places that C lends: an answer of more than one word goes through them. Assumes nothing.
+use Prim.Native.Nat.{ℕ}
+use mathlib.Core.Path.{_≡_, ap, _∙_}
+use mathlib.Core.List.{List, [], _∷_}
+use lib.Ieee.{Float}
+use Rattle.steps.specs.Calls.{Answer}
+use Rattle.layout.specs.Layout.{Tables, bitOf}
+use Rattle.shell.specs.Shell.{Called, called}
+use Rattle.fetching.specs.Fetch.{Fetch, fetchBy, fetchOf, places}
+use Rattle.fetching.specs.declared.Fetched as code
+use Rattle.typed.specs.Adding.{Text, text}
+
+-- an answer's three places: the number, the pivots, the whole mark as 0 or 1
+unfoldable pub inPlaces : Answer → List ℕ
+inPlaces a = a .number ∷ a .pivots ∷ bitOf (a .whole) ∷ []
+
+-- an answer's places, and the tables
+pub record Placed : Type 0 where
+  pub answer : List ℕ
+  pub tables : Tables
+
+abbrev pub placed : List ℕ → Tables → Placed
+placed a t = record { answer = a; tables = t }
+
+-- what a call answers and leaves, in its places
+abbrev pub placedBy : Called → Placed
+placedBy c = placed (inPlaces (c .answer)) (c .tables)
+
+-- the same of a line of text, with the offset in a place of its own
+pub record PlacedText : Type 0 where
+  pub offset : ℕ
+  pub call : Placed
+
+abbrev pub placedText : ℕ → Placed → PlacedText
+placedText at p = record { offset = at; call = p }
+
+abbrev pub placedLine : Text → PlacedText
+placedLine x = placedText (x .offset) (placedBy (x .call))
+
+-- of a fetch: its answer's two places, the two lists, and the tables
+pub record PlacedList : Type 0 where
+  pub answer : List ℕ
+  pub numbers : List ℕ
+  pub values : List Float
+  pub tables : Tables
+
+abbrev pub placedList : List ℕ → List ℕ → List Float → Tables → PlacedList
+placedList a ns vs t = record { answer = a; numbers = ns; values = vs; tables = t }
+
+abbrev pub placedFetch : Fetch → PlacedList
+placedFetch f = placedList (f .number ∷ f .count ∷ []) (f .numbers) (f .values) (f .tables)
+
+-- ---- from what is called to the places
+
+pub call-placed : {a : Answer} {w : List ℕ} {u : Tables} {c : Called} → w ≡ inPlaces a → called a u ≡ c → placed w u ≡ placedBy c
+call-placed {u = u} e f = ap (λ (l : List ℕ). placed l u) e ∙ ap placedBy f
+
+pub text-placed : {a : Answer} {at k : ℕ} {w : List ℕ} {u : Tables} {x : Text} → k ≡ at → w ≡ inPlaces a → text at (called a u) ≡ x → placedText k (placed w u) ≡ placedLine x
+text-placed {a} {k = k} {u = u} d e f = ap (λ (l : List ℕ). placedText k (placed l u)) e ∙ ap (λ (y : ℕ). placedText y (placed (inPlaces a) u)) d ∙ ap placedLine f
+
+pub fetch-placed : {f : code.Fetched} {w ns : List ℕ} {vs : List Float} {u : Tables} (t : Tables) {a b : ℕ} → w ≡ f .number ∷ f .count ∷ [] → a ≡ places → b ≡ places → fetchBy f ns vs u ≡ fetchOf a b t
+    → placedList w ns vs u ≡ placedFetch (fetchOf places places t)
+fetch-placed {ns = ns} {vs} {u} t {b = b} e i j g = ap (λ (l : List ℕ). placedList l ns vs u) e ∙ ap placedFetch (g ∙ ap (λ (x : ℕ). fetchOf x b t) i ∙ ap (λ (y : ℕ). fetchOf places y t) j)

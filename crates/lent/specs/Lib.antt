@@ -1,0 +1,2 @@
+-- Lent tables, behind references.
+pub mod Lent

@@ -1,2 +1,0 @@
--- The working room: all zero, and rows as wide as their type says.
-pub mod Room
