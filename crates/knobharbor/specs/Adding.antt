@@ -40,10 +40,10 @@ module _ (n : ℕ) (constant : Float) (kind : ℕ) (strength : Float) (budget : 
   unfolding packedOf addOf
   packed-unfit p c e f = rw (e, f) refl
 
-  pub packed-fit : (p : Pack) (r : Relation) (c : Called) → ltb kind 3 ≡ true → relationOf r ≡ relationBy kind strength → c ≡ callOf (add n (termsIn (listed p)) constant (relationOf r) budget) work t
-      → c ≡ packedOf n p constant kind strength budget work t
+  pub packed-fit : (p : Pack) (r : Relation) (x : Placed) → ltb kind 3 ≡ true → relationOf r ≡ relationBy kind strength → x ≡ placedBy (callOf (add n (termsIn (listed p)) constant (relationOf r) budget) work t)
+      → x ≡ placedBy (packedOf n p constant kind strength budget work t)
   unfolding packedOf addOf
-  packed-fit p r c e g h = rw e (rw (← g) h)
+  packed-fit p r x e g h = h ∙ ap placedBy (rw e (rw g refl))
 
   pub packed-list : (ts : List Term) {p : Pack} → p ≡ packOf ts → packedOf n p constant kind strength budget work t ≡ addOf n ts constant kind strength budget work t
   unfolding packedOf addOf
@@ -53,7 +53,7 @@ module _ (n : ℕ) (constant : Float) (kind : ℕ) (strength : Float) (budget : 
   unfolding addListsOf
   lists-unfit vars coefs c e f = rw (e, f) refl
 
-  pub lists-fit : (vars : List ℕ) (coefs : List Float) {p : Pack} {x : Placed} → eqb (length vars) (length coefs) ≡ true → p ≡ packOf (given vars coefs) → x ≡ placedBy (packedOf n p constant kind strength budget work t)
+  pub lists-fit : (vars : List ℕ) (coefs : List Float) {p : Pack} (x : Placed) → eqb (length vars) (length coefs) ≡ true → p ≡ packOf (given vars coefs) → x ≡ placedBy (packedOf n p constant kind strength budget work t)
       → x ≡ placedBy (addListsOf n vars coefs constant kind strength budget work t)
   unfolding addListsOf
-  lists-fit vars coefs e f h = h ∙ ap placedBy (rw e (packed-list (given vars coefs) f))
+  lists-fit vars coefs x e f h = h ∙ ap placedBy (rw e (packed-list (given vars coefs) f))

@@ -5,6 +5,7 @@ ghost use Rattle.shell.specs.Room.{cleared};
 ghost use Rattle.shell.specs.Shell.{answerOf, called, refused18};
 ghost use Rattle.knobharbor.specs.Adding.{addOf, addListsOf, packedOf};
 ghost use Rattle.knobharbor.specs.Places.{placed, placedBy};
+use crate::changed::change;
 use crate::given::gather;
 use crate::given::relation;
 use crate::places::put;
@@ -73,7 +74,7 @@ fn add_packed(
     }
     let relation = relation(kind, strength);
     let c = Change::Add(number, constant, relation);
-    let a = calls::change(
+    change(
         head,
         names,
         reals,
@@ -82,11 +83,11 @@ fn add_packed(
         wnames,
         wreals,
         wrows,
+        answer,
         c,
         p,
         budget,
-    );
-    put(answer, a);
+    )
 }
 
 // "A thin entry over a slice of term structs that hands variable and coefficient to covered functions.": `collect` gathers the terms, and `add_packed` makes the call of their list.

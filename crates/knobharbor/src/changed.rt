@@ -1,9 +1,11 @@
 // The changing calls without a list: all but add. "working room, where lent, is all zero after every call"
 ghost use mathlib.Core.Path.{_≡_};
 ghost use Rattle.steps.specs.Calls.{remove, addEdit, removeEdit, suggest};
+ghost use Rattle.steps.specs.Changing.{made};
 ghost use Rattle.lent.specs.Lent.{lent};
 ghost use Rattle.shell.specs.Room.{cleared};
 ghost use Rattle.shell.specs.Shell.{callOf};
+ghost use Rattle.changes.specs.Change.{changingOf};
 ghost use Rattle.knobharbor.specs.Places.{placed, placedBy};
 use crate::places::put;
 use changes::Change;
@@ -11,6 +13,41 @@ use lent::Head;
 use lent::Names;
 use lent::Reals;
 use lent::Rows;
+use terms::Pack;
+
+// The one changing call, and its answer in its place. p is read by an add alone.
+pub fn change(
+    head: &mut Head,
+    names: &mut Names,
+    reals: &mut Reals,
+    rows: &mut Rows,
+    whead: &mut Head,
+    wnames: &mut Names,
+    wreals: &mut Reals,
+    wrows: &mut Rows,
+    answer: &mut [u32; 3],
+    c: Change,
+    p: Pack,
+    budget: u16,
+)
+    ensures { λ _. ⌜ placed (now (answer .exit)) (lent (head .exit) (names .exit) (reals .exit) (rows .exit)) ≡ placedBy (callOf (made (changingOf c p budget)) (lent (whead .entry) (wnames .entry) (wreals .entry) (wrows .entry)) (lent (head .entry) (names .entry) (reals .entry) (rows .entry))) ⌝ }
+    ensures { λ _. ⌜ lent (whead .exit) (wnames .exit) (wreals .exit) (wrows .exit) ≡ cleared (lent (whead .entry) (wnames .entry) (wreals .entry) (wrows .entry)) ⌝ }
+{
+    let a = calls::change(
+        head,
+        names,
+        reals,
+        rows,
+        whead,
+        wnames,
+        wreals,
+        wrows,
+        c,
+        p,
+        budget,
+    );
+    put(answer, a);
+}
 
 #[no_mangle]
 pub extern "C" fn knobharbor_remove(
@@ -31,7 +68,7 @@ pub extern "C" fn knobharbor_remove(
 {
     let c = Change::Remove(number);
     let p = terms::none();
-    let a = calls::change(
+    change(
         head,
         names,
         reals,
@@ -40,11 +77,11 @@ pub extern "C" fn knobharbor_remove(
         wnames,
         wreals,
         wrows,
+        answer,
         c,
         p,
         budget,
-    );
-    put(answer, a);
+    )
 }
 
 #[no_mangle]
@@ -67,7 +104,7 @@ pub extern "C" fn knobharbor_add_edit(
 {
     let c = Change::AddEdit(variable, strength);
     let p = terms::none();
-    let a = calls::change(
+    change(
         head,
         names,
         reals,
@@ -76,11 +113,11 @@ pub extern "C" fn knobharbor_add_edit(
         wnames,
         wreals,
         wrows,
+        answer,
         c,
         p,
         budget,
-    );
-    put(answer, a);
+    )
 }
 
 #[no_mangle]
@@ -102,7 +139,7 @@ pub extern "C" fn knobharbor_remove_edit(
 {
     let c = Change::RemoveEdit(variable);
     let p = terms::none();
-    let a = calls::change(
+    change(
         head,
         names,
         reals,
@@ -111,11 +148,11 @@ pub extern "C" fn knobharbor_remove_edit(
         wnames,
         wreals,
         wrows,
+        answer,
         c,
         p,
         budget,
-    );
-    put(answer, a);
+    )
 }
 
 #[no_mangle]
@@ -138,7 +175,7 @@ pub extern "C" fn knobharbor_suggest(
 {
     let c = Change::Suggest(variable, suggestion);
     let p = terms::none();
-    let a = calls::change(
+    change(
         head,
         names,
         reals,
@@ -147,9 +184,9 @@ pub extern "C" fn knobharbor_suggest(
         wnames,
         wreals,
         wrows,
+        answer,
         c,
         p,
         budget,
-    );
-    put(answer, a);
+    )
 }

@@ -1,5 +1,4 @@
 -- `knobharbor::added::refuse` meets its contract. Assumes nothing.
-use borrow.Author.Needs.{needs}
 use Rattle.knobharbor.specs.Adding.{refused}
 use Rattle.knobharbor.proofs.added.refuse.Statement.{statement}
 use Rattle.knobharbor.proofs.added.refuse.Tie as tie
@@ -8,4 +7,4 @@ returns : tie.Need-returns
 returns c = (refused (c .refuse18 .ensures) (c .before .leave .ensures .0), c .before .leave .ensures .1 .0)
 
 pub refuse-spec : {M : Type 1} → statement M
-refuse-spec = tie.close (tie.spec (λ c κs. search needs) (λ c κs. search needs) returns)
+refuse-spec = tie.close (tie.spec (λ c κs. tt) (λ c κs. tt) returns)

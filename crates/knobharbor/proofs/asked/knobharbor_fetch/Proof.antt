@@ -1,6 +1,5 @@
 -- `knobharbor::asked::knobharbor_fetch` meets its contract. Assumes nothing.
 use native.Mathlib.Omega.{arith}
-use borrow.Author.Needs.{needs}
 use Rattle.knobharbor.specs.Places.{fetch-placed}
 use Rattle.knobharbor.proofs.asked.knobharbor_fetch.Statement.{statement}
 use Rattle.knobharbor.proofs.asked.knobharbor_fetch.Tie as tie
@@ -9,4 +8,4 @@ returns : tie.Need-returns
 returns c = fetch-placed _ (c .put-fetched .ensures) (omega arith) (omega arith) (c .before .before .fetch-changes .ensures)
 
 pub knobharbor-fetch-spec : {M : Type 1} → statement M
-knobharbor-fetch-spec = tie.close (tie.spec (λ c κs. search needs) (λ c κs. search needs) returns)
+knobharbor-fetch-spec = tie.close (tie.spec (λ c κs. tt) (λ c κs. tt) returns)
