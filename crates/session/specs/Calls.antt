@@ -20,6 +20,7 @@ use Rattle.steps.specs.Session as session
 use Rattle.steps.specs.Session.{resets, adds, removes, addsEdit, removesEdit, suggests, valueOf, fetches, hasConstraints, hasEdits, creates, clips, reads, dumps, setsNext}
 use Rattle.layout.specs.Layout.{Tables, tables, headSize, itemsSize, rowsSize}
 use Rattle.layout.specs.Rooms.{lengthsRight}
+use Rattle.room.specs.Room.{zeroNames, zeroReals, zeroRow}
 use Rattle.tags.specs.Tags.{relationOf}
 use Rattle.asking.specs.Asked.{asked}
 use Rattle.shell.specs.Shell.{Called, called, answerOf, callOf}
@@ -46,7 +47,7 @@ use Rattle.session.specs.Said.{Said, said, Spoken, fetchSaid, fetch-shor
 
 -- the working room of a change: all zero
 unfoldable pub room : Tables
-room = tables (replicate headSize 0) (replicate itemsSize (replicate 20 0)) (replicate itemsSize (replicate 17 zero64)) (replicate rowsSize (replicate 130 zero64))
+room = tables (replicate headSize 0) (replicate itemsSize zeroNames) (replicate itemsSize zeroReals) (replicate rowsSize zeroRow)
 
 pub room-right : lengthsRight room ≡ true
 unfolding lengthsRight room

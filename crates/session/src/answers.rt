@@ -1,6 +1,6 @@
 // A line answered: the text of the answer, into the lent buffer.
 ghost use mathlib.Core.Path.{_≡_};
-ghost use Prim.Native.Nat.{_+_, _≤_};
+ghost use Prim.Native.Nat.{_≤_};
 ghost use lib.ListN.{length, take};
 ghost use Rattle.lent.specs.Lent.{lent};
 ghost use Rattle.shell.specs.Shell.{called, answerOf, callOf};
@@ -40,10 +40,10 @@ fn change(
 ) -> Answer
     ensures { λ r. ⌜ called (answerOf r) (lent (head .exit) (names .exit) (reals .exit) (rows .exit)) ≡ callOf (made (changingOf c p budget)) room (lent (head .entry) (names .entry) (reals .entry) (rows .entry)) ⌝ }
 {
-    let mut h: Head = [0; 196];
-    let mut n: Names = [[0; 20]; 128];
-    let mut r: Reals = [[0.0; 17]; 128];
-    let mut w: Rows = [[0.0; 130]; 51];
+    let mut h: Head = [0; layout::HEAD_SIZE];
+    let mut n: Names = [[0; lent::NAME_WIDTH]; layout::ITEMS_SIZE];
+    let mut r: Reals = [[0.0; lent::REAL_WIDTH]; layout::ITEMS_SIZE];
+    let mut w: Rows = [[0.0; lent::ROW_WIDTH]; layout::ROWS_SIZE];
     calls::change(
         head,
         names,
