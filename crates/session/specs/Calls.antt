@@ -20,6 +20,7 @@ use Rattle.steps.specs.Session as session
 use Rattle.steps.specs.Session.{resets, adds, removes, addsEdit, removesEdit, suggests, valueOf, fetches, hasConstraints, hasEdits, creates, clips, reads, dumps, setsNext}
 use Rattle.layout.specs.Layout.{Tables, tables, headSize, itemsSize, rowsSize}
 use Rattle.layout.specs.Rooms.{lengthsRight}
+use Rattle.shell.specs.Room.{zeroNames, zeroReals, zeroRow}
 use Rattle.tags.specs.Tags.{relationOf}
 use Rattle.asking.specs.Asked.{asked}
 use Rattle.shell.specs.Shell.{Called, called, answerOf, callOf}
@@ -33,7 +34,9 @@ use Rattle.changes.specs.declared.Change.the-variants.{Add, Remove, AddEdit, Re
 use Rattle.changes.specs.Change.{changingOf}
 use Rattle.calls.specs.Listed.{listed-call}
 use Rattle.text.specs.declared.calls.Call.{Call}
-use Rattle.text.specs.declared.calls.Call.the-variants.{Reset, Change, Value, HasCon, HasEdit, Fetch, Create, Clip, Bad}
+use Rattle.text.specs.declared.calls.Call.the-variants.{Reset, Change, Ask, Fetch, Bad}
+use Rattle.text.specs.declared.calls.Query.{Query}
+use Rattle.text.specs.declared.calls.Query.the-variants.{Value, HasCon, HasEdit, Create, Clip}
 use Rattle.text.specs.declared.calls.Line.{Line}
 use Rattle.text.specs.Words.{wordsOf}
 use Rattle.text.specs.Format as format
@@ -44,7 +47,7 @@ use Rattle.session.specs.Said.{Said, said, Spoken, fetchSaid, fetch-shor
 
 -- the working room of a change: all zero
 unfoldable pub room : Tables
-room = tables (replicate headSize 0) (replicate itemsSize (replicate 20 0)) (replicate itemsSize (replicate 17 zero64)) (replicate rowsSize (replicate 130 zero64))
+room = tables (replicate headSize 0) (replicate itemsSize zeroNames) (replicate itemsSize zeroReals) (replicate rowsSize zeroRow)
 
 pub room-right : lengthsRight room ≡ true
 unfolding lengthsRight room
@@ -92,13 +95,32 @@ callFrom (Change (Remove n) b) p = some (removes n b)
 callFrom (Change (AddEdit v s) b) p = some (addsEdit v s b)
 callFrom (Change (RemoveEdit v) b) p = some (removesEdit v b)
 callFrom (Change (Suggest v x) b) p = some (suggests v x b)
-callFrom (Value v) p = some (valueOf v)
-callFrom (HasCon c) p = some (hasConstraints c)
-callFrom (HasEdit v) p = some (hasEdits v)
+callFrom (Ask (Value v)) p = some (valueOf v)
+callFrom (Ask (HasCon c)) p = some (hasConstraints c)
+callFrom (Ask (HasEdit v)) p = some (hasEdits v)
+callFrom (Ask (Create a b c k)) p = some (creates a b c k)
+callFrom (Ask (Clip s)) p = some (clips s)
 callFrom Fetch p = some fetches
-callFrom (Create a b c k) p = some (creates a b c k)
-callFrom (Clip s) p = some (clips s)
 callFrom Bad p = none
+
+-- the answer to a query
+abbrev pub askedText : Query → Tables → List ℕ
+askedText (Value v) t = floatText (asked (value v) zero64 t)
+askedText (HasCon c) t = flagText (asked (hasConstraint c) false t)
+askedText (HasEdit v) t = flagText (asked (hasEdit v) false t)
+askedText (Create a b c k) t = floatText (create a b c k)
+askedText (Clip s) t = floatText (clip s)
+
+pub asked-wrote : (a b : List ℕ) (i j : ℕ) (t : Tables) {q d : Query} {s : List ℕ} → q ≡ d → s ≡ askedText d t → Wrote a b i j s → Wrote a b i j (askedText q t)
+asked-wrote a b i j t e f w = rw (e, ← f) w
+
+ask-reply : (q : Query) (p : Pack) (t : Tables) → replyOf (callFrom (Ask q) p) t ≡ said (askedText q t) t
+unfolding replyOf
+ask-reply (Value v) p t = refl
+ask-reply (HasCon c) p t = refl
+ask-reply (HasEdit v) p t = refl
+ask-reply (Create a b c k) p t = refl
+ask-reply (Clip s) p t = refl
 
 change-reply : (c : changes.Change) (p : Pack) (b : ℕ) (t : Tables) → replyOf (callFrom (Change c b) p) t ≡ saidBy (callOf (made (changingOf c p b)) room t)
 unfolding replyOf
@@ -160,33 +182,12 @@ module _ (call : Call) (p : Pack) (t : Tables) (a b : List ℕ) (i j : ℕ) wher
   unfolding replyOf
   fetched-said e w = rw e w
 
-  -- a text that leaves the tables
-  text-said : {s : List ℕ} → replyOf (callFrom call p) t ≡ said s t → Wrote a b i j s → Says t
-  text-said e w = rw e (w, refl)
-
-  pub value-said : {v : ℕ} {x : Float} → call ≡ Value v → x ≡ asked (value v) zero64 t → Wrote a b i j (floatText x) → Says t
-  unfolding replyOf
-  value-said e f = text-said (rw (e, f) refl)
-
-  pub has-con-said : {c : ℕ} {x : Bool} → call ≡ HasCon c → x ≡ asked (hasConstraint c) false t → Wrote a b i j (flagText x) → Says t
-  unfolding replyOf
-  has-con-said e f = text-said (rw (e, f) refl)
-
-  pub has-edit-said : {v : ℕ} {x : Bool} → call ≡ HasEdit v → x ≡ asked (hasEdit v) false t → Wrote a b i j (flagText x) → Says t
-  unfolding replyOf
-  has-edit-said e f = text-said (rw (e, f) refl)
-
-  pub create-said : {w x y k r : Float} → call ≡ Create w x y k → r ≡ create w x y k → Wrote a b i j (floatText r) → Says t
-  unfolding replyOf
-  create-said e f = text-said (rw (e, f) refl)
-
-  pub clip-said : {s x : Float} → call ≡ Clip s → x ≡ clip s → Wrote a b i j (floatText x) → Says t
-  unfolding replyOf
-  clip-said e f = text-said (rw (e, f) refl)
+  pub asked-said : {q : Query} → call ≡ Ask q → Wrote a b i j (askedText q t) → Says t
+  asked-said {q} e w = rw (e, ask-reply q p t) (w, refl)
 
   pub bad-said : call ≡ Bad → Wrote a b i j unreadText → Says t
   unfolding replyOf
-  bad-said e = text-said (rw e refl)
+  bad-said e w = rw e (w, refl)
 
 -- ---- no answer is long
 

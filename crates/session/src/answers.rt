@@ -1,18 +1,19 @@
 // A line answered: the text of the answer, into the lent buffer.
 ghost use mathlib.Core.Path.{_≡_};
-ghost use Prim.Native.Nat.{_+_, _≤_};
+ghost use Prim.Native.Nat.{_≤_};
 ghost use lib.ListN.{length, take};
 ghost use Rattle.lent.specs.Lent.{lent};
 ghost use Rattle.shell.specs.Shell.{called, answerOf, callOf};
 ghost use Rattle.steps.specs.Changing.{made};
 ghost use Rattle.changes.specs.Change.{changingOf};
 ghost use Rattle.fetching.specs.Fetch.{fetchOf, places};
+ghost use Rattle.text.specs.Answers.{Wrote};
 ghost use Rattle.text.specs.Words.{wordsOf};
 ghost use Rattle.text.specs.Format.{callOf as Format·callOf};
 ghost use Rattle.text.specs.Lines.{lineOf};
 ghost use Rattle.text.specs.Stream.{heldOf};
 ghost use Rattle.session.specs.Said.{Spoken, fetchSaid};
-ghost use Rattle.session.specs.Calls.{room, replyOf, callFrom, heldReply};
+ghost use Rattle.session.specs.Calls.{room, replyOf, callFrom, askedText, heldReply};
 use changes::Change;
 use lent::Head;
 use lent::Names;
@@ -22,6 +23,7 @@ use shell::Answer;
 use terms::Pack;
 use text::calls::Call;
 use text::calls::Line;
+use text::calls::Query;
 use text::writing;
 
 pub type Out = [u8; 8192];
@@ -38,10 +40,10 @@ fn change(
 ) -> Answer
     ensures { λ r. ⌜ called (answerOf r) (lent (head .exit) (names .exit) (reals .exit) (rows .exit)) ≡ callOf (made (changingOf c p budget)) room (lent (head .entry) (names .entry) (reals .entry) (rows .entry)) ⌝ }
 {
-    let mut h: Head = [0; 196];
-    let mut n: Names = [[0; 20]; 128];
-    let mut r: Reals = [[0.0; 17]; 128];
-    let mut w: Rows = [[0.0; 130]; 51];
+    let mut h: Head = [0; layout::HEAD_SIZE];
+    let mut n: Names = [[0; lent::NAME_WIDTH]; layout::ITEMS_SIZE];
+    let mut r: Reals = [[0.0; lent::REAL_WIDTH]; layout::ITEMS_SIZE];
+    let mut w: Rows = [[0.0; lent::ROW_WIDTH]; layout::ROWS_SIZE];
     calls::change(
         head,
         names,
@@ -74,6 +76,40 @@ fn say_fetch(
     writing::put_fetch(out, at, &numbers, &values, f.count)
 }
 
+fn ask(
+    q: Query,
+    head: &Head,
+    names: &Names,
+    reals: &Reals,
+    rows: &Rows,
+    out: &mut Out,
+    at: usize,
+) -> usize
+    requires { ⌜ at ≤ 6000 ⌝ }
+    ensures { λ z. ⌜ Wrote (now (out .entry)) (now (out .exit)) at z (askedText q (lent (head .entry) (names .entry) (reals .entry) (rows .entry))) ⌝ }
+{
+    match q {
+        Query::Value(v) => {
+            let x = asking::get_value(head, names, reals, rows, v);
+            writing::put_float(out, at, x)
+        }
+        Query::HasCon(c) => {
+            let b = asking::has_constraint(head, names, reals, rows, c);
+            writing::put_flag(out, at, b)
+        }
+        Query::HasEdit(v) => {
+            let b = asking::has_edit(head, names, reals, rows, v);
+            writing::put_flag(out, at, b)
+        }
+        Query::Create(a, b, c, k) => writing::put_float(
+            out,
+            at,
+            rows::strength::create(a, b, c, k),
+        ),
+        Query::Clip(s) => writing::put_float(out, at, rows::strength::clip(s)),
+    }
+}
+
 // p: the terms of an add.
 fn answer(
     call: Call,
@@ -97,24 +133,8 @@ fn answer(
             let a = change(head, names, reals, rows, c, p, b);
             writing::put_answer(out, at, a.number, a.pivots, a.whole)
         }
-        Call::Value(v) => writing::put_float(
-            out,
-            at,
-            asking::get_value(head, names, reals, rows, v),
-        ),
-        Call::HasCon(c) => writing::put_flag(
-            out,
-            at,
-            asking::has_constraint(head, names, reals, rows, c),
-        ),
-        Call::HasEdit(v) => writing::put_flag(
-            out,
-            at,
-            asking::has_edit(head, names, reals, rows, v),
-        ),
+        Call::Ask(q) => ask(q, head, names, reals, rows, out, at),
         Call::Fetch => say_fetch(head, names, reals, rows, out, at),
-        Call::Create(a, b, c, k) => writing::put_float(out, at, rows::strength::create(a, b, c, k)),
-        Call::Clip(s) => writing::put_float(out, at, rows::strength::clip(s)),
         Call::Bad => writing::put_unread(out, at),
     }
 }

@@ -10,10 +10,10 @@ use lent::Rows;
 // The reset makes the tables read as a state. A proved loop has to end, and nothing says that the input does: it counts down
 // from a number of turns that no run uses up.
 fn main() {
-    let mut head: Head = [0; 196];
-    let mut names: Names = [[0; 20]; 128];
-    let mut reals: Reals = [[0.0; 17]; 128];
-    let mut rows: Rows = [[0.0; 130]; 51];
+    let mut head: Head = [0; layout::HEAD_SIZE];
+    let mut names: Names = [[0; lent::NAME_WIDTH]; layout::ITEMS_SIZE];
+    let mut reals: Reals = [[0.0; lent::REAL_WIDTH]; layout::ITEMS_SIZE];
+    let mut rows: Rows = [[0.0; lent::ROW_WIDTH]; layout::ROWS_SIZE];
     let mut piece = [0u8; 4096];
     let mut line = [0u8; 4096];
     let mut out = [0u8; 8192];

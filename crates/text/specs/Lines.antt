@@ -25,7 +25,8 @@ use Rattle.tags.specs.declared.Relation.the-variants.{AtMost, Equal, AtLeast}
 use Rattle.text.specs.declared.calls.Related.{Related}
 use Rattle.text.specs.declared.calls.Related.the-variants.{By, NoRelation}
 use Rattle.text.specs.declared.calls.Call.{Call}
-use Rattle.text.specs.declared.calls.Call.the-variants.{Reset, Change, Value, HasCon, HasEdit, Fetch, Create, Clip, Bad}
+use Rattle.text.specs.declared.calls.Call.the-variants.{Reset, Change, Ask, Fetch, Bad}
+use Rattle.text.specs.declared.calls.Query.the-variants.{Value, HasCon, HasEdit, Create, Clip}
 use Rattle.text.specs.declared.calls.Head.{Head}
 use Rattle.text.specs.declared.calls.Head.the-variants.{Of, NoHead}
 use Rattle.text.specs.declared.packing.Packed.{Packed}
@@ -48,12 +49,12 @@ asCall (some (removes n b)) = Change (Remove n) b
 asCall (some (addsEdit v x b)) = Change (AddEdit v x) b
 asCall (some (removesEdit v b)) = Change (RemoveEdit v) b
 asCall (some (suggests v x b)) = Change (Suggest v x) b
-asCall (some (valueOf v)) = Value v
+asCall (some (valueOf v)) = Ask (Value v)
 asCall (some fetches) = Fetch
-asCall (some (hasConstraints n)) = HasCon n
-asCall (some (hasEdits v)) = HasEdit v
-asCall (some (creates a b c w)) = Create a b c w
-asCall (some (clips x)) = Clip x
+asCall (some (hasConstraints n)) = Ask (HasCon n)
+asCall (some (hasEdits v)) = Ask (HasEdit v)
+asCall (some (creates a b c w)) = Ask (Create a b c w)
+asCall (some (clips x)) = Ask (Clip x)
 asCall (some reads) = Bad
 asCall (some dumps) = Bad
 asCall (some (setsNext n)) = Bad

@@ -16,17 +16,22 @@ pub enum Related {
     NoRelation,
 }
 
+// A call that changes nothing.
+pub enum Query {
+    Value(u32),
+    HasCon(u32),
+    HasEdit(u32),
+    Create(f64, f64, f64, f64),
+    Clip(f64),
+}
+
 // Every call of document 01. Bad is a line that is no call.
 pub enum Call {
     Reset,
     // the budget
     Change(Change, u16),
-    Value(u32),
-    HasCon(u32),
-    HasEdit(u32),
+    Ask(Query),
     Fetch,
-    Create(f64, f64, f64, f64),
-    Clip(f64),
     Bad,
 }
 
@@ -46,7 +51,7 @@ pub fn value_call(v: Id) -> Call
     ensures { λ r. ⌜ r ≡ asCall (ofId valueOf v) ⌝ }
 {
     match v {
-        Id::Is32(n) => Call::Value(n),
+        Id::Is32(n) => Call::Ask(Query::Value(n)),
         Id::No32 => Call::Bad,
     }
 }
@@ -55,7 +60,7 @@ pub fn has_con_call(c: Id) -> Call
     ensures { λ r. ⌜ r ≡ asCall (ofId hasConstraints c) ⌝ }
 {
     match c {
-        Id::Is32(n) => Call::HasCon(n),
+        Id::Is32(n) => Call::Ask(Query::HasCon(n)),
         Id::No32 => Call::Bad,
     }
 }
@@ -64,7 +69,7 @@ pub fn has_edit_call(v: Id) -> Call
     ensures { λ r. ⌜ r ≡ asCall (ofId hasEdits v) ⌝ }
 {
     match v {
-        Id::Is32(n) => Call::HasEdit(n),
+        Id::Is32(n) => Call::Ask(Query::HasEdit(n)),
         Id::No32 => Call::Bad,
     }
 }
@@ -73,7 +78,7 @@ pub fn clip_call(s: Real) -> Call
     ensures { λ r. ⌜ r ≡ asCall (ofReal clips s) ⌝ }
 {
     match s {
-        Real::Number(x) => Call::Clip(x),
+        Real::Number(x) => Call::Ask(Query::Clip(x)),
         Real::NoReal => Call::Bad,
     }
 }
@@ -139,7 +144,7 @@ pub fn create_call(a: Real, b: Real, c: Real, w: Real) -> Call
         Real::Number(x) => match b {
             Real::Number(y) => match c {
                 Real::Number(z) => match w {
-                    Real::Number(k) => Call::Create(x, y, z, k),
+                    Real::Number(k) => Call::Ask(Query::Create(x, y, z, k)),
                     Real::NoReal => Call::Bad,
                 },
                 Real::NoReal => Call::Bad,

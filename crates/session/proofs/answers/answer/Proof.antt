@@ -1,8 +1,8 @@
 -- `session::answers::answer` meets its contract.
 -- Assumes nothing.
-use Rattle.lent.specs.Lent.{lent}
-use Rattle.session.specs.Calls.{reset-said, change-said, value-said, has-con-said, has-edit-said, fetched-said, create-said, clip-said, bad-said}
 use borrow.Author.Needs.{needs}
+use Rattle.lent.specs.Lent.{lent}
+use Rattle.session.specs.Calls.{reset-said, change-said, asked-said, fetched-said, bad-said}
 use Rattle.session.proofs.answers.answer.Statement.{statement}
 use Rattle.session.proofs.answers.answer.Tie as tie
 
@@ -20,45 +20,21 @@ returns-2 c =
 
 returns-3 : tie.Need-returns-3
 returns-3 c =
-    let a = c .before .before .before .before .before .before .before .before .before .before .before .before .before .before .args in
-    let w = c .put-float in
-    value-said (a .call) (a .p) (lent (a .head) (a .names) (a .reals) (a .rows)) (a .out .now) (w .last .0) (a .at) (w .result) (c .before .before .before .before .before .before .before .before .before .before .before .before .call2 .given .1) (c .before .get-value .ensures) (w .ensures)
+    let a = c .before .before .before .before .before .before .before .before .before .args in
+    let w = c .ask in
+    asked-said (a .call) (a .p) (lent (a .head) (a .names) (a .reals) (a .rows)) (a .out .now) (w .last .1 .1 .1 .1 .1 .0) (a .at) (w .result) (c .before .before .before .before .before .before .before .call2 .given .1) (w .ensures)
 
 returns-4 : tie.Need-returns-4
 returns-4 c =
-    let a = c .before .before .before .before .before .before .before .before .before .before .before .before .before .before .args in
-    let w = c .put-flag in
-    has-con-said (a .call) (a .p) (lent (a .head) (a .names) (a .reals) (a .rows)) (a .out .now) (w .last .0) (a .at) (w .result) (c .before .before .before .before .before .before .before .before .before .before .before .before .call3 .given .1) (c .before .has-constraint .ensures) (w .ensures)
-
-returns-5 : tie.Need-returns-5
-returns-5 c =
-    let a = c .before .before .before .before .before .before .before .before .before .before .before .before .before .before .args in
-    let w = c .put-flag2 in
-    has-edit-said (a .call) (a .p) (lent (a .head) (a .names) (a .reals) (a .rows)) (a .out .now) (w .last .0) (a .at) (w .result) (c .before .before .before .before .before .before .before .before .before .before .before .before .call4 .given .1) (c .before .has-edit .ensures) (w .ensures)
-
-returns-6 : tie.Need-returns-6
-returns-6 c =
     let a = c .before .before .before .before .before .before .before .before .args in
     let w = c .say-fetch in
     fetched-said (a .call) (a .p) (lent (a .head) (a .names) (a .reals) (a .rows)) (a .out .now) (w .last .1 .1 .1 .1 .0) (a .at) (w .result) (c .before .before .before .before .before .before .enum-told2 .given .1) (w .ensures)
 
-returns-7 : tie.Need-returns-7
-returns-7 c =
-    let a = c .before .before .before .before .before .before .args in
-    let w = c .put-float2 in
-    create-said (a .call) (a .p) (lent (a .head) (a .names) (a .reals) (a .rows)) (a .out .now) (w .last .0) (a .at) (w .result) (c .before .before .before .before .call5 .given .1) (c .before .create .ensures) (w .ensures)
-
-returns-8 : tie.Need-returns-8
-returns-8 c =
-    let a = c .before .before .before .before .before .before .args in
-    let w = c .put-float3 in
-    clip-said (a .call) (a .p) (lent (a .head) (a .names) (a .reals) (a .rows)) (a .out .now) (w .last .0) (a .at) (w .result) (c .before .before .before .before .call6 .given .1) (c .before .clip .ensures) (w .ensures)
-
-returns-9 : tie.Need-returns-9
-returns-9 c =
+returns-5 : tie.Need-returns-5
+returns-5 c =
     let a = c .before .before .before .before .args in
     let w = c .put-unread in
     bad-said (a .call) (a .p) (lent (a .head) (a .names) (a .reals) (a .rows)) (a .out .now) (w .last .0) (a .at) (w .result) (c .before .before .enum-told3 .given .1) (w .ensures)
 
 pub answer-spec : {M : Type 1} → statement M
-answer-spec = tie.close (tie.spec (λ c. search needs) (λ c κs. search needs) (λ c κs. search needs) (λ c. search needs) (λ c κs. search needs) (λ c κs. search needs) (λ c. search needs) (λ c κs. search needs) (λ c κs. search needs) (λ c. search needs) (λ c κs. search needs) (λ c κs. search needs) (λ c. search needs) (λ c κs. search needs) (λ c κs. search needs) (λ c. search needs) (λ c κs. search needs) (λ c. search needs) (λ c κs. search needs) (λ c κs. search needs) (λ c. search needs) (λ c κs. search needs) (λ c κs. search needs) (λ c. search needs) (λ c κs. search needs) returns returns-2 returns-3 returns-4 returns-5 returns-6 returns-7 returns-8 returns-9)
+answer-spec = tie.close (tie.spec (λ c. search needs) (λ c κs. search needs) (λ c κs. search needs) (λ c. search needs) (λ c κs. search needs) (λ c κs. search needs) (λ c. search needs) (λ c κs. search needs) (λ c. search needs) (λ c κs. search needs) (λ c. search needs) (λ c κs. search needs) returns returns-2 returns-3 returns-4 returns-5)
