@@ -5,9 +5,9 @@ use mathlib.Core.Bool.{Bool, true, false}
 use mathlib.Core.List.{List}
 use native.Mathlib.Omega.{arith}
 use lib.ListN.{length, getD}
-use Rattle.grammar.specs.Bytes.{Kind as Byte}
+use Rattle.grammar.specs.Bytes.{Kind as Byte, kindOf}
 use Rattle.grammar.specs.Sums.{Relation, Sums, one, turned, nothing}
-use Rattle.grammar.specs.Reader.{Mode, first, wanted, Around, left, right, step, follow, Outcome, read, halted, whole, runFrom, readSum}
+use Rattle.grammar.specs.Reader.{Mode, first, wanted, closed, apart, Around, left, right, stop, step, follow, Outcome, read, halted, whole, runFrom, readSum}
 use Rattle.grammar.specs.Descent.{no-byte, rested, resumed, left-sum, right-sum}
 use Rattle.sums.specs.Held.{held, Bounded, zeroAt}
 use Rattle.reader.specs.Run.{by-kind, at-either, at-place, Follows, run-follows}
@@ -176,6 +176,15 @@ pub record EndIs (w : List ℕ) (m : Mark) (e : Place) (l : Line) : Type 0 where
   pub outcome : (numbers sums : List ℕ) → runFrom w (e .at) (rested (e .bare)) (right (relationOf m)) (sumsOf numbers sums e) ≡ lineOf numbers sums l
   pub counted : Counted l
 
+-- behind the right side nothing follows but what joins a part to it
+pub none-follows : (w : List ℕ) (at : ℕ) → Unjoined w at → (r : Relation) (t : Bool) (s : Sums) → step (rested t) (right r) s (kindOf (getD w at 0)) ≡ stop 20
+none-follows w at u r true s =
+    by-kind (λ (x : Byte). step closed (right r) s x ≡ stop 20) (getD w at 0)
+    (λ e. refl) (λ e. absurd (u .no-space e)) (λ e. refl) (λ e. refl) (λ e. refl) (λ e. absurd (u .no-plus e)) (λ e. absurd (u .no-minus e)) (λ e. refl) (λ e. refl) (λ e. refl) (λ e. refl) refl
+none-follows w at u r false s =
+    by-kind (λ (x : Byte). step apart (right r) s x ≡ stop 20) (getD w at 0)
+    (λ e. refl) (λ e. absurd (u .no-space e)) (λ e. refl) (λ e. refl) (λ e. refl) (λ e. absurd (u .no-plus e)) (λ e. absurd (u .no-minus e)) (λ e. refl) (λ e. refl) (λ e. refl) (λ e. refl) refl
+
 module _ (w : List ℕ) (m : Mark) (e : Place) (h : Reached w e) where
   pub end-whole : e .bare ≡ true → e .at ≡ length w → EndIs w m e (Whole m e)
   end-whole b a =
@@ -185,19 +194,14 @@ module _ (w : List ℕ) (m : Mark) (e : Place) (h : Reached w e) where
       }
 
   pub end-not : (e .bare ≡ true → e .at ≡ length w → ⊥) → EndIs w m e (Refused 20 (e .at))
-  end-not n = record { outcome = λ numbers sums. by (sumsOf numbers sums e) (h .unjoined) (e .bare) n; counted = tt }
+  end-not n = record { outcome = λ numbers sums. by (sumsOf numbers sums e) (e .bare) n; counted = tt }
     where
-      by : (s : Sums) → Unjoined w (e .at) → (bare : Bool) → (bare ≡ true → e .at ≡ length w → ⊥) → runFrom w (e .at) (rested bare) (right (relationOf m)) s ≡ halted 20 (e .at)
-      by s u true n =
-          at-either w (e .at) (rested true) (right (relationOf m)) s
-          (λ g. by-kind (λ (x : Byte). follow (e .at) (rested true) s (step (rested true) (right (relationOf m)) s x) (λ m′ a′ s′. runFrom w (e .at + 1) m′ a′ s′) ≡ halted 20 (e .at)) (getD w (e .at) 0)
-          (λ e. refl) (λ e. absurd (u .no-space e)) (λ e. refl) (λ e. refl) (λ e. refl) (λ e. absurd (u .no-plus e)) (λ e. absurd (u .no-minus e)) (λ e. refl) (λ e. refl) (λ e. refl) (λ e. refl) refl)
-          (λ g. absurd (n refl (omega (arith, h .within))))
-      by s u false n =
-          at-place w (e .at) (rested false) (right (relationOf m)) s (h .within)
-          (by-kind (λ (x : Byte). follow (e .at) (rested false) s (step (rested false) (right (relationOf m)) s x) (λ m′ a′ s′. runFrom w (e .at + 1) m′ a′ s′) ≡ halted 20 (e .at)) (getD w (e .at) 0)
-          (λ e. refl) (λ e. absurd (u .no-space e)) (λ e. refl) (λ e. refl) (λ e. refl) (λ e. absurd (u .no-plus e)) (λ e. absurd (u .no-minus e)) (λ e. refl) (λ e. refl) (λ e. refl) (λ e. refl) refl)
-          refl
+      stray : (s : Sums) (t : Bool) → follow (e .at) (rested t) s (step (rested t) (right (relationOf m)) s (kindOf (getD w (e .at) 0))) (λ m′ a′ s′. runFrom w (e .at + 1) m′ a′ s′) ≡ halted 20 (e .at)
+      stray s t = ap (λ x. follow (e .at) (rested t) s x (λ m′ a′ s′. runFrom w (e .at + 1) m′ a′ s′)) (none-follows w (e .at) (h .unjoined) (relationOf m) t s)
+
+      by : (s : Sums) (t : Bool) → (t ≡ true → e .at ≡ length w → ⊥) → runFrom w (e .at) (rested t) (right (relationOf m)) s ≡ halted 20 (e .at)
+      by s true n = at-either w (e .at) (rested true) (right (relationOf m)) s (λ g. stray s true) (λ g. absurd (n refl (omega (arith, h .within))))
+      by s false n = at-place w (e .at) (rested false) (right (relationOf m)) s (h .within) (stray s false) refl
 
 -- ---- the whole line
 

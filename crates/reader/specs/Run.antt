@@ -9,7 +9,7 @@ use lib.Dec.{leb, ltb, eqb}
 use lib.ListN.{length, getD}
 use Rattle.grammar.specs.Bytes.{Kind, digit, letter, space, plus, minus, star, opening, closing, less, equals, more, strange, isDigit, kindOf, markOf}
 use Rattle.grammar.specs.Sums.{Sums, one}
-use Rattle.grammar.specs.Reader.{Mode, first, wanted, Around, left, roomOf, go, stop, step, grows, follow, finished, isRead, isBare, flushed, Outcome, halted, runFrom}
+use Rattle.grammar.specs.Reader.{Mode, first, wanted, Around, left, roomOf, Next, go, ends, stop, step, grows, follow, finished, isRead, isBare, flushed, Outcome, halted, runFrom}
 use Rattle.grammar.specs.Descent.{byte, no-byte}
 use Rattle.reader.specs.Scan.{Skips, Digits, alone, longer, Over}
 
@@ -94,20 +94,25 @@ pub record Follows (w : List ℕ) {X : Type 0} (from : ℕ → Mode → Around �
   -- on the left side, where nothing that stands there can follow
   pub strays : (at : ℕ) (m : Mode) (s : Sums) → at ≤ length w → step m left s (kindOf (getD w at 0)) ≡ stop 20 → from at m left s ≡ halt 20 at
 
-pub run-follows : (w : List ℕ) → Follows w (runFrom w) halted
+-- the first byte, which is no space
+pub first-step : (b : ℕ) (s : Sums) → (b ≡ 32 → ⊥) → step first left s (kindOf b) ≡ step (wanted one) left s (kindOf b)
 unfolding roomOf
+first-step b s h =
+    by-kind (λ (x : Kind). step first left s x ≡ step (wanted one) left s x) b
+    (λ e. refl) (λ e. absurd (h e)) (λ e. refl) (λ e. refl) (λ e. refl) (λ e. refl) (λ e. refl) (λ e. refl) (λ e. refl) (λ e. refl) (λ e. refl) refl
+
+pub run-follows : (w : List ℕ) → Follows w (runFrom w) halted
 run-follows w =
     record {
       goes = λ at m a s h n e. byte w at m a s h refl ∙ ap (λ x. follow at m s x (λ m′ a′ s′. runFrom w (at + 1) m′ a′ s′)) e;
-      begins = λ s h. at-either w 0 first left s (λ k. first-byte s h ∙ sym (byte w 0 (wanted one) left s k refl)) (λ k. sym (no-byte w 0 (wanted one) left s k));
+      begins = λ s h. at-either w 0 first left s (λ k. ap (λ x. follow 0 first s x (λ m′ a′ s′. runFrom w 1 m′ a′ s′)) (first-step (getD w 0 0) s h) ∙ (same s (step (wanted one) left s (kindOf (getD w 0 0))) ∙ sym (byte w 0 (wanted one) left s k refl))) (λ k. sym (no-byte w 0 (wanted one) left s k));
       strays = λ at m s h e. at-place w at m left s h (ap (λ x. follow at m s x (λ m′ a′ s′. runFrom w (at + 1) m′ a′ s′)) e) refl;
     }
   where
-    first-byte : (s : Sums) → (getD w 0 0 ≡ 32 → ⊥)
-        → follow 0 first s (step first left s (kindOf (getD w 0 0))) (λ m′ a′ s′. runFrom w 1 m′ a′ s′) ≡ follow 0 (wanted one) s (step (wanted one) left s (kindOf (getD w 0 0))) (λ m′ a′ s′. runFrom w 1 m′ a′ s′)
-    first-byte s h =
-        by-kind (λ (x : Kind). follow 0 first s (step first left s x) (λ m′ a′ s′. runFrom w 1 m′ a′ s′) ≡ follow 0 (wanted one) s (step (wanted one) left s x) (λ m′ a′ s′. runFrom w 1 m′ a′ s′)) (getD w 0 0)
-        (λ e. refl) (λ e. absurd (h e)) (λ e. refl) (λ e. refl) (λ e. refl) (λ e. refl) (λ e. refl) (λ e. refl) (λ e. refl) (λ e. refl) (λ e. refl) refl
+    same : (s : Sums) (x : Next) → follow 0 first s x (λ m′ a′ s′. runFrom w 1 m′ a′ s′) ≡ follow 0 (wanted one) s x (λ m′ a′ s′. runFrom w 1 m′ a′ s′)
+    same s (go m a z) = refl
+    same s ends = refl
+    same s (stop n) = refl
 
 -- ---- digits, from a mode that a first one leads on to m, with a bound on the number
 
