@@ -74,7 +74,7 @@ read-head-requires : tie.Need-read-head-requires
 read-head-requires c κs = search needs
 
 read-terms-requires : tie.Need-read-terms-requires
-read-terms-requires c κs = (up-to-most 4294967295 _ (c .before .before .before .m .given .0 .0) (sym (c .before .before .before .before .before .decimal .ensures) ∙ c .before .before .before .m .given .1), omega arith)
+read-terms-requires c κs = ((omega arith, up-to-most 4294967295 _ (c .before .before .before .m .given .0 .0) (sym (c .before .before .before .before .before .decimal .ensures) ∙ c .before .before .before .m .given .1)), omega arith)
 
 line-with-requires : tie.Need-line-with-requires
 line-with-requires c κs = search needs
