@@ -25,7 +25,7 @@ use Rattle.writing.specs.Texts.{signText, figureText, placeText, upTo, c
 -- ---- as the code tests them
 
 abbrev pub okFigure : Figure → ℕ → Bool
-okFigure f v = ((f .whole && not (eqb (f .size) 0)) && leb (f .size) 1048576) && leb v 4294967295
+okFigure f v = ((f .whole && not (eqb (f .size) 0)) && leb (f .size) most) && leb v mostName
 
 abbrev pub risesAt : List ℕ → ℕ → ℕ → Bool
 risesAt vs n i = cond (ltb (i + 1) n) (ltb (getD vs i 0) (getD vs (i + 1) 0)) true

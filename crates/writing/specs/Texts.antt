@@ -9,6 +9,7 @@ use lib.Dec.{eqb}
 use lib.ListN.{getD}
 use lib.Ieee.{Float, nan}
 use Rattle.plain.specs.Decimal.{decimal}
+use Rattle.edition.specs.Endings.{required}
 use Rattle.plain.specs.Plain.{sizeText, endingText}
 use Rattle.writing.specs.declared.figures.Figure.{Figure}
 use Rattle.writing.specs.Figures.{figureOf}
@@ -77,10 +78,10 @@ module _ (f : Figure) (alone : Bool) where
   constant-some e = rw e
 
 module _ (n g : ℕ) where
-  pub ending-none : eqb n 1001001000 && eqb g 1 ≡ true → endingText n g ≡ []
+  pub ending-none : eqb n required && eqb g 1 ≡ true → endingText n g ≡ []
   ending-none e = rw e
 
-  pub ending-some : eqb n 1001001000 && eqb g 1 ≡ false → endingText n g ≡ (64 ∷ []) ++ (decimal n ++ ((44 ∷ []) ++ decimal g))
+  pub ending-some : eqb n required && eqb g 1 ≡ false → endingText n g ≡ (64 ∷ []) ++ (decimal n ++ ((44 ∷ []) ++ decimal g))
   ending-some e = rw e
 
 pub next-place : (vs : List ℕ) (cs : List Float) (i : ℕ) {f : Figure} → f ≡ figureOf (getD cs i nan) → upTo vs cs (i + 1) ≡ upTo vs cs i ++ figureText f (getD vs i 0) (eqb i 0)

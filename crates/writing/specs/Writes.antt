@@ -79,10 +79,10 @@ called o w = cond (eqb (length o) room) (record { number = numberOf w; buffer = 
 -- ---- as the code tests it
 
 abbrev pub numberSaid : Figure → Bool
-numberSaid c = c .whole && leb (c .size) 1048576
+numberSaid c = c .whole && leb (c .size) most
 
 abbrev pub strengthSaid : Figure → Bool
-strengthSaid s = (s .whole && not (s .negative)) && leb (s .size) 1001001000
+strengthSaid s = (s .whole && not (s .negative)) && leb (s .size) required
 
 unfoldable pub saidIn : Pack → Figure → Figure → ℕ → Bool
 saidIn p c s g = cond (p .finite && leb (p .count) 16) (((allUpTo (p .vars) (p .coefs) (p .count) (p .count) && numberSaid c) && strengthSaid s) && isGroup g) false

@@ -2,6 +2,9 @@
 ghost use mathlib.Core.Path.{_≡_};
 ghost use Rattle.writing.specs.Figures.{figureOf};
 
+// "a whole strength up to 1,001,001,000 (required)"
+pub const REQUIRED: u64 = 1001001000;
+
 pub struct Figure {
     pub whole: bool,
     pub negative: bool,

@@ -4,9 +4,21 @@ ghost use Prim.Native.Nat.{_≤_};
 ghost use Rattle.writing.specs.Given.{okFigure, risesAt, allUpTo};
 ghost use Rattle.writing.specs.Writes.{relatedOf, saidIn};
 use crate::figures::Figure;
+use crate::figures::REQUIRED;
 use crate::figures::figure_of;
 use tags::Relation;
 use terms::Pack;
+
+// "above 1,048,576 in size", of a coefficient and of the constant.
+const MOST: u64 = 1048576;
+
+const MOST_NAME: u32 = 4294967295;
+
+// "a group from 1 to 65,535"
+const MOST_GROUP: u16 = 65535;
+
+// "more than 16 variables"
+const MOST_TERMS: usize = 16;
 
 // The first byte of a relation's mark, and its strength.
 pub struct Related {
@@ -19,15 +31,15 @@ pub fn related_of(relation: Relation) -> Related
 {
     match relation {
         Relation::AtMost(s) => Related {
-            mark: 60,
+            mark: b'<',
             strength: s,
         },
         Relation::Equal(s) => Related {
-            mark: 61,
+            mark: b'=',
             strength: s,
         },
         Relation::AtLeast(s) => Related {
-            mark: 62,
+            mark: b'>',
             strength: s,
         },
     }
@@ -36,7 +48,7 @@ pub fn related_of(relation: Relation) -> Related
 fn figure_said(f: Figure, v: u32) -> bool
     ensures { λ r. ⌜ r ≡ okFigure f v ⌝ }
 {
-    f.whole & !(f.size == 0) & (f.size <= 1048576) & (v <= 4294967295)
+    f.whole & !(f.size == 0) & (f.size <= MOST) & (v <= MOST_NAME)
 }
 
 fn rises_at(vars: [u32; 16], n: usize, i: usize) -> bool
@@ -69,11 +81,11 @@ fn terms_said(p: Pack, n: usize) -> bool
 pub fn said(p: Pack, constant: Figure, strength: Figure, group: u16) -> bool
     ensures { λ r. ⌜ r ≡ saidIn p constant strength group ⌝ }
 {
-    if p.finite & (p.count <= 16) {
+    if p.finite & (p.count <= MOST_TERMS) {
         let terms = terms_said(p, p.count);
-        let number = constant.whole & (constant.size <= 1048576);
-        let strong = strength.whole & !strength.negative & (strength.size <= 1001001000);
-        return terms & number & strong & ((1 <= group) & (group <= 65535));
+        let number = constant.whole & (constant.size <= MOST);
+        let strong = strength.whole & !strength.negative & (strength.size <= REQUIRED);
+        return terms & number & strong & ((1 <= group) & (group <= MOST_GROUP));
     }
     false
 }

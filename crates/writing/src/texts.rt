@@ -9,6 +9,7 @@ ghost use Rattle.writing.specs.Texts.{signText, figureText, upTo, constT
 use crate::buffer::put;
 use crate::buffer::put_number;
 use crate::figures::Figure;
+use crate::figures::REQUIRED;
 use crate::figures::figure_of;
 use terms::Pack;
 
@@ -16,12 +17,12 @@ fn put_sign(out: &mut [u8], at: usize, negative: bool, first: bool) -> usize
     ensures { λ r. ⌜ Adds (now (out .entry)) (now (out .exit)) at r (signText negative first) ⌝ }
 {
     if negative {
-        return put(out, at, 45);
+        return put(out, at, b'-');
     }
     if first {
         return at;
     }
-    put(out, at, 43)
+    put(out, at, b'+')
 }
 
 // "In a coefficient a size of 1 is left out."
@@ -32,7 +33,7 @@ fn put_size(out: &mut [u8], at: usize, n: u64) -> usize
         return at;
     }
     let next = put_number(out, at, n);
-    put(out, next, 42)
+    put(out, next, b'*')
 }
 
 fn put_term(out: &mut [u8], at: usize, f: Figure, v: u32, first: bool) -> usize
@@ -40,7 +41,7 @@ fn put_term(out: &mut [u8], at: usize, f: Figure, v: u32, first: bool) -> usize
 {
     let a = put_sign(out, at, f.negative, first);
     let b = put_size(out, a, f.size);
-    let c = put(out, b, 118);
+    let c = put(out, b, b'v');
     put_number(out, c, v as u64)
 }
 
@@ -75,23 +76,23 @@ fn put_constant(out: &mut [u8], at: usize, f: Figure, alone: bool) -> usize
 fn put_relation(out: &mut [u8], at: usize, mark: u8) -> usize
     ensures { λ r. ⌜ Adds (now (out .entry)) (now (out .exit)) at r (relationText mark) ⌝ }
 {
-    if mark == 61 {
-        return put(out, at, 61);
+    if mark == b'=' {
+        return put(out, at, b'=');
     }
     let next = put(out, at, mark);
-    put(out, next, 61)
+    put(out, next, b'=')
 }
 
 // "the ending unless it is required and group 1"
 fn put_ending(out: &mut [u8], at: usize, strength: u64, group: u16) -> usize
     ensures { λ r. ⌜ Adds (now (out .entry)) (now (out .exit)) at r (endingText strength group) ⌝ }
 {
-    if (strength == 1001001000) & (group == 1) {
+    if (strength == REQUIRED) & (group == 1) {
         return at;
     }
-    let a = put(out, at, 64);
+    let a = put(out, at, b'@');
     let b = put_number(out, a, strength);
-    let c = put(out, b, 44);
+    let c = put(out, b, b',');
     put_number(out, c, group as u64)
 }
 
@@ -111,6 +112,6 @@ pub fn put_line(
     let a = put_terms(out, 0, p, n);
     let b = put_constant(out, a, constant, n == 0);
     let c = put_relation(out, b, mark);
-    let d = put(out, c, 48);
+    let d = put(out, c, b'0');
     put_ending(out, d, strength, group)
 }
