@@ -4,15 +4,15 @@ use mathlib.Core.Path.{_≡_, refl, sym, ap, subst, _∙_}
 use mathlib.Core.Bool.{Bool, true, false, cond}
 use mathlib.Core.List.{List}
 use native.Mathlib.Omega.{arith}
-use borrow.Author.Tests.{eqb-true, ne-eqb, ltb-true, ltb-false}
+use borrow.Author.Tests.{ne-eqb, ltb-true, ltb-false}
 use lib.Dec.{eqb, ltb}
 use lib.ListN.{length, getD}
 use Rattle.grammar.specs.Bytes.{kindOf}
-use Rattle.grammar.specs.Sums.{Relation, Sums, one, nothing}
-use Rattle.grammar.specs.Reader.{Mode, first, wanted, Around, left, right, Next, go, stop, step, flushed, isRead}
+use Rattle.grammar.specs.Sums.{Sums, one}
+use Rattle.grammar.specs.Reader.{Mode, first, wanted, Around, left, right, Next, stop, step, flushed, isRead}
 use Rattle.grammar.specs.Descent.{rested}
 use Rattle.edition.specs.Endings.{required, mostGroup}
-use Rattle.edition.specs.Steps.{State, head, tail, opened, Move, on, halt, stepped, closing, Found, met, found, last, onward, start}
+use Rattle.edition.specs.Steps.{State, head, tail, opened, halt, stepped, closing, Found, met, found, onward, start}
 use Rattle.edition.specs.Descent.{passFrom, byte, no-byte, resumed, left-sum, right-sum}
 use Rattle.reader.specs.Run.{Follows, first-step}
 use Rattle.reader.specs.Parts.{sumsOf}

@@ -1,18 +1,18 @@
 -- The code's answer to a line of the second edition, by the grammar's.
 use Prim.Native.Nat.{ℕ, _≤_, _<_}
 use mathlib.Core.Path.{_≡_, refl, sym, ap, ap₂, subst, _∙_}
-use mathlib.Core.Bool.{Bool, true, false, cond, _&&_, _||_}
+use mathlib.Core.Bool.{Bool, true, false, cond, _&&_, _||_, false≢true}
 use mathlib.Core.List.{List}
 use native.Mathlib.Omega.{arith}
 use borrow.Author.Tests.{leb-true, le-leb, lt-leb, ltb-true, ltb-false, eq-eqb, ne-eqb}
 use lib.Dec.{leb, ltb, eqb}
-use lib.ListN.{length, drop}
+use lib.ListN.{length}
 use lib.IntN.{natAbs}
-use Rattle.grammar.specs.Sums.{Reading as Constraint, Answer, reads, outside, refused, most, smallTerms, judged, summed}
+use Rattle.grammar.specs.Sums.{Reading as Constraint, reads, outside, refused, most, smallTerms, judged, summed}
 use Rattle.grammar.specs.Reader.{refuses}
 use Rattle.edition.specs.Endings as edition
 use Rattle.edition.specs.Endings.{required, mostGroup, isGroup, taken, astray, denied, behind}
-use Rattle.edition.specs.Steps.{met, found, replied, start, readSecond}
+use Rattle.edition.specs.Steps.{met, replied, start, readSecond}
 use Rattle.edition.specs.Descent.{passFrom}
 use Rattle.reader.specs.Sides.{relationOf}
 use Rattle.reader.specs.Parts.{sumsOf}
@@ -40,23 +40,20 @@ rangedBy r n g = cond (eqb (r .number) 0) (cond (leb n required) (cond (isGroup 
 
 -- ---- by what the code has tested
 
-differ : false ≡ true → ⊥
-differ p = let e : _≡_ {A = ℕ} 0 1 = cc in omega arith
-
 not-group : (g : ℕ) → ltb g 1 || ltb mostGroup g ≡ true → isGroup g ≡ false
 not-group g e = by (ltb g 1) (ltb mostGroup g) (ltb-true g 1) (ltb-true mostGroup g) e
   where
     by : (t u : Bool) → (t ≡ true → g < 1) → (u ≡ true → mostGroup < g) → t || u ≡ true → isGroup g ≡ false
     by true u f h e = rw (lt-leb 1 g (f refl))
     by false true f h e = rw (le-leb 1 g (omega (arith, h refl)), lt-leb g mostGroup (h refl))
-    by false false f h e = absurd (differ e)
+    by false false f h e = absurd (false≢true e)
 
 pub is-group : (g : ℕ) → ltb g 1 || ltb mostGroup g ≡ false → (isGroup g ≡ true) × (g ≤ mostGroup)
 is-group g e = by (ltb g 1) (ltb mostGroup g) (ltb-false g 1) (ltb-false mostGroup g) e
   where
     by : (t u : Bool) → (t ≡ false → 1 ≤ g) → (u ≡ false → g ≤ mostGroup) → t || u ≡ false → (isGroup g ≡ true) × (g ≤ mostGroup)
-    by true u f h e = absurd (differ (sym e))
-    by false true f h e = absurd (differ (sym e))
+    by true u f h e = absurd (false≢true (sym e))
+    by false true f h e = absurd (false≢true (sym e))
     by false false f h e = (rw (le-leb 1 g (f refl), le-leb g mostGroup (h refl)), h refl)
 
 module _ (r : Reading) (n g : ℕ) where

@@ -1,7 +1,7 @@
 -- What the code finds behind an `@`, and how the second edition's reader goes over it.
-use Prim.Native.Nat.{ℕ, suc, _+_, _*_, _≤_, _<_}
+use Prim.Native.Nat.{ℕ, _+_, _*_, _≤_, _<_}
 use mathlib.Core.Path.{_≡_, refl, sym, ap, subst, _∙_}
-use mathlib.Core.Bool.{Bool, true, false}
+use mathlib.Core.Bool.{Bool, true, false, false≢true}
 use mathlib.Core.List.{List}
 use mathlib.Core.Option.{Option, none, some}
 use native.Mathlib.Omega.{arith}
@@ -13,7 +13,7 @@ use Rattle.grammar.specs.Sums.{Relation, Sums}
 use Rattle.reader.specs.Scan.{Skips, present}
 use Rattle.reader.specs.Run.{behind-spaces, fewer-spaces}
 use Rattle.edition.specs.Endings.{required, mostGroup}
-use Rattle.edition.specs.Steps.{Mark, digit, space, comma, markAt, Tail, opened, strong, rested, parted, grouped, tailStep, tail, tailed, tailEnd, Found, met, found, onward}
+use Rattle.edition.specs.Steps.{Mark, digit, space, markAt, Tail, opened, strong, rested, parted, grouped, tailStep, tail, tailed, tailEnd, met, found, onward}
 use Rattle.edition.specs.Descent.{passFrom, byte, no-byte}
 use Rattle.second.specs.Numbers.{by-mark, Worth, alone, longer, capped, DigitsAre}
 use Rattle.second.specs.declared.endings.Digits.{Digits}
@@ -32,9 +32,6 @@ GroupIs w at (NoGroup b) = (r : Relation) (s : Sums) (n : ℕ) → passFrom w at
 abbrev pub EndingIs : List ℕ → ℕ → Ending → Type 0
 EndingIs w at (Is n g) = (j k : ℕ) × ((r : Relation) (s : Sums) → passFrom w at (tail r s opened) ≡ found r s j k) × (n ≡ capped required j) × (g ≡ capped mostGroup k)
 EndingIs w at (Bad b) = (r : Relation) (s : Sums) → passFrom w at (tail r s opened) ≡ met 20 b
-
-differ : false ≡ true → ⊥
-differ p = let e : _≡_ {A = ℕ} 0 1 = cc in omega arith
 
 module _ (w : List ℕ) (r : Relation) (s : Sums) where
   -- ---- one byte of the ending
@@ -63,12 +60,12 @@ module _ (w : List ℕ) (r : Relation) (s : Sums) where
   not-opened : (at i : ℕ) → Skips w at i → isDigit (getD w i 0) ≡ false → passFrom w at (tail r s opened) ≡ met 20 i
   not-opened at i k h =
       over-spaces opened refl at i k
-      ∙ no-more i opened (k .within) (by-mark (λ (x : Mark). tailStep opened x ≡ none) (getD w i 0) (λ e. absurd (differ (sym h ∙ e))) (λ e. absurd (k .stops e)) (λ e. refl) refl) refl
+      ∙ no-more i opened (k .within) (by-mark (λ (x : Mark). tailStep opened x ≡ none) (getD w i 0) (λ e. absurd (false≢true (sym h ∙ e))) (λ e. absurd (k .stops e)) (λ e. refl) refl) refl
 
   not-parted : (n at i : ℕ) → Skips w at i → isDigit (getD w i 0) ≡ false → passFrom w at (tail r s (parted n)) ≡ met 20 i
   not-parted n at i k h =
       over-spaces (parted n) refl at i k
-      ∙ no-more i (parted n) (k .within) (by-mark (λ (x : Mark). tailStep (parted n) x ≡ none) (getD w i 0) (λ e. absurd (differ (sym h ∙ e))) (λ e. absurd (k .stops e)) (λ e. refl) refl) refl
+      ∙ no-more i (parted n) (k .within) (by-mark (λ (x : Mark). tailStep (parted n) x ≡ none) (getD w i 0) (λ e. absurd (false≢true (sym h ∙ e))) (λ e. absurd (k .stops e)) (λ e. refl) refl) refl
 
   -- the strength, spaces and a comma
   comma-on : (n next mark : ℕ) → Skips w next mark → getD w mark 0 ≡ 44 → passFrom w next (tail r s (strong n)) ≡ passFrom w (mark + 1) (tail r s (parted n))
@@ -96,7 +93,7 @@ module _ (w : List ℕ) (r : Relation) (s : Sums) where
       by false f g =
           let q : next ≡ mark = omega (arith, g refl, k .from) in
           ap (λ (i : ℕ). passFrom w i (tail r s (strong n))) q
-          ∙ no-more mark (strong n) (k .within) (by-mark (λ (x : Mark). tailStep (strong n) x ≡ none) (getD w mark 0) (λ e. absurd (differ (sym (rw q at h) ∙ e))) (λ e. absurd (k .stops e)) (λ e. absurd (c e)) refl) refl
+          ∙ no-more mark (strong n) (k .within) (by-mark (λ (x : Mark). tailStep (strong n) x ≡ none) (getD w mark 0) (λ e. absurd (false≢true (sym (rw q at h) ∙ e))) (λ e. absurd (k .stops e)) (λ e. absurd (c e)) refl) refl
 
   -- the group, up to the line's end
   ends-grouped : (n v end : ℕ) → end ≡ length w → passFrom w end (tail r s (grouped n v)) ≡ found r s n v
@@ -105,7 +102,7 @@ module _ (w : List ℕ) (r : Relation) (s : Sums) where
   not-grouped : (n v end : ℕ) → end < length w → isDigit (getD w end 0) ≡ false → passFrom w end (tail r s (grouped n v)) ≡ met 20 end
   not-grouped n v end h d =
       byte w end (tail r s (grouped n v)) h
-      ∙ ap (λ (x : Option Tail). onward end (tailed r s x) (λ y. passFrom w (end + 1) y)) (by-mark (λ (x : Mark). tailStep (grouped n v) x ≡ none) (getD w end 0) (λ e. absurd (differ (sym d ∙ e))) (λ e. refl) (λ e. refl) refl)
+      ∙ ap (λ (x : Option Tail). onward end (tailed r s x) (λ y. passFrom w (end + 1) y)) (by-mark (λ (x : Mark). tailStep (grouped n v) x ≡ none) (getD w end 0) (λ e. absurd (false≢true (sym d ∙ e))) (λ e. refl) (λ e. refl) refl)
 
 -- ---- the code
 
