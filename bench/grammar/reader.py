@@ -61,15 +61,20 @@ def grammar(rules):
 
 
 class Reader:
+    classes = CLASS
+    grammar = staticmethod(grammar)
+    # the symbols that complete a line
+    ends = ')=d-'
+
     def __init__(self, rules=None):
         self.rules = rules or Rules()
-        self.automaton = Automaton(grammar(self.rules))
+        self.automaton = Automaton(self.grammar(self.rules))
 
     def follow(self, line):
         """The tree, None if the line is not in the grammar, and the length of the longest prefix of a line of the grammar."""
         a = self.automaton
         states, nodes, at = [0], [], 0
-        symbols = [CLASS.get(b, '?') for b in line]
+        symbols = [self.classes.get(b, '?') for b in line]
         symbols.append(END)
         while True:
             state = states[-1]
@@ -98,7 +103,7 @@ class Reader:
         """The states after a prefix of a line of the grammar, with nothing decided on what follows."""
         states = [0]
         for b in prefix:
-            self.push(states, CLASS[b])
+            self.push(states, self.classes[b])
         return states
 
     def push(self, states, symbol):
@@ -123,7 +128,7 @@ class Reader:
         """A line of the grammar that begins with the prefix."""
         states, line = self.states_after(prefix), bytearray(prefix)
         while not self.push(states[:], END):
-            symbol = next(s for s in ')=d-' if self.push(states[:], s))
+            symbol = next(s for s in self.ends if self.push(states[:], s))
             self.push(states, symbol)
             line += b'0' if symbol == 'd' else symbol.encode()
         return bytes(line)
@@ -188,8 +193,11 @@ def build(head, body, parts, line):
         return 1 if body[0] == '+' else -1
     if head == 'related':
         return {'<': 'le', '=': 'eq', '>': 'ge'}[body[0]]
+    if head == 'figure':
+        return parts[0] * 10 + line[parts[1]] - 48 if len(body) == 2 else line[parts[0]] - 48
     if head == 'line':
-        return ('line',) + tuple(parts[-3:])
+        ending = body.index('@') if '@' in body else len(body)
+        return ('line',) + tuple(parts[ending - 3:ending]) + tuple(p for p, s in zip(parts, body) if s == 'figure')
     raise ValueError(head)
 
 

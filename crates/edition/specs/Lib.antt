@@ -9,6 +9,8 @@ pub mod Follow
 pub mod Tails
 pub mod Free
 pub mod Walks
+-- The laws by which a descending reader reads so.
+pub mod Descent
 -- What the reader has passed begins a line.
 pub mod Begun
 -- The reader's answer is the document's, and the only one.

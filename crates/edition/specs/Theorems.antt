@@ -19,6 +19,7 @@ use Rattle.grammar.specs.Gather.{reading, reading-only}
 use Rattle.grammar.specs.Facts.{never, fault-above}
 use Rattle.grammar.specs.Prefix.{at-start}
 use Rattle.grammar.specs.Theorems.{judged-reads, judged-inside}
+use Rattle.grammar.specs.Names.{Named, reading-named}
 use Rattle.edition.specs.Endings.{Second, secondBytes, required, isGroup, strengthOf, groupOf, Constraint, Reply, taken, astray, denied, ranged, behind}
 use Rattle.edition.specs.Service.{Starts, Says, tooLong, strays, faulty, inGrammar}
 use Rattle.edition.specs.Steps.{Found, met, found, pass, start, replied, readSecond}
@@ -213,6 +214,12 @@ accepts w c = (λ e. there (readSecond w) (answers w) e, λ (l, h, q, f, i, n, g
     there _ (inGrammar r l h p f i) e =
         let z = behind-taken r (strengthOf (l .ending)) (groupOf (l .ending)) c e in
         (l, h, p, f, subst (IsReading (l .line)) (ap (λ (d : Constraint). d .reading) z) i, ap (λ (d : Constraint). d .strength) z, ap (λ (d : Constraint). d .group) z, ap (λ (d : Constraint). behind (judged (d .reading)) (d .strength) (d .group)) (sym z) ∙ e)
+
+-- its variables fit
+pub second-named : (w : List ℕ) (c : Constraint) → readSecond w ≡ taken c → Named (c .reading .terms)
+second-named w c e =
+    let a = accepts w c .0 e in
+    reading-named (a .0 .line) (c .reading) (a .3) (a .4)
 
 -- the offset of 20 is the length of the longest prefix of the line that is also a prefix of a line of the grammar
 abbrev pub Longest : List ℕ → ℕ → Type 0

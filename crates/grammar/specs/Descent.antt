@@ -44,7 +44,7 @@ abbrev pub rested : Bool → Mode
 rested true = closed
 rested false = apart
 
-abbrev Inner : Mode → Type 0
+abbrev pub Inner : Mode → Type 0
 Inner first = Unit {0}
 Inner spaced = Unit {0}
 Inner (wanted f) = Unit {0}
@@ -57,7 +57,7 @@ Inner apart = Unit {0}
 Inner (half r) = ⊥
 
 -- a step with b around, beside one without; x is where b goes on
-data Alike (b : Around) (x : Next) : Next → Next → Type 0 where
+pub data Alike (b : Around) (x : Next) : Next → Next → Type 0 where
   goes : {m : Mode} {a : Around} {s : Sums} → Inner m → Fits a b → Alike b x (go m (over a b) s) (go m a s)
   ended : Alike b x x ends
   stops : {n : ℕ} → Alike b x (stop n) (stop n)
@@ -157,14 +157,14 @@ module _ (b : Around) where
   alike-digits x nn strange = stops
 
   -- where the reader goes on once a part or sum has ended
-  abbrev onward : Mode → Sums → Kind → Next
-  onward m s k = step (rested (isBare m)) b (flushed m s) k
+  abbrev pub behindRest : Mode → Sums → Kind → Next
+  behindRest m s k = step (rested (isBare m)) b (flushed m s) k
 
-  alike : (m : Mode) (a : Around) (s : Sums) (k : Kind) → Inner m → Fits a b → Alike b (onward m s k) (step m (over a b) s k) (step m a s k)
-  alike first a s k i h = alike-begins (onward first s k) one a s h (λ d. goes tt h) (goes tt h) (goes tt h) k
-  alike spaced a s k i h = alike-begins (onward spaced s k) one a s h (λ d. stops) stops (goes tt h) k
-  alike (wanted f) a s k i h = alike-begins (onward (wanted f) s k) f a s h (λ d. goes tt h) (goes tt h) (goes tt h) k
-  alike (lettered f) a s k i h = alike-digits (onward (lettered f) s k) (λ d. goes tt h) k
+  pub alike : (m : Mode) (a : Around) (s : Sums) (k : Kind) → Inner m → Fits a b → Alike b (behindRest m s k) (step m (over a b) s k) (step m a s k)
+  alike first a s k i h = alike-begins (behindRest first s k) one a s h (λ d. goes tt h) (goes tt h) (goes tt h) k
+  alike spaced a s k i h = alike-begins (behindRest spaced s k) one a s h (λ d. stops) stops (goes tt h) k
+  alike (wanted f) a s k i h = alike-begins (behindRest (wanted f) s k) f a s h (λ d. goes tt h) (goes tt h) (goes tt h) k
+  alike (lettered f) a s k i h = alike-digits (behindRest (lettered f) s k) (λ d. goes tt h) k
   alike (number f n) a s k i h = alike-behind a (withNumber f n s) h (λ d. alike-if (halts b) (leb (n * 10 + d) most) (number f (n * 10 + d)) a s 22 tt h) (goes tt h) (alike-if (halts b) (leb (f .times * n) most) (wanted (multiplied f n)) a s 22 tt h) k
   alike (numbered f n) a s k i h = alike-behind a (withNumber f n s) h (λ d. alike-halts a h) (goes tt h) (alike-if (halts b) (leb (f .times * n) most) (wanted (multiplied f n)) a s 22 tt h) k
   alike (named f v) a s k i h = alike-behind a (withVariable f v s) h (λ d. alike-if (halts b) (leb (v * 10 + d) mostName) (named f (v * 10 + d)) a s 22 tt h) (goes tt h) (alike-halts a h) k
@@ -194,12 +194,12 @@ rested-follow at m s ends k = by (isBare m)
 rested-follow at m s (stop n) k = refl
 
 -- a line that may end here has a part behind it
-Behind : Bool → Bool → Type 0
+unfoldable pub Behind : Bool → Bool → Type 0
 Behind true t = Unit {0}
 Behind false true = ⊥
 Behind false false = Unit {0}
 
-behind-is : (m : Mode) → Behind (isRead m) (isBare m)
+pub behind-is : (m : Mode) → Behind (isRead m) (isBare m)
 unfolding Behind
 behind-is first = tt
 behind-is spaced = tt
@@ -212,14 +212,14 @@ behind-is closed = tt
 behind-is apart = tt
 behind-is (half r) = tt
 
-module _ (line : List ℕ) (b : Around) where
-  unread : (at : ℕ) (b : Around) (s : Sums) → finished at false false b s ≡ halted 20 at
-  unread at (part n) s = refl
-  unread at (sum n f) s = refl
-  unread at (inside f a) s = refl
-  unread at left s = refl
-  unread at (right r) s = refl
+pub unread : (at : ℕ) (b : Around) (s : Sums) → finished at false false b s ≡ halted 20 at
+unread at (part n) s = refl
+unread at (sum n f) s = refl
+unread at (inside f a) s = refl
+unread at left s = refl
+unread at (right r) s = refl
 
+module _ (line : List ℕ) (b : Around) where
   last : (at : ℕ) (r t : Bool) (s : Sums) → Behind r t → drop at line ≡ [] → finished at r t b s ≡ resumed line b (cond r (read at t s) (halted 20 at))
   unfolding Behind run
   last at true true s h e = rw e
@@ -241,11 +241,11 @@ module _ (line : List ℕ) (b : Around) where
   from [] at m a s i h e = last-over at (isRead m) (isBare m) a (flushed m s) (behind-is m) h e
   from (c ∷ w) at m a s i h e = by (step m (over a b) s (kindOf c)) (step m a s (kindOf c)) (alike b m a s (kindOf c) i h) (λ m′ a′ s′ i′ h′. from w (suc at) m′ a′ s′ i′ h′ (drop-tail at line e))
     where
-      by : (x y : Next) → Alike b (onward b m s (kindOf c)) x y
+      by : (x y : Next) → Alike b (behindRest b m s (kindOf c)) x y
           → ((m′ : Mode) (a′ : Around) (s′ : Sums) → Inner m′ → Fits a′ b → run w (suc at) m′ (over a′ b) s′ ≡ resumed line b (run w (suc at) m′ a′ s′))
           → follow at m s x (run w (suc at)) ≡ resumed line b (follow at m s y (run w (suc at)))
       by _ _ (goes {m = m′} {a = a′} {s = s′} i′ h′) next = next m′ a′ s′ i′ h′
-      by _ _ ended next = rw e (rested-follow at m s (onward b m s (kindOf c)) (run w (suc at)))
+      by _ _ ended next = rw e (rested-follow at m s (behindRest b m s (kindOf c)) (run w (suc at)))
       by _ _ stops next = refl
 
 module _ (line : List ℕ) (at : ℕ) (s : Sums) where

@@ -24,3 +24,5 @@ pub mod Offsets
 pub mod Facts
 pub mod OneTree
 pub mod Theorems
+-- A line that reads names variables that fit.
+pub mod Names

@@ -2,11 +2,12 @@
 use Prim.Native.Nat.{ℕ}
 use mathlib.Core.Path.{_≡_, refl}
 use mathlib.Core.Bool.{Bool, true, false, _&&_, cond, true≢false, false≢true}
-use mathlib.Core.List.{List}
+use mathlib.Core.List.{List, [], _∷_}
 use mathlib.Core.Option.{Option, none, some}
 use lib.Dec.{eqb, ltb}
 use lib.ListN.{length}
 use lib.Ieee.{Float}
+use borrow.Author.Tests.{le-leb}
 use Rattle.steps.specs.State.{State}
 use Rattle.steps.specs.Calls.{add, remove, addEdit, removeEdit, suggest, reset}
 use Rattle.steps.specs.Changing as changing
@@ -17,16 +18,20 @@ use Rattle.shell.specs.Shell.{Called, called, callIn, callOf}
 use Rattle.shell.specs.Reset.{resetOf}
 use Rattle.fetching.specs.Fetch.{fetchOf, fetchIn, fetch18, places}
 use Rattle.terms.specs.declared.Term.{Term}
-use Rattle.terms.specs.Terms.{termsIn}
+use Rattle.terms.specs.Terms.{termOf, termsIn}
 use Rattle.knobharbor.specs.Given.{given, relationBy}
 use Rattle.knobharbor.specs.Adding.{addOf, addListsOf}
 use Rattle.asking.specs.Asked.{asked}
 use Rattle.grammar.specs.Sums as grammar
 use Rattle.grammar.specs.Reader.{readLine}
-use Rattle.typed.specs.Typed.{typedTerms, wholeOf, requiredBy}
+use Rattle.grammar.specs.Names.{Named, line-named}
+use Rattle.items.specs.Items.{isU32}
+use Rattle.keeps.specs.Lists.{All}
+use Rattle.typed.specs.Typed.{typedTerm, typedTerms, wholeOf, requiredBy}
 use Rattle.typed.specs.Adding.{markIn, addRead, textOf}
 use Rattle.run.specs.Demand.{Call, resets, fetches, adds, removes, addsEdit, removesEdit, suggests, make}
 use Rattle.lasting.specs.Narrow.{Typed}
+use Rattle.lasting.specs.NearAdd.{TermNamed}
 use Rattle.lasting.specs.Promises.{Holds, call-holds, fetch-holds, reset-holds}
 
 -- a call of a run over tables, with its working room: what its contract says that it answers and leaves. A fetch is no changing call: it leaves what its contract
@@ -115,18 +120,18 @@ TypedCall (addsEdit v strength budget) = Typed (changing.addsEdit v strength bud
 TypedCall (removesEdit v budget) = Unit {0}
 TypedCall (suggests v x budget) = Unit {0}
 
--- a line's variables are u32 too: so are the reader's places for them
-abbrev pub TypedRead : ℕ → grammar.Answer → ℕ → Type 0
-TypedRead n (grammar.reads r) budget = TypedCall (addsRead n r budget)
-TypedRead n (grammar.outside at) budget = Unit {0}
-TypedRead n (grammar.refused k) budget = Unit {0}
-
 abbrev pub TypedPublic : Public → Type 0
 TypedPublic (makes c) = TypedCall c
 TypedPublic (fetchesInto a b) = Unit {0}
 TypedPublic (addsTerms n ts constant kind strength budget) = TypedCall (addsBy n ts constant kind strength budget)
 TypedPublic (addsLists n vars coefs constant kind strength budget) = TypedCall (addsBy n (given vars coefs) constant kind strength budget)
-TypedPublic (addsText n line budget) = TypedRead n (readLine line) budget
+TypedPublic (addsText n line budget) = isU32 n ≡ true
+
+-- of a line's variables the grammar says it
+typed-read : (ts : List grammar.Term) → Named ts → All (TermNamed isU32) (termsIn (typedTerms ts))
+unfolding termsIn termOf typedTerm isU32
+typed-read [] h = tt
+typed-read (t ∷ ts) h = (le-leb (t .variable) 4294967295 (h .0), typed-read ts (h .1))
 
 -- ---- one call on tables that hold a state
 
@@ -187,11 +192,11 @@ module _ (s : State) (w t : Tables) (h : Holds s t) where
   unfolding markIn asked
   mark-stored e = rw (h .reads) at e
 
-  text-is : (n : ℕ) (a : grammar.Answer) (b : ℕ) → TypedRead n a b → Steps (lineNumber a) s t (addRead n a b w t .call) (textCall n a b w)
+  text-is : (n : ℕ) (a : grammar.Answer) (b : ℕ) → isU32 n ≡ true → ((r : grammar.Reading) → a ≡ grammar.reads r → Named (r .terms)) → Steps (lineNumber a) s t (addRead n a b w t .call) (textCall n a b w)
   unfolding addRead makeOn roomFits
-  text-is n (grammar.reads r) b typed = made-is (addsRead n r b) typed (lengthsRight w) refl
-  text-is n (grammar.outside at) b typed = (refl, refl, mark-stored)
-  text-is n (grammar.refused k) b typed = (refl, refl, mark-stored)
+  text-is n (grammar.reads r) b typed named = made-is (addsRead n r b) (typed, typed-read (r .terms) (named r refl)) (lengthsRight w) refl
+  text-is n (grammar.outside at) b typed named = (refl, refl, mark-stored)
+  text-is n (grammar.refused k) b typed named = (refl, refl, mark-stored)
 
   pub public-step : (p : Public) → TypedPublic p → Steps (unfitNumber p) s t (publicOn p w t) (runCall p w)
   unfolding publicOn runCall textOf
@@ -199,4 +204,4 @@ module _ (s : State) (w t : Tables) (h : Holds s t) where
   public-step (fetchesInto a b) typed = fetched-is a b (eqb a places && eqb b places) refl
   public-step (addsTerms n ts k kind x b) typed = added-is n ts k kind x b typed (ltb kind 3) refl
   public-step (addsLists n vars coefs k kind x b) typed = listed-is n vars coefs k kind x b typed (eqb (length vars) (length coefs)) refl
-  public-step (addsText n line b) typed = text-is n (readLine line) b typed
+  public-step (addsText n line b) typed = text-is n (readLine line) b typed (line-named line)

@@ -8,8 +8,8 @@ use borrow.Author.Tests.{ltb-true, ltb-false, eqb-true, lt-leb, le-leb}
 use lib.Dec.{leb, ltb, eqb}
 use lib.ListN.{length, getD}
 use Rattle.grammar.specs.Bytes.{Kind, digit, letter, space, plus, minus, star, opening, closing, less, equals, more, strange, isDigit, kindOf, markOf}
-use Rattle.grammar.specs.Sums.{Sums}
-use Rattle.grammar.specs.Reader.{Mode, Around, go, step, grows, follow, finished, isRead, isBare, flushed, Outcome, halted, runFrom}
+use Rattle.grammar.specs.Sums.{Sums, one}
+use Rattle.grammar.specs.Reader.{Mode, first, wanted, Around, left, roomOf, Next, go, ends, stop, step, grows, follow, finished, isRead, isBare, flushed, Outcome, halted, runFrom}
 use Rattle.grammar.specs.Descent.{byte, no-byte}
 use Rattle.reader.specs.Scan.{Skips, Digits, alone, longer, Over}
 
@@ -50,25 +50,31 @@ at-place w at m a s h f g = at-either w at m a s (λ k. f) (λ k. g)
 
 -- ---- spaces
 
-module _ (w : List ℕ) (m : Mode) (a : Around) (s : Sums) (stays : step m a s space ≡ go m a s) where
-  over-spaces : (n at : ℕ) → at + n ≤ length w → ((j : ℕ) → at ≤ j → j < at + n → getD w j 0 ≡ 32) → runFrom w at m a s ≡ runFrom w (at + n) m a s
-  unfolding kindOf
-  over-spaces zero at h b = ap (λ (i : ℕ). runFrom w i m a s) (e at)
+-- whatever a space leaves as it is, from place to place
+module _ (w : List ℕ) {X : Type 0} (from : ℕ → X) (stays : (i : ℕ) → i < length w → getD w i 0 ≡ 32 → from i ≡ from (i + 1)) where
+  over-spaces : (n at : ℕ) → at + n ≤ length w → ((j : ℕ) → at ≤ j → j < at + n → getD w j 0 ≡ 32) → from at ≡ from (at + n)
+  over-spaces zero at h b = ap from (e at)
     where
       e : (at : ℕ) → at ≡ at + 0
       e at = omega arith
-  over-spaces (suc n) at h b =
-      byte w at m a s {k = space} (omega arith) (ap kindOf (b at (omega arith) (omega arith)))
-      ∙ (ap (λ x. follow at m s x (λ m′ a′ s′. runFrom w (at + 1) m′ a′ s′)) stays
-      ∙ (over-spaces n (at + 1) (omega arith) (λ j g k. b j (omega arith) (omega arith)) ∙ ap (λ (i : ℕ). runFrom w i m a s) (e at n)))
+  over-spaces (suc n) at h b = stays at (omega arith) (b at (omega arith) (omega arith)) ∙ (over-spaces n (at + 1) (omega arith) (λ j g k. b j (omega arith) (omega arith)) ∙ ap from (e at n))
     where
       e : (at n : ℕ) → at + 1 + n ≡ at + suc n
       e at n = omega arith
 
-  pub skipped : (at r : ℕ) → Skips w at r → runFrom w at m a s ≡ runFrom w r m a s
-  skipped at r k =
+  pub behind-spaces : (at r : ℕ) → Skips w at r → from at ≡ from r
+  behind-spaces at r k =
       let e : at + (r - at) ≡ r = omega (arith, k .from) in
-      over-spaces (r - at) at (omega (arith, k .within, k .from)) (λ j g h. k .spaces j g (omega arith)) ∙ ap (λ (i : ℕ). runFrom w i m a s) e
+      over-spaces (r - at) at (omega (arith, k .within, k .from)) (λ j g h. k .spaces j g (omega arith)) ∙ ap from e
+
+-- behind the first of them
+pub fewer-spaces : (w : List ℕ) (at r : ℕ) → Skips w at r → at < r → Skips w (at + 1) r
+fewer-spaces w at r k h = record { from = omega arith; within = k .within; spaces = λ j g l. k .spaces j (omega arith) l; stops = k .stops }
+
+module _ (w : List ℕ) (m : Mode) (a : Around) (s : Sums) (stays : step m a s space ≡ go m a s) where
+  pub skipped : (at r : ℕ) → Skips w at r → runFrom w at m a s ≡ runFrom w r m a s
+  unfolding kindOf
+  skipped = behind-spaces w (λ i. runFrom w i m a s) (λ i h e. byte w i m a s {k = space} h (ap kindOf e) ∙ ap (λ x. follow i m s x (λ m′ a′ s′. runFrom w (i + 1) m′ a′ s′)) stays)
 
 -- a space leads from m to m′, which stays at spaces: with a space or more
 pub left-behind : (w : List ℕ) (m m′ : Mode) (a : Around) (s s′ : Sums) (at r : ℕ) → step m a s space ≡ go m′ a s′ → step m′ a s′ space ≡ go m′ a s′ → Skips w at r → at < r
@@ -76,8 +82,37 @@ pub left-behind : (w : List ℕ) (m m′ : Mode) (a : Around) (s s′ : Sums) (a
 unfolding kindOf
 left-behind w m m′ a s s′ at r p q k h =
     byte w at m a s {k = space} (omega (arith, k .within)) (ap kindOf (k .spaces at (omega arith) h))
-    ∙ (ap (λ x. follow at m s x (λ m′ a′ s′. runFrom w (at + 1) m′ a′ s′)) p
-    ∙ skipped w m′ a s′ q (at + 1) r (record { from = omega arith; within = k .within; spaces = λ j g l. k .spaces j (omega arith) l; stops = k .stops }))
+    ∙ (ap (λ x. follow at m s x (λ m′ a′ s′. runFrom w (at + 1) m′ a′ s′)) p ∙ skipped w m′ a s′ q (at + 1) r (fewer-spaces w at r k h))
+
+-- ---- a reader that takes the grammar's steps from place to place, but at an `@` of its own; halt is how it refuses
+
+pub record Follows (w : List ℕ) {X : Type 0} (from : ℕ → Mode → Around → Sums → X) (halt : ℕ → ℕ → X) : Type 0 where
+  pub goes : (at : ℕ) (m : Mode) (a : Around) (s : Sums) {m′ : Mode} {a′ : Around} {s′ : Sums} → at < length w → (getD w at 0 ≡ 64 → ⊥) → step m a s (kindOf (getD w at 0)) ≡ go m′ a′ s′
+      → from at m a s ≡ from (at + 1) m′ a′ s′
+  -- a line begins as a part does, unless by a space
+  pub begins : (s : Sums) → (getD w 0 0 ≡ 32 → ⊥) → from 0 first left s ≡ from 0 (wanted one) left s
+  -- on the left side, where nothing that stands there can follow
+  pub strays : (at : ℕ) (m : Mode) (s : Sums) → at ≤ length w → step m left s (kindOf (getD w at 0)) ≡ stop 20 → from at m left s ≡ halt 20 at
+
+-- the first byte, which is no space
+pub first-step : (b : ℕ) (s : Sums) → (b ≡ 32 → ⊥) → step first left s (kindOf b) ≡ step (wanted one) left s (kindOf b)
+unfolding roomOf
+first-step b s h =
+    by-kind (λ (x : Kind). step first left s x ≡ step (wanted one) left s x) b
+    (λ e. refl) (λ e. absurd (h e)) (λ e. refl) (λ e. refl) (λ e. refl) (λ e. refl) (λ e. refl) (λ e. refl) (λ e. refl) (λ e. refl) (λ e. refl) refl
+
+pub run-follows : (w : List ℕ) → Follows w (runFrom w) halted
+run-follows w =
+    record {
+      goes = λ at m a s h n e. byte w at m a s h refl ∙ ap (λ x. follow at m s x (λ m′ a′ s′. runFrom w (at + 1) m′ a′ s′)) e;
+      begins = λ s h. at-either w 0 first left s (λ k. ap (λ x. follow 0 first s x (λ m′ a′ s′. runFrom w 1 m′ a′ s′)) (first-step (getD w 0 0) s h) ∙ (same s (step (wanted one) left s (kindOf (getD w 0 0))) ∙ sym (byte w 0 (wanted one) left s k refl))) (λ k. sym (no-byte w 0 (wanted one) left s k));
+      strays = λ at m s h e. at-place w at m left s h (ap (λ x. follow at m s x (λ m′ a′ s′. runFrom w (at + 1) m′ a′ s′)) e) refl;
+    }
+  where
+    same : (s : Sums) (x : Next) → follow 0 first s x (λ m′ a′ s′. runFrom w 1 m′ a′ s′) ≡ follow 0 (wanted one) s x (λ m′ a′ s′. runFrom w 1 m′ a′ s′)
+    same s (go m a z) = refl
+    same s ends = refl
+    same s (stop n) = refl
 
 -- ---- digits, from a mode that a first one leads on to m, with a bound on the number
 

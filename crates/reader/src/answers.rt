@@ -55,7 +55,7 @@ pub fn refuse(number: u32, offset: usize) -> Reading
 }
 
 // 20 has its offset, no other refusal one.
-fn refuse_at(number: u32, at: usize) -> Reading
+pub fn refuse_at(number: u32, at: usize) -> Reading
     ensures { λ r. ⌜ r ≡ asRead (refuses number at) ⌝ }
 {
     if number == 20 {
@@ -122,7 +122,7 @@ fn keep_all(numbers: &Numbers, sums: &Sums, count: usize) -> Kept
 }
 
 // "once the whole line reads, 22 a summed coefficient or constant above 1,048,576 in size, then 23 more than 16 variables"
-fn finish(numbers: &Numbers, sums: &Sums, m: Mark, p: Place) -> Reading
+pub fn finish(numbers: &Numbers, sums: &Sums, m: Mark, p: Place) -> Reading
     requires { ⌜ p .count ≤ 1366 ⌝ }
     ensures { λ r. ⌜ r ≡ asRead (judged (summed (relationOf m) (sumsOf (now (numbers .entry)) (now (sums .entry)) p))) ⌝ }
 {

@@ -31,7 +31,7 @@ pub fn skip(s: &[u8], at: usize) -> usize
 }
 
 // The digit's worth, 10 for what is none.
-fn digit_at(s: &[u8], at: usize) -> u64
+pub fn digit_at(s: &[u8], at: usize) -> u64
     ensures { λ r. ⌜ r ≡ digitAt (getD (now (s .entry)) at 0) ⌝ }
 {
     let b = byte_at(s, at);

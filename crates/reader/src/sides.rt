@@ -5,9 +5,9 @@ ghost use Prim.Native.Nat.{_≤_};
 ghost use lib.ListN.{length};
 ghost use Rattle.grammar.specs.Sums.{nothing};
 ghost use Rattle.grammar.specs.Reader.{first, left, runFrom};
-ghost use Rattle.reader.specs.Parts.{sumsOf, Rests, Unjoined, Within};
+ghost use Rattle.reader.specs.Parts.{sumsOf, Rests, Unjoined};
 ghost use Rattle.reader.specs.Sides.{StartIs, HalfIs, RelatedIs};
-ghost use Rattle.reader.specs.Ends.{EndIs, LeftIs, LineIs, lineOf, Counted};
+ghost use Rattle.reader.specs.Ends.{LeftIs, RightIs, SidesIs, Reached, EndIs, lineOf, Counted};
 use crate::parts::Over;
 use crate::parts::Place;
 use crate::parts::Step;
@@ -34,6 +34,13 @@ pub enum Start {
 pub enum Related {
     By(Mark, usize),
     NoMark(usize),
+}
+
+// Both sides read: the relation, and the sums of the left side less those of the right, up to what stands behind them; or a refusal
+// and where it is met.
+pub enum Sides {
+    Both(Mark, Place),
+    Neither(u32, usize),
 }
 
 // A line read to its end: the relation and the sums of the left side less those of the right; or a refusal and where it is met.
@@ -90,24 +97,6 @@ fn relation_at(s: &[u8], at: usize) -> Related
     Related::NoMark(at)
 }
 
-// A line may end behind a part with no space behind a digit.
-fn end_of(s: &[u8], m: Mark, r: Step) -> Line
-    requires { ⌜ Within (length (now s)) r ⌝ }
-    ensures { λ l. ⌜ EndIs (now (s .entry)) m r l ⌝ }
-{
-    match r {
-        Step::Read(e) => {
-            if e.bare {
-                if e.at == s.len() {
-                    return Line::Whole(m, e);
-                }
-            }
-            Line::Refused(20, e.at)
-        }
-        Step::Halted(n, b) => Line::Refused(n, b),
-    }
-}
-
 fn left_side(s: &[u8], numbers: &mut Numbers, sums: &mut Sums) -> Step
     requires { ⌜ length (now s) ≤ 4096 ⌝ }
     ensures { λ r. ⌜ LeftIs (now (s .entry)) (now (numbers .exit)) (now (sums .exit)) r ⌝ }
@@ -134,11 +123,11 @@ fn left_side(s: &[u8], numbers: &mut Numbers, sums: &mut Sums) -> Step
 }
 
 // "The reading is the constraint of the left side minus the right": the right side's parts are summed under a minus.
-fn right_side(s: &[u8], numbers: &mut Numbers, sums: &mut Sums, q: Place) -> Line
+fn right_side(s: &[u8], numbers: &mut Numbers, sums: &mut Sums, q: Place) -> Sides
     requires { ⌜ length (now s) ≤ 4096 ⌝ }
     requires { ⌜ Rests (now s) 0 (now numbers) (now sums) q ⌝ }
     requires { ⌜ Unjoined (now s) (q .at) ⌝ }
-    ensures { λ r. ⌜ LineIs (now (s .entry)) (q .at) (q .bare) (sumsOf (now (numbers .entry)) (now (sums .entry)) q) (now (numbers .exit)) (now (sums .exit)) r ⌝ }
+    ensures { λ r. ⌜ RightIs (now (s .entry)) (q .at) (sumsOf (now (numbers .entry)) (now (sums .entry)) q) (now (numbers .exit)) (now (sums .exit)) r ⌝ }
 {
     match relation_at(s, q.at) {
         Related::By(m, next) => {
@@ -158,10 +147,37 @@ fn right_side(s: &[u8], numbers: &mut Numbers, sums: &mut Sums, q: Place) -> Lin
                     left: 16,
                 },
             );
-            end_of(s, m, r)
+            match r {
+                Step::Read(e) => Sides::Both(m, e),
+                Step::Halted(n, b) => Sides::Neither(n, b),
+            }
         }
-        Related::NoMark(b) => Line::Refused(20, b),
+        Related::NoMark(b) => Sides::Neither(20, b),
     }
+}
+
+pub fn both_sides(s: &[u8], numbers: &mut Numbers, sums: &mut Sums) -> Sides
+    requires { ⌜ length (now s) ≤ 4096 ⌝ }
+    ensures { λ r. ⌜ SidesIs (now (s .entry)) (now (numbers .exit)) (now (sums .exit)) r ⌝ }
+{
+    let l = left_side(s, numbers, sums);
+    match l {
+        Step::Read(q) => right_side(s, numbers, sums, q),
+        Step::Halted(n, b) => Sides::Neither(n, b),
+    }
+}
+
+// A line may end behind a part with no space behind a digit.
+fn end_of(s: &[u8], m: Mark, e: Place) -> Line
+    requires { ⌜ Reached (now s) e ⌝ }
+    ensures { λ l. ⌜ EndIs (now (s .entry)) m e l ⌝ }
+{
+    if e.bare {
+        if e.at == s.len() {
+            return Line::Whole(m, e);
+        }
+    }
+    Line::Refused(20, e.at)
 }
 
 pub fn whole_line(s: &[u8], numbers: &mut Numbers, sums: &mut Sums) -> Line
@@ -169,9 +185,9 @@ pub fn whole_line(s: &[u8], numbers: &mut Numbers, sums: &mut Sums) -> Line
     ensures { λ r. ⌜ runFrom (now (s .entry)) 0 first left nothing ≡ lineOf (now (numbers .exit)) (now (sums .exit)) r ⌝ }
     ensures { λ r. ⌜ Counted r ⌝ }
 {
-    let l = left_side(s, numbers, sums);
-    match l {
-        Step::Read(q) => right_side(s, numbers, sums, q),
-        Step::Halted(n, b) => Line::Refused(n, b),
+    let x = both_sides(s, numbers, sums);
+    match x {
+        Sides::Both(m, e) => end_of(s, m, e),
+        Sides::Neither(n, b) => Line::Refused(n, b),
     }
 }

@@ -30,19 +30,19 @@ fn no_packed() -> Packed
     }
 }
 
-// The m terms of a line of 7 + 2m words.
-pub fn read_terms(s: &[u8], m: usize) -> Packed
-    requires { ⌜ m ≤ 4294967295 ⌝ }
-    requires { ⌜ length (wordsOf (now s)) ≡ 7 + 2 * m ⌝ }
-    ensures { λ r. ⌜ r ≡ packedFrom noPack (termsOf (drop 7 (wordsOf (now (s .entry))))) ⌝ }
+// The m terms that end a line, behind its first words.
+pub fn read_terms(s: &[u8], from: usize, m: usize) -> Packed
+    requires { ⌜ (from ≤ 16) × (m ≤ 4294967295) ⌝ }
+    requires { ⌜ length (wordsOf (now s)) ≡ from + 2 * m ⌝ }
+    ensures { λ r. ⌜ r ≡ packedFrom noPack (termsOf (drop from (wordsOf (now (s .entry))))) ⌝ }
 {
     let mut t = terms::none();
     let mut i: usize = 0;
     while i < m {
-        let Id::Is32(v) = floats::id_word(words::word_at(s, 7 + 2 * i)) else {
+        let Id::Is32(v) = floats::id_word(words::word_at(s, from + 2 * i)) else {
             return no_packed();
         };
-        let Real::Number(x) = floats::float_word(words::word_at(s, 8 + 2 * i)) else {
+        let Real::Number(x) = floats::float_word(words::word_at(s, from + 1 + 2 * i)) else {
             return no_packed();
         };
         let one = Term {

@@ -187,7 +187,7 @@ fn read_add(s: &[u8], n: usize) -> Line
     if 2 * m != n - 7 {
         return no_line();
     }
-    line_with(read_head(s), packing::read_terms(s, m))
+    line_with(read_head(s), packing::read_terms(s, 7, m))
 }
 
 // The call that a line names, if it is one.

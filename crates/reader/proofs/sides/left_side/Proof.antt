@@ -10,7 +10,7 @@ use Rattle.reader.proofs.sides.left_side.Tie as tie
 sum-requires : tie.Need-sum-requires
 sum-requires c κs =
     let a = c .before .before .before .before .before .before .before .args in
-    ((subst (StartIs (a .s .now)) (c .before .before .before .i .given .1) (c .before .before .before .before .before .start-of .ensures) .0, c .before .before .before .before .before .before .before .pre, omega arith), none-ready (a .numbers .now) (a .sums .now) _)
+    ((subst (StartIs (a .s .now)) (c .before .before .before .i .given .1) (c .before .before .before .before .before .start-of .ensures) .0 .within, c .before .before .before .before .before .before .before .pre, omega arith), none-ready (a .numbers .now) (a .sums .now) _)
 
 returns : tie.Need-returns
 returns c =

@@ -1,10 +1,11 @@
 -- `reader::sides::relation_at` meets its contract. Assumes nothing.
-use mathlib.Core.Path.{_≡_, sym, _∙_}
+use mathlib.Core.Path.{_≡_, refl, sym, _∙_}
 use native.Mathlib.Omega.{arith}
 use borrow.Author.Needs.{needs}
 use lib.ListN.{getD}
 use Rattle.reader.specs.Scan.{present}
-use Rattle.reader.specs.Sides.{related-equal, related-less, related-more, related-not}
+use mathlib.Core.Logic.{inl}
+use Rattle.reader.specs.Sides.{related-less, related-more}
 use Rattle.reader.proofs.sides.relation_at.Statement.{statement}
 use Rattle.reader.proofs.sides.relation_at.Tie as tie
 
@@ -14,9 +15,6 @@ equals-at-requires c κs = let a = c .before .before .before .before .args in le
 equals-at-requires-2 : tie.Need-equals-at-requires-2
 equals-at-requires-2 c κs = let a = c .before .before .before .before .before .args in let e : getD (a .s .now) (a .at) 0 ≡ 62 = sym (c .before .before .before .byte-at .ensures) ∙ c .if3 .taken in omega (arith, present (a .s .now) (a .at) (omega (arith, e)))
 
-returns : tie.Need-returns
-returns c = let a = c .before .before .before .args in related-equal (a .s .now) (a .at) (sym (c .before .byte-at .ensures) ∙ c .if1 .taken)
-
 returns-2 : tie.Need-returns-2
 returns-2 c = let a = c .before .before .before .before .before .args in related-less (a .s .now) (a .at) (c .equals-at .result) (sym (c .before .before .before .byte-at .ensures) ∙ c .before .if2 .taken) (c .equals-at .ensures)
 
@@ -24,7 +22,17 @@ returns-3 : tie.Need-returns-3
 returns-3 c = let a = c .before .before .before .before .before .before .args in related-more (a .s .now) (a .at) (c .equals-at2 .result) (sym (c .before .before .before .before .byte-at .ensures) ∙ c .before .if3 .taken) (c .equals-at2 .ensures)
 
 returns-4 : tie.Need-returns-4
-returns-4 c = let a = c .before .before .before .before .before .args in related-not (a .s .now) (a .at) (c .before .before .before .before .before .pre .0) (c .before .before .before .before .before .pre .1) (λ e. c .before .before .if1 .left (c .before .before .before .byte-at .ensures ∙ e)) (λ e. c .before .if2 .left (c .before .before .before .byte-at .ensures ∙ e)) (λ e. c .if3 .left (c .before .before .before .byte-at .ensures ∙ e))
+returns-4 c =
+    inl (
+      refl,
+      c .before .before .before .before .before .pre .0,
+      record {
+        unjoined = c .before .before .before .before .before .pre .1;
+        no-equals = λ e. c .before .before .if1 .left (c .before .before .before .byte-at .ensures ∙ e);
+        no-less = λ e. c .before .if2 .left (c .before .before .before .byte-at .ensures ∙ e);
+        no-more = λ e. c .if3 .left (c .before .before .before .byte-at .ensures ∙ e);
+      },
+    )
 
 pub relation-at-spec : {M : Type 1} → statement M
 relation-at-spec =
@@ -32,7 +40,7 @@ relation-at-spec =
     (tie.spec
     (λ c κs. search needs)
     (λ c. search needs)
-    returns
+    (λ c. search needs)
     (λ c. search needs)
     equals-at-requires
     returns-2

@@ -1,8 +1,7 @@
 -- `reader::sides::right_side` meets its contract. Assumes nothing.
 use native.Mathlib.Omega.{arith}
 use borrow.Author.Needs.{needs}
-use Rattle.reader.specs.SumLaws.{within-sound}
-use Rattle.reader.specs.Ends.{next-ready, right-read, right-bad}
+use Rattle.reader.specs.Ends.{next-ready, right-read, right-halted, right-bad}
 use Rattle.reader.proofs.sides.right_side.Statement.{statement}
 use Rattle.reader.proofs.sides.right_side.Tie as tie
 
@@ -15,17 +14,20 @@ sum-requires c κs =
     let r = next-ready (a .s .now) (a .numbers .now) (a .sums .now) (a .q) (c .before .before .before .before .before .before .before .pre .1 .0) (c .before .before .before .before .before .relation-at .ensures) (c .before .before .before .m .given .1) in
     ((r .0, c .before .before .before .before .before .before .before .pre .0, omega arith), r .1)
 
-end-of-requires : tie.Need-end-of-requires
-end-of-requires c κs = within-sound (c .before .before .before .before .before .before .before .before .args .s .now) _ (c .sum .last .1 .0) (c .sum .last .1 .1 .0) (c .sum .result) (c .sum .ensures .1 .0)
-
 returns : tie.Need-returns
 returns c =
-    let a = c .before .before .before .before .before .before .before .before .before .args in
-    right-read (a .s .now) (a .numbers .now) (a .sums .now) (c .before .sum .last .1 .0) (c .before .sum .last .1 .1 .0) (a .q) (c .before .sum .result) (c .end-of .result) (c .before .before .before .before .before .before .before .before .before .pre .0) (c .before .before .before .before .before .before .before .relation-at .ensures) (c .before .before .before .before .before .m .given .1)
-    (c .before .sum .ensures .0) (c .before .sum .ensures .1 .0) (c .before .sum .ensures .1 .1) (c .end-of .ensures)
+    let a = c .before .before .before .before .before .before .before .before .before .before .before .args in
+    let g = c .before .before .before .sum in
+    right-read (a .s .now) (a .numbers .now) (a .sums .now) (g .last .1 .0) (g .last .1 .1 .0) (a .q) (g .result) (c .before .before .before .before .before .before .before .before .before .before .before .pre .0) (c .before .before .before .before .before .before .before .before .before .relation-at .ensures) (c .before .before .before .before .before .before .before .m .given .1) (g .ensures .0) (g .ensures .1 .0) (g .ensures .1 .1) (c .before .r .given .1)
 
 returns-2 : tie.Need-returns-2
-returns-2 c = let a = c .before .before .before .before .before .args in right-bad (a .s .now) (a .numbers .now) (a .sums .now) (a .q) (c .before .before .before .relation-at .ensures) (c .before .b .given .1)
+returns-2 c =
+    let a = c .before .before .before .before .before .before .before .before .before .before .before .args in
+    let g = c .before .before .before .sum in
+    right-halted (a .s .now) (a .numbers .now) (a .sums .now) (g .last .1 .0) (g .last .1 .1 .0) (a .q) (g .result) (c .before .before .before .before .before .before .before .before .before .relation-at .ensures) (c .before .before .before .before .before .before .before .m .given .1) (g .ensures .0) (c .before .r2 .given .1)
+
+returns-3 : tie.Need-returns-3
+returns-3 c = let a = c .before .before .before .before .before .args in right-bad (a .s .now) (a .numbers .now) (a .sums .now) (a .q) (c .before .before .before .relation-at .ensures) (c .before .b .given .1)
 
 pub right-side-spec : {M : Type 1} → statement M
 right-side-spec =
@@ -34,7 +36,9 @@ right-side-spec =
     relation-at-requires
     (λ c. search needs)
     sum-requires
-    end-of-requires
+    (λ c. search needs)
+    (λ c. search needs)
     (λ c. search needs)
     returns
-    returns-2)
+    returns-2
+    returns-3)

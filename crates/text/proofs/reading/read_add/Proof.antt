@@ -38,7 +38,7 @@ returns-3 c =
     c .no-line3 .ensures ∙ add-uncounted ws (omega arith) (sym (ap (λ (w : List ℕ). sameBytes w addName) (c .before .before .before .before .before .before .before .before .before .before .word-at .ensures)) ∙ sym (c .before .before .before .before .before .before .before .before .same .ensures) ∙ not-false _ (c .before .before .before .before .before .before .before .if1 .left)) (ap (λ (w : Whole). counts w (length (drop 7 ws))) (sym (ap (λ (w : List ℕ). upTo 4294967295 (digitsOf 10 w)) (c .before .before .before .before .before .before .word-at2 .ensures)) ∙ sym (c .before .before .before .before .before .decimal .ensures) ∙ c .before .before .before .m .given .1) ∙ ne-eqb (2 * c .before .before .before .m .given .0 .0) (length (drop 7 ws)) (λ e. c .before .if2 .taken (omega (arith, e, length-drop 7 ws))))
 
 read-terms-requires : tie.Need-read-terms-requires
-read-terms-requires c κs = (up-to-most 4294967295 _ (c .before .before .before .m .given .0 .0) (sym (c .before .before .before .before .before .decimal .ensures) ∙ c .before .before .before .m .given .1), omega arith)
+read-terms-requires c κs = ((omega arith, up-to-most 4294967295 _ (c .before .before .before .m .given .0 .0) (sym (c .before .before .before .before .before .decimal .ensures) ∙ c .before .before .before .m .given .1)), omega arith)
 
 returns-4 : tie.Need-returns-4
 returns-4 c =
