@@ -5,14 +5,14 @@ use mathlib.Core.Path.{_≡_, refl, sym, ap, _∙_, subst}
 use mathlib.Core.Bool.{Bool, true, false, cond}
 use mathlib.Core.List.{List}
 use native.Mathlib.Omega.{arith}
-use lib.Dec.{ltb, eqb}
-use lib.Ieee.{Float, nan}
+use lib.Dec.{ltb}
+use lib.Ieee.{Float, nan, ne}
 use lib.ListN.{length, getD, set, length-set}
 use lib.Seq.{getD-set-same, getD-set-other}
 use borrow.Author.Tests.{ltb-true, ltb-false}
 use Rattle.laws.specs.Loops.{run, run-next, run-last}
 use Rattle.laws.specs.Lists.{tab, length-tab, getD-tab}
-use Rattle.steps.specs.Number.{zero64, Mark, allWhole, worse}
+use Rattle.steps.specs.Number.{zero64, _*₆₄_, Mark, worse}
 use Rattle.steps.specs.Symbol.{Symbol, absent, coefficientFor}
 use Rattle.steps.specs.Row.{Row, Written, untouched}
 use Rattle.steps.specs.Substitute.{substituteInRow}
@@ -25,7 +25,8 @@ use Rattle.cells.specs.Seek.{run-inv}
 use Rattle.cells.specs.Replaced.{replaced-other}
 use Rattle.merging.specs.Merge.{otherCell, mergedRow, ownIn, mergedInto}
 use Rattle.merging.specs.Substituted.{substituted}
-use Rattle.substituting.specs.Held.{Held, held-room}
+use Rattle.substituting.specs.Held.{held-room}
+use Rattle.substituting.specs.Notes.{changes}
 use Rattle.substituting.specs.Lines.{Lines, heldBy, totalOf, lineWith, lineIn, linesIn, HeldIn, held-line}
 
 -- line q as the steps have it, along w symbols
@@ -74,13 +75,6 @@ module _ (s : ℕ) (symbols : List Symbol) (j w m : ℕ) (y : Float) (cols : Lis
     in-reals : constantsAt + i < length (t .reals)
     in-reals = omega (arith, long, few, last)
 
-    abbrev after : Written
-    after = record {
-      row = lineOf w with-k i;
-      constantChanged = stepOf t i .constantChanged;
-      mark = stepOf t i .mark;
-    }
-
     -- where the line holds s
     step-held : absent k ≡ false → (lineOf w with-k i ≡ stepOf t i .row) × (with-k .mark ≡ worse (t .mark) (stepOf t i .mark))
     unfolding lineOf lineWith totalOf
@@ -108,6 +102,15 @@ module _ (s : ℕ) (symbols : List Symbol) (j w m : ℕ) (y : Float) (cols : Lis
         go : (b : Bool) → absent k ≡ b → cond b t with-k .mark ≡ worse (t .mark) (stepOf t i .mark)
         go true a = sym (ap (λ (z : Written). worse (t .mark) (z .mark)) (step-none a) ∙ worse-unit (t .mark))
         go false a = step-held a .1
+
+    -- "Constant changed"
+    pub step-changed : stepOf t i .constantChanged ≡ changes k y
+    unfolding changes untouched lineOf
+    step-changed = go (absent k) refl
+      where
+        go : (b : Bool) → absent k ≡ b → stepOf t i .constantChanged ≡ cond b false (ne (y *₆₄ k) zero64)
+        go true a = ap (λ (z : Written). z .constantChanged) (step-none a)
+        go false a = sym (ap (λ (z : Written). z .constantChanged) (substituted (t .size) i j m w k (t .keys) (t .vals) cols others (h .up) (h .present) room rooms lw s symbols place ls (getD (t .reals) (constantsAt + i) nan) y held-is a none))
 
     pub line-reals : (q : ℕ) → (q ≡ constantsAt + i → ⊥) → getD (turn i t .reals) q nan ≡ getD (t .reals) q nan
     unfolding lineIn lineWith

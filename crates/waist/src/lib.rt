@@ -1,0 +1,2 @@
+// The waist: the tableau over the five sparse tables, by symbol.
+pub mod substitution;
