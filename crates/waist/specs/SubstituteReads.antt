@@ -410,6 +410,7 @@ module _ (art : Bool) (j : ℕ) (row : List Float) (t : Sparse) (so : Sound art 
         held = held-u;
         few = rw c (so .few);
         rows = λ i a b. let b' : i ≤ r = rw c at b in rw (byte (rowPlacesAt + i) (omega (arith, b', f)), d) (so .rows i a b');
+        up = λ i q a b e. let e' : q ≤ r = rw c at e in rw (byte (rowPlacesAt + i) (omega (arith, b, e', f)), byte (rowPlacesAt + q) (omega (arith, e', f))) (so .up i q a b e');
         long = long-u;
       }
     where

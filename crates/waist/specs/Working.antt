@@ -63,6 +63,8 @@ pub record Sound (art : Bool) (t : Sparse) : Type 0 where
   pub held : Held (linesOf art t) (cellCount t) (t .keys) (t .values)
   pub few : rowCount t < mostRows
   pub rows : (i : ℕ) → 1 ≤ i → i ≤ rowCount t → (1 ≤ getD (t .bytes) (rowPlacesAt + i) 0) × (getD (t .bytes) (rowPlacesAt + i) 0 ≤ symbolCount t)
+  -- rows stand by ascending id: by ascending place
+  pub up : (i q : ℕ) → 1 ≤ i → i < q → q ≤ rowCount t → getD (t .bytes) (rowPlacesAt + i) 0 < getD (t .bytes) (rowPlacesAt + q) 0
   pub long : length (t .reals) ≡ realsSize
 
 pub lines-few : (art : Bool) (t : Sparse) → Sound art t → linesOf art t ≤ mostRows
