@@ -28,7 +28,7 @@ use Rattle.moves.specs.Walk.{drop-walk}
 use Rattle.sparse.specs.Places.{mostRows, rowCountAt, cellCountAt, idsAt, rowPlacesAt, variablePlacesAt, constantsAt, oldValuesAt, realsSize}
 use Rattle.sparse.specs.Sparse.{Sparse, symbolCount, rowCount, cellCount, symbolAt, basicOf, basicsOf, read}
 use Rattle.cells.specs.Names.{lastPlace}
-use Rattle.cells.specs.Cells.{Cells, rowOf, dropped}
+use Rattle.cells.specs.Cells.{Cells, cells, rowOf, dropped}
 use Rattle.cells.specs.Drop.{dropped-before, dropped-after}
 use Rattle.substituting.specs.Held.{Held, held-few}
 use Rattle.waist.specs.Working.{sparse, artificialOf, workOf, linesOf, Sound, lines-few, rows-lines, id-at}
@@ -286,3 +286,13 @@ module _ (art : Bool) (i : ℕ) (t : Sparse) (so : Sound art t) (low : 1 ≤ i) 
     fewer = rows-fewer;
     free = λ p f. left (λ x. x ≡ p → ⊥) f;
   }
+
+-- the calls of the code, over variables
+tables-by : (art : Bool) (i : ℕ) (t : Sparse) (count left : ℕ) (ws ks bs : List ℕ) (rs vs : List Float) → count ≡ linesOf art t → cells ks vs left ≡ dropped (cellCount t) i (t .keys) (t .values)
+    → bs ≡ closed 0 (rowPlacesAt + i) (rowPlacesAt + rowCount t) (t .bytes) → rs ≡ closed nan (constantsAt + i) (constantsAt + count) (t .reals) → ws ≡ set (set (t .words) rowCountAt (rowCount t - 1)) cellCountAt left → sparse ws ks bs rs vs ≡ droppedIn art i t
+unfolding droppedIn
+tables-by art i t count left ws ks bs rs vs e c b f h = rw (h, b, f, e, ← c) refl
+
+pub drop-calls : (art : Bool) (i : ℕ) (t : Sparse) → Sound art t → 1 ≤ i → i ≤ rowCount t → (count left : ℕ) (ws ks bs : List ℕ) (rs vs : List Float) → count ≡ linesOf art t → cells ks vs left ≡ dropped (cellCount t) i (t .keys) (t .values)
+    → bs ≡ closed 0 (rowPlacesAt + i) (rowPlacesAt + rowCount t) (t .bytes) → rs ≡ closed nan (constantsAt + i) (constantsAt + count) (t .reals) → ws ≡ set (set (t .words) rowCountAt (rowCount t - 1)) cellCountAt left → Drops art i t (sparse ws ks bs rs vs)
+drop-calls art i t so low high count left ws ks bs rs vs e c b f h = subst (Drops art i t) (sym (tables-by art i t count left ws ks bs rs vs e c b f h)) (drop-reads art i t so low high)

@@ -28,7 +28,7 @@ use Rattle.moves.specs.Walk.{keep-walk}
 use Rattle.sparse.specs.Places.{mostRows, symbolCountAt, rowCountAt, cellCountAt, idsAt, rowPlacesAt, variablePlacesAt, constantsAt, oldValuesAt, realsSize}
 use Rattle.sparse.specs.Sparse.{Sparse, symbolCount, rowCount, cellCount, symbolAt, basicOf, basicsOf, read}
 use Rattle.cells.specs.Names.{lastPlace, cellRoom}
-use Rattle.cells.specs.Cells.{Cells, rowOf, opened, replaced, settled}
+use Rattle.cells.specs.Cells.{Ascending, Cells, cells, rowOf, opened, replaced}
 use Rattle.cells.specs.Seek.{first-elim, first-moved}
 use Rattle.cells.specs.Open.{opened-before, opened-after}
 use Rattle.cells.specs.Replaced.{replaced-own, replaced-other}
@@ -448,3 +448,28 @@ module _ (art : Bool) (p : ℕ) (row : List Float) (t : Sparse) (so : Sound art 
     alone = alone;
     more = rows-more;
   }
+
+-- ---- the calls of the code, over variables
+
+module _ (art : Bool) (p : ℕ) (row : List Float) (t : Sparse) (so : Sound art t) where
+  tables-by : (z count size : ℕ) (ws ks ks' bs : List ℕ) (rs vs : List Float) → count ≡ linesOf art t → ks ≡ opened (cellCount t) z (t .keys) → cells ks' vs size ≡ replaced (cellCount t) z (symbolCount t) row ks (t .values)
+      → bs ≡ place.opened (rowPlacesAt + z) (rowPlacesAt + (rowCount t + 1)) p (t .bytes) → rs ≡ place.opened (constantsAt + z) (constantsAt + (count + 1)) (getD row 0 nan) (t .reals)
+      → ws ≡ set (set (t .words) rowCountAt (rowCount t + 1)) cellCountAt size → sparse ws ks' bs rs vs ≡ keptAt z art p row t
+  unfolding keptAt
+  tables-by z count size ws ks ks' bs rs vs e k c b f h = rw (h, b, f, e, ← k, ← c) refl
+
+  -- what the code needs to lay the row down
+  pub keep-room : (z : ℕ) {ks : List ℕ} → 1 ≤ z → z ≤ 1 + rowCount t → ks ≡ opened (cellCount t) z (t .keys) → Ascending ks (cellCount t) × (cellCount t + symbolCount t ≤ cellRoom)
+  keep-room z a b e =
+      let f = lines-few art t so in
+      let k = rows-lines art t in
+      let h = held-room (linesOf art t) (cellCount t) (t .keys) (t .values) (so .held) f in
+      let m = so .named .few-symbols in
+      rw e (held-opened (linesOf art t) (cellCount t) z (t .keys) (t .values) (so .held) f a (omega (arith, b, k)) .up, omega (arith, h, m))
+
+  pub keep-calls : 1 ≤ p → p ≤ symbolCount t → Free p t → rowCount t + 1 < mostRows → SettledRow (symbolCount t) row → (z count size : ℕ) (ws ks ks' bs : List ℕ) (rs vs : List Float) → z ≡ spotOf p (rowCount t) (t .bytes) → count ≡ linesOf art t
+      → ks ≡ opened (cellCount t) z (t .keys) → cells ks' vs size ≡ replaced (cellCount t) z (symbolCount t) row ks (t .values)
+      → bs ≡ place.opened (rowPlacesAt + z) (rowPlacesAt + (rowCount t + 1)) p (t .bytes) → rs ≡ place.opened (constantsAt + z) (constantsAt + (count + 1)) (getD row 0 nan) (t .reals)
+      → ws ≡ set (set (t .words) rowCountAt (rowCount t + 1)) cellCountAt size → Keeps art p row t (sparse ws ks' bs rs vs)
+  keep-calls low high free fit ok z count size ws ks ks' bs rs vs g e k c b f h =
+      subst (Keeps art p row t) (sym (tables-by z count size ws ks ks' bs rs vs e k c b f h ∙ ap (λ (x : ℕ). keptAt x art p row t) g)) (keep-reads art p row t so low high free fit ok)

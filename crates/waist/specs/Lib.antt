@@ -5,3 +5,4 @@ pub mod Alone
 pub mod HeldRows
 pub mod Dropping
 pub mod Keeping
+pub mod Noting

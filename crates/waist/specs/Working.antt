@@ -78,9 +78,9 @@ rows-lines true t = omega arith
 rows-lines false t = omega arith
 
 -- the lines as the code counts them
-pub lines-by : (art : Bool) (t : Sparse) → Sound art t → {l : ℕ} → l ≡ cond art (rowCount t + 1) (rowCount t) → (l ≤ mostRows) × Held l (cellCount t) (t .keys) (t .values) × (l ≡ linesOf art t)
+pub lines-by : (art : Bool) (t : Sparse) → Sound art t → {l : ℕ} → l ≡ cond art (rowCount t + 1) (rowCount t) → (l ≤ mostRows) × Held l (cellCount t) (t .keys) (t .values) × (l ≡ linesOf art t) × (rowCount t ≤ l)
 unfolding linesOf
-lines-by art t s e = rw e (lines-few art t s, s .held, refl)
+lines-by art t s e = rw e (lines-few art t s, s .held, refl, rows-lines art t)
 
 pub lines-same : (art : Bool) (t u : Sparse) → rowCount u ≡ rowCount t → linesOf art u ≡ linesOf art t
 unfolding linesOf

@@ -1,2 +1,3 @@
 // The waist: the tableau over the five sparse tables, by symbol.
+pub mod basis;
 pub mod substitution;

@@ -38,7 +38,7 @@ fn loose_wide(t: &[u16; ROW_ROOM])
 }
 
 // The artificial objective, where one stands, is the line after the rows.
-fn lines_of(art: bool, rows: u8) -> u8
+pub fn lines_of(art: bool, rows: u8) -> u8
     requires { ⌜ rows < mostRows ⌝ }
     ensures { λ r. ⌜ r ≡ cond art (rows + 1) rows ⌝ }
 {
