@@ -6,3 +6,5 @@ pub mod HeldRows
 pub mod Dropping
 pub mod Keeping
 pub mod Noting
+pub mod Entering
+pub mod Pivoting

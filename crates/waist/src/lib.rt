@@ -1,3 +1,4 @@
 // The waist: the tableau over the five sparse tables, by symbol.
 pub mod basis;
+pub mod pivoting;
 pub mod substitution;

@@ -97,3 +97,40 @@ fn substitute_with(
     let v = substitute_objective(reals, at as usize, row, width);
     joined(w, v)
 }
+
+// In the rows, the objective and the artificial objective where one stands.
+pub fn substitute(
+    art: bool,
+    words: &mut Words,
+    keys: &mut Keys,
+    bytes: &mut Bytes,
+    reals: &mut Reals,
+    values: &mut Values,
+    at: u8,
+    row: &[f64; ROW_ROOM],
+) -> Wrote
+    requires { ⌜ Sound art (sparse (now words) (now keys) (now bytes) (now reals) (now values)) ⌝ }
+    requires { ⌜ 1 ≤ at ⌝ }
+    requires { ⌜ at ≤ getD (now words) symbolCountAt 0 ⌝ }
+    requires { ⌜ SettledRow (getD (now words) symbolCountAt 0) (now row) ⌝ }
+    ensures { λ r. ⌜ Substitutes art at (now (row .entry)) (sparse (now (words .entry)) (now (keys .entry)) (now (bytes .entry)) (now (reals .entry)) (now (values .entry))) (sparse (now (words .exit)) (now (keys .exit)) (now (bytes .exit)) (now (reals .exit)) (now (values .exit))) (markOf r) ⌝ }
+{
+    let mut cols: [u16; ROW_ROOM] = [0; ROW_ROOM];
+    let mut others: [f64; ROW_ROOM] = [0.0; ROW_ROOM];
+    let mut fresh: [u16; ROW_ROOM] = [0; ROW_ROOM];
+    let mut sums: [f64; ROW_ROOM] = [0.0; ROW_ROOM];
+    substitute_with(
+        art,
+        words,
+        keys,
+        bytes,
+        reals,
+        values,
+        at,
+        row,
+        &mut cols,
+        &mut others,
+        &mut fresh,
+        &mut sums,
+    )
+}
