@@ -93,6 +93,17 @@ find-at s g i t (suc k) m a b f = go (ltb m i) refl (λ l. find-at s g i t k (su
     go true e r = let l = ltb-true m i e in rw (f m (omega arith) l, findRow) (r l)
     go false e r = let o : i ≡ m = omega (arith, a, ltb-false m i e) in subst (λ (x : ℕ). findRow s (g x ∷ tab g (suc m) k) ≡ some (g i .row)) o (rw (t, findRow) refl)
 
+-- ---- the code's steps on the row that leaves, over variables
+
+pub loaded-set : (x : Float) {z l : List Float} → z ≡ l → set z 0 x ≡ set l 0 x
+loaded-set x e = ap (λ (y : List Float). set y 0 x) e
+
+pub placed-row : (x y q p w : ℕ) (row r : List Float) → x ≡ q → y ≡ p → r ≡ solveForSymbolsIn x y w row → r ≡ solveForSymbolsIn q p w row
+placed-row x y q p w row r e f h = rw (← e, ← f) h
+
+pub placed-mark : (x y q p w : ℕ) (row : List Float) (m : Mark) → x ≡ q → y ≡ p → m ≡ solveForSymbolsMark x y w row → m ≡ solveForSymbolsMark q p w row
+placed-mark x y q p w row m e f h = rw (← e, ← f) h
+
 -- "Pivot": row i leaves, the symbol at place p enters
 pub record Pivots (art : Bool) (i p : ℕ) (t u : Sparse) (m : Mark) : Type 0 where
   pub reads : (a : Mark) (v : ℕ) → workOf art (worse a m) v u ≡ pivot (symbolAt t (getD (t .bytes) (rowPlacesAt + i) 0) .id) (symbolAt t p) (workOf art a v t)
