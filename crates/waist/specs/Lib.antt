@@ -8,3 +8,4 @@ pub mod Keeping
 pub mod Noting
 pub mod Entering
 pub mod Pivoting
+pub mod Standing
