@@ -9,3 +9,4 @@ pub mod Noting
 pub mod Entering
 pub mod Pivoting
 pub mod Standing
+pub mod Choosing
