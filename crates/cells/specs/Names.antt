@@ -13,9 +13,9 @@ topRow = 255
 abbrev pub keysEnd : ℕ
 keysEnd = 65280
 
--- "room for all cells the full table could hold"
+-- "room for all cells the full table could hold", 50 rows of 129, and for one row more
 abbrev pub cellRoom : ℕ
-cellRoom = 4096
+cellRoom = 6579
 
 -- a dense row: place 0 is free, then a place for each of 129 symbols
 abbrev pub rowRoom : ℕ

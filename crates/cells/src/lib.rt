@@ -14,8 +14,8 @@ pub const TOP_ROW: u8 = 255;
 // Where the keys of the rows end.
 pub const KEYS_END: u16 = 65280;
 
-// Room for all cells that the full table could hold: rows times symbols that are not basic.
-pub const CELL_ROOM: usize = 4096;
+// Room for all cells that the full table could hold, 50 rows of 129, and for one row more, laid down before the old one goes.
+pub const CELL_ROOM: usize = 6579;
 
 // A dense row: place 0 is free, then a place for each of 129 symbols.
 pub const ROW_ROOM: usize = 130;

@@ -32,15 +32,15 @@ use Rattle.merging.specs.Merging.{row-at, marked-none}
 
 -- ---- what is written reads back: an absent cell is +0.0
 
-settled-absent : (c : Float) → absent c ≡ true → settled c ≡ zero64
+pub settled-absent : (c : Float) → absent c ≡ true → settled c ≡ zero64
 unfolding settled absent ne
 settled-absent c h = rw h
 
-settled-there : (c : Float) → absent c ≡ false → settled c ≡ c
+pub settled-there : (c : Float) → absent c ≡ false → settled c ≡ c
 unfolding settled absent ne
 settled-there c h = rw h
 
-settled-stored : (c : Float) → settled (stored c) ≡ stored c
+pub settled-stored : (c : Float) → settled (stored c) ≡ stored c
 unfolding stored
 settled-stored c = go (absent c) refl
   where
@@ -48,7 +48,7 @@ settled-stored c = go (absent c) refl
     go true q = settled-absent zero64 zero-absent
     go false q = settled-there c q
 
-settled-insert : (c k : Float) → settled c ≡ c → settled (cellValue (insertCell c k)) ≡ cellValue (insertCell c k)
+pub settled-insert : (c k : Float) → settled c ≡ c → settled (cellValue (insertCell c k)) ≡ cellValue (insertCell c k)
 unfolding cellValue
 settled-insert c k h = rw (insertCell-is c k) (go (absent c) (nearZero k))
   where
@@ -73,7 +73,7 @@ own-settled at p x h = go (eqb p at)
     go true = settled-absent zero64 zero-absent
     go false = h
 
-cell-settled : (keys : List ℕ) (vals : List Float) (n key a e : ℕ) → Present vals n → a ≤ e → e ≤ n → settled (cellIn keys vals key a e) ≡ cellIn keys vals key a e
+pub cell-settled : (keys : List ℕ) (vals : List Float) (n key a e : ℕ) → Present vals n → a ≤ e → e ≤ n → settled (cellIn keys vals key a e) ≡ cellIn keys vals key a e
 unfolding cellIn Present
 cell-settled keys vals n key a e f h k =
     first-elim (λ j. eqb key (getD keys j 0)) (λ j. getD vals j nan) zero64 (λ (y : Float). settled y ≡ y) a e h
@@ -81,7 +81,7 @@ cell-settled keys vals n key a e f h k =
 
 -- ---- a place of a dense row that goes
 
-cleared-tab : (g : ℕ → Float) (n s j : ℕ) → j < n → tab (λ p. ownValue (s + j) p (g p)) s n ≡ set (tab g s n) j zero64
+pub cleared-tab : (g : ℕ → Float) (n s j : ℕ) → j < n → tab (λ p. ownValue (s + j) p (g p)) s n ≡ set (tab g s n) j zero64
 unfolding tab ownValue
 cleared-tab g zero s j h = absurd (not-suc-le-zero h)
 cleared-tab g (suc n) s zero h =
@@ -121,7 +121,7 @@ marks-tab bound k c o (suc n) i m =
     marks-tab bound k c o n (suc i) (worse m (cellMark bound (insertTimes k (o i) (c i))))
     ∙ worse-assoc m (cellMark bound (insertTimes k (o i) (c i))) (cellMarks bound (tab (λ p. insertTimes k (o p) (c p)) (suc i) n))
 
-run-marks : (bound k : Float) (c o : ℕ → Float) (w : ℕ) (m : Mark) → run (markTurn bound k c o) 1 (w + 1) m ≡ worse m (cellMarks bound (tab (λ p. insertTimes k (o p) (c p)) 1 w))
+pub run-marks : (bound k : Float) (c o : ℕ → Float) (w : ℕ) (m : Mark) → run (markTurn bound k c o) 1 (w + 1) m ≡ worse m (cellMarks bound (tab (λ p. insertTimes k (o p) (c p)) 1 w))
 unfolding run
 run-marks bound k c o w m =
     let e : w + 1 - 1 ≡ w = omega arith in
@@ -141,7 +141,7 @@ past-marks : (bound k : Float) (c o : ℕ → Float) (w : ℕ) (m : Mark) → w 
 unfolding markTurn
 past-marks bound k c o w m h f = run-split (markTurn bound k c o) w lastPlace m h λ p z u v. ap (insertedMark bound k z (c p)) (f p u v) ∙ marked-none bound k (c p) z
 
-first-mark : (m : Mark) → worse allWhole m ≡ m
+pub first-mark : (m : Mark) → worse allWhole m ≡ m
 unfolding worse
 first-mark m = refl
 

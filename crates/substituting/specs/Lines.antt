@@ -1,0 +1,79 @@
+-- "Substitute s: s's cell k goes, then insert row times k.", line by line: what it makes of the cells, of the constants and of the mark so far.
+use Prim.Native.Nat.{ℕ, _+_, _*_, _≤_}
+use mathlib.Core.Path.{_≡_, sym, subst}
+use mathlib.Core.Bool.{Bool, true, false, cond}
+use mathlib.Core.List.{List}
+use lib.Ieee.{Float, nan}
+use lib.ListN.{getD, set}
+use native.Mathlib.Omega.{arith}
+use Rattle.laws.specs.Loops.{run}
+use Rattle.steps.specs.Number.{cellBound, constantBound, _+₆₄_, _*₆₄_, Mark, worse, markWrite}
+use Rattle.steps.specs.Symbol.{absent}
+use Rattle.sparse.specs.Places.{mostRows, constantsAt}
+use Rattle.cells.specs.Names.{rowSpan, lastPlace}
+use Rattle.cells.specs.Cells.{Cells, cellAt}
+use Rattle.merging.specs.Merge.{mergedInto, mergedIntoMark}
+use Rattle.substituting.specs.Held.{Held, held-room, held-replaced}
+
+-- the cells of all lines, the constants, and the mark of what was written so far
+pub record Lines : Type 0 where
+  pub keys : List ℕ
+  pub vals : List Float
+  pub size : ℕ
+  pub reals : List Float
+  pub mark : Mark
+
+abbrev pub lines : List ℕ → List Float → ℕ → List Float → Mark → Lines
+lines ks vs n rs a = record { keys = ks; vals = vs; size = n; reals = rs; mark = a }
+
+-- the symbol stands at place `at`; the row that is inserted has the constant y and is loose
+module _ (at m : ℕ) (y : Float) (cols : List ℕ) (others : List Float) where
+  unfoldable pub totalOf : Float → ℕ → List Float → Float
+  totalOf k i reals = getD reals (constantsAt + i) nan +₆₄ (y *₆₄ k)
+
+  -- line i holds the symbol with k
+  unfoldable pub lineWith : Float → ℕ → Lines → Lines
+  lineWith k i s =
+      let t : Cells = mergedInto (s .size) i at m k (s .keys) (s .vals) cols others in
+      lines (t .keys) (t .vals) (t .size) (set (s .reals) (constantsAt + i) (totalOf k i (s .reals)))
+      (worse (s .mark) (worse (markWrite constantBound (totalOf k i (s .reals))) (mergedIntoMark (s .size) i at m cellBound k (s .keys) (s .vals) cols others)))
+
+  unfoldable pub heldBy : ℕ → Lines → Float
+  heldBy i s = cellAt (s .keys) (s .vals) (s .size) (i * rowSpan + at)
+
+  unfoldable pub lineIn : ℕ → Lines → Lines
+  lineIn i s = cond (absent (heldBy i s)) s (lineWith (heldBy i s) i s)
+
+  unfoldable pub linesIn : ℕ → Lines → Lines
+  linesIn count s = run lineIn 1 (count + 1) s
+
+-- ---- a turn of the code, over variables
+
+module _ (at m : ℕ) (y : Float) (cols : List ℕ) (others : List Float) (i : ℕ) (ks : List ℕ) (vs : List Float) (n : ℕ) (rs : List Float) (a : Mark) {k : Float} where
+  pub line-none : k ≡ cellAt ks vs n (i * rowSpan + at) → absent k ≡ true → lines ks vs n rs a ≡ lineIn at m y cols others i (lines ks vs n rs a)
+  unfolding lineIn heldBy
+  line-none e h = rw (← e, h)
+
+  pub line-some : {ks' : List ℕ} {vs' rs' : List Float} {z : ℕ} {w b : Mark} {x : Float} → k ≡ cellAt ks vs n (i * rowSpan + at) → absent k ≡ false → x ≡ getD rs (constantsAt + i) nan +₆₄ (y *₆₄ k)
+      → record { keys = ks'; vals = vs'; size = z } ≡ mergedInto n i at m k ks vs cols others
+      → w ≡ mergedIntoMark n i at m cellBound k ks vs cols others → rs' ≡ set rs (constantsAt + i) x → b ≡ worse a (worse (markWrite constantBound x) w)
+      → lines ks' vs' z rs' b ≡ lineIn at m y cols others i (lines ks vs n rs a)
+  unfolding lineIn heldBy lineWith totalOf
+  line-some e h q c p r d = rw (← e, h, ← c, ← p, ← q, r, d)
+
+-- ---- the cells can be worked on further
+
+abbrev pub HeldIn : ℕ → Lines → Type 0
+HeldIn count s = Held count (s .size) (s .keys) (s .vals)
+
+module _ (at m : ℕ) (y : Float) (cols : List ℕ) (others : List Float) (count i : ℕ) (few : count ≤ mostRows) (first : 1 ≤ i) (last : i ≤ count) where
+  pub held-line : (s : Lines) → HeldIn count s → HeldIn count (lineIn at m y cols others i s)
+  unfolding lineIn lineWith mergedInto
+  held-line s h = go (absent (heldBy at m y cols others i s))
+    where
+      go : (b : Bool) → HeldIn count (cond b s (lineWith at m y cols others (heldBy at m y cols others i s) i s))
+      go true = h
+      go false = held-replaced count (s .size) i lastPlace _ (s .keys) (s .vals) h first last (omega arith) (held-room count (s .size) (s .keys) (s .vals) h few)
+
+  pub held-turn : (s : Lines) {t : Lines} → t ≡ lineIn at m y cols others i s → HeldIn count s → HeldIn count t
+  held-turn s e h = subst (λ (z : Lines). HeldIn count z) (sym e) (held-line s h)

@@ -1,0 +1,12 @@
+pub mod Working
+pub mod SubstituteReads
+pub mod Substitutes
+pub mod Alone
+pub mod HeldRows
+pub mod Dropping
+pub mod Keeping
+pub mod Noting
+pub mod Entering
+pub mod Pivoting
+pub mod Standing
+pub mod Choosing

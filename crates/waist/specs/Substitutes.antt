@@ -1,0 +1,98 @@
+-- What the code's substitution promises, and that its calls together keep it.
+-- Assumes nothing.
+use Prim.Native.Nat.{ℕ, _+_, _-_, _≤_, _<_}
+use mathlib.Core.Path.{_≡_, refl, sym, ap, _∙_, subst}
+use mathlib.Core.Bool.{Bool}
+use mathlib.Core.List.{List}
+use native.Mathlib.Omega.{arith}
+use lib.Ieee.{Float, nan}
+use lib.ListN.{length, getD, set}
+use Rattle.laws.specs.Lists.{tab}
+use Rattle.steps.specs.Number.{zero64, Mark, allWhole, worse}
+use Rattle.steps.specs.Substitute.{substitute}
+use Rattle.rows.specs.Reading as dense
+use Rattle.sparse.specs.Places.{mostVariables, cellCountAt, shouldClearAt, changedAt, constraintStrengthsAt}
+use Rattle.sparse.specs.Sparse.{Sparse, symbolCount, rowCount, cellCount, symbolAt}
+use Rattle.cells.specs.Names.{rowRoom, lastPlace}
+use Rattle.cells.specs.Cells.{cells, packed, rowOf}
+use Rattle.merging.specs.Merge.{otherCell}
+use Rattle.substituting.specs.Lines.{lines, linesIn}
+use Rattle.substituting.specs.Loose.{SettledRow, loose-none, loose-reads}
+use Rattle.substituting.specs.Objective.{aim, objectiveIn}
+use Rattle.substituting.specs.Notes.{noted, noteRows}
+use Rattle.waist.specs.Working.{sparse, workOf, linesOf, Sound}
+use Rattle.waist.specs.SubstituteReads.{substitutedIn, substitutedMark, word, byte, later-byte, later-real, substitute-reads, substitute-sound}
+
+-- but for the notes' flag and the count of cells, the words stay; so do the bytes but for the flags, and the reals of the stored constraints and edits
+pub record Stays (t u : Sparse) : Type 0 where
+  pub words : (q : ℕ) → (q ≡ shouldClearAt → ⊥) → (q ≡ cellCountAt → ⊥) → getD (u .words) q 0 ≡ getD (t .words) q 0
+  pub bytes : (q : ℕ) → q < changedAt → getD (u .bytes) q 0 ≡ getD (t .bytes) q 0
+  pub later : (q : ℕ) → changedAt + mostVariables ≤ q → getD (u .bytes) q 0 ≡ getD (t .bytes) q 0
+  pub reals : (q : ℕ) → constraintStrengthsAt ≤ q → getD (u .reals) q nan ≡ getD (t .reals) q nan
+
+-- "Do this in all rows, the objective and any artificial objective.": the symbol stands at place `at`, the row is dense
+pub record Substitutes (art : Bool) (at : ℕ) (row : List Float) (t u : Sparse) (m : Mark) : Type 0 where
+  pub reads : (a : Mark) (v : ℕ) → workOf art (worse a m) v u ≡ substitute (symbolAt t at .id) (dense.rowOf (symbolCount t) row) (workOf art a v t)
+  pub sound : Sound art u
+  pub stays : Stays t u
+
+module _ (art : Bool) (at : ℕ) (row : List Float) (t : Sparse) (so : Sound art t) (low : 1 ≤ at) (high : at ≤ symbolCount t) (ok : SettledRow (symbolCount t) row)
+    (cols₀ cols : List ℕ) (others₀ others : List Float) (m : ℕ) (lc : length cols₀ ≡ rowRoom) (lo : length others₀ ≡ rowRoom) (e : cells cols others m ≡ packed (symbolCount t) 0 row (cells cols₀ others₀ 0)) where
+  abbrev j : ℕ
+  j = at - 1
+
+  abbrev y : Float
+  y = getD row 0 nan
+
+  from-1 : 1 + j ≡ at
+  from-1 = omega (arith, low)
+
+  live : j < symbolCount t
+  live = omega (arith, low, high)
+
+  past : (p : ℕ) → symbolCount t < p → p ≤ lastPlace → otherCell cols others m p ≡ zero64
+  past = loose-none (symbolCount t) row cols₀ cols others₀ others m (so .named .few-symbols) lc lo e
+
+  same : rowOf cols others m (symbolCount t) 0 ≡ tab (λ p. getD row p nan) 1 (symbolCount t)
+  same = loose-reads (symbolCount t) row cols₀ cols others₀ others m (so .named .few-symbols) lc lo e ok
+
+  abbrev u : Sparse
+  u = substitutedIn art j row t so live m cols others past same
+
+  done : Substitutes art at row t u (substitutedMark art j row t so live m cols others past same)
+  done = record {
+    reads = λ a v.
+        subst (λ (x : ℕ). workOf art (worse a (substitutedMark art j row t so live m cols others past same)) v u ≡ substitute (symbolAt t x .id) (dense.rowOf (symbolCount t) row) (workOf art a v t)) from-1
+        (substitute-reads art j row t so live m cols others past same a v);
+    sound = substitute-sound art j row t so live m cols others past same;
+    stays = record {
+      words = word art j row t so live m cols others past same;
+      bytes = byte art j row t so live m cols others past same;
+      later = later-byte art j row t so live m cols others past same;
+      reals = later-real art j row t so live m cols others past same;
+    };
+  }
+
+  abbrev Notes : List ℕ → List ℕ → Type 0
+  Notes ws bs = noted ws bs ≡ noteRows at y (cellCount t) (t .keys) (t .values) (rowCount t) (noted (t .words) (t .bytes))
+
+  abbrev Merges : List ℕ → List Float → ℕ → List Float → Mark → Type 0
+  Merges ks vs size rs a = lines ks vs size rs a ≡ linesIn at m y cols others (linesOf art t) (lines (t .keys) (t .values) (cellCount t) (t .reals) allWhole)
+
+  abbrev Aims : List Float → List Float → Mark → Type 0
+  Aims rs rs' b = aim rs' b ≡ objectiveIn at (symbolCount t) row rs
+
+  tables-are : (ws ws' ks bs : List ℕ) (rs rs' vs : List Float) (size : ℕ) (a b : Mark) → Notes ws bs → Merges ks vs size rs a → Aims rs rs' b → ws' ≡ set ws cellCountAt size → sparse ws' ks bs rs' vs ≡ u
+  unfolding substitutedIn
+  tables-are ws ws' ks bs rs rs' vs size a b n l o h = rw (from-1, ← n, ← l, ← o, h) refl
+
+  mark-is : (ks : List ℕ) (rs rs' vs : List Float) (size : ℕ) (a b : Mark) → Merges ks vs size rs a → Aims rs rs' b → worse a b ≡ substitutedMark art j row t so live m cols others past same
+  unfolding substitutedMark
+  mark-is ks rs rs' vs size a b l o = rw (from-1, ← l, ← o) refl
+
+  pub substitute-calls : (count : ℕ) (ws ws' ks bs : List ℕ) (rs rs' vs : List Float) (size : ℕ) (a b : Mark) {c : Mark} → count ≡ linesOf art t → Notes ws bs
+      → lines ks vs size rs a ≡ linesIn at m y cols others count (lines (t .keys) (t .values) (cellCount t) (t .reals) allWhole) → Aims rs rs' b → ws' ≡ set ws cellCountAt size → c ≡ worse a b → Substitutes art at row t (sparse ws' ks bs rs' vs) c
+  substitute-calls count ws ws' ks bs rs rs' vs size a b f n g o h q =
+      let l : Merges ks vs size rs a = subst (λ (z : ℕ). lines ks vs size rs a ≡ linesIn at m y cols others z (lines (t .keys) (t .values) (cellCount t) (t .reals) allWhole)) f g in
+      subst (λ (z : Mark). Substitutes art at row t (sparse ws' ks bs rs' vs) z) (sym (q ∙ mark-is ks rs rs' vs size a b l o))
+      (subst (λ (z : Sparse). Substitutes art at row t z (substitutedMark art j row t so live m cols others past same)) (sym (tables-are ws ws' ks bs rs rs' vs size a b n l o h)) done)
