@@ -1,6 +1,11 @@
 pub mod Places
 pub mod Sparse
 pub mod Widths
+pub mod Stretches
+pub mod Concat
 pub mod Laying
-pub mod Tableau
-pub mod Variables
+pub mod Write
+pub mod Fits
+pub mod Elements
+pub mod ReadBack
+pub mod Repack
