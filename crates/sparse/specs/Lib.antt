@@ -9,3 +9,8 @@ pub mod Fits
 pub mod Elements
 pub mod ReadBack
 pub mod Repack
+pub mod Form
+pub mod Copy
+pub mod Written
+pub mod Agree
+pub mod Copied

@@ -20,14 +20,10 @@ use Rattle.cells.specs.Seek.{run-inv}
 use Rattle.cells.specs.Search.{Bound, lower-bound, lower-is}
 use Rattle.cells.specs.Reads.{ascending-lt, cell-here, cell-absent}
 use Rattle.cells.specs.Pack.{put-on, put-off}
+use Rattle.sparse.specs.Stretches.{copied}
 use Rattle.sparse.specs.Laying.{rowsLaid}
 
--- ---- the first m elements of g, over a list
-
 module _ {A : Type 0} where
-  unfoldable pub copied : (ℕ → A) → ℕ → List A → List A
-  copied g m l = over 0 (tab g 0 m) l
-
   laid-more : (g : ℕ → A) (i m : ℕ) (l : List A) → set (laid (λ (x _ : A). x) 0 (tab g i m) l) m (g (i + m)) ≡ laid (λ x _. x) 0 (tab g i (suc m)) l
   unfolding laid tab
   laid-more g i zero [] = refl

@@ -3,10 +3,10 @@
 use Prim.Native.Nat.{ℕ, zero, suc, _+_, _≤_, _<_}
 use mathlib.Core.Path.{_≡_, refl, sym, ap, _∙_}
 use mathlib.Core.List.{List, [], _∷_}
-use native.Mathlib.Nat.{not-suc-le-zero, le-of-suc-le-suc}
+use native.Mathlib.Nat.{not-suc-le-zero, le-of-suc-le-suc, zero-add}
 use native.Mathlib.Omega.{arith}
 use lib.ListN.{length, getD}
-use Rattle.laws.specs.Lists.{tab, length-laid, laid-in, laid-before}
+use Rattle.laws.specs.Lists.{tab, length-tab, getD-tab, length-laid, laid-in, laid-before}
 use Rattle.layout.specs.Layout.{over}
 use Rattle.layout.specs.Laying.{stretch, run-same}
 
@@ -65,3 +65,32 @@ module _ {A : Type 0} where
   pub over-itself : (d : A) (m : List A) (a n : ℕ) → over a (tab (λ j. getD m j d) a n) m ≡ m
   unfolding over
   over-itself d m a n = sym (stretch d m (tab (λ j. getD m j d) a n) a n (a + n) m refl refl) ∙ run-same d (λ i _. getD m i d) a (a + n) m (λ j. refl)
+
+  -- each is there already
+  abbrev pub There : List (Stretch A) → List A → Type 0
+  There [] m = Unit {0}
+  There (s ∷ ss) m = (over (s .at) (s .list) m ≡ m) × There ss m
+
+  pub lay-itself : (ss : List (Stretch A)) (m : List A) → There ss m → lay ss m ≡ m
+  unfolding lay
+  lay-itself [] m h = refl
+  lay-itself (s ∷ ss) m h = ap (over (s .at) (s .list)) (lay-itself ss m (h .1)) ∙ h .0
+
+  -- the first m elements of g, over a table
+  unfoldable pub copied : (ℕ → A) → ℕ → List A → List A
+  copied g m l = over 0 (tab g 0 m) l
+
+  pub length-copied : (g : ℕ → A) (m : ℕ) (l : List A) → length (copied g m l) ≡ length l
+  unfolding copied
+  length-copied g m l = length-over 0 (tab g 0 m) l
+
+  pub copied-at : (g : ℕ → A) (m : ℕ) (l : List A) (j : ℕ) (d : A) → j < m → m ≤ length l → getD (copied g m l) j d ≡ g j
+  unfolding copied over
+  copied-at g m l j d h k =
+      let n : length (tab g 0 m) ≡ m = length-tab g 0 m in
+      let a : getD (copied g m l) (0 + j) d ≡ getD (tab g 0 m) j d = laid-in (λ x _. x) 0 (tab g 0 m) l j d d (omega (arith, h, n)) (omega (arith, h, k)) in
+      (rw (zero-add j) at (a ∙ getD-tab g 0 m j d h))
+
+  pub copied-itself : (d : A) (m : ℕ) (l : List A) → copied (λ j. getD l j d) m l ≡ l
+  unfolding copied
+  copied-itself d m l = over-itself d l 0 m
