@@ -1,6 +1,6 @@
 -- Lists that stand one after the other: where an element of one of them stands, and such a list read out of a table. Laws that know nothing of the solver.
 -- Assumes nothing.
-use Prim.Native.Nat.{ℕ, zero, suc, _+_, _<_}
+use Prim.Native.Nat.{ℕ, zero, suc, _+_, _*_, _≤_, _<_}
 use mathlib.Core.Path.{_≡_, refl, sym, ap, _∙_}
 use mathlib.Core.List.{List, [], _∷_, _++_, map}
 use native.Mathlib.Nat.{not-suc-le-zero, le-of-suc-le-suc, sub-zero, zero-add, add-zero}
@@ -36,6 +36,18 @@ sum-le g i n j h k = sum-some g 0 i n j h (rw (zero-add i) k)
 pub sum-in : (g : ℕ → ℕ) (n : ℕ) → sumIn g 0 n ≡ sumFrom g 0 n
 unfolding sumIn
 sum-in g n = rw (sub-zero n) refl
+
+sum-each : (g : ℕ → ℕ) (i n : ℕ) → ((j : ℕ) → i ≤ j → j < i + n → g j ≤ 16) → sumFrom g i n ≤ n * 16
+unfolding sumFrom
+sum-each g i zero h = omega arith
+sum-each g i (suc n) h =
+    let r = sum-each g (suc i) n (λ j a c. h j (omega arith) (omega arith)) in
+    let q = h i (omega arith) (omega arith) in
+    omega (arith, r, q)
+
+-- n counts of at most 16 each
+pub sum-most : (g : ℕ → ℕ) (n : ℕ) → ((j : ℕ) → j < n → g j ≤ 16) → sumIn g 0 n ≤ n * 16
+sum-most g n h = rw (sum-in g n) (sum-each g 0 n λ j a c. h j (omega (arith, c)))
 
 module _ {A : Type 0} where
   getD-left : (l m : List A) (j : ℕ) (d : A) → j < length l → getD (l ++ m) j d ≡ getD l j d

@@ -44,7 +44,7 @@ bit-read (suc zero) h = refl
 bit-read (suc (suc b)) h = absurd (not-suc-le-zero (le-of-suc-le-suc h))
 
 -- a list that is read, mapped, is the stretch that it was read from
-part-is : {A B : Type 0} (f : B → A) (g : ℕ → B) (h : ℕ → A) (i b n : ℕ) → ((j : ℕ) → j < n → f (g (i + j)) ≡ h (b + j)) → map f (tab g i n) ≡ tab h b n
+pub part-is : {A B : Type 0} (f : B → A) (g : ℕ → B) (h : ℕ → A) (i b n : ℕ) → ((j : ℕ) → j < n → f (g (i + j)) ≡ h (b + j)) → map f (tab g i n) ≡ tab h b n
 unfolding tab
 part-is f g h i b zero q = refl
 part-is {A} f g h i b (suc n) q =
@@ -53,6 +53,18 @@ part-is {A} f g h i b (suc n) q =
     let o : i + suc j ≡ suc i + j = omega arith in
     let u : b + suc j ≡ suc b + j = omega arith in
     rw (o, u) at (q (suc j) (omega (arith, k)))))
+
+-- ---- the terms, one after the other
+
+module _ (w : Sparse) where
+  abbrev pub termAt : ℕ → Term
+  termAt j = record { variable = numberAt w (getD (w .bytes) (termsAt + j) 0); coefficient = getD (w .reals) (coefficientsAt + j) nan }
+
+  pub terms-are : allTerms (read w) ≡ listOf (termsFrom w (constraintCount w)) termAt
+  unfolding read listOf constraintOf termsFrom termOf
+  terms-are =
+      ap concat (map-tab (λ (c : Constraint). c .terms) (constraintOf w) 0 (constraintCount w))
+      ∙ listed-concat termAt (λ c. getD (w .bytes) (termCountsAt + c) 0) (constraintCount w)
 
 module _ (w : Sparse) (form : Form w) where
   abbrev k : ℕ
@@ -146,17 +158,6 @@ module _ (w : Sparse) (form : Form w) where
         part-is (λ (c : Constraint). c .number) (constraintOf w) (λ j. getD (w .words) j 0) 0 constraintNumbersAt (constraintCount w) (λ j h. unfold constraintOf in rw (zero-add j) refl),
       ) refl
 
-  -- ---- the terms, one after the other
-
-  abbrev termAt : ℕ → Term
-  termAt j = record { variable = numberAt w (getD (w .bytes) (termsAt + j) 0); coefficient = getD (w .reals) (coefficientsAt + j) nan }
-
-  pub terms-are : allTerms (read w) ≡ listOf (termsFrom w (constraintCount w)) termAt
-  unfolding read listOf constraintOf termsFrom termOf
-  terms-are =
-      ap concat (map-tab (λ (c : Constraint). c .terms) (constraintOf w) 0 (constraintCount w))
-      ∙ listed-concat termAt (λ c. getD (w .bytes) (termCountsAt + c) 0) (constraintCount w)
-
   -- ---- bytes
 
   abbrev byte : ℕ → ℕ
@@ -231,8 +232,8 @@ module _ (w : Sparse) (form : Form w) where
   named-are : map (λ (t : Term). numberPlace xs vs (t .variable)) (allTerms (read w)) ≡ tab byte termsAt (termsFrom w (constraintCount w))
   unfolding listOf
   named-are =
-      ap (map (λ (t : Term). numberPlace xs vs (t .variable))) terms-are
-      ∙ part-is (λ (t : Term). numberPlace xs vs (t .variable)) termAt byte 0 termsAt (termsFrom w (constraintCount w)) λ j h.
+      ap (map (λ (t : Term). numberPlace xs vs (t .variable))) (terms-are w)
+      ∙ part-is (λ (t : Term). numberPlace xs vs (t .variable)) (termAt w) byte 0 termsAt (termsFrom w (constraintCount w)) λ j h.
       rw (zero-add j) (named-place (byte (termsAt + j)) (form .named j h))
 
   bytes-are : bytesOf (read w) ≡ liveBytes w
@@ -247,8 +248,8 @@ module _ (w : Sparse) (form : Form w) where
   coefficients-are : map (λ (t : Term). t .coefficient) (allTerms (read w)) ≡ tab real coefficientsAt (termsFrom w (constraintCount w))
   unfolding listOf
   coefficients-are =
-      ap (map (λ (t : Term). t .coefficient)) terms-are
-      ∙ part-is (λ (t : Term). t .coefficient) termAt real 0 coefficientsAt (termsFrom w (constraintCount w)) λ j h. rw (zero-add j) refl
+      ap (map (λ (t : Term). t .coefficient)) (terms-are w)
+      ∙ part-is (λ (t : Term). t .coefficient) (termAt w) real 0 coefficientsAt (termsFrom w (constraintCount w)) λ j h. rw (zero-add j) refl
 
   objective-is : objectiveOf w ≡ tab real (objectiveAt + 1) k
   unfolding objectiveOf
