@@ -1,6 +1,19 @@
 // The places of the sparse tables. specs/Sparse.antt says what stands there.
 // A symbol is named by its place, from 1 by ascending id, and 0 is none; rows are counted from 1, and row 0's keys are a loose row's.
 
+use cells::CELL_ROOM;
+
+// The five tables, as a function borrows them: arrays, whose lengths are their types'.
+pub type Words = [u64; WORDS_SIZE];
+
+pub type Keys = [u16; CELL_ROOM];
+
+pub type Bytes = [u8; BYTES_SIZE];
+
+pub type Reals = [f64; REALS_SIZE];
+
+pub type Values = [f64; CELL_ROOM];
+
 // The most rows that a call works on.
 pub const MOST_ROWS: usize = 50;
 

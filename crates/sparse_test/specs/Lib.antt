@@ -4,10 +4,13 @@ pub mod Reads
 pub mod Views
 pub mod Meaning
 pub mod Tested
+pub mod Index
 pub mod Injective
 pub mod Owners
 pub mod Uses
 pub mod Records
+pub mod Open
 pub mod Tableau
 pub mod Cells
 pub mod Meant
+pub mod Whole

@@ -1,6 +1,6 @@
 -- The owners' test over places is the state's: "symbols .. are distinct", "every basic or cell symbol is a live variable's or tag's", and theirs are live.
 -- Assumes nothing.
-use Prim.Native.Nat.{ℕ, zero, suc, _+_, _≤_, _<_}
+use Prim.Native.Nat.{ℕ, zero, suc, _+_, _-_, _≤_, _<_}
 use mathlib.Core.Path.{_≡_, refl, sym, ap, _∙_}
 use mathlib.Core.Bool.{Bool, true, false, cond}
 use mathlib.Core.List.{List, [], _∷_, _++_, map}
@@ -13,7 +13,7 @@ use Rattle.steps.specs.Symbol.{Symbol}
 use Rattle.steps.specs.Readable as steps
 use Rattle.keeps.specs.Lists.{All}
 use Rattle.keeps.specs.Codes.{code-injective}
-use Rattle.places.specs.Finding.{placeIn}
+use Rattle.places.specs.Finding.{placeIn, place-le, place-is, place-at}
 use Rattle.places.specs.Listed.{map-list}
 use Rattle.places.specs.Shares.{Shares, shares, take, stock}
 use Rattle.places.specs.Spent.{takeEach, each-append, run-each, run-lists}
@@ -193,3 +193,22 @@ module _ (t : Sparse) where
       (both-lists (At t) (steps.concat (listOf (constraintCount t) λ i. tagPlaces (byte (constraintMarkersAt + i)) (byte (constraintOthersAt + i)))) _
       (all-lists (At t) _ (each-list (λ (l : List ℕ). All (At t) l) (λ i. tagPlaces (byte (constraintMarkersAt + i)) (byte (constraintOthersAt + i))) (constraintCount t) λ i u. live-tag _ _ (p .markers i u) (p .others i u)))
       (all-lists (At t) _ (each-list (λ (l : List ℕ). All (At t) l) (λ i. tagPlaces (byte (editMarkersAt + i)) (byte (editOthersAt + i))) (editCount t) λ i u. live-tag _ _ (p .pluses i u) (p .minuses i u))))
+
+-- ---- where a share is
+
+pub share-live : (k p : ℕ) → 1 ≤ p → p ≤ k → p - 1 ≡ shareOf k p
+unfolding shareOf
+share-live k p a b =
+    let o : 1 + (p - 1) ≡ p = omega (arith, a) in
+    sym (rw o at (place-at (λ j. 1 + j) k (p - 1) (one-apart k) (omega (arith, a, b))))
+
+pub share-none : (k p : ℕ) → (1 ≤ p → p ≤ k → ⊥) → k ≡ shareOf k p
+unfolding shareOf
+share-none k p f = go (ltb (placeIn (λ j. 1 + j) k p) k) refl
+  where
+    go : (b : Bool) → ltb (placeIn (λ j. 1 + j) k p) k ≡ b → k ≡ placeIn (λ j. 1 + j) k p
+    go true h =
+        let l = ltb-true (placeIn (λ j. 1 + j) k p) k h in
+        let e = place-is (λ j. 1 + j) k p l in
+        absurd (f (omega (arith, e)) (omega (arith, e, l)))
+    go false h = let l = place-le (λ j. 1 + j) k p in omega (arith, l, ltb-false (placeIn (λ j. 1 + j) k p) k h)

@@ -72,7 +72,7 @@ external-kind i (suc (suc zero)) h = refl
 external-kind i (suc (suc (suc zero))) h = refl
 external-kind i (suc (suc (suc (suc k)))) h = absurd (not-suc-le-zero (le-of-suc-le-suc (le-of-suc-le-suc (le-of-suc-le-suc h))))
 
-error-kind : (i : ℕ) (a b c : Bool) → isError (record { id = i; kind = cond a Error (cond b Slack (cond c Dummy External)) }) ≡ a
+pub error-kind : (i : ℕ) (a b c : Bool) → isError (record { id = i; kind = cond a Error (cond b Slack (cond c Dummy External)) }) ≡ a
 unfolding isError
 error-kind i true b c = refl
 error-kind i false true c = refl
