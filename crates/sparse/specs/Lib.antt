@@ -9,6 +9,7 @@ pub mod Fits
 pub mod Elements
 pub mod ReadBack
 pub mod Repack
+pub mod HeldLaid
 pub mod Form
 pub mod Copy
 pub mod Written

@@ -14,3 +14,4 @@ pub mod Tableau
 pub mod Cells
 pub mod Meant
 pub mod Whole
+pub mod WrittenReads
