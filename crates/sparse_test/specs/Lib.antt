@@ -12,6 +12,8 @@ pub mod Records
 pub mod Open
 pub mod Tableau
 pub mod Cells
+pub mod Parts
 pub mod Meant
 pub mod Whole
+pub mod Asked
 pub mod WrittenReads

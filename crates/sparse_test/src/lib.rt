@@ -10,6 +10,7 @@ ghost use Rattle.sparse_test.specs.Reads.{reads};
 ghost use Rattle.sparse_test.specs.Tested.{wordsFit, bytesFit, contentFits, termCount};
 ghost use Rattle.sparse_test.specs.Whole.{tables, roomFor, countsIn};
 
+pub mod asking;
 pub mod owners;
 pub mod records;
 pub mod stretch;
