@@ -8,6 +8,14 @@ mostRows = 50
 abbrev pub mostVariables : ℕ
 mostVariables = 32
 
+-- edits counted
+abbrev pub mostConstraints : ℕ
+mostConstraints = 48
+
+-- of all constraints
+abbrev pub mostTerms : ℕ
+mostTerms = 768
+
 -- ---- words: the next id, counts and flags; then the symbols' ids, the variables' numbers and uses, the constraints' numbers
 abbrev pub nextIdAt : ℕ
 nextIdAt = 0

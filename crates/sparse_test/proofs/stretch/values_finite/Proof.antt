@@ -1,0 +1,46 @@
+-- `sparse_test::stretch::values_finite` meets its contract.
+-- Assumes nothing.
+use Prim.Native.Nat.{_+_, _-_}
+use mathlib.Core.Path.{_≡_, refl, ap}
+use mathlib.Core.Bool.{Bool, _&&_}
+use native.Mathlib.Nat.{zero-add}
+use lib.Ieee.{nan}
+use Rattle.steps.specs.Number.{isFinite}
+use native.Mathlib.Omega.{arith}
+use lib.ListN.{getD}
+use Rattle.laws.specs.Lists.{allOn, all-next, all-last}
+use Rattle.places.specs.Shares.{finiteIn}
+use borrow.Author.Needs.{needs}
+use Rattle.sparse_test.proofs.stretch.values_finite.Statement.{statement}
+use Rattle.sparse_test.proofs.stretch.values_finite.Tie as tie
+
+abbrev Inv-loop : tie.InvT-loop
+Inv-loop values n ok₀ i₀ ok i = allOn (λ j. isFinite (getD values (0 + j) nan)) i n ok ≡ finiteIn values 0 n
+
+abbrev μ-loop : tie.MeasureT-loop
+μ-loop values n ok₀ i₀ ok i = n - i
+
+loop-holds : tie.Need-loop-holds Inv-loop μ-loop
+unfolding allOn finiteIn
+loop-holds c = refl
+
+loop-again : tie.Need-loop-again Inv-loop μ-loop
+loop-again c = all-next _ _ _ _ (omega arith) (rw (zero-add (c .before .before .before .loop .i)) (ap (λ (b : Bool). c .before .before .before .loop .ok && b) (c .is-finite .ensures))) (c .before .before .before .loop .inv)
+
+returns : tie.Need-returns Inv-loop μ-loop
+returns c = all-last _ _ _ _ (omega arith) (c .before .loop .inv)
+
+pub values-finite-spec : {M : Type 1} → statement M
+values-finite-spec =
+    tie.close
+    (tie.spec
+    Inv-loop
+    μ-loop
+    loop-holds
+    (λ c. search needs)
+    (λ c. search needs)
+    (λ c κs. search needs)
+    (λ c. search needs)
+    (λ c. search needs)
+    loop-again
+    returns)
