@@ -3,3 +3,4 @@ pub mod added;
 pub mod asked;
 pub mod changed;
 pub mod lines;
+pub mod service;
