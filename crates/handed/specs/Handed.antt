@@ -19,6 +19,7 @@ use Rattle.reader.specs.Sides.{relationOf}
 use Rattle.reader.specs.Answers.{standsAs, markOf, laid, noVariables, noCoefficients, asRead}
 use Rattle.reader.specs.declared.answers.Reading.{Reading}
 use Rattle.cable_lines.specs.Cable.{limit, new, answerOf, Step, further, takes, closes}
+use Rattle.cable_lines.specs.Bytes.{bytesOf}
 use Rattle.cable_lines.specs.Given.{asTaken, Given, given, asGiven}
 use Rattle.cable_lines.specs.declared.Taken.{Taken}
 use Rattle.layout.specs.Rooms.{and-left, and-right}
@@ -34,36 +35,36 @@ kindOf equal = 1
 kindOf atLeast = 2
 
 -- Whether a line was answered. The words: how many bytes were taken, 0 or the refusal's number, the offset of 20, the kind, how many
--- terms. The reals: constant and strength. The terms' variables and coefficients. And the line that has then begun.
+-- terms. The reals: constant and strength. The terms' variables and coefficients. And the reader's own bytes.
 pub record Handed : Type 0 where
   pub answered : Bool
   pub words : List ℕ
   pub reals : List Float
   pub variables : List ℕ
   pub coefficients : List Float
-  pub left : Option (List ℕ)
+  pub reader : List ℕ
 
-abbrev pub handed : Bool → List ℕ → List Float → List ℕ → List Float → Option (List ℕ) → Handed
-handed b w x v k h = record { answered = b; words = w; reals = x; variables = v; coefficients = k; left = h }
+abbrev pub handed : Bool → List ℕ → List Float → List ℕ → List Float → List ℕ → Handed
+handed b w x v k c = record { answered = b; words = w; reals = x; variables = v; coefficients = k; reader = c }
 
 -- what the terms have, each in its place of 16, zeros behind them
 abbrev pub placed : {A : Type 0} → A → (Term → A) → List Term → List A
 placed z f ts = map f ts ++ replicate (16 - length ts) z
 
 -- no constraint: of all that one would have zeros
-abbrev pub without : Bool → ℕ → ℕ → ℕ → Option (List ℕ) → Handed
-without b n k at h = handed b (n ∷ k ∷ at ∷ 0 ∷ 0 ∷ []) (zero64 ∷ zero64 ∷ []) (replicate 16 0) (replicate 16 zero64) h
+abbrev pub without : Bool → ℕ → ℕ → ℕ → List ℕ → Handed
+without b n k at c = handed b (n ∷ k ∷ at ∷ 0 ∷ 0 ∷ []) (zero64 ∷ zero64 ∷ []) (replicate 16 0) (replicate 16 zero64) c
 
 -- a line says no strength: its constraint is required
-unfoldable pub handedOf : Option Answer → ℕ → Option (List ℕ) → Handed
-handedOf none n h = without false n 0 0 h
-handedOf (some (reads r)) n h =
-    handed true (n ∷ 0 ∷ 0 ∷ kindOf (r .relation) ∷ length (r .terms) ∷ []) (wholeOf (r .constant) ∷ required ∷ []) (placed 0 (λ t. t .variable) (r .terms)) (placed zero64 (λ t. wholeOf (t .coefficient)) (r .terms)) h
-handedOf (some (outside at)) n h = without true n 20 at h
-handedOf (some (refused k)) n h = without true n k 0 h
+unfoldable pub handedOf : Option Answer → ℕ → List ℕ → Handed
+handedOf none n c = without false n 0 0 c
+handedOf (some (reads r)) n c =
+    handed true (n ∷ 0 ∷ 0 ∷ kindOf (r .relation) ∷ length (r .terms) ∷ []) (wholeOf (r .constant) ∷ required ∷ []) (placed 0 (λ t. t .variable) (r .terms)) (placed zero64 (λ t. wholeOf (t .coefficient)) (r .terms)) c
+handedOf (some (outside at)) n c = without true n 20 at c
+handedOf (some (refused k)) n c = without true n k 0 c
 
 abbrev pub handedBy : Step → Handed
-handedBy s = handedOf (s .answer) (s .taken) (s .left)
+handedBy s = handedOf (s .answer) (s .taken) (bytesOf (s .left))
 
 -- ---- by what the code has
 
@@ -169,17 +170,17 @@ closes-fit (some (b ∷ w)) = λ e. omega arith
 
 -- ---- what the code has is what is handed over
 
-abbrev over : Taken → Option (List ℕ) → Handed
-over t h = handed (t .answered) (wordsIn t) (realsIn t) (t .answer .variables) (map wholeAt (t .answer .coefficients)) h
+abbrev over : Taken → List ℕ → Handed
+over t c = handed (t .answered) (wordsIn t) (realsIn t) (t .answer .variables) (map wholeAt (t .answer .coefficients)) c
 
-over-is : (a : Option Answer) (n : ℕ) (h : Option (List ℕ)) → FitOf a → over (asTaken a n) h ≡ handedOf a n h
+over-is : (a : Option Answer) (n : ℕ) (c : List ℕ) → FitOf a → over (asTaken a n) c ≡ handedOf a n c
 unfolding handedOf
-over-is none n h f = rw zero-at refl
-over-is (some (reads r)) n h (small, all, few) =
+over-is none n c f = rw zero-at refl
+over-is (some (reads r)) n c (small, all, few) =
     rw (laid-placed (λ t. t .variable) 0 (r .terms) few, coefficients-placed (r .terms) all few, whole-stands (r .constant) small, mark-back (r .relation)) refl
-over-is (some (outside at)) n h f = rw zero-at refl
-over-is (some (refused k)) n h f = rw (ne-eqb k 0 f, zero-at) refl
+over-is (some (outside at)) n c f = rw zero-at refl
+over-is (some (refused k)) n c f = rw (ne-eqb k 0 f, zero-at) refl
 
-pub hands-over : {t : Taken} {h : Option (List ℕ)} {w : List ℕ} {x : List Float} {v : List ℕ} {k : List Float} (s : Step) → FitOf (s .answer) → given t h ≡ asGiven s → w ≡ wordsIn t → x ≡ realsIn t → v ≡ t .answer .variables → k ≡ map wholeAt (t .answer .coefficients)
-    → handed (t .answered) w x v k h ≡ handedBy s
-hands-over s f e p q r z = rw (p, q, r, z) (ap (λ (g : Given). over (g .back) (g .left)) e ∙ over-is (s .answer) (s .taken) (s .left) f)
+pub hands-over : {t : Taken} {c : List ℕ} {w : List ℕ} {x : List Float} {v : List ℕ} {k : List Float} (s : Step) → FitOf (s .answer) → given t c ≡ asGiven s → w ≡ wordsIn t → x ≡ realsIn t → v ≡ t .answer .variables → k ≡ map wholeAt (t .answer .coefficients)
+    → handed (t .answered) w x v k c ≡ handedBy s
+hands-over s f e p q r z = rw (p, q, r, z) (ap (λ (g : Given). over (g .back) (g .left)) e ∙ over-is (s .answer) (s .taken) (bytesOf (s .left)) f)

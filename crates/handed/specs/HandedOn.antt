@@ -3,10 +3,10 @@ use Prim.Native.Nat.{ℕ, zero, suc, _<_}
 use mathlib.Core.Path.{_≡_, refl, sym, ap, _∙_}
 use mathlib.Core.Bool.{true}
 use mathlib.Core.List.{List, [], _∷_, _++_, map}
-use mathlib.Core.Option.{Option, some}
+use mathlib.Core.Option.{some}
 use native.Mathlib.Omega.{arith}
 use borrow.Author.Tests.{eq-eqb}
-use lib.Dec.{eqb, ltb}
+use lib.Dec.{ltb}
 use lib.ListN.{length, getD, take}
 use lib.IntN.{pos}
 use lib.Ieee.{Float, nan}
@@ -71,10 +71,10 @@ kind-required equal = refl
 kind-required atLeast = refl
 
 -- a line that the cable's reader hands over, handed on to `knobharbor_add_lists`, is the line added by `knobharbor_add_text`
-pub handed-on : (line : List ℕ) (r : Reading) → readLine line ≡ reads r → (n : ℕ) (h : Option (List ℕ)) (number budget : ℕ) (work t : Tables)
-    → text 0 (addHanded number (handedOf (some (reads r)) n h) budget work t) ≡ textOf number line budget work t
+pub handed-on : (line : List ℕ) (r : Reading) → readLine line ≡ reads r → (n : ℕ) (c : List ℕ) (number budget : ℕ) (work t : Tables)
+    → text 0 (addHanded number (handedOf (some (reads r)) n c) budget work t) ≡ textOf number line budget work t
 unfolding textOf addRead handedOf addListsOf addOf
-handed-on line r e n h number budget work t =
+handed-on line r e n c number budget work t =
     rw (
       e,
       front (λ t. t .variable) (r .terms),

@@ -118,7 +118,7 @@ pub fn take(
     variables: &mut Variables,
     coefficients: &mut Coefficients,
 ) -> bool
-    ensures { λ r. ⌜ handed r (now (words .exit)) (now (reals .exit)) (now (variables .exit)) (now (coefficients .exit)) (heldBy (now (cable .exit))) ≡ handedBy (takes (heldBy (now (cable .entry))) (now (piece .entry))) ⌝ }
+    ensures { λ r. ⌜ handed r (now (words .exit)) (now (reals .exit)) (now (variables .exit)) (now (coefficients .exit)) (now (cable .exit)) ≡ handedBy (takes (heldBy (now (cable .entry))) (now (piece .entry))) ⌝ }
 {
     let t = cable_lines::take(cable, piece);
     hand_over(t, words, reals, variables, coefficients);
@@ -133,7 +133,7 @@ pub fn close(
     variables: &mut Variables,
     coefficients: &mut Coefficients,
 ) -> bool
-    ensures { λ r. ⌜ handed r (now (words .exit)) (now (reals .exit)) (now (variables .exit)) (now (coefficients .exit)) (heldBy (now (cable .exit))) ≡ handedBy (closes (heldBy (now (cable .entry)))) ⌝ }
+    ensures { λ r. ⌜ handed r (now (words .exit)) (now (reals .exit)) (now (variables .exit)) (now (coefficients .exit)) (now (cable .exit)) ≡ handedBy (closes (heldBy (now (cable .entry)))) ⌝ }
 {
     let t = cable_lines::close(cable);
     hand_over(t, words, reals, variables, coefficients);

@@ -18,7 +18,7 @@ pub extern "C" fn knobharbor_cable_take(
     variables: &mut Variables,
     coefficients: &mut Coefficients,
 ) -> bool
-    ensures { λ r. ⌜ handed r (now (words .exit)) (now (reals .exit)) (now (variables .exit)) (now (coefficients .exit)) (heldBy (now (cable .exit))) ≡ handedBy (takes (heldBy (now (cable .entry))) (now (piece .entry))) ⌝ }
+    ensures { λ r. ⌜ handed r (now (words .exit)) (now (reals .exit)) (now (variables .exit)) (now (coefficients .exit)) (now (cable .exit)) ≡ handedBy (takes (heldBy (now (cable .entry))) (now (piece .entry))) ⌝ }
 {
     handed::take(cable, piece, words, reals, variables, coefficients)
 }
@@ -31,7 +31,7 @@ pub extern "C" fn knobharbor_cable_close(
     variables: &mut Variables,
     coefficients: &mut Coefficients,
 ) -> bool
-    ensures { λ r. ⌜ handed r (now (words .exit)) (now (reals .exit)) (now (variables .exit)) (now (coefficients .exit)) (heldBy (now (cable .exit))) ≡ handedBy (closes (heldBy (now (cable .entry)))) ⌝ }
+    ensures { λ r. ⌜ handed r (now (words .exit)) (now (reals .exit)) (now (variables .exit)) (now (coefficients .exit)) (now (cable .exit)) ≡ handedBy (closes (heldBy (now (cable .entry)))) ⌝ }
 {
     handed::close(cable, words, reals, variables, coefficients)
 }
