@@ -242,25 +242,28 @@ bool knobharbor_has_edit(const uint64_t *head, size_t heads, const knobharbor_na
 
 /* ---- lines over the service cable
 
-   A reader of lines that come in pieces, cut anywhere. The reader is `cable`, KNOBHARBOR_CABLE bytes: zeros are a new one, and any
-   content is a reader, so nothing is refused. However the bytes are cut, the list of all answers and the reader at the end are those of
-   one piece. What a call hands over stands in four more places, which it writes whole:
+   A reader of lines that come in pieces, cut anywhere. The reader is `cable`: zeros are a new one, and any content is a reader, so that
+   no call is refused. However the bytes are cut, the list of all answers and the reader at the end are those of one piece. What a call
+   hands over stands in four more places, which it writes whole:
 
-   words         how many bytes were taken; 0 if the line reads, else a knobharbor_line_number; beside 20 the offset; the kind; how many
-                 terms
-   reals         the constant; the strength, which is required, since a line says none
-   variables     the terms, ascending by variable: variables[i] times coefficients[i] for i below how many
+   words         [0] how many bytes were taken; [1] 0 if the line reads, else a knobharbor_line_number; [2] beside 20 the offset;
+                 [3] the kind; [4] how many terms
+   reals         [0] the constant; [1] the strength, which is required: a line says none
+   variables     the terms, ascending by variable: variables[i] times coefficients[i], for i below words[4]
    coefficients
 
-   as knobharbor_add_lists takes them: the add of these is the add of the line by knobharbor_add_text. What an answer does not say is 0
-   in its place: all but the bytes taken where there is no answer, and all of the constraint beside a refusal. */
+   This is as knobharbor_add_lists takes it, and its add is the add of the line by knobharbor_add_text. What an answer does not say is 0
+   in its place: beside a refusal all of the constraint, and where there is no answer all but the bytes taken. */
 
-/* The first line that ends in the piece, which may have any length, 0 too: whether there is one. Go on behind the bytes taken until there is none. Refusals 32, then those of a line of text. */
-bool knobharbor_cable_take(uint8_t *cable, const uint8_t *piece, size_t length, uint64_t *words, double *reals, uint32_t *variables,
-                           double *coefficients);
+/* The first line that ends in the piece: whether there is one. A piece may have any length, 0 too. Go on behind the bytes taken until
+   there is none. Refusal 32 comes before those of a line of text, 20 to 23. */
+bool knobharbor_cable_take(uint8_t cable[KNOBHARBOR_CABLE], const uint8_t *piece, size_t length, uint64_t words[KNOBHARBOR_LINE_WORDS],
+                           double reals[KNOBHARBOR_LINE_REALS], uint32_t variables[KNOBHARBOR_TERMS],
+                           double coefficients[KNOBHARBOR_TERMS]);
 
 /* No more bytes come: whether a line had begun, which is then refused with 33. The reader is as new. */
-bool knobharbor_cable_close(uint8_t *cable, uint64_t *words, double *reals, uint32_t *variables, double *coefficients);
+bool knobharbor_cable_close(uint8_t cable[KNOBHARBOR_CABLE], uint64_t words[KNOBHARBOR_LINE_WORDS], double reals[KNOBHARBOR_LINE_REALS],
+                            uint32_t variables[KNOBHARBOR_TERMS], double coefficients[KNOBHARBOR_TERMS]);
 
 /* ---- strengths */
 
