@@ -50,6 +50,10 @@ extern "C" {
 /* the places of a changing call's answer: the number, the pivots, the mark; and of a fetch's: the number, the count */
 #define KNOBHARBOR_ANSWER 3
 #define KNOBHARBOR_FETCHED 2
+/* the bytes of the service cable's reader, and the places of what it hands over beside the terms */
+#define KNOBHARBOR_CABLE 201
+#define KNOBHARBOR_LINE_WORDS 5
+#define KNOBHARBOR_LINE_REALS 2
 
 /* how much a state holds; edits count among the constraints */
 #define KNOBHARBOR_VARIABLES 32
@@ -123,7 +127,9 @@ typedef enum knobharbor_line_number {
     KNOBHARBOR_LINE_UNREAD = 20,    /* not in the grammar, with the offset */
     KNOBHARBOR_LINE_DEEP = 21,      /* deeper than 16 levels of brackets */
     KNOBHARBOR_LINE_LARGE = 22,     /* a number, a product of multipliers or a sum above 1,048,576, or a variable above 4,294,967,295 */
-    KNOBHARBOR_LINE_VARIABLES = 23  /* more than 16 variables */
+    KNOBHARBOR_LINE_VARIABLES = 23, /* more than 16 variables */
+    KNOBHARBOR_LINE_OVER = 32,      /* over the cable: a line of more than 200 bytes, its newline apart */
+    KNOBHARBOR_LINE_UNENDED = 33    /* over the cable: closed inside a line, too long or not */
 } knobharbor_line_number;
 
 /* What the add of a line answers. */
@@ -254,6 +260,31 @@ bool knobharbor_has_edit(
     const uint64_t head[KNOBHARBOR_HEAD], const knobharbor_name names[KNOBHARBOR_ITEMS], const knobharbor_real reals[KNOBHARBOR_ITEMS],
     const knobharbor_row rows[KNOBHARBOR_ROWS], uint32_t variable);
 
+/* ---- lines over the service cable
+
+   A reader of lines that come in pieces, cut anywhere. The reader is `cable`: zeros are a new one, and any content is a reader, so that
+   no call is refused. However the bytes are cut, the list of all answers and the reader at the end are those of one piece. What a call
+   hands over stands in four more places, which it writes whole:
+
+   words         [0] how many bytes were taken; [1] 0 if the line reads, else a knobharbor_line_number; [2] beside 20 the offset;
+                 [3] the kind; [4] how many terms
+   reals         [0] the constant; [1] the strength, which is required: a line says none
+   variables     the terms, ascending by variable: variables[i] times coefficients[i], for i below words[4]
+   coefficients
+
+   This is as knobharbor_add_lists takes it, and its add is the add of the line by knobharbor_add_text. What an answer does not say is 0
+   in its place: beside a refusal all of the constraint, and where there is no answer all but the bytes taken. */
+
+/* The first line that ends in the piece: whether there is one. A piece may have any length, 0 too. Go on behind the bytes taken until
+   there is none. Refusal 32 comes before those of a line of text, 20 to 23. */
+bool knobharbor_cable_take(uint8_t cable[KNOBHARBOR_CABLE], const uint8_t *piece, uint64_t length, uint64_t words[KNOBHARBOR_LINE_WORDS],
+                           double reals[KNOBHARBOR_LINE_REALS], uint32_t variables[KNOBHARBOR_TERMS],
+                           double coefficients[KNOBHARBOR_TERMS]);
+
+/* No more bytes come: whether a line had begun, which is then refused with 33. The reader is as new. */
+bool knobharbor_cable_close(uint8_t cable[KNOBHARBOR_CABLE], uint64_t words[KNOBHARBOR_LINE_WORDS], double reals[KNOBHARBOR_LINE_REALS],
+                            uint32_t variables[KNOBHARBOR_TERMS], double coefficients[KNOBHARBOR_TERMS]);
+
 /* ---- strengths */
 
 /* a, b and c, each times w and held to 0..1000 (NaN gives 0), weighted 1,000,000, 1,000 and 1 */
@@ -375,6 +406,62 @@ static inline bool kh_has_edit(const knobharbor_tables *t, uint32_t variable)
     return knobharbor_has_edit(KNOBHARBOR_LEND(t), variable);
 }
 
+/* the service cable's reader: a new one is all zero, `knobharbor_cable cable = {{0}}` */
+typedef struct knobharbor_cable {
+    uint8_t bytes[KNOBHARBOR_CABLE];
+} knobharbor_cable;
+
+/* what a line over the cable is answered; beside a refusal all but its number and offset are 0 */
+typedef struct knobharbor_line {
+    uint32_t number; /* 0: it reads; else a knobharbor_line_number */
+    size_t offset;   /* beside 20: the first byte with which no line can go on; else 0 */
+    knobharbor_kind kind;
+    double strength;
+    double constant;
+    size_t count; /* how many terms: variables[i] times coefficients[i] */
+    uint32_t variables[KNOBHARBOR_TERMS];
+    double coefficients[KNOBHARBOR_TERMS];
+} knobharbor_line;
+
+static inline void kh_line_says(knobharbor_line *line, const uint64_t *words, const double *reals)
+{
+    line->number = (uint32_t)words[1];
+    line->offset = (size_t)words[2];
+    line->kind = (knobharbor_kind)words[3];
+    line->count = (size_t)words[4];
+    line->constant = reals[0];
+    line->strength = reals[1];
+}
+
+/* The piece and its length move behind the bytes taken: `while (kh_cable_take(&cable, &piece, &length, &line))` has each line. */
+static inline bool kh_cable_take(knobharbor_cable *cable, const uint8_t **piece, size_t *length, knobharbor_line *line)
+{
+    uint64_t words[KNOBHARBOR_LINE_WORDS];
+    double reals[KNOBHARBOR_LINE_REALS];
+    bool ended = knobharbor_cable_take(cable->bytes, *piece, *length, words, reals, line->variables, line->coefficients);
+    kh_line_says(line, words, reals);
+    *piece += (size_t)words[0];
+    *length -= (size_t)words[0];
+    return ended;
+}
+
+static inline bool kh_cable_close(knobharbor_cable *cable, knobharbor_line *line)
+{
+    uint64_t words[KNOBHARBOR_LINE_WORDS];
+    double reals[KNOBHARBOR_LINE_REALS];
+    bool begun = knobharbor_cable_close(cable->bytes, words, reals, line->variables, line->coefficients);
+    kh_line_says(line, words, reals);
+    return begun;
+}
+
+/* Adds the constraint of a line that reads, under this number. */
+static inline knobharbor_answer kh_add_line(knobharbor_tables *t, knobharbor_tables *room, uint32_t number, const knobharbor_line *line,
+                                            uint16_t budget)
+{
+    return kh_add_lists(t, room, number, line->variables, line->coefficients, line->count, line->constant, line->kind, line->strength,
+                        budget);
+}
+
 /* An answer's number in words. */
 static inline const char *kh_words(uint32_t number)
 {
@@ -404,6 +491,10 @@ static inline const char *kh_words(uint32_t number)
         "the line has a number above 1,048,576, or a variable above 4,294,967,295",
         "the line has more than 16 variables",
     };
+    if (number == KNOBHARBOR_LINE_OVER)
+        return "the line has more than 200 bytes";
+    if (number == KNOBHARBOR_LINE_UNENDED)
+        return "the input ended inside a line";
     return number < sizeof words / sizeof words[0] ? words[number] : "no number of the document's";
 }
 

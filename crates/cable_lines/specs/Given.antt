@@ -13,25 +13,40 @@ use Rattle.reader.specs.declared.answers.Reading.{Reading}
 use Rattle.reader.specs.Answers.{refusal, asRead}
 use Rattle.cable_lines.specs.declared.Taken.{Taken}
 use Rattle.cable_lines.specs.Cable.{limit, new, answerOf, Step, further, takes}
+use Rattle.cable_lines.specs.Bytes.{bytesOf}
 
 -- no answer stands as an answer of nothing, which is to be passed over
 abbrev pub asTaken : Option Answer → ℕ → Taken
 asTaken none n = record { answered = false; answer = refusal 0 0; taken = n }
 asTaken (some a) n = record { answered = true; answer = asRead a; taken = n }
 
--- what is handed back, and the line that the state then holds
+-- what is handed back, and the bytes that then stand in the lent table
 pub record Given : Type 0 where
+  pub back : Taken
+  pub left : List ℕ
+
+abbrev pub given : Taken → List ℕ → Given
+given r b = record { back = r; left = b }
+
+abbrev pub asGiven : Step → Given
+asGiven s = record { back = asTaken (s .answer) (s .taken); left = bytesOf (s .left) }
+
+-- the same with the line that has then begun, before what stands behind its bytes is cleared
+pub record Begun : Type 0 where
   pub back : Taken
   pub left : Option (List ℕ)
 
-abbrev pub given : Taken → Option (List ℕ) → Given
-given r h = record { back = r; left = h }
+abbrev pub begun : Taken → Option (List ℕ) → Begun
+begun r h = record { back = r; left = h }
 
-abbrev pub asGiven : Step → Given
-asGiven s = record { back = asTaken (s .answer) (s .taken); left = s .left }
+abbrev pub asBegun : Step → Begun
+asBegun s = record { back = asTaken (s .answer) (s .taken); left = s .left }
 
-pub same-given : {r q : Taken} {h k : Option (List ℕ)} → r ≡ q → h ≡ k → given r h ≡ given q k
-same-given p q = cc
+pub same-begun : {r q : Taken} {h k : Option (List ℕ)} → r ≡ q → h ≡ k → begun r h ≡ begun q k
+same-begun p q = cc
+
+pub begun-given : {r : Taken} {h : Option (List ℕ)} {b : List ℕ} (s : Step) → begun r h ≡ asBegun s → b ≡ bytesOf h → given r b ≡ asGiven s
+begun-given {r} s e f = ap (given r) f ∙ ap (λ (g : Begun). given (g .back) (bytesOf (g .left))) e
 
 -- ---- a step takes bytes of the piece alone, and one at least if there is one
 
@@ -57,5 +72,5 @@ taken-as : (a : Option Answer) (n : ℕ) → asTaken a n .taken ≡ n
 taken-as none n = refl
 taken-as (some a) n = refl
 
-pub taken-is : {r : Taken} {h : Option (List ℕ)} (k : Option (List ℕ)) (s : List ℕ) → given r h ≡ asGiven (takes k s) → r .taken ≡ takes k s .taken
+pub taken-is : {r : Taken} {b : List ℕ} (k : Option (List ℕ)) (s : List ℕ) → given r b ≡ asGiven (takes k s) → r .taken ≡ takes k s .taken
 taken-is k s e = ap (λ (g : Given). g .back .taken) e ∙ taken-as (takes k s .answer) (takes k s .taken)

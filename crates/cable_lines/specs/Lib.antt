@@ -4,4 +4,5 @@ pub mod Cuts
 pub mod Spoken
 pub mod Examples
 pub mod State
+pub mod Bytes
 pub mod Given

@@ -6,17 +6,19 @@ ghost use Rattle.grammar.specs.Reader.{readLine};
 ghost use Rattle.reader.specs.Answers.{asRead};
 ghost use Rattle.cable_lines.specs.Cable.{answerOf, takes, closes};
 ghost use Rattle.cable_lines.specs.State.{heldBy};
-ghost use Rattle.cable_lines.specs.Given.{given, asGiven};
+ghost use Rattle.cable_lines.specs.Given.{given, asGiven, begun, asBegun};
 use crate::state::LIMIT;
 use crate::state::State;
 use crate::state::keep_line;
 use crate::state::long;
 use crate::state::renew;
+use crate::tidy::tidy;
 use reader::answers::Reading;
 use reader::answers::read_line;
 use reader::answers::refuse;
 
 pub mod state;
+mod tidy;
 
 // Whether a line was answered, its answer (to be passed over if none was), and how many bytes were taken.
 pub struct Taken {
@@ -43,9 +45,8 @@ fn answer_held(s: &State) -> Reading
     refuse(32, 0)
 }
 
-// The answer of the first line that ends in the piece; the caller goes on behind the bytes taken.
-pub fn take(s: &mut State, piece: &[u8]) -> Taken
-    ensures { λ r. ⌜ given r (heldBy (now (s .exit))) ≡ asGiven (takes (heldBy (now (s .entry))) (now (piece .entry))) ⌝ }
+fn step(s: &mut State, piece: &[u8]) -> Taken
+    ensures { λ r. ⌜ begun r (heldBy (now (s .exit))) ≡ asBegun (takes (heldBy (now (s .entry))) (now (piece .entry))) ⌝ }
 {
     let at = keep_line(s, piece);
     if at == piece.len() {
@@ -64,9 +65,8 @@ pub fn take(s: &mut State, piece: &[u8]) -> Taken
     }
 }
 
-// The cable is closed: the reader is as new.
-pub fn close(s: &mut State) -> Taken
-    ensures { λ r. ⌜ given r (heldBy (now (s .exit))) ≡ asGiven (closes (heldBy (now (s .entry)))) ⌝ }
+fn closing(s: &mut State) -> Taken
+    ensures { λ r. ⌜ begun r (heldBy (now (s .exit))) ≡ asBegun (closes (heldBy (now (s .entry)))) ⌝ }
 {
     long(s);
     let n = s[LIMIT];
@@ -83,4 +83,22 @@ pub fn close(s: &mut State) -> Taken
         answer: refuse(33, 0),
         taken: 0,
     }
+}
+
+// The answer of the first line that ends in the piece; the caller goes on behind the bytes taken.
+pub fn take(s: &mut State, piece: &[u8]) -> Taken
+    ensures { λ r. ⌜ given r (now (s .exit)) ≡ asGiven (takes (heldBy (now (s .entry))) (now (piece .entry))) ⌝ }
+{
+    let t = step(s, piece);
+    tidy(s);
+    t
+}
+
+// The cable is closed: the reader is as new.
+pub fn close(s: &mut State) -> Taken
+    ensures { λ r. ⌜ given r (now (s .exit)) ≡ asGiven (closes (heldBy (now (s .entry)))) ⌝ }
+{
+    let t = closing(s);
+    tidy(s);
+    t
 }

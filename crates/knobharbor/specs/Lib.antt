@@ -2,3 +2,4 @@
 pub mod Given
 pub mod Adding
 pub mod Places
+pub mod HandedOn

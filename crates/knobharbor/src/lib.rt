@@ -5,3 +5,4 @@ pub mod changed;
 pub mod given;
 pub mod lines;
 pub mod places;
+pub mod service;

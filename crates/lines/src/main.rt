@@ -1,6 +1,5 @@
 // The program: T-01's lines on standard input, an answer a line on standard output.
 mod stream;
-mod writing;
 
 fn main() {
     let mut line = [0u8; 4096];

@@ -4,11 +4,11 @@
 ghost use mathlib.Core.Path.{_≡_};
 ghost use Prim.Native.Nat.{_≤_};
 ghost use lib.ListN.{length};
-use crate::writing::put_reading;
 use reader::answers::read_line;
 use reader::answers::refuse;
+use replies::Out;
+use replies::put_line;
 use text::stream::keep_byte;
-use text::writing::put_byte;
 
 // How many bytes of the line that has begun are held, how many of the buffer wait to be written, and whether every write went through.
 pub struct Place {
@@ -17,12 +17,17 @@ pub struct Place {
     pub open: bool,
 }
 
-fn flush(out: &[u8], p: Place) -> Place
-    requires { ⌜ p .at ≤ length (now out) ⌝ }
+fn write_front(out: &[u8], at: usize) -> bool
+    requires { ⌜ at ≤ length (now out) ⌝ }
+{
+    io::write_all(1, &out[..at])
+}
+
+fn flush(out: &Out, p: Place) -> Place
+    requires { ⌜ p .at ≤ 8192 ⌝ }
     ensures { λ q. ⌜ q .at ≡ 0 ⌝ }
 {
-    let at = p.at;
-    let ok = io::write_all(1, &out[..at]);
+    let ok = write_front(out, p.at);
     Place {
         held: p.held,
         at: 0,
@@ -30,8 +35,8 @@ fn flush(out: &[u8], p: Place) -> Place
     }
 }
 
-fn with_room(out: &[u8], p: Place) -> Place
-    requires { ⌜ p .at ≤ length (now out) ⌝ }
+fn with_room(out: &Out, p: Place) -> Place
+    requires { ⌜ p .at ≤ 8192 ⌝ }
     ensures { λ q. ⌜ q .at ≤ 7000 ⌝ }
 {
     if p.at <= 7000 {
@@ -40,29 +45,23 @@ fn with_room(out: &[u8], p: Place) -> Place
     flush(out, p)
 }
 
-fn answer(line: &[u8], held: usize, out: &mut [u8], at: usize) -> usize
-    requires { ⌜ length (now line) ≡ 4096 ⌝ }
-    requires { ⌜ 8000 ≤ length (now out) ⌝ }
+// The answer and its newline.
+fn answer(line: &[u8], held: usize, out: &mut Out, at: usize) -> usize
     requires { ⌜ at ≤ 7000 ⌝ }
-    ensures { λ r. ⌜ r ≤ 7800 ⌝ }
+    ensures { λ r. ⌜ r ≤ 8192 ⌝ }
 {
     if line.len() < held {
-        return put_reading(out, at, refuse(19, 0));
+        return put_line(out, at, refuse(19, 0));
     }
-    put_reading(out, at, read_line(&line[..held]))
+    put_line(out, at, read_line(&line[..held]))
 }
 
-fn end_line(p: Place, line: &[u8], out: &mut [u8]) -> Place
-    requires { ⌜ length (now line) ≡ 4096 ⌝ }
-    requires { ⌜ 8000 ≤ length (now out) ⌝ }
-    requires { ⌜ p .at ≤ length (now out) ⌝ }
-    ensures { λ q. ⌜ q .at ≤ length (now (out .exit)) ⌝ }
+fn end_line(p: Place, line: &[u8], out: &mut Out) -> Place
+    requires { ⌜ p .at ≤ 8192 ⌝ }
+    ensures { λ q. ⌜ q .at ≤ 8192 ⌝ }
 {
     let q = with_room(out, p);
-    let held = q.held;
-    let at = q.at;
-    let next = answer(line, held, out, at);
-    let end = put_byte(out, next, 10);
+    let end = answer(line, q.held, out, q.at);
     Place {
         held: 0,
         at: end,
@@ -70,11 +69,10 @@ fn end_line(p: Place, line: &[u8], out: &mut [u8]) -> Place
     }
 }
 
-fn take_byte(b: u8, p: Place, line: &mut [u8], out: &mut [u8]) -> Place
+fn take_byte(b: u8, p: Place, line: &mut [u8], out: &mut Out) -> Place
     requires { ⌜ length (now line) ≡ 4096 ⌝ }
-    requires { ⌜ 8000 ≤ length (now out) ⌝ }
-    requires { ⌜ p .at ≤ length (now out) ⌝ }
-    ensures { λ q. ⌜ q .at ≤ length (now (out .exit)) ⌝ }
+    requires { ⌜ p .at ≤ 8192 ⌝ }
+    ensures { λ q. ⌜ q .at ≤ 8192 ⌝ }
 {
     if b == 10 {
         return end_line(p, line, out);
@@ -87,11 +85,10 @@ fn take_byte(b: u8, p: Place, line: &mut [u8], out: &mut [u8]) -> Place
     }
 }
 
-fn take_piece(piece: &[u8], p: Place, line: &mut [u8], out: &mut [u8]) -> Place
+fn take_piece(piece: &[u8], p: Place, line: &mut [u8], out: &mut Out) -> Place
     requires { ⌜ length (now line) ≡ 4096 ⌝ }
-    requires { ⌜ 8000 ≤ length (now out) ⌝ }
-    requires { ⌜ p .at ≤ length (now out) ⌝ }
-    ensures { λ q. ⌜ q .at ≤ length (now (out .exit)) ⌝ }
+    requires { ⌜ p .at ≤ 8192 ⌝ }
+    ensures { λ q. ⌜ q .at ≤ 8192 ⌝ }
 {
     let mut q = p;
     let mut i: usize = 0;
@@ -103,11 +100,9 @@ fn take_piece(piece: &[u8], p: Place, line: &mut [u8], out: &mut [u8]) -> Place
 }
 
 // The input's end, after which nothing more is read.
-fn take_end(p: Place, line: &[u8], out: &mut [u8]) -> Place
-    requires { ⌜ length (now line) ≡ 4096 ⌝ }
-    requires { ⌜ 8000 ≤ length (now out) ⌝ }
-    requires { ⌜ p .at ≤ length (now out) ⌝ }
-    ensures { λ q. ⌜ q .at ≤ length (now (out .exit)) ⌝ }
+fn take_end(p: Place, line: &[u8], out: &mut Out) -> Place
+    requires { ⌜ p .at ≤ 8192 ⌝ }
+    ensures { λ q. ⌜ q .at ≤ 8192 ⌝ }
 {
     if p.held == 0 {
         return Place {
@@ -125,11 +120,10 @@ fn take_end(p: Place, line: &[u8], out: &mut [u8]) -> Place
 }
 
 // One read. A read that fails ends the input.
-fn serve_piece(p: Place, line: &mut [u8], out: &mut [u8]) -> Place
+fn serve_piece(p: Place, line: &mut [u8], out: &mut Out) -> Place
     requires { ⌜ length (now line) ≡ 4096 ⌝ }
-    requires { ⌜ 8000 ≤ length (now out) ⌝ }
-    requires { ⌜ p .at ≤ length (now out) ⌝ }
-    ensures { λ q. ⌜ q .at ≤ length (now (out .exit)) ⌝ }
+    requires { ⌜ p .at ≤ 8192 ⌝ }
+    ensures { λ q. ⌜ q .at ≤ 8192 ⌝ }
 {
     let mut piece = [0u8; 4096];
     let got = libc::read(0, &mut piece);
@@ -143,9 +137,8 @@ fn serve_piece(p: Place, line: &mut [u8], out: &mut [u8]) -> Place
 }
 
 // A proved loop has to end, and nothing says that the input does: the loop counts down from a number of reads that no run uses up.
-pub fn serve(line: &mut [u8], out: &mut [u8])
+pub fn serve(line: &mut [u8], out: &mut Out)
     requires { ⌜ length (now line) ≡ 4096 ⌝ }
-    requires { ⌜ 8000 ≤ length (now out) ⌝ }
 {
     let mut p = Place {
         held: 0,

@@ -68,7 +68,7 @@ textAnswer r = record { number = r .number; pivots = r .pivots; whole = r .whole
 
 -- ---- what every answer to a line keeps: 0 refuses nothing, and a line that reads has few small numbers
 
-abbrev Fit : Answer → Type 0
+abbrev pub Fit : Answer → Type 0
 Fit (reads r) = (natAbs (r .constant) ≤ most) × (smallTerms (r .terms) ≡ true) × (length (r .terms) ≤ 16)
 Fit (outside at) = Unit {0}
 Fit (refused n) = n ≡ 0 → ⊥
@@ -96,7 +96,7 @@ answered-fit w (halted n at) h = by (eqb n 20) (some-number h)
     by false z = z
 answered-fit w (whole r s) h = judged-fit (summed r s)
 
-line-fit : (w : List ℕ) → Fit (readLine w)
+pub line-fit : (w : List ℕ) → Fit (readLine w)
 unfolding readLine
 line-fit w = by (leb (length w) 4096)
   where

@@ -16,6 +16,12 @@ type Row = [f64; ROW];
 /// The places of a fetch's lists.
 pub const PLACES: usize = 32;
 
+/// The bytes of the service cable's reader, and the places of what it hands over.
+pub const CABLE: usize = 201;
+pub const TERMS: usize = 16;
+const LINE_WORDS: usize = 5;
+const LINE_REALS: usize = 2;
+
 /// What a changing call answers: 0 or a refusal's number, the pivots made, the whole mark.
 #[derive(Copy, Clone, Debug)]
 pub struct Answer {
@@ -120,6 +126,16 @@ extern "C" {
         numbers: &mut [u64; PLACES],
         values: &mut [f64; PLACES],
     );
+    fn knobharbor_cable_take(
+        cable: *mut u8,
+        piece: *const u8,
+        length: u64,
+        words: *mut u64,
+        reals: *mut f64,
+        variables: *mut u32,
+        coefficients: *mut f64,
+    ) -> bool;
+    fn knobharbor_cable_close(cable: *mut u8, words: *mut u64, reals: *mut f64, variables: *mut u32, coefficients: *mut f64) -> bool;
     fn knobharbor_strength_create(a: f64, b: f64, c: f64, w: f64) -> f64;
     fn knobharbor_strength_clip(s: f64) -> f64;
 }
@@ -211,6 +227,67 @@ pub fn has_constraint(t: &Tables, number: u32) -> bool {
 
 pub fn has_edit(t: &Tables, variable: u32) -> bool {
     ask!(knobharbor_has_edit, t, variable)
+}
+
+/// What the cable's reader hands over, in the places of include/knobharbor.h; what an answer does not say is 0.
+pub struct Handed {
+    words: [u64; LINE_WORDS],
+    reals: [f64; LINE_REALS],
+    pub variables: [u32; TERMS],
+    pub coefficients: [f64; TERMS],
+}
+
+impl Handed {
+    const NONE: Handed = Handed { words: [0; LINE_WORDS], reals: [0.0; LINE_REALS], variables: [0; TERMS], coefficients: [0.0; TERMS] };
+
+    pub fn taken(&self) -> usize {
+        self.words[0] as usize
+    }
+
+    pub fn number(&self) -> u32 {
+        self.words[1] as u32
+    }
+
+    pub fn offset(&self) -> usize {
+        self.words[2] as usize
+    }
+
+    pub fn kind(&self) -> u64 {
+        self.words[3]
+    }
+
+    pub fn count(&self) -> usize {
+        self.words[4] as usize
+    }
+
+    pub fn constant(&self) -> f64 {
+        self.reals[0]
+    }
+
+    pub fn strength(&self) -> f64 {
+        self.reals[1]
+    }
+}
+
+macro_rules! hand_over {
+    ($f:ident($($arg:expr),*)) => {{
+        let mut h = Handed::NONE;
+        // The pointers are to whole arrays that nobody else holds during the call, and to a slice that it only reads.
+        let answered = unsafe {
+            $f($($arg,)* h.words.as_mut_ptr(), h.reals.as_mut_ptr(), h.variables.as_mut_ptr(), h.coefficients.as_mut_ptr())
+        };
+        (answered, h)
+    }};
+}
+
+/// Whether a line ends in the piece, and what is handed over.
+pub fn cable_take(cable: &mut [u8; CABLE], piece: &[u8]) -> (bool, Handed) {
+    hand_over!(knobharbor_cable_take(cable.as_mut_ptr(), piece.as_ptr(), piece.len() as u64))
+}
+
+/// Whether a line had begun, and what is handed over.
+pub fn cable_close(cable: &mut [u8; CABLE]) -> (bool, Handed) {
+    hand_over!(knobharbor_cable_close(cable.as_mut_ptr()))
 }
 
 pub fn strength_create(a: f64, b: f64, c: f64, w: f64) -> f64 {

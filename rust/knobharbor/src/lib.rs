@@ -42,7 +42,7 @@
 //! ```
 //!
 //! Without the feature `alloc`, which is on by default, the crate needs no heap: [`LentSolver`] is the solver over two tables that the
-//! caller lends, with the terms of a constraint as a slice. The crate uses nothing of `std`; the feature `std` adds
+//! caller lends, with the terms of a constraint as a slice, and [`CableReader`] reads constraints as text that comes in pieces. The crate uses nothing of `std`; the feature `std` adds
 //! `std::error::Error` to its errors.
 #![no_std]
 #![warn(missing_docs)]
@@ -55,6 +55,7 @@ extern crate std;
 mod operators;
 
 mod archive;
+mod cable;
 #[cfg(feature = "alloc")]
 mod errors;
 #[cfg(feature = "alloc")]
@@ -69,6 +70,7 @@ mod sums;
 mod variable;
 
 pub use archive::Tables;
+pub use cable::{CableReader, Line};
 #[cfg(feature = "alloc")]
 pub use errors::{AddConstraintError, AddEditVariableError, Refused, RemoveConstraintError, RemoveEditVariableError, SuggestValueError};
 #[cfg(feature = "alloc")]

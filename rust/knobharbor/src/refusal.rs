@@ -77,6 +77,10 @@ refusals! {
     LineTooLarge = 22, "the line has a number above 1,048,576, or a variable above 4,294,967,295";
     /// A line has at most 16 variables.
     LineTooManyVariables = 23, "the line has more than 16 variables";
+    /// Over the service cable a line has at most 200 bytes.
+    CableLineTooLong = 32, "the line has more than 200 bytes";
+    /// The service cable was closed inside a line.
+    LineUnended = 33, "the input ended inside a line";
 }
 
 impl Refusal {

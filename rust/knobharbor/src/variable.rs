@@ -64,6 +64,14 @@ impl RelationalOperator {
             RelationalOperator::GreaterOrEqual => 2,
         }
     }
+
+    pub(crate) fn of_kind(kind: u64) -> RelationalOperator {
+        match kind {
+            0 => RelationalOperator::LessOrEqual,
+            1 => RelationalOperator::Equal,
+            _ => RelationalOperator::GreaterOrEqual,
+        }
+    }
 }
 
 impl fmt::Display for RelationalOperator {

@@ -1,5 +1,5 @@
 //! The crate's sizes and words are those of include/knobharbor.h.
-use knobharbor::{Refusal, Tables, LARGEST_BUDGET};
+use knobharbor::{CableReader, Refusal, Tables, LARGEST_BUDGET};
 use std::mem::size_of;
 
 const HEADER: &str = include_str!("../../../include/knobharbor.h");
@@ -15,6 +15,7 @@ fn tables_are_as_large() {
     let numbers = size("HEAD") + size("ITEMS") * (size("NAME") + size("REAL")) + size("ROWS") * size("ROW");
     assert_eq!(size_of::<Tables>(), 8 * numbers);
     assert_eq!(usize::from(LARGEST_BUDGET), size("LARGEST_BUDGET"));
+    assert_eq!(size_of::<CableReader>(), size("CABLE"));
 }
 
 #[test]
@@ -54,5 +55,9 @@ fn refusals_have_the_same_words() {
     assert_eq!(words.len(), all.len() + 1);
     for (i, refusal) in all.into_iter().enumerate() {
         assert_eq!((refusal.number() as usize, refusal.words()), (i + 1, words[i + 1]));
+    }
+    for (name, refusal) in [("OVER", Refusal::CableLineTooLong), ("UNENDED", Refusal::LineUnended)] {
+        assert!(HEADER.contains(&format!("KNOBHARBOR_LINE_{name} = {}", refusal.number())));
+        assert!(HEADER.contains(&format!("if (number == KNOBHARBOR_LINE_{name})\n        return \"{}\";", refusal.words())));
     }
 }

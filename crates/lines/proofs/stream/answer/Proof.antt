@@ -7,7 +7,7 @@ use Rattle.lines.proofs.stream.answer.Statement.{statement}
 use Rattle.lines.proofs.stream.answer.Tie as tie
 
 slice-aggregate-read-line : tie.Need-slice-aggregate-read-line
-slice-aggregate-read-line c = sym (length-take-le (c .before .before .before .before .before .args .held) (c .before .before .before .before .before .args .line .now) (omega arith))
+slice-aggregate-read-line c = sym (length-take-le (c .before .before .before .before .args .held) (c .before .before .before .before .args .line .now) (omega arith))
 
 returns : tie.Need-returns
 returns c = search needs
@@ -21,10 +21,8 @@ answer-spec =
     (tie.spec
     (λ c κs. search needs)
     (λ c κs. search needs)
-    (λ c. search needs)
     returns
     slice-aggregate-read-line
     (λ c κs. search needs)
     (λ c κs. search needs)
-    (λ c. search needs)
     returns-2)

@@ -8,22 +8,19 @@ use Rattle.lines.proofs.stream.serve.Statement.{statement}
 use Rattle.lines.proofs.stream.serve.Tie as tie
 
 abbrev Inv-loop : tie.InvT-loop
-Inv-loop line₀ out₀ p₀ turns₀ line out p turns = (length line ≡ length line₀) × (length out ≡ length out₀) × (p .at ≤ length out)
+Inv-loop line₀ out₀ p₀ turns₀ line out p turns = (length line ≡ length line₀) × (p .at ≤ 8192)
 
 abbrev μ-loop : tie.MeasureT-loop
 μ-loop line₀ out₀ p₀ turns₀ line out p turns = turns
 
 loop-holds : tie.Need-loop-holds Inv-loop μ-loop
-loop-holds c = (refl, refl, omega arith)
+loop-holds c = (refl, omega arith)
 
 serve-piece-requires : tie.Need-serve-piece-requires Inv-loop μ-loop
-serve-piece-requires c κs = let l = c .before .before .before .before .loop .inv in ((l .0 ∙ c .before .before .before .before .before .before .before .pre .0), (omega (arith, l .1, c .before .before .before .before .before .before .before .pre .1), l .2))
+serve-piece-requires c κs = let l = c .before .before .before .before .loop .inv in ((l .0 ∙ c .before .before .before .before .before .before .pre), l .1)
 
 loop-again : tie.Need-loop-again Inv-loop μ-loop
-loop-again c =
-    let l = c .before .before .before .before .before .before .before .before .before .loop .inv in
-    let d = c .before .before .before .before .serve-piece in
-    (omega (arith, d .kept, l .0), omega (arith, d .kept, l .1), d .ensures)
+loop-again c = let d = c .before .before .serve-piece in (omega (arith, d .kept, c .before .before .before .before .before .before .before .loop .inv .0), d .ensures)
 
 returns : tie.Need-returns Inv-loop μ-loop
 returns c = tt
@@ -43,8 +40,6 @@ serve-spec =
     (λ c. search needs)
     loop-again
     (λ c. c .before .before .loop .inv .0)
-    (λ c. c .before .before .loop .inv .1)
     returns
     (λ c. c .before .loop .inv .0)
-    (λ c. c .before .loop .inv .1)
     returns-2)

@@ -8,25 +8,22 @@ use Rattle.lines.proofs.stream.take_piece.Statement.{statement}
 use Rattle.lines.proofs.stream.take_piece.Tie as tie
 
 abbrev Inv-loop : tie.InvT-loop
-Inv-loop piece line₀ out₀ q₀ i₀ line out q i = (length line ≡ length line₀) × (length out ≡ length out₀) × (q .at ≤ length out)
+Inv-loop piece line₀ out₀ q₀ i₀ line out q i = (length line ≡ length line₀) × (q .at ≤ 8192)
 
 abbrev μ-loop : tie.MeasureT-loop
 μ-loop piece line₀ out₀ q₀ i₀ line out q i = length piece - i
 
 loop-holds : tie.Need-loop-holds Inv-loop μ-loop
-loop-holds c = (refl, refl, c .before .before .before .pre .1 .1)
+loop-holds c = (refl, c .before .before .pre .1)
 
 take-byte-requires : tie.Need-take-byte-requires Inv-loop μ-loop
-take-byte-requires c κs = let l = c .before .before .before .before .loop .inv in ((l .0 ∙ c .before .before .before .before .before .before .before .before .pre .0), (omega (arith, l .1, c .before .before .before .before .before .before .before .before .pre .1 .0), l .2))
+take-byte-requires c κs = let l = c .before .before .before .before .loop .inv in ((l .0 ∙ c .before .before .before .before .before .before .before .pre .0), l .1)
 
 loop-again : tie.Need-loop-again Inv-loop μ-loop
-loop-again c =
-    let l = c .before .before .before .before .before .before .before .before .before .loop .inv in
-    let d = c .before .before .before .before .take-byte in
-    (omega (arith, d .kept, l .0), omega (arith, d .kept, l .1), d .ensures)
+loop-again c = let d = c .before .before .take-byte in (omega (arith, d .kept, c .before .before .before .before .before .before .before .loop .inv .0), d .ensures)
 
 returns : tie.Need-returns Inv-loop μ-loop
-returns c = c .before .loop .inv .2
+returns c = c .before .loop .inv .1
 
 pub take-piece-spec : {M : Type 1} → statement M
 take-piece-spec =
@@ -41,5 +38,4 @@ take-piece-spec =
     (λ c. search needs)
     loop-again
     (λ c. c .before .loop .inv .0)
-    (λ c. c .before .loop .inv .1)
     returns)

@@ -1,0 +1,3 @@
+-- What the reader of the service cable hands to a caller in lent places.
+pub mod Handed
+pub mod Examples

@@ -1,0 +1,141 @@
+// The reader of the service cable for a caller that lends a place for each thing it gives: no struct crosses.
+ghost use mathlib.Core.Path.{_≡_};
+ghost use mathlib.Core.List.{map};
+ghost use Rattle.reader.specs.Sides.{relationOf};
+ghost use Rattle.cable_lines.specs.Cable.{takes, closes};
+ghost use Rattle.cable_lines.specs.State.{heldBy};
+ghost use Rattle.handed.specs.Handed.{kindOf, handed, handedBy, readsIn, kindIn, wordsIn, realsIn, wholeAt};
+use cable_lines::Taken;
+use cable_lines::state::State;
+use reader::sides::Mark;
+use rows::strength::REQUIRED;
+use typed::pack::whole;
+
+// How many bytes were taken, 0 or the refusal's number, the offset of 20, the kind, how many terms.
+pub type Words = [u64; 5];
+
+// The constant, the strength.
+pub type Reals = [f64; 2];
+
+// The terms, zeros behind them.
+pub type Variables = [u32; 16];
+
+pub type Coefficients = [f64; 16];
+
+fn kind_of(m: Mark) -> u64
+    ensures { λ r. ⌜ r ≡ kindOf (relationOf m) ⌝ }
+{
+    match m {
+        Mark::AtMost => 0,
+        Mark::Equal => 1,
+        Mark::AtLeast => 2,
+    }
+}
+
+// Whether there is a constraint to hand over.
+fn reads(t: Taken) -> bool
+    ensures { λ r. ⌜ r ≡ readsIn t ⌝ }
+{
+    let r = t.answer;
+    t.answered & (r.number == 0)
+}
+
+fn kind_in(t: Taken) -> u64
+    ensures { λ r. ⌜ r ≡ kindIn t ⌝ }
+{
+    let r = t.answer;
+    if reads(t) {
+        let m = r.relation;
+        return kind_of(m);
+    }
+    0
+}
+
+fn words_in(t: Taken) -> Words
+    ensures { λ r. ⌜ r ≡ wordsIn t ⌝ }
+{
+    let r = t.answer;
+    let kind = kind_in(t);
+    [
+        t.taken as u64,
+        r.number as u64,
+        r.offset as u64,
+        kind,
+        r.count as u64,
+    ]
+}
+
+fn reals_in(t: Taken) -> Reals
+    ensures { λ r. ⌜ r ≡ realsIn t ⌝ }
+{
+    let r = t.answer;
+    let constant = whole(r.constant);
+    if reads(t) {
+        return [constant, REQUIRED];
+    }
+    [constant, 0.0]
+}
+
+fn wholes(x: [u64; 16]) -> Coefficients
+    ensures { λ r. ⌜ r ≡ map wholeAt x ⌝ }
+{
+    let mut r = [0.0; 16];
+    let mut i: usize = 0;
+    while i < 16 {
+        r[i] = whole(x[i]);
+        i += 1;
+    }
+    r
+}
+
+fn hand_over(
+    t: Taken,
+    words: &mut Words,
+    reals: &mut Reals,
+    variables: &mut Variables,
+    coefficients: &mut Coefficients,
+)
+    ensures { λ _. ⌜ now (words .exit) ≡ wordsIn t ⌝ }
+    ensures { λ _. ⌜ now (reals .exit) ≡ realsIn t ⌝ }
+    ensures { λ _. ⌜ now (variables .exit) ≡ t .answer .variables ⌝ }
+    ensures { λ _. ⌜ now (coefficients .exit) ≡ map wholeAt (t .answer .coefficients) ⌝ }
+{
+    let r = t.answer;
+    let v = r.variables;
+    let c = r.coefficients;
+    *words = words_in(t);
+    *reals = reals_in(t);
+    *variables = v;
+    *coefficients = wholes(c);
+}
+
+// The first line that ends in the piece; the caller goes on behind the bytes taken. Whether there is one.
+pub fn take(
+    cable: &mut State,
+    piece: &[u8],
+    words: &mut Words,
+    reals: &mut Reals,
+    variables: &mut Variables,
+    coefficients: &mut Coefficients,
+) -> bool
+    ensures { λ r. ⌜ handed r (now (words .exit)) (now (reals .exit)) (now (variables .exit)) (now (coefficients .exit)) (now (cable .exit)) ≡ handedBy (takes (heldBy (now (cable .entry))) (now (piece .entry))) ⌝ }
+{
+    let t = cable_lines::take(cable, piece);
+    hand_over(t, words, reals, variables, coefficients);
+    t.answered
+}
+
+// The cable is closed: the reader is as new. Whether a line had begun.
+pub fn close(
+    cable: &mut State,
+    words: &mut Words,
+    reals: &mut Reals,
+    variables: &mut Variables,
+    coefficients: &mut Coefficients,
+) -> bool
+    ensures { λ r. ⌜ handed r (now (words .exit)) (now (reals .exit)) (now (variables .exit)) (now (coefficients .exit)) (now (cable .exit)) ≡ handedBy (closes (heldBy (now (cable .entry)))) ⌝ }
+{
+    let t = cable_lines::close(cable);
+    hand_over(t, words, reals, variables, coefficients);
+    t.answered
+}
