@@ -6,13 +6,13 @@ use mathlib.Core.Bool.{Bool}
 use mathlib.Core.List.{List}
 use native.Mathlib.Omega.{arith}
 use lib.Dec.{eqb}
-use lib.Ieee.{Float, nan}
+use lib.Ieee.{nan}
 use lib.ListN.{length, getD}
-use Rattle.laws.specs.Lists.{tab, listOf, tab-ext}
+use Rattle.laws.specs.Lists.{listOf, tab-ext}
 use Rattle.steps.specs.Number.{Mark}
 use Rattle.steps.specs.State.{Basic, Variable}
 use Rattle.steps.specs.Work.{withTableau, withRows}
-use Rattle.sparse.specs.Places.{mostVariables, nextIdAt, symbolCountAt, rowCountAt, cellCountAt, variableCountAt, shouldClearAt, idsAt, variableNumbersAt, variableUsesAt, kindsAt, rowPlacesAt, variablePlacesAt, changedAt, oldValuesAt, objectiveAt}
+use Rattle.sparse.specs.Places.{nextIdAt, symbolCountAt, rowCountAt, cellCountAt, variableCountAt, shouldClearAt, idsAt, variableNumbersAt, variableUsesAt, kindsAt, rowPlacesAt, variablePlacesAt, changedAt, oldValuesAt, objectiveAt}
 use Rattle.sparse.specs.Sparse.{Sparse, symbolCount, variableCount, symbolAt, variableOf, symbolsOf, basicsOf, objectiveOf, read}
 use Rattle.cells.specs.Names.{lastPlace}
 use Rattle.substituting.specs.Named.{Named}

@@ -25,14 +25,13 @@ use Rattle.choose.specs.Chosen.{as-cond}
 use Rattle.moves.specs.Close.{closed}
 use Rattle.moves.specs.Moved.{closed-before, closed-inside, closed-after, length-closed}
 use Rattle.moves.specs.Walk.{drop-walk}
-use Rattle.sparse.specs.Places.{mostRows, rowCountAt, cellCountAt, idsAt, rowPlacesAt, variablePlacesAt, constantsAt, oldValuesAt, realsSize}
+use Rattle.sparse.specs.Places.{mostRows, rowCountAt, cellCountAt, rowPlacesAt, constantsAt, realsSize}
 use Rattle.sparse.specs.Sparse.{Sparse, symbolCount, rowCount, cellCount, symbolAt, basicOf, basicsOf, read}
 use Rattle.cells.specs.Names.{lastPlace}
 use Rattle.cells.specs.Cells.{Cells, cells, rowOf, dropped}
 use Rattle.cells.specs.Drop.{dropped-before, dropped-after}
 use Rattle.substituting.specs.Held.{Held, held-few}
-use Rattle.waist.specs.Working.{sparse, artificialOf, workOf, linesOf, Sound, lines-few, rows-lines, id-at}
-use Rattle.waist.specs.SubstituteReads.{basic-symbol}
+use Rattle.waist.specs.Working.{sparse, artificialOf, workOf, linesOf, Sound, lines-few, rows-lines, id-at, basic-symbol}
 use Rattle.waist.specs.Alone.{RowsAlone, symbols-count, symbol-alone, named-alone, work-alone}
 use Rattle.waist.specs.HeldRows.{held-dropped}
 

@@ -1,7 +1,7 @@
 -- A solved row that enters the basis of the sparse tables: they read as the steps' `enterBasis`.
 -- Assumes nothing.
 use Prim.Native.Nat.{ℕ, _+_, _≤_, _<_}
-use mathlib.Core.Path.{_≡_, refl, sym, ap, _∙_, subst}
+use mathlib.Core.Path.{_≡_, refl, sym, _∙_, subst}
 use mathlib.Core.Bool.{Bool, _&&_, cond}
 use mathlib.Core.List.{List}
 use native.Mathlib.Omega.{arith}
@@ -9,13 +9,11 @@ use lib.Ieee.{Float, nan, ne}
 use lib.ListN.{getD}
 use Rattle.steps.specs.Number.{zero64, Mark, worse}
 use Rattle.steps.specs.Symbol.{Symbol, isExternal}
-use Rattle.steps.specs.State.{Basic}
 use Rattle.steps.specs.Work.{Work, withRows, keepRow}
 use Rattle.steps.specs.Changes.{note}
 use Rattle.steps.specs.Substitute.{substitute, enterBasis}
-use Rattle.layout.specs.Layout.{kindOf}
 use Rattle.rows.specs.Reading as dense
-use Rattle.sparse.specs.Places.{mostRows, mostVariables, symbolCountAt, rowCountAt, cellCountAt, shouldClearAt, idsAt, kindsAt, rowPlacesAt, variablePlacesAt, changedAt, oldValuesAt, constraintStrengthsAt}
+use Rattle.sparse.specs.Places.{mostRows, mostVariables, symbolCountAt, rowCountAt, cellCountAt, shouldClearAt, idsAt, kindsAt, rowPlacesAt, variablePlacesAt, changedAt, constraintStrengthsAt}
 use Rattle.sparse.specs.Sparse.{Sparse, symbolCount, rowCount, symbolAt}
 use Rattle.cells.specs.Names.{lastPlace}
 use Rattle.substituting.specs.Loose.{SettledRow}
@@ -24,7 +22,7 @@ use Rattle.waist.specs.Working.{workOf, Sound}
 use Rattle.waist.specs.Substitutes.{Stays, Substitutes}
 use Rattle.waist.specs.Alone.{RowsAlone}
 use Rattle.waist.specs.Dropping.{Free}
-use Rattle.waist.specs.Keeping.{Keeps}
+use Rattle.waist.specs.Spots.{Keeps}
 use Rattle.waist.specs.Noting.{Notes}
 
 -- what no step of the tableau changes: the symbols, the variables but for their flags, and all of the stored constraints and edits

@@ -13,7 +13,7 @@ use Rattle.laws.specs.Loops.{mapIn}
 use Rattle.laws.specs.Places.{length-mapIn, mapIn-at, mapIn-before}
 use Rattle.steps.specs.Symbol.{absent}
 use Rattle.sparse.specs.Places.{mostRows}
-use Rattle.cells.specs.Names.{rowSpan, cellRoom, lastPlace, keysEnd}
+use Rattle.cells.specs.Names.{rowSpan, lastPlace}
 use Rattle.cells.specs.Cells.{Ascending, Present, lowerIn, moved, dropped, droppedAt, rowAfter, opened}
 use Rattle.cells.specs.Slide.{length-moved, moved-before, moved-in}
 use Rattle.cells.specs.Search.{lower-bound}

@@ -10,14 +10,12 @@ use lib.Dec.{eqb, ltb}
 use lib.Ieee.{Float, nan}
 use lib.ListN.{length, getD, set, length-set}
 use lib.Seq.{getD-set-same, getD-set-other}
-use borrow.Author.Tests.{ltb-true, ltb-false, lt-ltb, eqb-true, eqb-false}
+use borrow.Author.Tests.{ltb-true, ltb-false, eqb-true, eqb-false}
 use Rattle.laws.specs.Loops.{first}
 use Rattle.laws.specs.Lists.{tab, tab-ext}
-use Rattle.steps.specs.Number.{Mark}
-use Rattle.steps.specs.Symbol.{Symbol}
 use Rattle.steps.specs.Row.{Row}
 use Rattle.steps.specs.State.{Basic}
-use Rattle.steps.specs.Work.{withRows, keepRow}
+use Rattle.steps.specs.Work.{keepRow}
 use Rattle.layout.specs.Layout.{cellsOf}
 use Rattle.layout.specs.Laying.{tab-from}
 use Rattle.rows.specs.Reading as dense
@@ -25,62 +23,20 @@ use Rattle.choose.specs.Chosen.{as-cond}
 use Rattle.moves.specs.Close as place
 use Rattle.moves.specs.Moved as moved
 use Rattle.moves.specs.Walk.{keep-walk}
-use Rattle.sparse.specs.Places.{mostRows, symbolCountAt, rowCountAt, cellCountAt, idsAt, rowPlacesAt, variablePlacesAt, constantsAt, oldValuesAt, realsSize}
+use Rattle.sparse.specs.Places.{mostRows, rowCountAt, cellCountAt, rowPlacesAt, constantsAt, realsSize}
 use Rattle.sparse.specs.Sparse.{Sparse, symbolCount, rowCount, cellCount, symbolAt, basicOf, basicsOf, read}
 use Rattle.cells.specs.Names.{lastPlace, cellRoom}
-use Rattle.cells.specs.Cells.{Ascending, Cells, cells, rowOf, opened, replaced}
+use Rattle.cells.specs.Cells.{Cells, cells, rowOf, opened, replaced}
 use Rattle.cells.specs.Seek.{first-elim, first-moved}
 use Rattle.cells.specs.Open.{opened-before, opened-after}
 use Rattle.cells.specs.Replaced.{replaced-own, replaced-other}
-use Rattle.substituting.specs.Held.{Held, held-few, held-room, held-replaced}
-use Rattle.substituting.specs.Named.{Named}
+use Rattle.substituting.specs.Held.{Held, held-room, held-replaced}
 use Rattle.substituting.specs.Loose.{SettledRow}
-use Rattle.waist.specs.Working.{sparse, artificialOf, workOf, linesOf, dense-cells, Sound, lines-few, rows-lines, id-at}
-use Rattle.waist.specs.SubstituteReads.{basic-symbol}
+use Rattle.waist.specs.Working.{sparse, artificialOf, workOf, linesOf, dense-cells, Sound, lines-few, id-at, basic-symbol}
 use Rattle.waist.specs.Alone.{RowsAlone, symbols-count, symbol-alone, named-alone, work-alone}
 use Rattle.waist.specs.HeldRows.{raisable, held-opened}
 use Rattle.waist.specs.Dropping.{Free, basic-by}
-
--- the first row whose place is past p
-unfoldable pub spotOf : ℕ → ℕ → List ℕ → ℕ
-spotOf p r bytes = first (λ i. ltb p (getD bytes (rowPlacesAt + i) 0)) (λ i. i) (1 + r) 1 (1 + r)
-
--- the row comes to row z: the rows from there on go one up, and the artificial objective with them
-unfoldable pub keptAt : ℕ → Bool → ℕ → List Float → Sparse → Sparse
-keptAt z art p row t =
-    let c : Cells = replaced (cellCount t) z (symbolCount t) row (opened (cellCount t) z (t .keys)) (t .values) in
-    sparse (set (set (t .words) rowCountAt (rowCount t + 1)) cellCountAt (c .size)) (c .keys) (place.opened (rowPlacesAt + z) (rowPlacesAt + (rowCount t + 1)) p (t .bytes))
-    (place.opened (constantsAt + z) (constantsAt + (linesOf art t + 1)) (getD row 0 nan) (t .reals)) (c .vals)
-
-pub record Keeps (art : Bool) (p : ℕ) (row : List Float) (t u : Sparse) : Type 0 where
-  pub reads : (a : Mark) (v : ℕ) → workOf art a v u ≡ withRows (keepRow (record { symbol = symbolAt t p; row = dense.rowOf (symbolCount t) row }) (workOf art a v t .tableau .rows)) (workOf art a v t)
-  pub sound : Sound art u
-  pub alone : RowsAlone t u
-  pub more : rowCount u ≡ rowCount t + 1
-
--- places stand as their ids do
-same-order : (words bytes : List ℕ) → Named words bytes → (p q : ℕ) → 1 ≤ p → p ≤ getD words symbolCountAt 0 → 1 ≤ q → q ≤ getD words symbolCountAt 0 → ltb p q ≡ ltb (getD words (idsAt + p) 0) (getD words (idsAt + q) 0)
-same-order words bytes n p q a b c d = go (ltb p q) refl
-  where
-    not-less : (x y : ℕ) → y ≤ x → ltb x y ≡ false
-    not-less x y l = by (ltb x y) refl
-      where
-        by : (z : Bool) → ltb x y ≡ z → z ≡ false
-        by true e = absurd (omega (arith, ltb-true x y e, l))
-        by false e = refl
-
-    go : (z : Bool) → ltb p q ≡ z → z ≡ ltb (getD words (idsAt + p) 0) (getD words (idsAt + q) 0)
-    go true e = sym (lt-ltb _ _ (n .up p q a (ltb-true p q e) d))
-    go false e = sym (not-less _ _ (by (eqb p q) refl))
-      where
-        by : (z : Bool) → eqb p q ≡ z → getD words (idsAt + q) 0 ≤ getD words (idsAt + p) 0
-        by true f = let o = eqb-true p q f in subst (λ (x : ℕ). getD words (idsAt + q) 0 ≤ getD words (idsAt + x) 0) (sym o) (omega arith)
-        by false f =
-            let o = eqb-false p q f in
-            let l = ltb-false p q e in
-            let m : q < p = omega (arith, l, o) in
-            let u = n .up q p c m b in
-            omega (arith, u)
+use Rattle.waist.specs.Spots.{spotOf, keptAt, Keeps, same-order}
 
 module _ (art : Bool) (p : ℕ) (row : List Float) (t : Sparse) (so : Sound art t) (low : 1 ≤ p) (high : p ≤ symbolCount t) (free : Free p t) (fit : rowCount t + 1 < mostRows) (ok : SettledRow (symbolCount t) row) where
   abbrev r : ℕ
@@ -194,8 +150,6 @@ module _ (art : Bool) (p : ℕ) (row : List Float) (t : Sparse) (so : Sound art 
   constant-after q a b =
       let e : suc (constantsAt + q) ≡ constantsAt + suc q = omega arith in
       rw e at (moved.opened-inside (constantsAt + z) (constantsAt + (count + 1)) (getD row 0 nan) (t .reals) reals-below reals-room nan (constantsAt + q) (omega (arith, a)) (omega (arith, b)))
-
-  -- ---- cells
 
   wider : Held (count + 1) n (opened n z (t .keys)) (t .values)
   wider = let s = spot .from in let h = spot .to in let k = count-up in held-opened count n z (t .keys) (t .values) (so .held) few s (omega (arith, h, k))
@@ -393,12 +347,6 @@ module _ (art : Bool) (p : ℕ) (row : List Float) (t : Sparse) (so : Sound art 
       h : z ≤ 1 + r
       h = spot .to
 
-      X : ℕ
-      X = getD (u .bytes) (rowPlacesAt + x) 0
-
-      Y : ℕ
-      Y = getD (u .bytes) (rowPlacesAt + y) 0
-
       shifted : (q : ℕ) → z < q → q ≤ r + 1 → getD (u .bytes) (rowPlacesAt + q) 0 ≡ at (q - 1)
       shifted q f g =
           let o : suc (q - 1) ≡ q = omega (arith, f) in
@@ -407,7 +355,7 @@ module _ (art : Bool) (p : ℕ) (row : List Float) (t : Sparse) (so : Sound art 
       here : (q : ℕ) → eqb q z ≡ true → getD (u .bytes) (rowPlacesAt + q) 0 ≡ p
       here q e = subst (λ (v : ℕ). getD (u .bytes) (rowPlacesAt + v) 0 ≡ p) (sym (eqb-true q z e)) place-at
 
-      go : (i : Bool) → ltb x z ≡ i → (j : Bool) → eqb x z ≡ j → (k : Bool) → ltb y z ≡ k → (l : Bool) → eqb y z ≡ l → X < Y
+      go : (i : Bool) → ltb x z ≡ i → (j : Bool) → eqb x z ≡ j → (k : Bool) → ltb y z ≡ k → (l : Bool) → eqb y z ≡ l → getD (u .bytes) (rowPlacesAt + x) 0 < getD (u .bytes) (rowPlacesAt + y) 0
       go true e j f true g l i = rw (place-before x (ltb-true x z e), place-before y (ltb-true y z g)) (so .up x y a b (omega (arith, ltb-true y z g, h)))
       go true e j f false g true i = rw (place-before x (ltb-true x z e), here y i) (before-p x a (ltb-true x z e))
       go true e j f false g false i =
@@ -448,28 +396,3 @@ module _ (art : Bool) (p : ℕ) (row : List Float) (t : Sparse) (so : Sound art 
     alone = alone;
     more = rows-more;
   }
-
--- ---- the calls of the code, over variables
-
-module _ (art : Bool) (p : ℕ) (row : List Float) (t : Sparse) (so : Sound art t) where
-  tables-by : (z count size : ℕ) (ws ks ks' bs : List ℕ) (rs vs : List Float) → count ≡ linesOf art t → ks ≡ opened (cellCount t) z (t .keys) → cells ks' vs size ≡ replaced (cellCount t) z (symbolCount t) row ks (t .values)
-      → bs ≡ place.opened (rowPlacesAt + z) (rowPlacesAt + (rowCount t + 1)) p (t .bytes) → rs ≡ place.opened (constantsAt + z) (constantsAt + (count + 1)) (getD row 0 nan) (t .reals)
-      → ws ≡ set (set (t .words) rowCountAt (rowCount t + 1)) cellCountAt size → sparse ws ks' bs rs vs ≡ keptAt z art p row t
-  unfolding keptAt
-  tables-by z count size ws ks ks' bs rs vs e k c b f h = rw (h, b, f, e, ← k, ← c) refl
-
-  -- what the code needs to lay the row down
-  pub keep-room : (z : ℕ) {ks : List ℕ} → 1 ≤ z → z ≤ 1 + rowCount t → ks ≡ opened (cellCount t) z (t .keys) → Ascending ks (cellCount t) × (cellCount t + symbolCount t ≤ cellRoom)
-  keep-room z a b e =
-      let f = lines-few art t so in
-      let k = rows-lines art t in
-      let h = held-room (linesOf art t) (cellCount t) (t .keys) (t .values) (so .held) f in
-      let m = so .named .few-symbols in
-      rw e (held-opened (linesOf art t) (cellCount t) z (t .keys) (t .values) (so .held) f a (omega (arith, b, k)) .up, omega (arith, h, m))
-
-  pub keep-calls : 1 ≤ p → p ≤ symbolCount t → Free p t → rowCount t + 1 < mostRows → SettledRow (symbolCount t) row → (z count size : ℕ) (ws ks ks' bs : List ℕ) (rs vs : List Float) → z ≡ spotOf p (rowCount t) (t .bytes) → count ≡ linesOf art t
-      → ks ≡ opened (cellCount t) z (t .keys) → cells ks' vs size ≡ replaced (cellCount t) z (symbolCount t) row ks (t .values)
-      → bs ≡ place.opened (rowPlacesAt + z) (rowPlacesAt + (rowCount t + 1)) p (t .bytes) → rs ≡ place.opened (constantsAt + z) (constantsAt + (count + 1)) (getD row 0 nan) (t .reals)
-      → ws ≡ set (set (t .words) rowCountAt (rowCount t + 1)) cellCountAt size → Keeps art p row t (sparse ws ks' bs rs vs)
-  keep-calls low high free fit ok z count size ws ks ks' bs rs vs g e k c b f h =
-      subst (Keeps art p row t) (sym (tables-by z count size ws ks ks' bs rs vs e k c b f h ∙ ap (λ (x : ℕ). keptAt x art p row t) g)) (keep-reads art p row t so low high free fit ok)

@@ -1,10 +1,13 @@
 pub mod Working
+pub mod Stepping
 pub mod SubstituteReads
 pub mod Substitutes
 pub mod Alone
 pub mod HeldRows
 pub mod Dropping
+pub mod Spots
 pub mod Keeping
+pub mod KeepCalls
 pub mod Noting
 pub mod Entering
 pub mod Pivoting

@@ -1,27 +1,22 @@
 -- A variable noted in the sparse tables: they read as the steps' `note`.
 -- Assumes nothing.
-use Prim.Native.Nat.{ℕ, _+_, _≤_, _<_}
+use Prim.Native.Nat.{ℕ, _+_, _≤_}
 use mathlib.Core.Path.{_≡_, refl, sym, ap, _∙_, subst}
 use mathlib.Core.Bool.{Bool, true, false, cond}
 use mathlib.Core.List.{List}
 use native.Mathlib.Omega.{arith}
-use lib.Ieee.{Float, nan}
 use lib.ListN.{getD}
-use Rattle.laws.specs.Lists.{tab, tab-ext}
+use Rattle.laws.specs.Lists.{tab-ext}
 use Rattle.steps.specs.Number.{Mark}
-use Rattle.steps.specs.Symbol.{Symbol}
-use Rattle.steps.specs.Row.{Row}
-use Rattle.steps.specs.State.{Basic, Changes}
 use Rattle.steps.specs.Work.{Work, withChanges}
 use Rattle.steps.specs.Changes.{varChanged, note}
-use Rattle.sparse.specs.Places.{mostRows, nextIdAt, symbolCountAt, rowCountAt, cellCountAt, shouldClearAt, rowPlacesAt, changedAt, objectiveAt}
-use Rattle.sparse.specs.Sparse.{Sparse, symbolCount, rowCount, cellCount, symbolAt, basicOf, symbolsOf, basicsOf, objectiveOf, read}
+use Rattle.sparse.specs.Places.{nextIdAt, symbolCountAt, rowCountAt, cellCountAt, shouldClearAt, rowPlacesAt}
+use Rattle.sparse.specs.Sparse.{Sparse, symbolCount, rowCount, symbolAt, basicOf, symbolsOf, basicsOf, objectiveOf, read}
 use Rattle.cells.specs.Names.{lastPlace}
 use Rattle.substituting.specs.Notes.{Noted, noted, varChangedIf}
 use Rattle.substituting.specs.Named.{NotesKept, named-kept, note-if-kept}
 use Rattle.substituting.specs.NotesRead.{noteIn, symbol-kept, changed-if-read}
-use Rattle.waist.specs.Working.{sparse, artificialOf, workOf, work-parts, linesOf, lines-same, Sound}
-use Rattle.waist.specs.SubstituteReads.{basic-symbol}
+use Rattle.waist.specs.Working.{sparse, artificialOf, workOf, work-parts, linesOf, lines-same, Sound, basic-symbol}
 use Rattle.waist.specs.Substitutes.{Stays}
 use Rattle.waist.specs.Dropping.{basic-by}
 

@@ -2,21 +2,20 @@
 -- Assumes nothing.
 use Prim.Native.Nat.{ℕ, zero, suc, _+_, _-_, _*_, _≤_, _<_}
 use mathlib.Core.Path.{_≡_, refl, sym, ap, _∙_, subst}
-use mathlib.Core.Bool.{Bool, true, false, cond}
+use mathlib.Core.Bool.{Bool, true, false}
 use mathlib.Core.List.{List, [], _∷_}
-use mathlib.Core.Option.{Option, none, some}
+use mathlib.Core.Option.{some}
 use native.Mathlib.Omega.{arith}
 use lib.Dec.{eqb, ltb}
 use lib.Ieee.{Float, nan}
 use lib.ListN.{length, getD, set, length-set}
 use lib.Seq.{getD-set-same, getD-set-other}
 use borrow.Author.Tests.{ltb-true, ltb-false, eq-eqb, ne-eqb}
-use Rattle.laws.specs.Loops.{mapIn}
-use Rattle.laws.specs.Lists.{tab, listOf, tab-ext, length-tab, getD-tab}
+use Rattle.laws.specs.Lists.{tab, tab-ext, length-tab, getD-tab}
 use Rattle.laws.specs.Places.{Every, every-at, at-every}
 use Rattle.steps.specs.Number.{zero64, minusOne64, _*₆₄_, Mark, worse}
 use Rattle.steps.specs.Symbol.{Symbol, isSymbol, absent, clearCell}
-use Rattle.steps.specs.Row.{Row, Cell, kept, wrote, stored, cellValue, cellValues, insertCell, insertSymbol, scaleCell, scaleCells, Written, insertSymbolInRow, solveForSymbol, solveForSymbols}
+use Rattle.steps.specs.Row.{Row, kept, wrote, cellValue, cellValues, insertCell, insertSymbol, scaleCell, scaleCells, Written, insertSymbolInRow, solveForSymbol, solveForSymbols}
 use Rattle.steps.specs.State.{Basic}
 use Rattle.steps.specs.Work.{Work, withTableau, withRows, marking, findRow, dropRow}
 use Rattle.steps.specs.Substitute.{enterBasis, pivot}
@@ -35,8 +34,7 @@ use Rattle.cells.specs.Load.{loaded-reads}
 use Rattle.merging.specs.Merge.{Placed}
 use Rattle.merging.specs.Substituted.{settled-absent, settled-stored, settled-insert, cell-settled}
 use Rattle.substituting.specs.Loose.{SettledRow}
-use Rattle.waist.specs.Working.{workOf, dense-cells, Sound, live-place, id-at}
-use Rattle.waist.specs.SubstituteReads.{basic-symbol}
+use Rattle.waist.specs.Working.{workOf, dense-cells, Sound, live-place, id-at, basic-symbol}
 use Rattle.waist.specs.Dropping.{Free, Drops}
 use Rattle.waist.specs.Entering.{Later, later-then, later-alone, later-symbol, later-count, Enters}
 

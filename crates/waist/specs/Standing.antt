@@ -4,7 +4,7 @@ use Prim.Native.Nat.{ℕ, zero, suc, _+_, _≤_, _<_}
 use mathlib.Core.Path.{_≡_, refl, sym, ap, _∙_, subst}
 use mathlib.Core.Logic.{inl, inr}
 use mathlib.Core.Bool.{Bool, true, false}
-use mathlib.Core.List.{List, [], _∷_}
+use mathlib.Core.List.{_∷_}
 use native.Mathlib.Omega.{arith}
 use lib.Dec.{eqb}
 use lib.ListN.{getD}
@@ -20,8 +20,7 @@ use Rattle.keeps.specs.Pivots.{pivot-fits}
 use Rattle.sparse.specs.Places.{rowPlacesAt}
 use Rattle.sparse.specs.Sparse.{Sparse, symbolCount, rowCount, symbolAt, basicOf, symbolsOf, basicsOf, read}
 use Rattle.substituting.specs.Named.{same-place}
-use Rattle.waist.specs.Working.{workOf, Sound, id-at}
-use Rattle.waist.specs.SubstituteReads.{basic-symbol}
+use Rattle.waist.specs.Working.{workOf, Sound, id-at, basic-symbol}
 use Rattle.waist.specs.Dropping.{Free}
 use Rattle.waist.specs.Pivoting.{Pivots}
 

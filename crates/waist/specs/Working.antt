@@ -100,6 +100,10 @@ named-words w w' b n l f =
       variables = λ i a. rw c (n .variables i (rw v at a));
     }
 
+pub basic-symbol : (t : Sparse) (i : ℕ) → basicOf t i .symbol ≡ symbolAt t (getD (t .bytes) (rowPlacesAt + i) 0)
+unfolding basicOf
+basic-symbol t i = refl
+
 -- ---- a live place
 
 pub id-at : (t : Sparse) (p : ℕ) → symbolAt t p .id ≡ getD (t .words) (idsAt + p) 0

@@ -8,7 +8,7 @@ ghost use Rattle.sparse.specs.Places.{mostRows, symbolCountAt, rowCountAt, byte
 ghost use Rattle.substituting.specs.Loose.{SettledRow};
 ghost use Rattle.waist.specs.Working.{sparse, Sound};
 ghost use Rattle.waist.specs.Dropping.{Free, Drops};
-ghost use Rattle.waist.specs.Keeping.{spotOf, Keeps};
+ghost use Rattle.waist.specs.Spots.{spotOf, Keeps};
 use crate::substitution::lines_of;
 use cells::ROW_ROOM;
 use cells::row::replace_row;

@@ -6,7 +6,7 @@ use native.Mathlib.Omega.{arith}
 use borrow.Author.Needs.{needs}
 use Rattle.substituting.specs.Held.{held-room}
 use Rattle.waist.specs.Working.{lines-by}
-use Rattle.waist.specs.Keeping.{keep-room, keep-calls}
+use Rattle.waist.specs.KeepCalls.{keep-room, keep-calls}
 use Rattle.waist.proofs.basis.keep_row.Statement.{statement}
 use Rattle.waist.proofs.basis.keep_row.Tie as tie
 

@@ -9,7 +9,7 @@ use borrow.Author.Needs.{needs}
 use borrow.Author.Tests.{le-ltb, lt-ltb}
 use Rattle.laws.specs.Loops.{first, first-here, first-next, first-last}
 use Rattle.sparse.specs.Places.{rowPlacesAt}
-use Rattle.waist.specs.Keeping.{spotOf}
+use Rattle.waist.specs.Spots.{spotOf}
 use Rattle.waist.proofs.basis.row_spot.Statement.{statement}
 use Rattle.waist.proofs.basis.row_spot.Tie as tie
 
