@@ -17,6 +17,7 @@ use Rattle.cells.specs.Cells.{Ascending, Cells, cells, cellIn, cellAt, rowOf, p
 use Rattle.cells.specs.Reads.{ascending-lt, cell-within}
 use Rattle.cells.specs.Pack.{Packing, compress-reads}
 use Rattle.cells.specs.Replace.{packed-size}
+use Rattle.cells.specs.Replaced.{counted-le}
 
 -- the rows of k cells each, as the rows i, i + 1, .. from the next place on
 unfoldable pub rowsLaid : ℕ → ℕ → List (List Float) → Cells → Cells
@@ -160,3 +161,12 @@ module _ (k : ℕ) (rs : List (List Float)) (keys : List ℕ) (vals : List Float
           let o : 1 + q - 1 ≡ q = omega arith in
           let d : p ≡ suc (p - 1) = omega (arith, a) in
           subst (λ (y : ℕ). settled (getD (zero64 ∷ getD rs (1 + q - 1) []) y nan) ≡ getD (zero64 ∷ getD rs q []) y nan) (sym d) (rw o (s q (p - 1) h (omega (arith, a, b))))
+
+-- ---- room for rows: 129 cells each
+
+pub room-fits : (k : ℕ) (rs : List (List Float)) (at n : ℕ) → k ≤ 129 → at + length rs * 129 ≤ n → Room k rs at n
+unfolding Room
+room-fits k [] at n h g = tt
+room-fits k (r ∷ rs) at n h g =
+    let c = counted-le k (zero64 ∷ r) in
+    (omega (arith, h, g), room-fits k rs (at + counted k (zero64 ∷ r)) n h (omega (arith, h, g, c)))
