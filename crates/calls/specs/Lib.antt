@@ -5,8 +5,8 @@ pub mod Tested
 pub mod Passed
 pub mod Known
 pub mod Numbers
-pub mod Placed
 pub mod Begin
+pub mod Placed
 pub mod Closing
 pub mod Stored
 pub mod Concluding

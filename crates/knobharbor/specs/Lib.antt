@@ -1,5 +1,5 @@
 -- What the C names answer and leave, beside the calls that they make.
 pub mod Given
-pub mod Adding
 pub mod Places
+pub mod Adding
 pub mod HandedOn
