@@ -12,11 +12,12 @@ use Rattle.laws.specs.Given.{Then}
 use Rattle.laws.specs.Loops.{mapIn}
 use Rattle.steps.specs.State.{State}
 use Rattle.steps.specs.Calls.{Answer, Result}
-use Rattle.layout.specs.Layout.{Tables, tables}
+use Rattle.layout.specs.Layout.{Tables, tables, headSize, itemsSize, rowsSize}
 use Rattle.layout.specs.Rooms.{lengthsRight, both}
 use Rattle.reading.specs.Reads.{reads}
 use Rattle.shell.specs.Room.{zeroNames, zeroReals, zeroRow, cleared}
 use Rattle.shell.specs.Shell.{Called, called, refused18, callOf}
+use Rattle.shell.specs.Reset.{resetOf}
 
 pub record Lists : Type 0 where
   pub heads : List (List ℕ)
@@ -68,10 +69,10 @@ module _ {A : Type 0} where
   put-each (x ∷ []) f e q = rw q refl
   put-each (x ∷ y ∷ l) f e q = absurd (omega (arith, eqb-true (suc (suc (length l))) 1 e))
 
-  wrong : (l : List (List A)) (k : ℕ) → eqb (length l) 1 ≡ false → eqb (length (only l)) (suc k) ≡ false
-  wrong [] k e = ne-eqb 0 (suc k) (λ z. omega (arith, z))
-  wrong (x ∷ []) k e = absurd (true≢false e)
-  wrong (x ∷ y ∷ l) k e = ne-eqb 0 (suc k) (λ z. omega (arith, z))
+  wrong : (l : List (List A)) (k : ℕ) → 0 < k → eqb (length l) 1 ≡ false → eqb (length (only l)) k ≡ false
+  wrong [] k p e = ne-eqb 0 k (λ z. omega (arith, p, z))
+  wrong (x ∷ []) k p e = absurd (true≢false e)
+  wrong (x ∷ y ∷ l) k p e = ne-eqb 0 k (λ z. omega (arith, p, z))
 
 -- ---- one that is not
 
@@ -88,7 +89,7 @@ fails false b c d i j k m z = rw (i refl) refl
 
 unfit : (l : Lists) → onceEach l ≡ false → lengthsRight (lentOnce l) ≡ false
 unfolding lengthsRight
-unfit l h = fails (eqb (length (l .heads)) 1) (eqb (length (l .names)) 1) (eqb (length (l .reals)) 1) (eqb (length (l .rows)) 1) (wrong (l .heads) 195) (wrong (l .names) 127) (wrong (l .reals) 127) (wrong (l .rows) 50) h
+unfit l h = fails (eqb (length (l .heads)) 1) (eqb (length (l .names)) 1) (eqb (length (l .reals)) 1) (eqb (length (l .rows)) 1) (wrong (l .heads) headSize (omega arith)) (wrong (l .names) itemsSize (omega arith)) (wrong (l .reals) itemsSize (omega arith)) (wrong (l .rows) rowsSize (omega arith)) h
 
 unread : (l : Lists) → onceEach l ≡ false → reads (lentOnce l) ≡ false
 unfolding reads
@@ -153,3 +154,32 @@ module _ (t w : Lists) where
     fit-room e =
         let q = parts w (both (onceEach t) (onceEach w) fit .1) in
         rw (put-each (w .heads) (emptied 0) (q .0) (ap (λ (x : Tables). x .head) e), put-each (w .names) (emptied zeroNames) (q .1) (ap (λ (x : Tables). x .names) e), put-each (w .reals) (emptied zeroReals) (q .2) (ap (λ (x : Tables). x .reals) e), put-each (w .rows) (emptied zeroRow) (q .3) (ap (λ (x : Tables). x .rows) e)) refl
+
+-- ---- reset
+
+module _ (t : Lists) {a : Bool} (p : a ≡ onceEach t) where
+  pub reset-fit-by : not a ≡ false → onceEach t ≡ true
+  reset-fit-by z = sym p ∙ not-false a z
+
+  pub reset-unfit-by : not a ≡ true → onceEach t ≡ false
+  reset-unfit-by z = sym p ∙ not-true a z
+
+module _ (t : Lists) where
+  pub unfit-reset : {a : Answer} → a ≡ refused18 → onceEach t ≡ false → called a (lentOnce t) ≡ resetOf (lentOnce t)
+  unfolding resetOf
+  unfit-reset q h = rw (q, unfit t h) refl
+
+  pub unfit-kept : onceEach t ≡ false → Then (not (onceEach t)) (t ≡ t)
+  unfit-kept e = rw e refl
+
+  pub fit-kept : onceEach t ≡ true → (u : Lists) → Then (not (onceEach t)) (u ≡ t)
+  fit-kept e u = rw e tt
+
+  pub first-places : onceEach t ≡ true → (0 < length (t .heads)) × (0 < length (t .names)) × (0 < length (t .reals)) × (0 < length (t .rows))
+  first-places e = some-place t e
+
+  pub fit-reset : onceEach t ≡ true → {h : List ℕ} {n : List (List ℕ)} {r v : List (List Float)} {a : Answer} → called a (tables h n r v) ≡ resetOf (firsts t)
+      → called a (lentOnce (lists (set (t .heads) 0 h) (set (t .names) 0 n) (set (t .reals) 0 r) (set (t .rows) 0 v))) ≡ resetOf (lentOnce t)
+  fit-reset fit {h} {n} {r} {v} e =
+      let q = parts t fit in
+      rw (put (t .heads) h (q .0), put (t .names) n (q .1), put (t .reals) r (q .2), put (t .rows) v (q .3), only-first t fit) e

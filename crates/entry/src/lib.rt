@@ -1,4 +1,4 @@
-// The changing call over slices of arrays: "18 | a lent table has the wrong length" where one is lent other than once.
+// The changing call and reset over slices of arrays: "18 | a lent table has the wrong length" where one is lent other than once.
 ghost use mathlib.Core.Path.{_≡_};
 ghost use mathlib.Core.Bool.{_&&_, not};
 ghost use lib.ListN.{length};
@@ -6,6 +6,7 @@ ghost use Rattle.laws.specs.Given.{Then};
 ghost use Rattle.steps.specs.Changing.{made};
 ghost use Rattle.shell.specs.Room.{zeroNames, zeroReals, zeroRow};
 ghost use Rattle.shell.specs.Shell.{answerOf, called, callOf};
+ghost use Rattle.shell.specs.Reset.{resetOf};
 ghost use Rattle.changes.specs.Change.{changingOf};
 ghost use Rattle.entry.specs.Entry.{lists, onceEach, lentOnce, each, emptied, emptiedLists};
 use changes::Change;
@@ -110,4 +111,21 @@ pub fn change(
         p,
         budget,
     )
+}
+
+// "Reset refuses only wrong lengths."
+pub fn reset(
+    head: &mut [Head],
+    names: &mut [Names],
+    reals: &mut [Reals],
+    rows: &mut [Rows],
+) -> Answer
+    ensures { λ r. ⌜ called (answerOf r) (lentOnce (lists (now (head .exit)) (now (names .exit)) (now (reals .exit)) (now (rows .exit)))) ≡ resetOf (lentOnce (lists (now (head .entry)) (now (names .entry)) (now (reals .entry)) (now (rows .entry)))) ⌝ }
+    ensures { λ _. ⌜ Then (not (onceEach (lists (now (head .entry)) (now (names .entry)) (now (reals .entry)) (now (rows .entry))))) (lists (now (head .exit)) (now (names .exit)) (now (reals .exit)) (now (rows .exit)) ≡ lists (now (head .entry)) (now (names .entry)) (now (reals .entry)) (now (rows .entry))) ⌝ }
+{
+    let ok = once(head, names, reals, rows);
+    if !ok {
+        return shell::refuse18();
+    }
+    shell::reset(&mut head[0], &mut names[0], &mut reals[0], &mut rows[0])
 }
