@@ -16,7 +16,7 @@ use sparse::Values;
 use sparse::Words;
 
 // Which of the n words from place a on is x; n if none is.
-fn word_from(words: &Words, a: usize, n: usize, x: u64) -> usize
+pub fn word_from(words: &Words, a: usize, n: usize, x: u64) -> usize
     requires { ⌜ a + n ≤ wordsSize ⌝ }
     ensures { λ r. ⌜ r ≡ placeFrom (now (words .entry)) a n x ⌝ }
     ensures { λ r. ⌜ r ≤ n ⌝ }
@@ -31,7 +31,7 @@ fn word_from(words: &Words, a: usize, n: usize, x: u64) -> usize
     n
 }
 
-fn byte_from(bytes: &Bytes, a: usize, n: usize, x: u8) -> usize
+pub fn byte_from(bytes: &Bytes, a: usize, n: usize, x: u8) -> usize
     requires { ⌜ a + n ≤ bytesSize ⌝ }
     ensures { λ r. ⌜ r ≡ placeFrom (now (bytes .entry)) a n x ⌝ }
     ensures { λ r. ⌜ r ≤ n ⌝ }
@@ -72,7 +72,7 @@ fn value_in(words: &Words, bytes: &Bytes, reals: &Reals, v: usize, r: usize, n: 
     }
 }
 
-fn edit_in(words: &Words, bytes: &Bytes, v: usize, e: usize, n: u64) -> bool
+pub fn edit_in(words: &Words, bytes: &Bytes, v: usize, e: usize, n: u64) -> bool
     requires { ⌜ v ≤ mostVariables ⌝ }
     requires { ⌜ e ≤ mostConstraints ⌝ }
     ensures { λ b. ⌜ b ≡ editIn (now (words .entry)) (now (bytes .entry)) v e n ⌝ }

@@ -20,7 +20,7 @@ use sparse::OBJECTIVE;
 use sparse::Reals;
 
 // The cell at place p gets o times k; an absent o is passed over.
-fn insert_at(reals: &mut Reals, p: usize, o: f64, k: f64, before: Wrote) -> Wrote
+pub fn insert_at(reals: &mut Reals, p: usize, o: f64, k: f64, before: Wrote) -> Wrote
     requires { ⌜ p ≤ lastPlace ⌝ }
     ensures { λ r. ⌜ markOf r ≡ insertedMark objectiveBound k (markOf before) (getD (now (reals .entry)) (objectiveAt + p) nan) o ⌝ }
     ensures { λ _. ⌜ now (reals .exit) ≡ set (now (reals .entry)) (objectiveAt + p) (insertedValue k (getD (now (reals .entry)) (objectiveAt + p) nan) o) ⌝ }

@@ -15,8 +15,10 @@ use Rattle.steps.specs.Work.{withTableau, withRows}
 use Rattle.sparse.specs.Places.{nextIdAt, symbolCountAt, rowCountAt, cellCountAt, variableCountAt, shouldClearAt, idsAt, variableNumbersAt, variableUsesAt, kindsAt, rowPlacesAt, variablePlacesAt, changedAt, oldValuesAt, objectiveAt}
 use Rattle.sparse.specs.Sparse.{Sparse, symbolCount, variableCount, symbolAt, variableOf, symbolsOf, basicsOf, objectiveOf, read}
 use Rattle.cells.specs.Names.{lastPlace}
+use Rattle.substituting.specs.Notes.{noted}
 use Rattle.substituting.specs.Named.{Named}
 use Rattle.waist.specs.Working.{artificialOf, workOf, work-parts}
+use Rattle.waist.specs.Owning.{Owners, Low, owners-by}
 
 pub record RowsAlone (t u : Sparse) : Type 0 where
   pub words : (q : ℕ) → (q ≡ rowCountAt → ⊥) → (q ≡ cellCountAt → ⊥) → getD (u .words) q 0 ≡ getD (t .words) q 0
@@ -69,6 +71,14 @@ module _ (t u : Sparse) (n : Named (t .words) (t .bytes)) (k : RowsAlone t u) wh
         up = λ p q a b d. rw (word (idsAt + p) (omega arith), word (idsAt + q) (omega arith)) (n .up p q a b (rw symbols-count at d));
         variables = λ i a. rw (k .later (variablePlacesAt + i) (omega arith), symbols-count) (n .variables i (rw v at a));
       }
+
+  pub owners-alone : Owners t → Owners u
+  owners-alone = owners-by t u n (λ q a b c. k .words q b c) (k .low) (λ q a b. k .later q a) low
+    where
+      low : Low (noted (t .words) (t .bytes)) → Low (noted (u .words) (u .bytes))
+      low l =
+          let v : variableCount u ≡ variableCount t = word variableCountAt (omega arith) in
+          ((λ i a. rw (k .later (changedAt + i) (omega arith)) (l .0 i (rw v at a))), rw (word shouldClearAt (omega arith)) (l .1))
 
   -- only the rows are others
   pub work-alone : (art : Bool) (a : Mark) (v : ℕ) {rs : List Basic} → artificialOf art u ≡ artificialOf art t → basicsOf u ≡ rs → workOf art a v u ≡ withRows rs (workOf art a v t)

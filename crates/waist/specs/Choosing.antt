@@ -15,7 +15,7 @@ use Rattle.laws.specs.Lists.{tab}
 use Rattle.steps.specs.Number.{Mark, belowZero}
 use Rattle.steps.specs.Symbol.{External, Slack, Error, Dummy, Symbol, isExternal, isRestricted, isDummy, firstSymbol}
 use Rattle.steps.specs.State.{Basic}
-use Rattle.steps.specs.Optimise.{getDualLeavingRow, theObjective, goalCells, getEnteringSymbol}
+use Rattle.steps.specs.Optimise.{getDualLeavingRow, Goal, theObjective, theArtificial, goalCells, getEnteringSymbol}
 use Rattle.layout.specs.Layout.{kindOf}
 use Rattle.layout.specs.Laying.{tab-from}
 use Rattle.choose.specs.declared.Found.{Found}
@@ -27,6 +27,11 @@ use Rattle.sparse.specs.Places.{symbolCountAt, rowCountAt, kindsAt, rowPlacesAt
 use Rattle.sparse.specs.Sparse.{Sparse, symbolAt, basicOf, symbolsOf, basicsOf, objectiveOf, read}
 use Rattle.substituting.specs.Notes.{isExternalKind}
 use Rattle.waist.specs.Working.{workOf}
+
+-- what a pass optimises
+abbrev pub goalOf : Bool → Goal
+goalOf true = theArtificial
+goalOf false = theObjective
 
 unfoldable pub isDummyKind : ℕ → Bool
 isDummyKind k = isDummy (record { id = 0; kind = kindOf k })

@@ -1,6 +1,6 @@
 -- A row that goes from the sparse tables: they read as the steps' `dropRow`.
 -- Assumes nothing.
-use Prim.Native.Nat.{ℕ, zero, suc, _+_, _-_, _≤_, _<_}
+use Prim.Native.Nat.{ℕ, zero, suc, _+_, _-_, _%_, _≤_, _<_}
 use mathlib.Core.Path.{_≡_, refl, sym, ap, _∙_, subst}
 use mathlib.Core.Bool.{Bool, true, false, cond}
 use mathlib.Core.List.{List, [], _∷_}
@@ -27,13 +27,14 @@ use Rattle.moves.specs.Moved.{closed-before, closed-inside, closed-after, lengt
 use Rattle.moves.specs.Walk.{drop-walk}
 use Rattle.sparse.specs.Places.{mostRows, rowCountAt, cellCountAt, rowPlacesAt, constantsAt, realsSize}
 use Rattle.sparse.specs.Sparse.{Sparse, symbolCount, rowCount, cellCount, symbolAt, basicOf, basicsOf, read}
-use Rattle.cells.specs.Names.{lastPlace}
+use Rattle.cells.specs.Names.{rowSpan, lastPlace}
 use Rattle.cells.specs.Cells.{Cells, cells, rowOf, dropped}
 use Rattle.cells.specs.Drop.{dropped-before, dropped-after}
 use Rattle.substituting.specs.Held.{Held, held-few}
 use Rattle.waist.specs.Working.{sparse, artificialOf, workOf, linesOf, Sound, lines-few, rows-lines, id-at, basic-symbol}
-use Rattle.waist.specs.Alone.{RowsAlone, symbols-count, symbol-alone, named-alone, work-alone}
-use Rattle.waist.specs.HeldRows.{held-dropped}
+use Rattle.waist.specs.Owning.{Inside, Kept}
+use Rattle.waist.specs.Alone.{RowsAlone, symbols-count, symbol-alone, named-alone, owners-alone, work-alone}
+use Rattle.waist.specs.HeldRows.{held-dropped, within-dropped}
 
 -- row i goes: the rows after it come one down, and the artificial objective with them
 unfoldable pub droppedIn : Bool → ℕ → Sparse → Sparse
@@ -53,6 +54,9 @@ pub record Drops (art : Bool) (i : ℕ) (t u : Sparse) : Type 0 where
   pub fewer : rowCount u ≡ rowCount t - 1
   -- a place that no row was for, none is for
   pub free : (p : ℕ) → Free p t → Free p u
+  -- the symbol that row i was for is not basic
+  pub gone : Free (getD (t .bytes) (rowPlacesAt + i) 0) u
+  pub kept : Kept t u
 
 pub basic-by : {x y : Basic} → x .symbol ≡ y .symbol → x .row ≡ y .row → x ≡ y
 basic-by {x} {y} p q = whole
@@ -243,12 +247,19 @@ module _ (art : Bool) (i : ℕ) (t : Sparse) (so : Sound art t) (low : 1 ≤ i) 
   unfolding droppedIn
   held-c = let l = in-lines in held-dropped count (cellCount t) i (t .keys) (t .values) (so .held) few low (omega (arith, high, l))
 
-  left : (P : ℕ → Type 0) → ((q : ℕ) → 1 ≤ q → q ≤ r → P (getD (t .bytes) (rowPlacesAt + q) 0)) → (q : ℕ) → 1 ≤ q → q ≤ rowCount u → P (getD (u .bytes) (rowPlacesAt + q) 0)
+  left : (P : ℕ → Type 0) → ((q : ℕ) → 1 ≤ q → q ≤ r → (q ≡ i → ⊥) → P (getD (t .bytes) (rowPlacesAt + q) 0)) → (q : ℕ) → 1 ≤ q → q ≤ rowCount u → P (getD (u .bytes) (rowPlacesAt + q) 0)
   left P f q a b = go (ltb q i) refl
     where
       go : (z : Bool) → ltb q i ≡ z → P (getD (u .bytes) (rowPlacesAt + q) 0)
-      go true e = let l = ltb-true q i e in subst P (sym (place-before q l)) (f q a (omega (arith, l, high)))
-      go false e = let m : q < r = let k = rows-fewer in omega (arith, b, k, low, high) in subst P (sym (place-after q (ltb-false q i e) m)) (f (suc q) (omega arith) (omega (arith, m)))
+      go true e = let l = ltb-true q i e in subst P (sym (place-before q l)) (f q a (omega (arith, l, high)) (λ z. omega (arith, z, l)))
+      go false e = let m : q < r = let k = rows-fewer in omega (arith, b, k, low, high) in let l = ltb-false q i e in subst P (sym (place-after q l m)) (f (suc q) (omega arith) (omega (arith, m)) (λ z. omega (arith, z, l)))
+
+  gone-free : Free (getD (t .bytes) (rowPlacesAt + i) 0) u
+  gone-free = left (λ x. x ≡ getD (t .bytes) (rowPlacesAt + i) 0 → ⊥) λ q a b d e. go q a b d e (ltb q i) refl
+    where
+      go : (q : ℕ) → 1 ≤ q → q ≤ r → (q ≡ i → ⊥) → getD (t .bytes) (rowPlacesAt + q) 0 ≡ getD (t .bytes) (rowPlacesAt + i) 0 → (z : Bool) → ltb q i ≡ z → ⊥
+      go q a b d e true f = let l = so .up q i a (ltb-true q i f) high in omega (arith, l, e)
+      go q a b d e false f = let l = ltb-false q i f in let m = so .up i q low (omega (arith, l, d)) b in omega (arith, m, e)
 
   ups : (p q : ℕ) → 1 ≤ p → p < q → q ≤ rowCount u → getD (u .bytes) (rowPlacesAt + p) 0 < getD (u .bytes) (rowPlacesAt + q) 0
   ups p q a b d = go (ltb p i) refl (ltb q i) refl
@@ -271,10 +282,17 @@ module _ (art : Bool) (i : ℕ) (t : Sparse) (so : Sound art t) (low : 1 ≤ i) 
     named = named-alone t u (so .named) alone;
     held = rw (lines-fewer, size-is) held-c;
     few = let f = so .few in let k = rows-fewer in omega (arith, f, k);
-    rows = λ q a b. rw symbol-count (left (λ x. (1 ≤ x) × (x ≤ w)) (so .rows) q a b);
+    rows = λ q a b. rw symbol-count (left (λ x. (1 ≤ x) × (x ≤ w)) (λ q a b d. so .rows q a b) q a b);
     up = ups;
     long = reals-long;
   }
+
+  keys-within : Inside t → (j : ℕ) → j < c .size → getD (u .keys) j 0 % rowSpan ≤ w
+  unfolding droppedIn
+  keys-within h = let l = in-lines in within-dropped count (cellCount t) i (t .keys) (t .values) (so .held) few low (omega (arith, high, l)) w h
+
+  kept : Kept t u
+  kept = record { inside = λ h. rw (size-is, symbol-count) (keys-within h); owners = owners-alone t u (so .named) alone }
 
   pub drop-reads : Drops art i t u
   unfolding workOf read
@@ -283,7 +301,9 @@ module _ (art : Bool) (i : ℕ) (t : Sparse) (so : Sound art t) (low : 1 ≤ i) 
     sound = sound;
     alone = alone;
     fewer = rows-fewer;
-    free = λ p f. left (λ x. x ≡ p → ⊥) f;
+    free = λ p f. left (λ x. x ≡ p → ⊥) (λ q a b d. f q a b);
+    gone = gone-free;
+    kept = kept;
   }
 
 -- the calls of the code, over variables

@@ -19,6 +19,7 @@ use Rattle.cells.specs.Names.{lastPlace}
 use Rattle.substituting.specs.Loose.{SettledRow}
 use Rattle.substituting.specs.Notes.{isExternalKind}
 use Rattle.waist.specs.Working.{workOf, Sound}
+use Rattle.waist.specs.Owning.{Kept, kept-then}
 use Rattle.waist.specs.Substitutes.{Stays, Substitutes}
 use Rattle.waist.specs.Alone.{RowsAlone}
 use Rattle.waist.specs.Dropping.{Free}
@@ -75,6 +76,7 @@ pub record Enters (art : Bool) (at : ℕ) (row : List Float) (t u : Sparse) (m :
   pub sound : Sound art u
   pub later : Later t u
   pub more : rowCount u ≡ rowCount t + 1
+  pub kept : Kept t u
 
 pub external-at : (t : Sparse) (p : ℕ) → isExternal (symbolAt t p) ≡ isExternalKind (getD (t .bytes) (kindsAt + p) 0)
 unfolding symbolAt isExternalKind isExternal
@@ -129,4 +131,5 @@ module _ (art : Bool) (at : ℕ) (row : List Float) (t : Sparse) (so : Sound art
           sound = k .sound;
           later = later-then both (later-alone (k .alone));
           more = k .more ∙ rw rows-same refl;
+          kept = kept-then (s .kept) (kept-then (n .kept) (k .kept));
         }

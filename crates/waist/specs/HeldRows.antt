@@ -116,6 +116,11 @@ module _ (lines n i : ℕ) (keys : List ℕ) (vals : List Float) (h : Held lines
         ascends : Ascending (dropped n i keys vals .keys) (dropped n i keys vals .size)
         ascends = dropped-ascends n i keys vals (h .up, in-keys, in-vals)
 
+    -- no cell comes to stand past place w
+    pub within-dropped : (w : ℕ) → ((j : ℕ) → j < n → getD keys j 0 % rowSpan ≤ w) → (j : ℕ) → j < dropped n i keys vals .size → getD (dropped n i keys vals .keys) j 0 % rowSpan ≤ w
+    unfolding dropped droppedAt
+    within-dropped w g = each (λ x. x % rowSpan ≤ w) (λ j l u. g j l) (λ j l u. let p = g j l in omega (arith, p, u))
+
   -- ---- line i comes, without a cell
 
   module _ (first : 1 ≤ i) (last : i ≤ lines + 1) where
@@ -148,3 +153,7 @@ module _ (lines n i : ℕ) (keys : List ℕ) (vals : List Float) (h : Held lines
 
         ascends : Ascending (opened n i keys) n
         ascends = opened-ascends n i keys vals (h .up, in-keys, raisable)
+
+    pub within-opened : (w : ℕ) → ((j : ℕ) → j < n → getD keys j 0 % rowSpan ≤ w) → (j : ℕ) → j < n → getD (opened n i keys) j 0 % rowSpan ≤ w
+    unfolding opened
+    within-opened w g = raised (λ x. x % rowSpan ≤ w) (λ j l u. g j l) (λ j l. let p = g j l in omega (arith, p))

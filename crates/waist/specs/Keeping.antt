@@ -1,6 +1,6 @@
 -- A row that comes into the sparse tables, in its place by ascending id: they read as the steps' `keepRow`.
 -- Assumes nothing.
-use Prim.Native.Nat.{ℕ, zero, suc, _+_, _-_, _≤_, _<_}
+use Prim.Native.Nat.{ℕ, zero, suc, _+_, _-_, _%_, _≤_, _<_}
 use mathlib.Core.Path.{_≡_, refl, sym, ap, _∙_, subst}
 use mathlib.Core.Bool.{Bool, true, false, cond}
 use mathlib.Core.List.{List, [], _∷_}
@@ -25,18 +25,20 @@ use Rattle.moves.specs.Moved as moved
 use Rattle.moves.specs.Walk.{keep-walk}
 use Rattle.sparse.specs.Places.{mostRows, rowCountAt, cellCountAt, rowPlacesAt, constantsAt, realsSize}
 use Rattle.sparse.specs.Sparse.{Sparse, symbolCount, rowCount, cellCount, symbolAt, basicOf, basicsOf, read}
-use Rattle.cells.specs.Names.{lastPlace, cellRoom}
-use Rattle.cells.specs.Cells.{Cells, cells, rowOf, opened, replaced}
-use Rattle.cells.specs.Seek.{first-elim, first-moved}
+use Rattle.cells.specs.Names.{rowSpan, lastPlace, cellRoom}
+use Rattle.cells.specs.Cells.{Cells, rowOf, opened, replaced}
+use Rattle.cells.specs.Seek.{first-moved}
 use Rattle.cells.specs.Open.{opened-before, opened-after}
 use Rattle.cells.specs.Replaced.{replaced-own, replaced-other}
 use Rattle.substituting.specs.Held.{Held, held-room, held-replaced}
 use Rattle.substituting.specs.Loose.{SettledRow}
 use Rattle.waist.specs.Working.{sparse, artificialOf, workOf, linesOf, dense-cells, Sound, lines-few, id-at, basic-symbol}
-use Rattle.waist.specs.Alone.{RowsAlone, symbols-count, symbol-alone, named-alone, work-alone}
-use Rattle.waist.specs.HeldRows.{raisable, held-opened}
+use Rattle.waist.specs.Owning.{Inside, Kept}
+use Rattle.waist.specs.Within.{within-replaced}
+use Rattle.waist.specs.Alone.{RowsAlone, symbols-count, symbol-alone, named-alone, owners-alone, work-alone}
+use Rattle.waist.specs.HeldRows.{raisable, held-opened, within-opened}
 use Rattle.waist.specs.Dropping.{Free, basic-by}
-use Rattle.waist.specs.Spots.{spotOf, keptAt, Keeps, same-order}
+use Rattle.waist.specs.Spots.{spotOf, Spot, spot-is, lines-between, keptAt, Keeps, same-order}
 
 module _ (art : Bool) (p : ℕ) (row : List Float) (t : Sparse) (so : Sound art t) (low : 1 ≤ p) (high : p ≤ symbolCount t) (free : Free p t) (fit : rowCount t + 1 < mostRows) (ok : SettledRow (symbolCount t) row) where
   abbrev r : ℕ
@@ -51,6 +53,9 @@ module _ (art : Bool) (p : ℕ) (row : List Float) (t : Sparse) (so : Sound art 
   abbrev n : ℕ
   n = cellCount t
 
+  narrow : w ≤ lastPlace
+  narrow = so .named .few-symbols
+
   abbrev z : ℕ
   z = spotOf p r (t .bytes)
 
@@ -60,32 +65,14 @@ module _ (art : Bool) (p : ℕ) (row : List Float) (t : Sparse) (so : Sound art 
   abbrev u : Sparse
   u = keptAt z art p row t
 
-  record Spot (x : ℕ) : Type 0 where
-    from : 1 ≤ x
-    to : x ≤ 1 + r
-    below : (i : ℕ) → 1 ≤ i → i < x → ltb p (at i) ≡ false
-    above : x ≤ r → ltb p (at x) ≡ true
-
-  spot : Spot z
-  unfolding spotOf
-  spot =
-      first-elim (λ i. ltb p (at i)) (λ i. i) (1 + r) Spot 1 (1 + r) (omega arith)
-      (λ x a b e f. record { from = a; to = omega (arith, b); below = f; above = λ _. e })
-      (λ f. record { from = omega arith; to = omega arith; below = f; above = λ h. absurd (omega (arith, h)) })
+  spot : Spot p r (t .bytes) z
+  spot = spot-is p r (t .bytes)
 
   count-up : (count ≤ r + 1) × (r ≤ count)
-  unfolding linesOf
-  count-up = by art
-    where
-      by : (b : Bool) → (cond b (r + 1) r ≤ r + 1) × (r ≤ cond b (r + 1) r)
-      by true = (omega arith, omega arith)
-      by false = (omega arith, omega arith)
+  count-up = lines-between art t
 
   few : count ≤ mostRows
   few = lines-few art t so
-
-  narrow : w ≤ lastPlace
-  narrow = so .named .few-symbols
 
   abbrev c : Cells
   c = replaced n z w row (opened n z (t .keys)) (t .values)
@@ -388,6 +375,18 @@ module _ (art : Bool) (p : ℕ) (row : List Float) (t : Sparse) (so : Sound art 
     long = reals-long;
   }
 
+  keys-within : Inside t → (j : ℕ) → j < c .size → getD (u .keys) j 0 % rowSpan ≤ w
+  unfolding keptAt
+  keys-within h =
+      let s = spot .from in
+      let o = spot .to in
+      let k = count-up in
+      let l = narrow in
+      within-replaced n z w row (opened n z (t .keys)) (t .values) (wider .up) (omega (arith, l)) fits-k fits-v (within-opened count n z (t .keys) (t .values) (so .held) few s (omega (arith, o, k)) w h)
+
+  keeping : Kept t u
+  keeping = record { inside = λ h. rw (size-is, symbol-count) (keys-within h); owners = owners-alone t u (so .named) alone }
+
   pub keep-reads : Keeps art p row t u
   unfolding workOf read
   keep-reads = record {
@@ -395,4 +394,5 @@ module _ (art : Bool) (p : ℕ) (row : List Float) (t : Sparse) (so : Sound art 
     sound = sound;
     alone = alone;
     more = rows-more;
+    kept = keeping;
   }

@@ -11,12 +11,13 @@ use Rattle.steps.specs.Number.{Mark}
 use Rattle.steps.specs.Work.{Work, withChanges}
 use Rattle.steps.specs.Changes.{varChanged, note}
 use Rattle.sparse.specs.Places.{nextIdAt, symbolCountAt, rowCountAt, cellCountAt, shouldClearAt, rowPlacesAt}
-use Rattle.sparse.specs.Sparse.{Sparse, symbolCount, rowCount, symbolAt, basicOf, symbolsOf, basicsOf, objectiveOf, read}
+use Rattle.sparse.specs.Sparse.{Sparse, symbolCount, rowCount, cellCount, symbolAt, basicOf, symbolsOf, basicsOf, objectiveOf, read}
 use Rattle.cells.specs.Names.{lastPlace}
 use Rattle.substituting.specs.Notes.{Noted, noted, varChangedIf}
 use Rattle.substituting.specs.Named.{NotesKept, named-kept, note-if-kept}
 use Rattle.substituting.specs.NotesRead.{noteIn, symbol-kept, changed-if-read}
 use Rattle.waist.specs.Working.{sparse, artificialOf, workOf, work-parts, linesOf, lines-same, Sound, basic-symbol}
+use Rattle.waist.specs.Owning.{Kept, owners-by, low-if}
 use Rattle.waist.specs.Substitutes.{Stays}
 use Rattle.waist.specs.Dropping.{basic-by}
 
@@ -24,6 +25,7 @@ pub record Notes (art on : Bool) (p : ℕ) (t u : Sparse) : Type 0 where
   pub reads : (a : Mark) (v : ℕ) → workOf art a v u ≡ cond on (note (symbolAt t p .id) (workOf art a v t)) (workOf art a v t)
   pub sound : Sound art u
   pub stays : Stays t u
+  pub kept : Kept t u
 
 module _ (art on : Bool) (p : ℕ) (t : Sparse) (so : Sound art t) (low : 1 ≤ p) (high : p ≤ symbolCount t) where
   abbrev s : Noted
@@ -105,11 +107,18 @@ module _ (art on : Bool) (p : ℕ) (t : Sparse) (so : Sound art t) (low : 1 ≤ 
         long = so .long;
       }
 
+  keeps : Kept t u
+  keeps =
+      let d : symbolCount u ≡ symbolCount t = word symbolCountAt (λ e. omega (arith, e)) in
+      let n : cellCount u ≡ cellCount t = word cellCountAt (λ e. omega (arith, e)) in
+      record { inside = λ h. rw (n, d) h; owners = owners-by t u (so .named) (λ q a b d. word q a) (λ q a. kept .before q (omega (arith, a))) (λ q a b. kept .before q b) (low-if on p (noted (t .words) (t .bytes)) (so .named)) }
+
   pub note-reads : Notes art on p t u
   note-reads = record {
     reads = reads;
     sound = sound;
     stays = record { words = λ q a b. word q a; bytes = kept .before; later = kept .after; reals = λ q a. refl };
+    kept = keeps;
   }
 
   pub note-calls : (ws bs : List ℕ) → noted ws bs ≡ varChangedIf on p (noted (t .words) (t .bytes)) → Notes art on p t (sparse ws (t .keys) bs (t .reals) (t .values))

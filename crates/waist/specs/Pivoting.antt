@@ -35,6 +35,7 @@ use Rattle.merging.specs.Merge.{Placed}
 use Rattle.merging.specs.Substituted.{settled-absent, settled-stored, settled-insert, cell-settled}
 use Rattle.substituting.specs.Loose.{SettledRow}
 use Rattle.waist.specs.Working.{workOf, dense-cells, Sound, live-place, id-at, basic-symbol}
+use Rattle.waist.specs.Owning.{Kept, kept-then}
 use Rattle.waist.specs.Dropping.{Free, Drops}
 use Rattle.waist.specs.Entering.{Later, later-then, later-alone, later-symbol, later-count, Enters}
 
@@ -108,6 +109,7 @@ pub record Pivots (art : Bool) (i p : ℕ) (t u : Sparse) (m : Mark) : Type 0 wh
   pub sound : Sound art u
   pub later : Later t u
   pub same : rowCount u ≡ rowCount t
+  pub kept : Kept t u
 
 pub narrow-held : (art : Bool) (t : Sparse) → Sound art t → Narrow (t .keys) rowRoom 0 (cellCount t)
 unfolding Narrow Placed
@@ -230,4 +232,5 @@ module _ (art : Bool) (i p : ℕ) (t : Sparse) (so : Sound art t) (low : 1 ≤ i
           sound = n .sound;
           later = later-then (later-alone (d .alone)) (n .later);
           same = let k = d .fewer in let g = n .more in omega (arith, k, g, low, high);
+          kept = kept-then (d .kept) (n .kept);
         }

@@ -17,13 +17,33 @@ use Rattle.moves.specs.Close as place
 use Rattle.sparse.specs.Places.{symbolCountAt, rowCountAt, cellCountAt, idsAt, rowPlacesAt, constantsAt}
 use Rattle.sparse.specs.Sparse.{Sparse, symbolCount, rowCount, cellCount, symbolAt}
 use Rattle.cells.specs.Cells.{Cells, rowOf, opened, replaced}
+use Rattle.cells.specs.Seek.{first-elim}
 use Rattle.substituting.specs.Named.{Named}
 use Rattle.waist.specs.Working.{sparse, workOf, linesOf, Sound}
+use Rattle.waist.specs.Owning.{Kept}
 use Rattle.waist.specs.Alone.{RowsAlone}
 
 -- the first row whose place is past p
 unfoldable pub spotOf : ℕ → ℕ → List ℕ → ℕ
 spotOf p r bytes = first (λ i. ltb p (getD bytes (rowPlacesAt + i) 0)) (λ i. i) (1 + r) 1 (1 + r)
+
+pub record Spot (p r : ℕ) (bytes : List ℕ) (x : ℕ) : Type 0 where
+  pub from : 1 ≤ x
+  pub to : x ≤ 1 + r
+  pub below : (i : ℕ) → 1 ≤ i → i < x → ltb p (getD bytes (rowPlacesAt + i) 0) ≡ false
+  pub above : x ≤ r → ltb p (getD bytes (rowPlacesAt + x) 0) ≡ true
+
+pub spot-is : (p r : ℕ) (bytes : List ℕ) → Spot p r bytes (spotOf p r bytes)
+unfolding spotOf
+spot-is p r bytes =
+    first-elim (λ i. ltb p (getD bytes (rowPlacesAt + i) 0)) (λ i. i) (1 + r) (Spot p r bytes) 1 (1 + r) (omega arith)
+    (λ x a b e f. record { from = a; to = omega (arith, b); below = f; above = λ _. e })
+    (λ f. record { from = omega arith; to = omega arith; below = f; above = λ h. absurd (omega (arith, h)) })
+
+pub lines-between : (art : Bool) (t : Sparse) → (linesOf art t ≤ rowCount t + 1) × (rowCount t ≤ linesOf art t)
+unfolding linesOf
+lines-between true t = (omega arith, omega arith)
+lines-between false t = (omega arith, omega arith)
 
 -- the row comes to row z: the rows from there on go one up, and the artificial objective with them
 unfoldable pub keptAt : ℕ → Bool → ℕ → List Float → Sparse → Sparse
@@ -37,6 +57,7 @@ pub record Keeps (art : Bool) (p : ℕ) (row : List Float) (t u : Sparse) : Type
   pub sound : Sound art u
   pub alone : RowsAlone t u
   pub more : rowCount u ≡ rowCount t + 1
+  pub kept : Kept t u
 
 -- places stand as their ids do
 pub same-order : (words bytes : List ℕ) → Named words bytes → (p q : ℕ) → 1 ≤ p → p ≤ getD words symbolCountAt 0 → 1 ≤ q → q ≤ getD words symbolCountAt 0 → ltb p q ≡ ltb (getD words (idsAt + p) 0) (getD words (idsAt + q) 0)

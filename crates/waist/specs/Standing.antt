@@ -1,70 +1,43 @@
--- What the steps of a call may take for granted of its sparse tables: they can be worked on, and the tableau has its shape. A pivot keeps it.
--- Assumes nothing.
-use Prim.Native.Nat.{ℕ, zero, suc, _+_, _≤_, _<_}
-use mathlib.Core.Path.{_≡_, refl, sym, ap, _∙_, subst}
-use mathlib.Core.Logic.{inl, inr}
-use mathlib.Core.Bool.{Bool, true, false}
-use mathlib.Core.List.{_∷_}
-use native.Mathlib.Omega.{arith}
-use lib.Dec.{eqb}
+-- What the steps of a call may take for granted of its tables, and what each of them promises: the work of the exit is the step of the work of the entry, and the tables stand again.
+use Prim.Native.Nat.{ℕ, _+_, _<_}
+use mathlib.Core.Path.{_≡_}
+use mathlib.Core.Bool.{Bool}
+use mathlib.Core.Option.{Option, none, some}
 use lib.ListN.{getD}
-use borrow.Author.Tests.{eqb-true, eqb-false, eq-eqb}
-use Rattle.laws.specs.Lists.{tab}
-use Rattle.steps.specs.Number.{Mark, worse}
+use Rattle.steps.specs.Number.{Mark}
 use Rattle.steps.specs.Symbol.{Symbol}
-use Rattle.steps.specs.State.{Basic}
-use Rattle.keeps.specs.Lists.{same, same?, Same?, is, isnt, times}
-use Rattle.keeps.specs.Along.{Mem}
-use Rattle.keeps.specs.Fits.{FitsW, bids}
-use Rattle.keeps.specs.Pivots.{pivot-fits}
-use Rattle.sparse.specs.Places.{rowPlacesAt}
-use Rattle.sparse.specs.Sparse.{Sparse, symbolCount, rowCount, symbolAt, basicOf, symbolsOf, basicsOf, read}
-use Rattle.substituting.specs.Named.{same-place}
-use Rattle.waist.specs.Working.{workOf, Sound, id-at, basic-symbol}
-use Rattle.waist.specs.Dropping.{Free}
-use Rattle.waist.specs.Pivoting.{Pivots}
+use Rattle.steps.specs.Work.{Work}
+use Rattle.keeps.specs.Fits.{FitsW}
+use Rattle.choose.specs.declared.Found.{Found}
+use Rattle.choose.specs.Choose.{Within, onFound}
+use Rattle.sparse.specs.Places.{variablePlacesAt}
+use Rattle.sparse.specs.Sparse.{Sparse, variableCount, basicOf}
+use Rattle.waist.specs.Working.{workOf, Sound}
+pub use Rattle.waist.specs.Owning.{Inside, Owners}
 
 -- `art` says whether an artificial objective stands, `a` is the mark of what the call wrote so far
 pub record Standing (art : Bool) (a : Mark) (t : Sparse) : Type 0 where
   pub sound : Sound art t
+  pub inside : Inside t
+  pub owners : Owners t
   pub fits : FitsW (workOf art a 0 t)
 
-mem-tab : (g : ℕ → Symbol) (k m q : ℕ) → m ≤ q → q < m + k → Mem (g q) (tab g m k)
-unfolding tab
-mem-tab g zero m q a b = absurd (omega (arith, a, b))
-mem-tab g (suc k) m q a b = go (eqb m q) refl (λ d. mem-tab g k (suc m) q d (omega (arith, b)))
-  where
-    go : (x : Bool) → eqb m q ≡ x → (suc m ≤ q → Mem (g q) (tab g (suc m) k)) → Mem (g q) (g m ∷ tab g (suc m) k)
-    go true e r = inl (ap g (sym (eqb-true m q e)))
-    go false e r = let d = eqb-false m q e in inr (r (omega (arith, a, d)))
+-- a step f of the work, from the tables t to the tables u: `before` and `after` are the marks of what was written
+pub record Makes (art b : Bool) (before after : Mark) (f : Work → Work) (t u : Sparse) : Type 0 where
+  pub reads : (v : ℕ) → workOf b after v u ≡ f (workOf art before v t)
+  pub stands : Standing b after u
 
-none-times : (g : ℕ → Basic) (s k m : ℕ) → ((j : ℕ) → m ≤ j → j < m + k → s ≡ g j .symbol .id → ⊥) → times s (bids (tab g m k)) ≡ 0
-unfolding times tab
-none-times g s zero m f = refl
-none-times g s (suc k) m f = go (same? s (g m .symbol .id)) (none-times g s k (suc m) (λ j a b. f j (omega (arith, a)) (omega (arith, b))))
-  where
-    go : Same? s (g m .symbol .id) → times s (bids (tab g (suc m) k)) ≡ 0 → same s (g m .symbol .id) + times s (bids (tab g (suc m) k)) ≡ 0
-    go (is b e z) r = absurd (f m (omega arith) (omega arith) e)
-    go (isnt b d z) r = omega (arith, z, r)
+-- no variable's symbol stands at place p
+abbrev pub Unowned : ℕ → Sparse → Type 0
+Unowned p t = (v : ℕ) → v < variableCount t → getD (t .bytes) (variablePlacesAt + v) 0 ≡ p → ⊥
 
-module _ (art : Bool) (t : Sparse) (so : Sound art t) (p : ℕ) (low : 1 ≤ p) (high : p ≤ symbolCount t) where
-  pub live-symbol : Mem (symbolAt t p) (symbolsOf t)
-  unfolding symbolsOf
-  live-symbol = mem-tab (symbolAt t) (symbolCount t) 1 p low (omega (arith, high))
+-- ---- choices
 
-  pub not-basic : Free p t → times (symbolAt t p .id) (bids (basicsOf t)) ≡ 0
-  unfolding basicsOf
-  not-basic f = none-times (basicOf t) (symbolAt t p .id) (rowCount t) 1 λ j a b e.
-      let l = so .rows j a (omega (arith, b)) in
-      let z = sym (id-at t p) ∙ e ∙ ap (λ (x : Symbol). x .id) (basic-symbol t j) ∙ id-at t (getD (t .bytes) (rowPlacesAt + j) 0) in
-      f j a (omega (arith, b)) (sym (same-by (same-place (t .words) (t .bytes) (so .named) p (getD (t .bytes) (rowPlacesAt + j) 0) low high (l .0) (l .1)) z))
-    where
-      same-by : {x y u v : ℕ} → eqb x y ≡ eqb u v → u ≡ v → x ≡ y
-      same-by {x} {y} {u} {v} e f = eqb-true x y (e ∙ eq-eqb u v f)
+-- the symbol that row i is for
+abbrev pub rowSymbol : Sparse → ℕ → Symbol
+rowSymbol t i = basicOf t i .symbol
 
-pub pivot-stands : (art : Bool) (a : Mark) (i p : ℕ) (t u : Sparse) (m : Mark) → Standing art a t → 1 ≤ p → p ≤ symbolCount t → Free p t → Pivots art i p t u m → Standing art (worse a m) u
-unfolding workOf read
-pivot-stands art a i p t u m s low high free k = record {
-  sound = k .sound;
-  fits = subst FitsW (sym (k .reads a 0)) (pivot-fits (symbolAt t (getD (t .bytes) (rowPlacesAt + i) 0) .id) (symbolAt t p) (workOf art a 0 t) (s .fits) (not-basic art t (s .sound) p low high free) (live-symbol art t (s .sound) p low high));
-}
+-- what the steps choose on what the tables read as, by the place found: one of the first n
+pub record Chooses (art : Bool) (c : Work → Option Symbol) (at : ℕ → Symbol) (n : ℕ) (t : Sparse) (r : Found) : Type 0 where
+  pub is : (a : Mark) (v : ℕ) → c (workOf art a v t) ≡ onFound (λ i. some (at i)) none r
+  pub within : Within n r

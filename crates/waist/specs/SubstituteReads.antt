@@ -1,6 +1,6 @@
 -- The substitution over the sparse tables reads as the steps' `substitute`.
 -- Assumes nothing.
-use Prim.Native.Nat.{ℕ, suc, _+_, _*_, _≤_, _<_}
+use Prim.Native.Nat.{ℕ, suc, _+_, _*_, _%_, _≤_, _<_}
 use mathlib.Core.Path.{_≡_, refl, sym, ap, _∙_}
 use mathlib.Core.Bool.{Bool, true, false, cond}
 use mathlib.Core.List.{List}
@@ -35,6 +35,8 @@ use Rattle.substituting.specs.Named.{Named, NotesKept, named-kept}
 use Rattle.substituting.specs.NotesRead.{noteIn, steppedRow, notes-read, notes-kept}
 use Rattle.substituting.specs.Held.{Held}
 use Rattle.waist.specs.Working.{artificialOf, workOf, work, work-parts, linesOf, lines-same, dense-cells, Sound, named-words, lines-few, rows-lines, live-place, basic-symbol}
+use Rattle.waist.specs.Owning.{Inside, Kept, Low, owners-by, low-rows}
+use Rattle.waist.specs.Within.{lines-within}
 use Rattle.waist.specs.Stepping.{marks-from, marks-last, line-count, row-line-count, rows-tab, marks-whole, steps-whole}
 
 module _ (art : Bool) (j : ℕ) (row : List Float) (t : Sparse) (so : Sound art t) (live : j < symbolCount t) (m : ℕ) (cols : List ℕ) (others : List Float)
@@ -327,6 +329,21 @@ module _ (art : Bool) (j : ℕ) (row : List Float) (t : Sparse) (so : Sound art 
   later-real q h =
       objective-beyond id symbols j w row (l₁ .reals) place (symbols-read t) narrow long₁ q (λ p a b e. omega (arith, b, e, h, narrow))
       ∙ lines-beyond id symbols j w m y cols others place (symbols-read t) narrow past count l₀ few (so .held) (so .long) q (omega (arith, h, few))
+
+  keys-within : Inside t → (i : ℕ) → i < l₁ .size → getD (u .keys) i 0 % rowSpan ≤ w
+  unfolding substitutedIn
+  keys-within h = lines-within w (1 + j) m y cols others past count few l₀ (so .held) h
+
+  flags-low : Low (noted (t .words) (t .bytes)) → Low (noted (u .words) (u .bytes))
+  flags-low l =
+      let g = low-rows (1 + j) y (cellCount t) (t .keys) (t .values) r (noted (t .words) (t .bytes)) (so .named) l in
+      let c : variableCount u ≡ getD (s .words) variableCountAt 0 = noted-word variableCountAt (λ e. omega (arith, e)) in
+      ((λ v h. rw same-bytes (g .0 v (rw c at h))), rw (noted-word shouldClearAt (λ e. omega (arith, e))) (g .1))
+
+  pub substitute-keeps : Kept t u
+  substitute-keeps =
+      let d : symbolCount u ≡ w = word symbolCountAt (λ e. omega (arith, e)) (λ e. omega (arith, e)) in
+      record { inside = λ h. rw (size-is, d) (keys-within h); owners = owners-by t u (so .named) (λ q a b d. word q a d) (λ q a. byte q (omega (arith, a))) (λ q a b. byte q b) flags-low }
 
   pub substitute-sound : Sound art u
   substitute-sound =

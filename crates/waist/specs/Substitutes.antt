@@ -21,7 +21,8 @@ use Rattle.substituting.specs.Loose.{SettledRow, loose-none, loose-reads}
 use Rattle.substituting.specs.Objective.{aim, objectiveIn}
 use Rattle.substituting.specs.Notes.{noted, noteRows}
 use Rattle.waist.specs.Working.{sparse, workOf, linesOf, Sound}
-use Rattle.waist.specs.SubstituteReads.{substitutedIn, substitutedMark, word, byte, later-byte, later-real, substitute-reads, substitute-sound}
+use Rattle.waist.specs.Owning.{Kept}
+use Rattle.waist.specs.SubstituteReads.{substitutedIn, substitutedMark, word, byte, later-byte, later-real, substitute-reads, substitute-keeps, substitute-sound}
 
 -- but for the notes' flag and the count of cells, the words stay; so do the bytes but for the flags, and the reals of the stored constraints and edits
 pub record Stays (t u : Sparse) : Type 0 where
@@ -35,6 +36,7 @@ pub record Substitutes (art : Bool) (at : ℕ) (row : List Float) (t u : Sparse)
   pub reads : (a : Mark) (v : ℕ) → workOf art (worse a m) v u ≡ substitute (symbolAt t at .id) (dense.rowOf (symbolCount t) row) (workOf art a v t)
   pub sound : Sound art u
   pub stays : Stays t u
+  pub kept : Kept t u
 
 module _ (art : Bool) (at : ℕ) (row : List Float) (t : Sparse) (so : Sound art t) (low : 1 ≤ at) (high : at ≤ symbolCount t) (ok : SettledRow (symbolCount t) row)
     (cols₀ cols : List ℕ) (others₀ others : List Float) (m : ℕ) (lc : length cols₀ ≡ rowRoom) (lo : length others₀ ≡ rowRoom) (e : cells cols others m ≡ packed (symbolCount t) 0 row (cells cols₀ others₀ 0)) where
@@ -71,6 +73,7 @@ module _ (art : Bool) (at : ℕ) (row : List Float) (t : Sparse) (so : Sound art
       later = later-byte art j row t so live m cols others past same;
       reals = later-real art j row t so live m cols others past same;
     };
+    kept = substitute-keeps art j row t so live m cols others past same;
   }
 
   abbrev Notes : List ℕ → List ℕ → Type 0

@@ -11,6 +11,7 @@ use lib.Ieee.{Float, nan}
 use lib.ListN.{length, getD}
 use lib.Dec.{ltb}
 use borrow.Author.Tests.{ltb-true, ltb-false, eq-eqb, ne-eqb}
+use denote.Ref.{RefT}
 use Rattle.laws.specs.Lists.{tab, listOf, getD-tab}
 use Rattle.steps.specs.Number.{Mark}
 use Rattle.steps.specs.Symbol.{Symbol, isSymbol}
@@ -28,6 +29,10 @@ use Rattle.substituting.specs.Named.{Named}
 
 abbrev pub sparse : List ℕ → List ℕ → List ℕ → List Float → List Float → Sparse
 sparse w k b r v = record { words = w; keys = k; bytes = b; reals = r; values = v }
+
+-- what five references lend: at entry, at exit or now, by which the references are
+abbrev pub lent : RefT (List ℕ) → RefT (List ℕ) → RefT (List ℕ) → RefT (List Float) → RefT (List Float) → Sparse
+lent w k b r v = sparse (w .now) (k .now) (b .now) (r .now) (v .now)
 
 unfoldable pub artificialOf : Bool → Sparse → Option Row
 artificialOf art t = cond art (some (basicOf t (1 + rowCount t) .row)) none

@@ -47,7 +47,7 @@ fn wide_reals(t: &Reals)
 
 // ---- by one place
 
-fn close_bytes(bytes: &mut Bytes, i: usize, e: usize)
+pub fn close_bytes(bytes: &mut Bytes, i: usize, e: usize)
     requires { ⌜ i ≤ e ⌝ }
     requires { ⌜ e < bytesSize ⌝ }
     ensures { λ _. ⌜ now (bytes .exit) ≡ closed 0 i e (now (bytes .entry)) ⌝ }
@@ -60,7 +60,7 @@ fn close_bytes(bytes: &mut Bytes, i: usize, e: usize)
     }
 }
 
-fn close_reals(reals: &mut Reals, i: usize, e: usize)
+pub fn close_reals(reals: &mut Reals, i: usize, e: usize)
     requires { ⌜ i ≤ e ⌝ }
     requires { ⌜ e < realsSize ⌝ }
     ensures { λ _. ⌜ now (reals .exit) ≡ closed nan i e (now (reals .entry)) ⌝ }

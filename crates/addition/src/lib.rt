@@ -1,0 +1,6 @@
+// Add's steps over the sparse tables, one to seven.
+pub mod add;
+pub mod inputs;
+pub mod row;
+pub mod subject;
+pub mod temporary;

@@ -1,0 +1,99 @@
+-- The tests before the steps, of the words, the bytes and a pack of terms, as the code runs them: the number of the first that fails, 0 if none does.
+use Prim.Native.Nat.{ℕ, _+_}
+use mathlib.Core.Bool.{Bool, not, _&&_, cond}
+use mathlib.Core.List.{List, [], _∷_}
+use lib.Dec.{eqb, leb, ltb}
+use lib.ListN.{getD}
+use lib.Ieee.{Float, eq}
+use Rattle.steps.specs.Number.{one64, belowZero, isFinite}
+use Rattle.steps.specs.Strength.{required}
+use Rattle.laws.specs.Lists.{allIn, sumIn}
+use Rattle.layout.specs.Layout.{bitOf}
+use Rattle.layout.specs.Copy.{most16}
+use Rattle.sparse.specs.Places.{mostVariables, mostConstraints, nextIdAt, variableCountAt, constraintCountAt, editCountAt, variableNumbersAt, constraintNumbersAt}
+use Rattle.sparse_test.specs.Asked.{placeFrom, editIn}
+use Rattle.terms.specs.declared.Pack.{Pack}
+use Rattle.terms.specs.Terms.{packOf, keptOf}
+
+-- ---- counts
+
+abbrev pub nextIn : List ℕ → ℕ
+nextIn w = getD w nextIdAt 0
+
+abbrev pub variablesIn : List ℕ → ℕ
+variablesIn w = getD w variableCountAt 0
+
+abbrev pub constraintsIn : List ℕ → ℕ
+constraintsIn w = getD w constraintCountAt 0
+
+abbrev pub editsIn : List ℕ → ℕ
+editsIn w = getD w editCountAt 0
+
+-- ---- what is looked up
+
+-- one of the c words from place a on is the number x
+unfoldable pub liveIn : List ℕ → ℕ → ℕ → ℕ → Bool
+liveIn w a c x = ltb (placeFrom w a c x) c
+
+-- the variable of the number x has an edit
+unfoldable pub editedIn : List ℕ → List ℕ → ℕ → Bool
+editedIn w b x = editIn w b (variablesIn w) (editsIn w) x
+
+-- the variable of the term at place i is none of those before it
+unfoldable pub firstOf : Pack → ℕ → Bool
+firstOf p i = allIn (λ j. not (eqb (getD (p .vars) i 0) (getD (p .vars) j 0))) 0 i
+
+-- 1 if the term at place i has a variable that is neither live nor a term's before it
+unfoldable pub newAt : List ℕ → ℕ → Pack → ℕ → ℕ
+newAt w v p i = bitOf (not (liveIn w variableNumbersAt v (getD (p .vars) i 0)) && firstOf p i)
+
+-- how many variables of the pack's terms are not live, each counted once
+unfoldable pub newIn : List ℕ → ℕ → Pack → ℕ
+newIn w v p = sumIn (newAt w v p) 0 (most16 (p .count))
+
+-- ---- the tests that Add and Add edit share: "10, 9, 11"
+
+-- 10: "48 constraints live", edits counted
+unfoldable pub constraintsFullIn : List ℕ → Bool
+constraintsFullIn w = leb mostConstraints (constraintsIn w + editsIn w)
+
+-- 9: "live variables plus the new ones in terms not near zero exceed 32"
+unfoldable pub variablesFullIn : List ℕ → Pack → Bool
+variablesFullIn w p = ltb mostVariables (variablesIn w + newIn w (variablesIn w) (keptOf p))
+
+-- 11: "next id is above 4,294,900,000"
+unfoldable pub idsUsedIn : List ℕ → Bool
+idsUsedIn w = ltb 4_294_900_000 (nextIn w)
+
+unfoldable pub roomRefusal : List ℕ → Pack → ℕ
+roomRefusal w p = cond (constraintsFullIn w) 10 (cond (variablesFullIn w p) 9 (cond (idsUsedIn w) 11 0))
+
+-- ---- the tests of a call
+
+-- 1, 2, 3: what a caller hands in, and then the rest
+unfoldable pub inputRefusal : Pack → Float → Float → ℕ → ℕ
+inputRefusal p constant strength rest = cond (not (p .finite && isFinite constant && isFinite strength)) 1 (cond (belowZero strength) 2 (cond (eqb (p .count) 17) 3 rest))
+
+-- "Add: 18, 1, 2, 3, 4, 10, 9, 11."
+unfoldable pub addRefusal : ℕ → Pack → Float → Float → List ℕ → ℕ
+addRefusal x p constant strength w = inputRefusal p constant strength (cond (liveIn w constraintNumbersAt (constraintsIn w) x) 4 (roomRefusal w p))
+
+-- the one term of an edit, the variable times 1
+unfoldable pub editPack : ℕ → Pack
+editPack x = packOf (record { variable = x; coefficient = one64 } ∷ [])
+
+-- "Add edit: 18, 6, 7, 10, 9, 11." The strength comes clipped.
+unfoldable pub addEditRefusal : ℕ → Float → List ℕ → List ℕ → ℕ
+addEditRefusal x strength w b = cond (editedIn w b x) 6 (cond (eq strength required) 7 (roomRefusal w (editPack x)))
+
+-- "Suggest: 18, 1, 8."
+unfoldable pub suggestRefusal : ℕ → Float → List ℕ → List ℕ → ℕ
+suggestRefusal x new w b = cond (not (isFinite new)) 1 (cond (not (editedIn w b x)) 8 0)
+
+-- "Remove: 18, 5."
+unfoldable pub removeRefusal : ℕ → List ℕ → ℕ
+removeRefusal x w = cond (not (liveIn w constraintNumbersAt (constraintsIn w) x)) 5 0
+
+-- "Remove edit: 18, 8."
+unfoldable pub removeEditRefusal : ℕ → List ℕ → List ℕ → ℕ
+removeEditRefusal x w b = cond (not (editedIn w b x)) 8 0

@@ -1,0 +1,8 @@
+-- What the contracts of `removal` cite, and the laws that put its steps together.
+pub mod Reading
+pub mod Bound
+pub mod Effects
+pub mod Marker
+pub mod Tag
+pub mod Uses
+pub mod Steps

@@ -1,0 +1,65 @@
+// "Use counts fall; a variable at zero goes with its row and cells and leaves the changed set without notice."
+ghost use mathlib.Core.Path.{_≡_};
+ghost use mathlib.Core.Bool.{false};
+ghost use Prim.Native.Nat.{_≤_};
+ghost use Rattle.steps.specs.Number.{Mark};
+ghost use Rattle.steps.specs.Remove.{dropUse, dropUses};
+ghost use Rattle.waist.specs.Working.{lent};
+ghost use Rattle.waist.specs.Standing.{Standing, Makes};
+ghost use Rattle.removal.specs.Tag.{Stands};
+ghost use Rattle.removal.specs.Uses.{useOf, usesFrom};
+use sparse::Bytes;
+use sparse::Keys;
+use sparse::Reals;
+use sparse::Values;
+use sparse::Words;
+use variables::less::Gone;
+use variables::less::use_less;
+use waist::symbols::purge;
+
+// One use of the variable less: one that goes is purged.
+fn drop_use(
+    words: &mut Words,
+    keys: &mut Keys,
+    bytes: &mut Bytes,
+    reals: &mut Reals,
+    values: &mut Values,
+    n: u64,
+)
+    requires { ⌜ Stands (lent words keys bytes reals values) ⌝ }
+    ensures { λ _. ⌜ ((a : Mark) → Standing false a (lent (words .entry) (keys .entry) (bytes .entry) (reals .entry) (values .entry)) → Makes false false a a (dropUse (useOf n)) (lent (words .entry) (keys .entry) (bytes .entry) (reals .entry) (values .entry)) (lent (words .exit) (keys .exit) (bytes .exit) (reals .exit) (values .exit))) ⌝ }
+{
+    let g = use_less(words, bytes, reals, n);
+    let Gone::Place(p) = g else {
+        return;
+    };
+    purge(words, keys, bytes, reals, values, p);
+}
+
+fn number_of(n: u32) -> u64
+    ensures { λ r. ⌜ r ≡ n ⌝ }
+{
+    n as u64
+}
+
+// "Use counts fall; a variable at zero goes with its row and cells": the variables of the first `count` numbers.
+pub fn drop_uses(
+    words: &mut Words,
+    keys: &mut Keys,
+    bytes: &mut Bytes,
+    reals: &mut Reals,
+    values: &mut Values,
+    numbers: &[u32; 16],
+    count: usize,
+)
+    requires { ⌜ Stands (lent words keys bytes reals values) ⌝ }
+    requires { ⌜ count ≤ 16 ⌝ }
+    ensures { λ _. ⌜ ((a : Mark) → Standing false a (lent (words .entry) (keys .entry) (bytes .entry) (reals .entry) (values .entry)) → Makes false false a a (dropUses (usesFrom (now (numbers .entry)) count 0)) (lent (words .entry) (keys .entry) (bytes .entry) (reals .entry) (values .entry)) (lent (words .exit) (keys .exit) (bytes .exit) (reals .exit) (values .exit))) ⌝ }
+{
+    let mut j = 0;
+    while j < count {
+        let n = number_of(numbers[j]);
+        drop_use(words, keys, bytes, reals, values, n);
+        j += 1;
+    }
+}

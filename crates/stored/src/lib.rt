@@ -1,0 +1,14 @@
+// The stored constraints and edits of sparse tables, as a call ends: the lent tables' records come over into the working room, renamed by the places there.
+pub mod carry;
+pub mod find;
+pub mod moving;
+pub mod new;
+pub mod parts;
+pub mod places;
+pub mod record;
+pub mod records;
+
+// The most constraints, edits counted, and the most terms of all of them.
+pub const MOST_CONSTRAINTS: usize = 48;
+
+pub const MOST_TERMS: usize = 768;

@@ -1,0 +1,54 @@
+-- `waist::looks::first_along` meets its contract.
+-- Assumes nothing.
+use Prim.Native.Nat.{_+_, _-_, _≤_}
+use mathlib.Core.Path.{_≡_, refl}
+use mathlib.Core.Bool.{_&&_}
+use native.Mathlib.Omega.{arith}
+use lib.Ieee.{nan}
+use lib.ListN.{getD}
+use borrow.Author.Needs.{needs}
+use Rattle.laws.specs.Loops.{first, first-next, first-here, first-last}
+use Rattle.choose.specs.declared.Found.the-variants.{At, Nothing}
+use Rattle.choose.specs.Choose.{wants}
+use Rattle.sparse.specs.Places.{kindsAt}
+use Rattle.waist.specs.Looks.{ofKind, seen, lookOf}
+use Rattle.waist.proofs.looks.first_along.Statement.{statement}
+use Rattle.waist.proofs.looks.first_along.Tie as tie
+
+abbrev Inv-loop : tie.InvT-loop
+Inv-loop want below words bytes row n p₀ p = (first (λ j. wants want (ofKind (getD bytes (kindsAt + j) 0)) && seen below (getD row j nan)) At Nothing p (1 + n) ≡ lookOf want below words bytes row) × (1 ≤ p)
+
+abbrev μ-loop : tie.MeasureT-loop
+μ-loop want below words bytes row n p₀ p = 1 + n - p
+
+loop-holds : tie.Need-loop-holds Inv-loop μ-loop
+unfolding lookOf
+loop-holds c = (refl, search needs)
+
+returns : tie.Need-returns Inv-loop μ-loop
+returns c = (first-here _ _ _ _ _ (omega arith) (rw (← c .before .passes .ensures) (c .if1 .taken)) (c .before .before .before .before .before .loop .inv .0), (omega arith, omega arith))
+
+loop-again : tie.Need-loop-again Inv-loop μ-loop
+loop-again c = (first-next _ _ _ _ _ (omega arith) (rw (← c .before .passes .ensures) (c .if1 .left)) (c .before .before .before .before .before .loop .inv .0), omega arith)
+
+returns-2 : tie.Need-returns-2 Inv-loop μ-loop
+returns-2 c = (first-last _ _ _ _ _ (omega arith) (c .before .loop .inv .0), tt)
+
+pub first-along-spec : {M : Type 1} → statement M
+first-along-spec =
+    tie.close
+    (tie.spec
+    Inv-loop
+    μ-loop
+    (λ c. search needs)
+    loop-holds
+    (λ c. search needs)
+    (λ c. search needs)
+    (λ c. search needs)
+    (λ c. search needs)
+    (λ c κs. search needs)
+    returns
+    (λ c. search needs)
+    (λ c. search needs)
+    loop-again
+    returns-2)

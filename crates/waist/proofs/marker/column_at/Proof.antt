@@ -1,0 +1,30 @@
+-- `waist::marker::column_at` meets its contract.
+-- Assumes nothing.
+use native.Mathlib.Omega.{arith}
+use borrow.Author.Needs.{needs}
+use Rattle.substituting.specs.Held.{held-room}
+use Rattle.waist.specs.Working.{lines-few}
+use Rattle.waist.specs.Ratios.{columnAt}
+use Rattle.waist.proofs.marker.column_at.Statement.{statement}
+use Rattle.waist.proofs.marker.column_at.Tie as tie
+
+cell-requires : tie.Need-cell-requires
+cell-requires c κs =
+    let so = c .before .pre .0 in
+    let f = held-room _ _ _ _ (so .held) (lines-few _ _ so) in
+    (omega (arith, f), so .held .up)
+
+returns : tie.Need-returns
+unfolding columnAt
+returns c = c .cell .ensures
+
+pub column-at-spec : {M : Type 1} → statement M
+column-at-spec =
+    tie.close
+    (tie.spec
+    (λ c. search needs)
+    (λ c. search needs)
+    (λ c. search needs)
+    (λ c. search needs)
+    cell-requires
+    returns)

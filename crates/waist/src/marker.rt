@@ -1,0 +1,111 @@
+// Rows that hold a marker: removal's first and last rank.
+ghost use mathlib.Core.Path.{_≡_};
+ghost use mathlib.Core.Bool.{false, _&&_};
+ghost use Prim.Native.Nat.{_≤_};
+ghost use lib.ListN.{getD};
+ghost use Rattle.steps.specs.Symbol.{holds};
+ghost use Rattle.choose.specs.Choose.{Within};
+ghost use Rattle.sparse.specs.Places.{mostRows, rowCountAt};
+ghost use Rattle.cells.specs.Names.{lastPlace};
+ghost use Rattle.substituting.specs.Notes.{isExternalKind};
+ghost use Rattle.waist.specs.Working.{lent, Sound};
+ghost use Rattle.waist.specs.Choosing.{isDummyKind};
+ghost use Rattle.waist.specs.Ratios.{columnAt};
+ghost use Rattle.waist.specs.MarkerRow.{dummyRowOf, externalRowOf};
+use cells::ROW_SPAN;
+use cells::search::cell;
+use choose::Found;
+use sparse::Bytes;
+use sparse::CELL_COUNT;
+use sparse::Keys;
+use sparse::ROW_COUNT;
+use sparse::ROW_PLACES;
+use sparse::Reals;
+use sparse::Values;
+use sparse::Words;
+use substituting::notes::is_external;
+use substituting::notes::kind_at;
+
+// Row i's cell at place p.
+fn column_at(
+    words: &Words,
+    keys: &Keys,
+    bytes: &Bytes,
+    reals: &Reals,
+    values: &Values,
+    p: u8,
+    i: usize,
+) -> f64
+    requires { ⌜ Sound false (lent words keys bytes reals values) ⌝ }
+    requires { ⌜ p ≤ lastPlace ⌝ }
+    requires { ⌜ i ≤ mostRows ⌝ }
+    ensures { λ r. ⌜ r ≡ columnAt (lent (words .entry) (keys .entry) (bytes .entry) (reals .entry) (values .entry)) p i ⌝ }
+{
+    let m = words[CELL_COUNT] as usize;
+    cell(keys, values, m, i as u16 * ROW_SPAN + p as u16)
+}
+
+fn holds_as_dummy(kind: u8, x: f64) -> bool
+    ensures { λ r. ⌜ r ≡ (isDummyKind kind && holds x) ⌝ }
+{
+    (kind == 3) & (x != 0.0)
+}
+
+// "the first Dummy row holding the marker"
+pub fn first_dummy_row(
+    words: &Words,
+    keys: &Keys,
+    bytes: &Bytes,
+    reals: &Reals,
+    values: &Values,
+    p: u8,
+) -> Found
+    requires { ⌜ Sound false (lent words keys bytes reals values) ⌝ }
+    requires { ⌜ p ≤ lastPlace ⌝ }
+    ensures { λ r. ⌜ r ≡ dummyRowOf p (lent (words .entry) (keys .entry) (bytes .entry) (reals .entry) (values .entry)) ⌝ }
+    ensures { λ r. ⌜ Within (getD (now (words .entry)) rowCountAt 0) r ⌝ }
+{
+    let n = words[ROW_COUNT] as usize;
+    let mut i = 1;
+    while i <= n {
+        let kind = kind_at(bytes, bytes[ROW_PLACES + i]);
+        let x = column_at(words, keys, bytes, reals, values, p, i);
+        if holds_as_dummy(kind, x) {
+            return Found::At(i);
+        }
+        i += 1;
+    }
+    Found::Nothing
+}
+
+fn holds_as_external(kind: u8, x: f64) -> bool
+    ensures { λ r. ⌜ r ≡ (isExternalKind kind && holds x) ⌝ }
+{
+    is_external(kind) & (x != 0.0)
+}
+
+// "the last External row holding it"
+pub fn last_external_row(
+    words: &Words,
+    keys: &Keys,
+    bytes: &Bytes,
+    reals: &Reals,
+    values: &Values,
+    p: u8,
+) -> Found
+    requires { ⌜ Sound false (lent words keys bytes reals values) ⌝ }
+    requires { ⌜ p ≤ lastPlace ⌝ }
+    ensures { λ r. ⌜ r ≡ externalRowOf p (lent (words .entry) (keys .entry) (bytes .entry) (reals .entry) (values .entry)) ⌝ }
+    ensures { λ r. ⌜ Within (getD (now (words .entry)) rowCountAt 0) r ⌝ }
+{
+    let mut i = words[ROW_COUNT] as usize;
+    while 0 < i {
+        let kind = kind_at(bytes, bytes[ROW_PLACES + i]);
+        let x = column_at(words, keys, bytes, reals, values, p, i);
+        if holds_as_external(kind, x) {
+            return Found::At(i);
+        }
+        i -= 1;
+    }
+    Found::Nothing
+}
