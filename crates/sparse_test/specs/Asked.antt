@@ -135,7 +135,7 @@ module _ (t : Sparse) (n : ℕ) where
         one e false u true v = let l = form .ids q p (b .0) (ltb-true q p v) (a .1) in absurd (omega (arith, l, e))
         one e false u false v = omega (arith, ltb-false p q u, ltb-false q p v)
 
-    row-value : (v : Variable) (p : ℕ) → At t p → v .symbol ≡ symbolAt t p → valueOf v (basicsOf t) ≡ constantOf (t .bytes) (t .reals) (rowCount t) p
+    pub row-value : (v : Variable) (p : ℕ) → At t p → v .symbol ≡ symbolAt t p → valueOf v (basicsOf t) ≡ constantOf (t .bytes) (t .reals) (rowCount t) p
     unfolding valueOf basicsOf basicOf constantOf placeFrom symbolAt
     row-value v p l e =
         let r : ℕ = rowCount t in

@@ -47,7 +47,7 @@ pub fn byte_from(bytes: &Bytes, a: usize, n: usize, x: u8) -> usize
 }
 
 // The constant of the row whose symbol stands at place p, or 0.0.
-fn constant_of(bytes: &Bytes, reals: &Reals, r: usize, p: u8) -> f64
+pub fn constant_of(bytes: &Bytes, reals: &Reals, r: usize, p: u8) -> f64
     requires { ⌜ r ≤ mostRows ⌝ }
     ensures { λ f. ⌜ f ≡ constantOf (now (bytes .entry)) (now (reals .entry)) r p ⌝ }
 {
