@@ -1,5 +1,6 @@
 #!/usr/bin/env python3
 """Puts the tables of `bench/run speed`, read from standard input, into docs/SPEED.md, with the machine and the versions."""
+import datetime
 import os
 import platform
 import subprocess
@@ -14,10 +15,10 @@ def said(command):
 
 
 def processor():
-    with open("/proc/cpuinfo") as f:
-        for line in f:
-            if line.startswith("model name"):
-                return line.split(":", 1)[1].strip()
+    """As lscpu names it: /proc/cpuinfo has no name on aarch64."""
+    for line in said(["lscpu"]).splitlines():
+        if line.startswith("Model name:"):
+            return line.split(":", 1)[1].strip()
     return "an unnamed processor"
 
 
@@ -28,7 +29,7 @@ def main():
         text = f.read()
     head, rest = text.split(BEGIN)
     tail = rest.split(END)[1]
-    facts = f"{platform.machine()}, {processor()}, {os.cpu_count()} cores; {said(['rustc', '--version'])}; {said(['rt', 'version'])}; {rounds} rounds; medians, and the least in the second and third table:"
+    facts = f"{datetime.date.today()}: {platform.machine()}, {processor()}, {os.cpu_count()} cores; {said(['rustc', '--version'])}; {said(['rt', 'version'])}; {rounds} rounds; medians, and the least in the second and third table:"
     with open(path, "w") as f:
         f.write(f"{head}{BEGIN}\n{facts}\n\n{tables}\n{END}{tail}")
 

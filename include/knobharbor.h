@@ -2,7 +2,7 @@
    that a call answers and leaves is proved of the code behind it (crates/knobharbor, docs/CLAIMS.md); that this header says the same
    as that code is not proved.
 
-   All memory is the caller's. A state lives in four lent tables; a changing call is lent a working room of four tables more, and a
+   All memory is the caller's. A state lives in five lent tables; a changing call is lent a working room of five tables more, and a
    place for its answer. What has a fixed size crosses as a pointer, and its parameter says the size; a list whose length is free
    crosses as a pointer and a length of 64 bits, counted in elements.
 
@@ -31,20 +31,17 @@ extern "C" {
 
 /* of this header and the archive that was built with it; a state kept by one version is not promised to read in another */
 #define KNOBHARBOR_VERSION_MAJOR 0
-#define KNOBHARBOR_VERSION_MINOR 1
+#define KNOBHARBOR_VERSION_MINOR 2
 #define KNOBHARBOR_VERSION_PATCH 0
-#define KNOBHARBOR_VERSION "0.1.0"
+#define KNOBHARBOR_VERSION "0.2.0"
 
 /* ---- sizes */
 
 /* the lengths that tables have */
-#define KNOBHARBOR_HEAD 196
-#define KNOBHARBOR_ITEMS 128
-#define KNOBHARBOR_ROWS 51
-/* how wide an element is */
-#define KNOBHARBOR_NAME 20
-#define KNOBHARBOR_REAL 17
-#define KNOBHARBOR_ROW 130
+#define KNOBHARBOR_WORDS 258
+#define KNOBHARBOR_CELLS 6579
+#define KNOBHARBOR_BYTES 1312
+#define KNOBHARBOR_REALS 1132
 /* the places of fetch's two lists */
 #define KNOBHARBOR_CHANGES 32
 /* the places of a changing call's answer: the number, the pivots, the mark; and of a fetch's: the number, the count */
@@ -72,21 +69,18 @@ extern "C" {
 
 /* ---- tables */
 
-typedef uint64_t knobharbor_name[KNOBHARBOR_NAME];
-typedef double knobharbor_real[KNOBHARBOR_REAL];
-typedef double knobharbor_row[KNOBHARBOR_ROW];
-
-/* Four tables of the right lengths, 92,496 bytes: one to keep, and one as working room. Both may start with any content: reset
+/* Five tables of the right lengths, 78,224 bytes: one to keep, and one as working room. Both may start with any content: reset
    makes a state of the first, and every call leaves the second all zero. */
 typedef struct knobharbor_tables {
-    uint64_t head[KNOBHARBOR_HEAD];
-    knobharbor_name names[KNOBHARBOR_ITEMS];
-    knobharbor_real reals[KNOBHARBOR_ITEMS];
-    knobharbor_row rows[KNOBHARBOR_ROWS];
+    uint64_t words[KNOBHARBOR_WORDS];
+    double reals[KNOBHARBOR_REALS];
+    double values[KNOBHARBOR_CELLS];
+    uint16_t keys[KNOBHARBOR_CELLS];
+    uint8_t bytes[KNOBHARBOR_BYTES];
 } knobharbor_tables;
 
-/* the arguments that lend all four: knobharbor_reset(KNOBHARBOR_LEND(&tables), answer) */
-#define KNOBHARBOR_LEND(t) (t)->head, (t)->names, (t)->reals, (t)->rows
+/* the arguments that lend all five: knobharbor_reset(KNOBHARBOR_LEND(&tables), answer) */
+#define KNOBHARBOR_LEND(t) (t)->words, (t)->keys, (t)->bytes, (t)->reals, (t)->values
 
 /* ---- answers */
 
@@ -166,24 +160,24 @@ typedef enum knobharbor_kind {
 
 /* No variable, constraint or edit is left; the mark is yes. Any content will do, so it is accepted. */
 void knobharbor_reset(
-    uint64_t head[KNOBHARBOR_HEAD], knobharbor_name names[KNOBHARBOR_ITEMS], knobharbor_real reals[KNOBHARBOR_ITEMS],
-    knobharbor_row rows[KNOBHARBOR_ROWS], uint32_t answer[KNOBHARBOR_ANSWER]);
+    uint64_t words[KNOBHARBOR_WORDS], uint16_t keys[KNOBHARBOR_CELLS], uint8_t bytes[KNOBHARBOR_BYTES],
+    double reals[KNOBHARBOR_REALS], double values[KNOBHARBOR_CELLS], uint32_t answer[KNOBHARBOR_ANSWER]);
 
 /* Adds the constraint of this number: the sum of the terms, plus the constant, is at most, equal to or at least zero, with this
    strength. Tests 18, 1, 2, 3, 4, 10, 9, 11; steps 12 to 15. A kind that is none of the three is answered 18 too. */
 void knobharbor_add(
-    uint64_t head[KNOBHARBOR_HEAD], knobharbor_name names[KNOBHARBOR_ITEMS], knobharbor_real reals[KNOBHARBOR_ITEMS],
-    knobharbor_row rows[KNOBHARBOR_ROWS],
-    uint64_t whead[KNOBHARBOR_HEAD], knobharbor_name wnames[KNOBHARBOR_ITEMS], knobharbor_real wreals[KNOBHARBOR_ITEMS],
-    knobharbor_row wrows[KNOBHARBOR_ROWS], uint32_t answer[KNOBHARBOR_ANSWER],
+    uint64_t words[KNOBHARBOR_WORDS], uint16_t keys[KNOBHARBOR_CELLS], uint8_t bytes[KNOBHARBOR_BYTES],
+    double reals[KNOBHARBOR_REALS], double values[KNOBHARBOR_CELLS],
+    uint64_t wwords[KNOBHARBOR_WORDS], uint16_t wkeys[KNOBHARBOR_CELLS], uint8_t wbytes[KNOBHARBOR_BYTES],
+    double wreals[KNOBHARBOR_REALS], double wvalues[KNOBHARBOR_CELLS], uint32_t answer[KNOBHARBOR_ANSWER],
     uint32_t number, const knobharbor_term *terms, uint64_t term_count, double constant, uint32_t kind, double strength, uint16_t budget);
 
 /* The same, with the terms as two lists: vars[i] times coefs[i]. Lists of different lengths are answered 18 too. */
 void knobharbor_add_lists(
-    uint64_t head[KNOBHARBOR_HEAD], knobharbor_name names[KNOBHARBOR_ITEMS], knobharbor_real reals[KNOBHARBOR_ITEMS],
-    knobharbor_row rows[KNOBHARBOR_ROWS],
-    uint64_t whead[KNOBHARBOR_HEAD], knobharbor_name wnames[KNOBHARBOR_ITEMS], knobharbor_real wreals[KNOBHARBOR_ITEMS],
-    knobharbor_row wrows[KNOBHARBOR_ROWS], uint32_t answer[KNOBHARBOR_ANSWER],
+    uint64_t words[KNOBHARBOR_WORDS], uint16_t keys[KNOBHARBOR_CELLS], uint8_t bytes[KNOBHARBOR_BYTES],
+    double reals[KNOBHARBOR_REALS], double values[KNOBHARBOR_CELLS],
+    uint64_t wwords[KNOBHARBOR_WORDS], uint16_t wkeys[KNOBHARBOR_CELLS], uint8_t wbytes[KNOBHARBOR_BYTES],
+    double wreals[KNOBHARBOR_REALS], double wvalues[KNOBHARBOR_CELLS], uint32_t answer[KNOBHARBOR_ANSWER],
     uint32_t number, const uint32_t *vars, uint64_t var_count, const double *coefs, uint64_t coef_count, double constant, uint32_t kind,
     double strength, uint16_t budget);
 
@@ -191,44 +185,44 @@ void knobharbor_add_lists(
    refusals, 19 to 23, come first and touch no table; then those of knobharbor_add. Beside 20 the offset is that of the first byte
    with which no line can go on; else it is 0. */
 void knobharbor_add_text(
-    uint64_t head[KNOBHARBOR_HEAD], knobharbor_name names[KNOBHARBOR_ITEMS], knobharbor_real reals[KNOBHARBOR_ITEMS],
-    knobharbor_row rows[KNOBHARBOR_ROWS],
-    uint64_t whead[KNOBHARBOR_HEAD], knobharbor_name wnames[KNOBHARBOR_ITEMS], knobharbor_real wreals[KNOBHARBOR_ITEMS],
-    knobharbor_row wrows[KNOBHARBOR_ROWS], uint32_t answer[KNOBHARBOR_ANSWER], uint64_t *offset,
+    uint64_t words[KNOBHARBOR_WORDS], uint16_t keys[KNOBHARBOR_CELLS], uint8_t bytes[KNOBHARBOR_BYTES],
+    double reals[KNOBHARBOR_REALS], double values[KNOBHARBOR_CELLS],
+    uint64_t wwords[KNOBHARBOR_WORDS], uint16_t wkeys[KNOBHARBOR_CELLS], uint8_t wbytes[KNOBHARBOR_BYTES],
+    double wreals[KNOBHARBOR_REALS], double wvalues[KNOBHARBOR_CELLS], uint32_t answer[KNOBHARBOR_ANSWER], uint64_t *offset,
     uint32_t number, const uint8_t *line, uint64_t length, uint16_t budget);
 
 /* Removes the constraint of this number. Tests 18, 5; steps 13, 14, 15, 17. */
 void knobharbor_remove(
-    uint64_t head[KNOBHARBOR_HEAD], knobharbor_name names[KNOBHARBOR_ITEMS], knobharbor_real reals[KNOBHARBOR_ITEMS],
-    knobharbor_row rows[KNOBHARBOR_ROWS],
-    uint64_t whead[KNOBHARBOR_HEAD], knobharbor_name wnames[KNOBHARBOR_ITEMS], knobharbor_real wreals[KNOBHARBOR_ITEMS],
-    knobharbor_row wrows[KNOBHARBOR_ROWS], uint32_t answer[KNOBHARBOR_ANSWER],
+    uint64_t words[KNOBHARBOR_WORDS], uint16_t keys[KNOBHARBOR_CELLS], uint8_t bytes[KNOBHARBOR_BYTES],
+    double reals[KNOBHARBOR_REALS], double values[KNOBHARBOR_CELLS],
+    uint64_t wwords[KNOBHARBOR_WORDS], uint16_t wkeys[KNOBHARBOR_CELLS], uint8_t wbytes[KNOBHARBOR_BYTES],
+    double wreals[KNOBHARBOR_REALS], double wvalues[KNOBHARBOR_CELLS], uint32_t answer[KNOBHARBOR_ANSWER],
     uint32_t number, uint16_t budget);
 
 /* Makes the variable one that can be dragged: an equality with 0, at this strength clipped. Tests 18, 6, 7, 10, 9, 11; steps 12
    to 15. */
 void knobharbor_add_edit(
-    uint64_t head[KNOBHARBOR_HEAD], knobharbor_name names[KNOBHARBOR_ITEMS], knobharbor_real reals[KNOBHARBOR_ITEMS],
-    knobharbor_row rows[KNOBHARBOR_ROWS],
-    uint64_t whead[KNOBHARBOR_HEAD], knobharbor_name wnames[KNOBHARBOR_ITEMS], knobharbor_real wreals[KNOBHARBOR_ITEMS],
-    knobharbor_row wrows[KNOBHARBOR_ROWS], uint32_t answer[KNOBHARBOR_ANSWER],
+    uint64_t words[KNOBHARBOR_WORDS], uint16_t keys[KNOBHARBOR_CELLS], uint8_t bytes[KNOBHARBOR_BYTES],
+    double reals[KNOBHARBOR_REALS], double values[KNOBHARBOR_CELLS],
+    uint64_t wwords[KNOBHARBOR_WORDS], uint16_t wkeys[KNOBHARBOR_CELLS], uint8_t wbytes[KNOBHARBOR_BYTES],
+    double wreals[KNOBHARBOR_REALS], double wvalues[KNOBHARBOR_CELLS], uint32_t answer[KNOBHARBOR_ANSWER],
     uint32_t variable, double strength, uint16_t budget);
 
 /* Removes the variable's edit, and with it the last suggestion. Tests 18, 8; steps 13, 14, 15, 17. */
 void knobharbor_remove_edit(
-    uint64_t head[KNOBHARBOR_HEAD], knobharbor_name names[KNOBHARBOR_ITEMS], knobharbor_real reals[KNOBHARBOR_ITEMS],
-    knobharbor_row rows[KNOBHARBOR_ROWS],
-    uint64_t whead[KNOBHARBOR_HEAD], knobharbor_name wnames[KNOBHARBOR_ITEMS], knobharbor_real wreals[KNOBHARBOR_ITEMS],
-    knobharbor_row wrows[KNOBHARBOR_ROWS], uint32_t answer[KNOBHARBOR_ANSWER],
+    uint64_t words[KNOBHARBOR_WORDS], uint16_t keys[KNOBHARBOR_CELLS], uint8_t bytes[KNOBHARBOR_BYTES],
+    double reals[KNOBHARBOR_REALS], double values[KNOBHARBOR_CELLS],
+    uint64_t wwords[KNOBHARBOR_WORDS], uint16_t wkeys[KNOBHARBOR_CELLS], uint8_t wbytes[KNOBHARBOR_BYTES],
+    double wreals[KNOBHARBOR_REALS], double wvalues[KNOBHARBOR_CELLS], uint32_t answer[KNOBHARBOR_ANSWER],
     uint32_t variable, uint16_t budget);
 
 /* Drags the variable: its edit aims at the suggestion from now on. Tests 18, 1, 8; steps 13, 14, 16. After a refusal the edit
    still aims at the suggestion before. */
 void knobharbor_suggest(
-    uint64_t head[KNOBHARBOR_HEAD], knobharbor_name names[KNOBHARBOR_ITEMS], knobharbor_real reals[KNOBHARBOR_ITEMS],
-    knobharbor_row rows[KNOBHARBOR_ROWS],
-    uint64_t whead[KNOBHARBOR_HEAD], knobharbor_name wnames[KNOBHARBOR_ITEMS], knobharbor_real wreals[KNOBHARBOR_ITEMS],
-    knobharbor_row wrows[KNOBHARBOR_ROWS], uint32_t answer[KNOBHARBOR_ANSWER],
+    uint64_t words[KNOBHARBOR_WORDS], uint16_t keys[KNOBHARBOR_CELLS], uint8_t bytes[KNOBHARBOR_BYTES],
+    double reals[KNOBHARBOR_REALS], double values[KNOBHARBOR_CELLS],
+    uint64_t wwords[KNOBHARBOR_WORDS], uint16_t wkeys[KNOBHARBOR_CELLS], uint8_t wbytes[KNOBHARBOR_BYTES],
+    double wreals[KNOBHARBOR_REALS], double wvalues[KNOBHARBOR_CELLS], uint32_t answer[KNOBHARBOR_ANSWER],
     uint32_t variable, double suggestion, uint16_t budget);
 
 /* ---- fetch changes */
@@ -236,29 +230,28 @@ void knobharbor_suggest(
 /* Lists the variables that calls have moved and whose value is not the one last fetched, by ascending number, with their values;
    a second fetch straight after lists none. A variable that no constraint or edit names any more is forgotten without notice,
    and a new one that stands at 0 is not listed: ask its value. The answer is 0 or 18, and how many places of both lists are filled.
-   The lists are zero past the count; on 18 they are all zero and no table changes. The rows are only read. */
+   The lists are zero past the count; on 18 they are all zero and no table changes. Keys and values are only read. */
 void knobharbor_fetch(
-    uint64_t head[KNOBHARBOR_HEAD], knobharbor_name names[KNOBHARBOR_ITEMS], knobharbor_real reals[KNOBHARBOR_ITEMS],
-    knobharbor_row rows[KNOBHARBOR_ROWS], uint32_t answer[KNOBHARBOR_FETCHED],
-    uint64_t numbers[KNOBHARBOR_CHANGES], double values[KNOBHARBOR_CHANGES]);
+    uint64_t words[KNOBHARBOR_WORDS], uint16_t keys[KNOBHARBOR_CELLS], uint8_t bytes[KNOBHARBOR_BYTES],
+    double reals[KNOBHARBOR_REALS], double values[KNOBHARBOR_CELLS], uint32_t answer[KNOBHARBOR_FETCHED],
+    uint64_t numbers[KNOBHARBOR_CHANGES], double moved[KNOBHARBOR_CHANGES]);
 
 /* ---- queries
 
-   False or 0.0 for an unknown number, and where the tables do not read as a state. They write nothing. (Before C23 a pointer to
-   an array does not convert to a pointer to a const array: from tables that are not const, ask by `kh_value` and its like.) */
+   False or 0.0 for an unknown number, and where the tables do not read as a state. They write nothing. */
 
 /* The variable's value now. */
 double knobharbor_value(
-    const uint64_t head[KNOBHARBOR_HEAD], const knobharbor_name names[KNOBHARBOR_ITEMS], const knobharbor_real reals[KNOBHARBOR_ITEMS],
-    const knobharbor_row rows[KNOBHARBOR_ROWS], uint32_t variable);
+    const uint64_t words[KNOBHARBOR_WORDS], const uint16_t keys[KNOBHARBOR_CELLS], const uint8_t bytes[KNOBHARBOR_BYTES],
+    const double reals[KNOBHARBOR_REALS], const double values[KNOBHARBOR_CELLS], uint32_t variable);
 
 bool knobharbor_has_constraint(
-    const uint64_t head[KNOBHARBOR_HEAD], const knobharbor_name names[KNOBHARBOR_ITEMS], const knobharbor_real reals[KNOBHARBOR_ITEMS],
-    const knobharbor_row rows[KNOBHARBOR_ROWS], uint32_t number);
+    const uint64_t words[KNOBHARBOR_WORDS], const uint16_t keys[KNOBHARBOR_CELLS], const uint8_t bytes[KNOBHARBOR_BYTES],
+    const double reals[KNOBHARBOR_REALS], const double values[KNOBHARBOR_CELLS], uint32_t number);
 
 bool knobharbor_has_edit(
-    const uint64_t head[KNOBHARBOR_HEAD], const knobharbor_name names[KNOBHARBOR_ITEMS], const knobharbor_real reals[KNOBHARBOR_ITEMS],
-    const knobharbor_row rows[KNOBHARBOR_ROWS], uint32_t variable);
+    const uint64_t words[KNOBHARBOR_WORDS], const uint16_t keys[KNOBHARBOR_CELLS], const uint8_t bytes[KNOBHARBOR_BYTES],
+    const double reals[KNOBHARBOR_REALS], const double values[KNOBHARBOR_CELLS], uint32_t variable);
 
 /* ---- lines over the service cable
 

@@ -1,11 +1,12 @@
 //! The archive's calls under their C names, over what they are lent: what has a fixed size as a pointer to it, a list as a pointer
 //! and a length of 64 bits, an answer in a place of its own.
-use crate::layout::{Name, Real, Row, CHANGES, HEAD, ITEMS, ROWS};
+use crate::layout::{BYTES, CELLS, CHANGES, REALS, WORDS};
 
-type Heads = [u64; HEAD];
-type Names = [Name; ITEMS];
-type Reals = [Real; ITEMS];
-type Rows = [Row; ROWS];
+type Words = [u64; WORDS];
+type Keys = [u16; CELLS];
+type Bytes = [u8; BYTES];
+type Reals = [f64; REALS];
+type Values = [f64; CELLS];
 /// The places of a changing call's answer, and of a fetch's.
 pub const ANSWER: usize = 3;
 pub const FETCHED: usize = 2;
@@ -35,8 +36,9 @@ pub struct Term {
 macro_rules! changing {
     ($($name:ident($($arg:ident: $type:ty),*);)*) => {
         extern "C" {
-            $(fn $name(head: &mut Heads, names: &mut Names, reals: &mut Reals, rows: &mut Rows,
-                whead: &mut Heads, wnames: &mut Names, wreals: &mut Reals, wrows: &mut Rows, answer: &mut [u32; ANSWER], $($arg: $type),*);)*
+            $(fn $name(words: &mut Words, keys: &mut Keys, bytes: &mut Bytes, reals: &mut Reals, values: &mut Values,
+                wwords: &mut Words, wkeys: &mut Keys, wbytes: &mut Bytes, wreals: &mut Reals, wvalues: &mut Values,
+                answer: &mut [u32; ANSWER], $($arg: $type),*);)*
         }
     };
 }
@@ -51,24 +53,25 @@ changing! {
 }
 
 extern "C" {
-    fn knobharbor_reset(head: &mut Heads, names: &mut Names, reals: &mut Reals, rows: &mut Rows, answer: &mut [u32; ANSWER]);
-    fn knobharbor_fetch(head: &mut Heads, names: &mut Names, reals: &mut Reals, rows: &Rows, answer: &mut [u32; FETCHED],
-        numbers: &mut [u64; CHANGES], values: &mut [f64; CHANGES]);
-    fn knobharbor_value(head: &Heads, names: &Names, reals: &Reals, rows: &Rows, variable: u32) -> f64;
-    fn knobharbor_has_constraint(head: &Heads, names: &Names, reals: &Reals, rows: &Rows, number: u32) -> bool;
-    fn knobharbor_has_edit(head: &Heads, names: &Names, reals: &Reals, rows: &Rows, variable: u32) -> bool;
+    fn knobharbor_reset(words: &mut Words, keys: &mut Keys, bytes: &mut Bytes, reals: &mut Reals, values: &mut Values, answer: &mut [u32; ANSWER]);
+    fn knobharbor_fetch(words: &mut Words, keys: &Keys, bytes: &mut Bytes, reals: &mut Reals, values: &Values, answer: &mut [u32; FETCHED],
+        numbers: &mut [u64; CHANGES], moved: &mut [f64; CHANGES]);
+    fn knobharbor_value(words: &Words, keys: &Keys, bytes: &Bytes, reals: &Reals, values: &Values, variable: u32) -> f64;
+    fn knobharbor_has_constraint(words: &Words, keys: &Keys, bytes: &Bytes, reals: &Reals, values: &Values, number: u32) -> bool;
+    fn knobharbor_has_edit(words: &Words, keys: &Keys, bytes: &Bytes, reals: &Reals, values: &Values, variable: u32) -> bool;
     #[allow(dead_code)]
     fn knobharbor_strength_create(a: f64, b: f64, c: f64, w: f64) -> f64;
     #[allow(dead_code)]
     fn knobharbor_strength_clip(s: f64) -> f64;
 }
 
-/// Four tables as they are lent.
+/// Five tables as they are lent.
 pub struct Lent<'a> {
-    pub head: &'a mut Heads,
-    pub names: &'a mut Names,
+    pub words: &'a mut Words,
+    pub keys: &'a mut Keys,
+    pub bytes: &'a mut Bytes,
     pub reals: &'a mut Reals,
-    pub rows: &'a mut Rows,
+    pub values: &'a mut Values,
 }
 
 #[derive(Clone, Debug)]
@@ -95,12 +98,12 @@ impl Call {
     pub fn make(&self, t: Lent, w: Lent, answer: &mut [u32; ANSWER], vars: &[u32], coefs: &[f64], records: Option<&[Term]>) -> Answer {
         macro_rules! lend {
             ($call:ident, $($arg:expr),*) => {
-                $call(t.head, t.names, t.reals, t.rows, w.head, w.names, w.reals, w.rows, answer, $($arg),*)
+                $call(t.words, t.keys, t.bytes, t.reals, t.values, w.words, w.keys, w.bytes, w.reals, w.values, answer, $($arg),*)
             };
         }
         unsafe {
             match *self {
-                Call::Reset => knobharbor_reset(t.head, t.names, t.reals, t.rows, answer),
+                Call::Reset => knobharbor_reset(t.words, t.keys, t.bytes, t.reals, t.values, answer),
                 Call::Add { number, constant, kind, strength, budget, .. } => match records {
                     Some(terms) if number % 2 == 0 => lend!(knobharbor_add, number, terms.as_ptr(), terms.len() as u64, constant, kind, strength, budget),
                     _ => lend!(knobharbor_add_lists, number, vars.as_ptr(), vars.len() as u64, coefs.as_ptr(), coefs.len() as u64, constant, kind, strength, budget),
@@ -116,8 +119,8 @@ impl Call {
     }
 }
 
-pub fn fetch(t: Lent, answer: &mut [u32; FETCHED], numbers: &mut [u64; CHANGES], values: &mut [f64; CHANGES]) -> Fetched {
-    unsafe { knobharbor_fetch(t.head, t.names, t.reals, t.rows, answer, numbers, values) }
+pub fn fetch(t: Lent, answer: &mut [u32; FETCHED], numbers: &mut [u64; CHANGES], moved: &mut [f64; CHANGES]) -> Fetched {
+    unsafe { knobharbor_fetch(t.words, t.keys, t.bytes, t.reals, t.values, answer, numbers, moved) }
     let [number, count] = *answer;
     Fetched { number, count }
 }
@@ -126,9 +129,9 @@ pub fn fetch(t: Lent, answer: &mut [u32; FETCHED], numbers: &mut [u64; CHANGES],
 pub fn ask(t: Lent, n: u32) -> (f64, bool, bool) {
     unsafe {
         (
-            knobharbor_value(t.head, t.names, t.reals, t.rows, n),
-            knobharbor_has_constraint(t.head, t.names, t.reals, t.rows, n),
-            knobharbor_has_edit(t.head, t.names, t.reals, t.rows, n),
+            knobharbor_value(t.words, t.keys, t.bytes, t.reals, t.values, n),
+            knobharbor_has_constraint(t.words, t.keys, t.bytes, t.reals, t.values, n),
+            knobharbor_has_edit(t.words, t.keys, t.bytes, t.reals, t.values, n),
         )
     }
 }

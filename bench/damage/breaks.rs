@@ -1,7 +1,8 @@
 //! States in which one thing is wrong and all else fits to it, so that the one clause that forbids it must be what refuses them.
-use crate::craft::{count_uses, state, LARGEST, LAST_ID, MOST_TAGS, MOST_TERMS, MOST_VARIABLES, REQUIRED};
-use crate::layout::{code, id_of, kind_of, ConstraintWords, RowWords, VariableWords, Words, DUMMY, ERROR, EXTERNAL, NONE, SLACK};
+use crate::craft::{count_uses, state, LARGEST, MOST_TAGS, MOST_TERMS, MOST_VARIABLES, REQUIRED};
+use crate::layout::{code, id_of, kind_of, Held, CELLS, DUMMY, ERROR, EXTERNAL, NONE, SLACK, SPAN, SYMBOL_ROOM};
 use crate::random::Random;
+use crate::state::{RowWords, Words};
 
 /// A symbol's word another word wherever it stands.
 fn rename(w: &mut Words, old: u64, new: u64) {
@@ -53,36 +54,10 @@ fn basic_cell(g: &mut Random, w: &Words) -> Option<usize> {
 type Break = fn(&mut Random, &mut Words) -> Option<()>;
 
 const COUNTS_AND_ORDER: &[Break] = &[
-    |_, w| {
-        (w.constraints, w.rows, w.next) = (Vec::new(), Vec::new(), LAST_ID);
-        let of_edits: Vec<u64> = w.edits.iter().flat_map(|e| [e.marker, e.other]).collect();
-        w.symbols = w.variables.iter().map(|v| v.symbol).chain(of_edits).collect();
-        w.symbols.sort();
-        w.objective = vec![0.0; w.symbols.len()];
-        while w.variables.len() <= MOST_VARIABLES {
-            let (symbol, number) = (code(last_id(w) + 1, EXTERNAL), w.variables.last().map_or(0, |v| v.number) + 1);
-            w.variables.push(VariableWords { number, symbol, old: 1.0, ..VariableWords::default() });
-            append(w, symbol);
-        }
-        count_uses(w);
-        w.next = last_id(w) + 1;
-        Some(())
-    },
-    |_, w| {
-        *w = Words { next: 1, ..Words::default() };
-        for i in 0..=MOST_TAGS as u64 {
-            let marker = code(i + 1, SLACK);
-            w.constraints.push(ConstraintWords { number: i, marker, strength: REQUIRED, ..ConstraintWords::default() });
-            append(w, marker);
-        }
-        w.next = last_id(w) + 1;
-        Some(())
-    },
     |g, w| {
         let variable = some(g, &mut w.variables)?.number;
-        let c = some(g, &mut w.constraints)?;
-        c.terms.resize(MOST_TERMS, (variable, 1.0));
-        c.count = MOST_TERMS as u64 + 1 + g.word() % 3;
+        let many = MOST_TERMS + 1 + g.below(3);
+        some(g, &mut w.constraints)?.terms.resize(many, (variable, 1.0));
         Some(count_uses(w))
     },
     |g, w| Some(swap(g, &mut w.variables)),
@@ -153,10 +128,6 @@ const SYMBOLS: &[Break] = &[
         let s = g.pick(&[*w.symbols.first()?]);
         Some(remove_symbol(w, s))
     },
-    |g, w| {
-        let r = some(g, &mut w.rows)?;
-        Some(r.symbol = code(id_of(r.symbol), (kind_of(r.symbol) + 1) % 4))
-    },
     |_, w| {
         let id = last_id(w) + 1;
         Some(w.rows.last_mut()?.symbol = code(id, SLACK))
@@ -169,7 +140,6 @@ const SYMBOLS: &[Break] = &[
         let variable = w.variables.last().map_or(0, |v| v.number) + 1;
         let c = some(g, &mut w.constraints)?;
         c.terms.push((variable, 1.0));
-        c.count += 1;
         Some(()).filter(|_| c.terms.len() <= MOST_TERMS)
     },
     |_, w| Some(w.edits.last_mut()?.variable = w.variables.last()?.number + 1).map(|_| count_uses(w)),
@@ -240,11 +210,102 @@ const NUMBERS: &[Break] = &[
     |g, w| Some(some(g, &mut w.variables)?.changed = 2 + g.word() % 9),
 ];
 
-/// A state in which one thing is wrong, or none where the state has no place for it.
-pub fn broken(g: &mut Random) -> Words {
+type HeldBreak = fn(&mut Random, &mut Held) -> Option<()>;
+
+/// A row's number and a symbol's place that have a cell, and which one it is.
+fn some_cell(g: &mut Random, h: &Held) -> Option<usize> {
+    if h.cells.is_empty() { None } else { Some(g.below(h.cells.len())) }
+}
+
+fn key(row: usize, place: usize) -> u16 {
+    (row * SPAN + place) as u16
+}
+
+fn insert_cell(h: &mut Held, key: u16) -> Option<()> {
+    let at = h.cells.iter().position(|c| c.0 >= key).unwrap_or(h.cells.len());
+    Some(h.cells.insert(at, (key, 1.0))).filter(|_| h.cells.len() <= CELLS)
+}
+
+/// What only the sparse form can say.
+const CELLS_AND_PLACES: &[HeldBreak] = &[
+    |g, h| {
+        let i = g.below(h.cells.len().checked_sub(1)?.max(1));
+        h.cells.get(i + 1)?;
+        Some(h.cells.swap(i, i + 1))
+    },
+    |g, h| {
+        let i = some_cell(g, h)?;
+        Some(h.cells.insert(i, h.cells[i])).filter(|_| h.cells.len() <= CELLS)
+    },
+    |g, h| {
+        let i = some_cell(g, h)?;
+        Some(h.cells[i].1 = g.pick(&[0.0, -0.0]))
+    },
+    |g, h| {
+        let (row, place) = (1 + g.below(h.rows.len().max(1)), h.symbols.len() + 1 + g.below(3));
+        h.rows.get(row - 1)?;
+        insert_cell(h, key(row, place))
+    },
+    |g, h| {
+        let row = 1 + g.below(h.rows.len().max(1));
+        h.rows.get(row - 1)?;
+        insert_cell(h, key(row, 0))
+    },
+    |g, h| {
+        let place = 1 + g.below(h.symbols.len().max(1));
+        h.symbols.get(place - 1)?;
+        let row = g.pick(&[0, h.rows.len() + 1]);
+        insert_cell(h, key(row, place))
+    },
+    |g, h| {
+        let s = some(g, &mut h.symbols)?;
+        Some(s.1 = 4 + g.below(9) as u8)
+    },
+    |g, h| Some(some(g, &mut h.variables)?.place = 0),
+    |g, h| Some(some(g, &mut h.rows)?.0 = 0),
+    |g, h| Some(some(g, &mut h.constraints)?.tag.marker = 0),
+    |g, h| {
+        let past = h.symbols.len() as u8 + 1 + g.below(3) as u8;
+        Some(some(g, &mut h.constraints)?.tag.other = past)
+    },
+    |g, h| {
+        let past = h.symbols.len() as u8 + 1 + g.below(3) as u8;
+        Some(some(g, &mut h.edits)?.tag.other = past)
+    },
+    |g, h| {
+        let owner = some(g, &mut h.constraints)?.tag.marker;
+        Some(some(g, &mut h.terms)?.0 = owner)
+    },
+];
+
+/// Counts above the room, of tables that hold no more than the room.
+const COUNTS: &[HeldBreak] = &[
+    |g, h| Some(h.symbol_count = SYMBOL_ROOM as u64 + 1 + g.word() % 9),
+    |g, h| Some(h.cell_count = CELLS as u64 + 1 + g.word() % 9),
+    |g, h| Some(h.variable_count = MOST_VARIABLES as u64 + 1 + g.word() % 9).filter(|_| h.variables.len() == MOST_VARIABLES),
+    |g, h| Some(h.constraint_count = MOST_TAGS as u64 + 1 + g.word() % 9).filter(|_| h.constraints.len() == MOST_TAGS),
+];
+
+/// What is held of a state in which one thing is wrong, or of a state where it has no place for it.
+pub fn broken(g: &mut Random) -> Held {
     let w = state(g);
+    let held = w.held();
     let breaks: Vec<Break> = [COUNTS_AND_ORDER, SYMBOLS, NUMBERS].concat();
-    let mut out = w.clone();
-    let made = g.pick(&breaks)(g, &mut out);
-    if made.is_some() { out.counted() } else { w }
+    match g.below(4) {
+        0 => {
+            let mut out = held.clone();
+            let made = g.pick(CELLS_AND_PLACES)(g, &mut out);
+            if made.is_some() { out.counted() } else { held }
+        }
+        1 => {
+            let mut out = held.clone();
+            let made = g.pick(COUNTS)(g, &mut out);
+            if made.is_some() { out } else { held }
+        }
+        _ => {
+            let mut out = w;
+            let made = g.pick(&breaks)(g, &mut out);
+            if made.is_some() { out.held() } else { held }
+        }
+    }
 }

@@ -1,10 +1,11 @@
 //! One call of the archive on lent tables, held against the oracle: whether the tables read (`reading.rs`), and what the patched
 //! crate's model comes to where they do (`model.rs`).
 use crate::archive::{self, Answer, Call, Fetched, Term, ANSWER, FETCHED};
-use crate::layout::{Tables, Words, CHANGES};
+use crate::layout::{Held, Tables, CHANGES};
 use crate::memory::{Lists, Set};
 use crate::model;
 use crate::reading::{self, CLAUSES};
+use crate::state::Words;
 
 /// What a call is asked for beside tables that read. (Lengths of tables cannot be said through C.)
 const ASKED: &[&str] = &["an add's two lists are of one length", "an add's kind is one of three"];
@@ -32,10 +33,9 @@ fn differ<T>(what: &str, about: &dyn std::fmt::Debug) -> Result<T, Difference> {
     Err(format!("{what}: {about:?}"))
 }
 
-/// A cell that is -0.0 is absent, and stays or goes as steps touch it; the model has no absent cells.
-fn has_negative_zero(w: &Words) -> bool {
-    let negative = |x: &f64| x.to_bits() == (-0.0f64).to_bits();
-    w.objective.iter().any(negative) || w.rows.iter().any(|r| r.cells.iter().any(negative))
+/// A cell of the objective that is -0.0 is absent, and stays or goes as steps touch it; the model has no absent cells.
+fn has_negative_zero(h: &Held) -> bool {
+    h.objective.iter().any(|x| x.to_bits() == (-0.0f64).to_bits())
 }
 
 impl Checker {
@@ -48,8 +48,8 @@ impl Checker {
         hold.iter().enumerate().all(|(i, held)| *held || self.left_out == Some(CLAUSES.len() + i))
     }
 
-    fn reads(&self, w: &Words) -> bool {
-        reading::reads(w, self.left_out)
+    fn reads(&self, h: &Held) -> bool {
+        reading::reads(h, self.left_out)
     }
 
     fn fits(&self, call: &Call) -> bool {
@@ -90,10 +90,10 @@ impl Checker {
     }
 
     fn judge(&self, call: &Call, t: &Tables, answer: Answer, after: &Tables) -> Result<(), Difference> {
-        let w = Words::of(t);
+        let h = Held::of(t);
         let taken = match call {
             Call::Reset => true,
-            _ => self.reads(&w) && self.fits(call),
+            _ => self.reads(&h) && self.fits(call),
         };
         if taken != (answer.number != 18) {
             return differ(if taken { "it reads, and the answer is 18" } else { "it does not read, and the answer is not 18" }, &(call, answer));
@@ -104,12 +104,12 @@ impl Checker {
         }
         let (expected, tables) = match call {
             Call::Reset => (Answer { number: 0, pivots: 0, whole: 1 }, emptied(t)),
-            _ => model::call(&w, t, call),
+            _ => model::call(&Words::of(&h), t, call),
         };
         if answer != expected {
             return differ("answer, and what the model answers", &(call, answer, expected));
         }
-        if !after.same(&tables, answer.number == 0 && has_negative_zero(&w)) {
+        if !after.same(&tables, answer.number == 0 && has_negative_zero(&h)) {
             return differ("the tables are not the model's after", &(call, answer));
         }
         Ok(())
@@ -123,19 +123,19 @@ impl Checker {
         let (Some(after), Some((got_numbers, got_values)), Some(_)) = (self.tables.back(), self.changes.back(), self.answers.back()) else {
             return differ("fetch: what is not lent changed", &answer);
         };
-        let w = Words::of(t);
-        let taken = self.reads(&w);
+        let h = Held::of(t);
+        let taken = self.reads(&h);
         if taken != (answer.number != 18) {
             return differ("fetch: whether it reads", &(answer, taken));
         }
-        let (list, tables) = if taken { model::fetch(&w, t) } else { (Vec::new(), t.clone()) };
+        let (list, tables) = if taken { model::fetch(&Words::of(&h), t) } else { (Vec::new(), t.clone()) };
         let expected = Fetched { number: if taken { 0 } else { 18 }, count: list.len() as u32 };
         let listed = |i: usize| list.get(i).copied().unwrap_or((0, 0.0));
         let lists = got_numbers.iter().enumerate().all(|(i, n)| *n == listed(i).0) && got_values.iter().enumerate().all(|(i, x)| x.to_bits() == listed(i).1.to_bits());
         if answer != expected || !lists {
             return differ("fetch: the lists are not the model's", &(answer, expected, list));
         }
-        if !after.same(&tables, taken && has_negative_zero(&w)) {
+        if !after.same(&tables, taken && has_negative_zero(&h)) {
             return differ("fetch: the tables are not the model's", &answer);
         }
         Ok((answer, after))
@@ -145,10 +145,10 @@ impl Checker {
         let lent = self.tables.lend(t, last);
         let (value, constraint, edit) = archive::ask(lent, n);
         let Some(after) = self.tables.back() else { return differ("queries: what is not lent changed", &n) };
-        let w = Words::of(t);
+        let h = Held::of(t);
         // of tables that do not read the model says nothing: a clause that is left out shows by the calls
-        let really = reading::reads(&w, None);
-        let expected = if really { model::ask(&w, n) } else { (0.0, false, false) };
+        let really = reading::reads(&h, None);
+        let expected = if really { model::ask(&Words::of(&h), n) } else { (0.0, false, false) };
         if (value.to_bits(), constraint, edit) != (expected.0.to_bits(), expected.1, expected.2) || !after.same(t, false) {
             return differ("queries, and what the model says", &(n, value, constraint, edit, expected));
         }
@@ -156,9 +156,9 @@ impl Checker {
     }
 }
 
-/// "Reset": the head alone is written.
+/// "Reset": the counts and flags alone are written.
 fn emptied(t: &Tables) -> Tables {
     let mut out = t.clone();
-    Words { next: 1, whole: 1, ..Words::default() }.lay(&mut out);
+    Held { next: 1, whole: 1, ..Held::default() }.lay(&mut out);
     out
 }

@@ -1,6 +1,7 @@
 //! States that read and come from no run: any ids in any order, any rows, any numbers.
-use crate::layout::{code, ConstraintWords, EditWords, RowWords, VariableWords, Words, DUMMY, ERROR, EXTERNAL, NONE, SLACK};
+use crate::layout::{code, DUMMY, ERROR, EXTERNAL, NONE, SLACK};
 use crate::random::Random;
+use crate::state::{ConstraintWords, EditWords, RowWords, VariableWords, Words};
 
 pub const REQUIRED: f64 = 1_001_001_000.0;
 pub const MOST_VARIABLES: usize = 32;
@@ -65,7 +66,7 @@ fn owners(g: &mut Random, w: &mut Words, wild: bool, (variables, constraints, ed
         w.variables.push(VariableWords { number, symbol: take(EXTERNAL), uses: 0, changed: g.word() % 2, old });
     }
     for (number, (marker, other, strength)) in ascending(g, constraints, LARGEST).into_iter().zip(tags) {
-        w.constraints.push(ConstraintWords { number, marker: take(marker), other: other.map_or(NONE, &mut take), strength, count: 0, terms: Vec::new() });
+        w.constraints.push(ConstraintWords { number, marker: take(marker), other: other.map_or(NONE, &mut take), strength, terms: Vec::new() });
     }
     let mut edited: Vec<u64> = w.variables.iter().map(|v| v.number).collect();
     while edited.len() > edits {
@@ -85,7 +86,6 @@ fn terms(g: &mut Random, w: &mut Words, wild: bool) {
     for c in &mut w.constraints {
         let n = if numbers.is_empty() { 0 } else if g.one_in(10) { g.below(MOST_TERMS + 1) } else { g.below(4) };
         c.terms = (0..n).map(|_| (g.pick(&numbers), number(g, wild))).collect();
-        c.count = n as u64;
     }
     count_uses(w);
 }
@@ -107,9 +107,9 @@ fn tableau(g: &mut Random, w: &mut Words, wild: bool) {
         basic.remove(g.below(basic.len()));
     }
     let full = 1 + g.below(5);
-    let negative_zero = g.one_in(60);
     let symbols = w.symbols.clone();
-    let cells = |g: &mut Random, least: f64| -> Vec<f64> {
+    // absent cells of the objective may be zeros of either sign; a row's are not there
+    let cells = |g: &mut Random, least: f64, negative_zero: bool| -> Vec<f64> {
         symbols
             .iter()
             .map(|s| match basic.contains(s) || !g.one_in(full) {
@@ -119,10 +119,11 @@ fn tableau(g: &mut Random, w: &mut Words, wild: bool) {
             })
             .collect()
     };
-    w.rows = basic.iter().map(|s| RowWords { symbol: *s, constant: number(g, wild), cells: cells(g, f64::MIN) }).collect();
+    w.rows = basic.iter().map(|s| RowWords { symbol: *s, constant: number(g, wild), cells: cells(g, f64::MIN, false) }).collect();
     // above 0 for the most part, as a pass leaves it
     let least = if g.one_in(4) { f64::MIN } else { 0.0 };
-    w.objective = cells(g, least);
+    let negative_zero = g.one_in(60);
+    w.objective = cells(g, least, negative_zero);
 }
 
 /// A state that reads.
@@ -132,5 +133,5 @@ pub fn state(g: &mut Random) -> Words {
     owners(g, &mut w, wild, sizes);
     terms(g, &mut w, wild);
     tableau(g, &mut w, wild);
-    w.counted()
+    w
 }

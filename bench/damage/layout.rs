@@ -1,27 +1,21 @@
-//! The lent tables: how long and how wide they are, which place holds what, what they hold as lists of words, and words laid
-//! into them. No other file knows a number of the layout.
+//! The lent tables: how long they are, which place holds what, what they hold as lists, and lists laid into them. No other file knows a
+//! number of the layout.
 
-// ---- lengths, widths and places
+// ---- lengths and places
 
-pub const HEAD: usize = 196;
-pub const ITEMS: usize = 128;
-pub const ROWS: usize = 51;
-const NAME: usize = 20;
-const REAL: usize = 17;
-const ROW: usize = 130;
-
-pub type Name = [u64; NAME];
-pub type Real = [f64; REAL];
-pub type Row = [f64; ROW];
-
-/// The lengths that tables have: head, names, reals, rows.
-pub const LENGTHS: [usize; 4] = [HEAD, ITEMS, ITEMS, ROWS];
+pub const WORDS: usize = 258;
+pub const CELLS: usize = 6579;
+pub const BYTES: usize = 1312;
+pub const REALS: usize = 1132;
+/// The lengths that tables have: words, keys, bytes, reals, values.
+pub const LENGTHS: [usize; 5] = [WORDS, CELLS, BYTES, REALS, CELLS];
 /// The places of fetch's two lists.
 pub const CHANGES: usize = 32;
 
 const NEXT: usize = 0;
 const SYMBOL_COUNT: usize = 1;
 const ROW_COUNT: usize = 2;
+const CELL_COUNT: usize = 3;
 const VARIABLE_COUNT: usize = 4;
 const CONSTRAINT_COUNT: usize = 5;
 const EDIT_COUNT: usize = 6;
@@ -29,34 +23,47 @@ const CLEAR: usize = 7;
 const WHOLE: usize = 8;
 const HEADING: usize = 9;
 
-const SYMBOLS: usize = 16;
-const BASICS: usize = 146;
-const SYMBOL_ROOM: usize = BASICS - SYMBOLS - 1;
-const BASIC_ROOM: usize = HEAD - BASICS;
+// of words; symbols and rows are counted from 1
+const IDS: usize = 16;
+const NUMBERS: usize = 146;
+const USES: usize = 178;
+const CONSTRAINTS: usize = 210;
 
-const VARIABLES: usize = 0;
-const CONSTRAINTS: usize = 32;
-const EDITS: usize = 80;
+// of bytes
+const KINDS: usize = 1;
+const BASICS: usize = 137;
+const PLACES: usize = 192;
+const CHANGED: usize = 224;
+const MARKERS: usize = 256;
+const OTHERS: usize = 304;
+const TERM_COUNTS: usize = 352;
+const EDITED: usize = 400;
+const EDIT_MARKERS: usize = 448;
+const EDIT_OTHERS: usize = 496;
+const TERMS: usize = 544;
 
-const NUMBER: usize = 0;
-const SYMBOL: usize = 1; // a tag's marker
-const USES: usize = 2; // a tag's other
-const CHANGED: usize = 3; // a constraint's count of terms
-const TERMS: usize = 4;
-const TERM_ROOM: usize = NAME - TERMS;
+// of reals
+const CONSTANTS: usize = 1;
+const OLD: usize = 56;
+const OBJECTIVE: usize = 88;
+const STRENGTHS: usize = 220;
+const EDIT_STRENGTHS: usize = 268;
+const SUGGESTIONS: usize = 316;
+const COEFFICIENTS: usize = 364;
 
-const OLD: usize = 0; // a strength
-const SUGGESTION: usize = 1;
-const COEFFICIENTS: usize = 1;
+// how much a list may hold
+pub const SYMBOL_ROOM: usize = 129;
+const ROW_ROOM: usize = 50;
+const VARIABLE_ROOM: usize = USES - NUMBERS;
+const RECORD_ROOM: usize = WORDS - CONSTRAINTS;
+const TERM_ROOM: usize = BYTES - TERMS;
 
-const OBJECTIVE: usize = 0;
-const FIRST_ROW: usize = 1;
-const CONSTANT: usize = 0;
-const CELLS: usize = 1;
+/// How far the keys of one row lie from those of the next.
+pub const SPAN: usize = 256;
 
 // ---- symbols: an id and a kind in one word
 
-const KINDS: u64 = 4;
+const KIND_COUNT: u64 = 4;
 pub const EXTERNAL: u64 = 0;
 pub const SLACK: u64 = 1;
 pub const ERROR: u64 = 2;
@@ -65,214 +72,241 @@ pub const DUMMY: u64 = 3;
 pub const NONE: u64 = 0;
 
 pub fn code(id: u64, kind: u64) -> u64 {
-    id.wrapping_mul(KINDS).wrapping_add(kind)
+    id.wrapping_mul(KIND_COUNT).wrapping_add(kind)
 }
 
 pub fn id_of(code: u64) -> u64 {
-    code / KINDS
+    code / KIND_COUNT
 }
 
 pub fn kind_of(code: u64) -> u64 {
-    code % KINDS
+    code % KIND_COUNT
 }
 
-// ---- the four tables
+// ---- the five tables
 
 #[derive(Clone)]
 pub struct Tables {
-    pub head: Vec<u64>,
-    pub names: Vec<Name>,
-    pub reals: Vec<Real>,
-    pub rows: Vec<Row>,
+    pub words: Vec<u64>,
+    pub keys: Vec<u16>,
+    pub bytes: Vec<u8>,
+    pub reals: Vec<f64>,
+    pub values: Vec<f64>,
 }
 
-fn word_bits<const N: usize>(rows: &[[f64; N]]) -> impl Iterator<Item = u64> + '_ {
-    rows.iter().flatten().map(|x| x.to_bits())
+fn number_bits(list: &[f64]) -> impl Iterator<Item = u64> + '_ {
+    list.iter().map(|x| x.to_bits())
 }
 
 impl Tables {
-    /// Each word by `word`, each number by `number`.
+    /// Each word, key and byte by `word`, each number by `number`.
     pub fn filled(mut word: impl FnMut() -> u64, mut number: impl FnMut() -> f64) -> Tables {
         Tables {
-            head: (0..HEAD).map(|_| word()).collect(),
-            names: (0..ITEMS).map(|_| [0; NAME].map(|_: u64| word())).collect(),
-            reals: (0..ITEMS).map(|_| [0.0; REAL].map(|_: f64| number())).collect(),
-            rows: (0..ROWS).map(|_| [0.0; ROW].map(|_: f64| number())).collect(),
+            words: (0..WORDS).map(|_| word()).collect(),
+            keys: (0..CELLS).map(|_| word() as u16).collect(),
+            bytes: (0..BYTES).map(|_| word() as u8).collect(),
+            reals: (0..REALS).map(|_| number()).collect(),
+            values: (0..CELLS).map(|_| number()).collect(),
         }
     }
 
-    fn lengths(&self) -> [usize; 4] {
-        [self.head.len(), self.names.len(), self.reals.len(), self.rows.len()]
-    }
-
-    /// Every word, as bits.
+    /// All that stands there, as bits.
     pub fn bits(&self) -> impl Iterator<Item = u64> + '_ {
-        self.head.iter().copied().chain(self.names.iter().flatten().copied()).chain(word_bits(&self.reals)).chain(word_bits(&self.rows))
+        let small = self.keys.iter().map(|k| u64::from(*k)).chain(self.bytes.iter().map(|b| u64::from(*b)));
+        self.words.iter().copied().chain(small).chain(number_bits(&self.reals)).chain(number_bits(&self.values))
     }
 
-    /// Every word the same. Where `loose`, a zero of a row is any zero: which sign an absent cell has is the lender's.
+    /// All the same. Where `loose`, a zero of the objective is any zero: which sign an absent cell has is the lender's.
     pub fn same(&self, other: &Tables, loose: bool) -> bool {
-        let rows = || self.rows.iter().flatten().zip(other.rows.iter().flatten());
-        self.lengths() == other.lengths()
-            && self.head == other.head
-            && self.names == other.names
-            && word_bits(&self.reals).eq(word_bits(&other.reals))
-            && rows().all(|(a, b)| a.to_bits() == b.to_bits() || (loose && *a == 0.0 && *b == 0.0))
+        let aim = OBJECTIVE..OBJECTIVE + SYMBOL_ROOM;
+        let alike = |(i, (a, b)): (usize, (&f64, &f64))| a.to_bits() == b.to_bits() || (loose && aim.contains(&i) && *a == 0.0 && *b == 0.0);
+        self.words == other.words
+            && self.keys == other.keys
+            && self.bytes == other.bytes
+            && self.reals.len() == other.reals.len()
+            && self.reals.iter().zip(&other.reals).enumerate().all(alike)
+            && number_bits(&self.values).eq(number_bits(&other.values))
     }
 
-    /// A word by its place among all, and whether it is a number.
+    /// One thing that stands there, by its place among all.
     pub fn word_at(&mut self, place: usize) -> Word<'_> {
-        let [a, b, c, _] = self.lengths();
-        let place = place % (a + b * NAME + c * REAL + self.rows.len() * ROW);
-        if place < a {
-            return Word::Count(&mut self.head[place]);
+        let mut place = place % LENGTHS.iter().sum::<usize>();
+        if place < WORDS {
+            return Word::Count(&mut self.words[place]);
         }
-        let place = place - a;
-        if place < b * NAME {
-            return Word::Count(&mut self.names[place / NAME][place % NAME]);
+        place -= WORDS;
+        if place < CELLS {
+            return Word::Key(&mut self.keys[place]);
         }
-        let place = place - b * NAME;
-        if place < c * REAL {
-            return Word::Number(&mut self.reals[place / REAL][place % REAL]);
+        place -= CELLS;
+        if place < BYTES {
+            return Word::Byte(&mut self.bytes[place]);
         }
-        let place = place - c * REAL;
-        Word::Number(&mut self.rows[place / ROW][place % ROW])
+        place -= BYTES;
+        if place < REALS {
+            return Word::Number(&mut self.reals[place]);
+        }
+        Word::Number(&mut self.values[place - REALS])
     }
 
     /// A place of the live part, or near it: `pick` gives a number below its argument.
     pub fn live_place(&self, mut pick: impl FnMut(usize) -> usize) -> usize {
-        let w = Words::of(self);
-        let one_of = |n: usize, room: usize, g: &mut dyn FnMut(usize) -> usize| g((n + 1).min(room));
-        let item = |start: usize, count: usize, g: &mut dyn FnMut(usize) -> usize| start + one_of(count, EDITS - CONSTRAINTS, g);
-        let items = [(VARIABLES, w.variables.len()), (CONSTRAINTS, w.constraints.len()), (EDITS, w.edits.len())];
-        let (start, count) = items[pick(items.len())];
-        match pick(8) {
-            0 => pick(HEADING),
-            1 => SYMBOLS + one_of(w.symbols.len(), SYMBOL_ROOM, &mut pick),
-            2 => BASICS + one_of(w.rows.len(), BASIC_ROOM, &mut pick),
-            3..=5 => HEAD + item(start, count, &mut pick) * NAME + pick(TERMS + 2),
-            6 => HEAD + ITEMS * NAME + item(start, count, &mut pick) * REAL + pick(COEFFICIENTS + 2),
-            _ => HEAD + ITEMS * (NAME + REAL) + one_of(w.rows.len() + 1, ROWS, &mut pick) * ROW + one_of(w.symbols.len() + 1, ROW, &mut pick),
-        }
+        let h = Held::of(self);
+        let (k, r, n, v) = (h.symbols.len(), h.rows.len(), h.cells.len(), h.variables.len());
+        let (c, e, m) = (h.constraints.len(), h.edits.len(), h.terms.len());
+        let (keys, bytes) = (WORDS, WORDS + CELLS);
+        let (reals, values) = (bytes + BYTES, bytes + BYTES + REALS);
+        let parts = [
+            (0, HEADING),
+            (IDS, k),
+            (NUMBERS, v),
+            (USES, v),
+            (CONSTRAINTS, c),
+            (keys, n),
+            (bytes + KINDS, k),
+            (bytes + BASICS, r),
+            (bytes + PLACES, v),
+            (bytes + CHANGED, v),
+            (bytes + MARKERS, c),
+            (bytes + OTHERS, c),
+            (bytes + TERM_COUNTS, c),
+            (bytes + EDITED, e),
+            (bytes + EDIT_MARKERS, e),
+            (bytes + EDIT_OTHERS, e),
+            (bytes + TERMS, m),
+            (reals + CONSTANTS, r),
+            (reals + OLD, v),
+            (reals + OBJECTIVE, k),
+            (reals + STRENGTHS, c),
+            (reals + EDIT_STRENGTHS, e),
+            (reals + SUGGESTIONS, e),
+            (reals + COEFFICIENTS, m),
+            (values, n),
+        ];
+        let (start, count) = parts[pick(parts.len())];
+        start + pick(count + 1)
     }
 }
 
 pub enum Word<'a> {
     Count(&'a mut u64),
+    Key(&'a mut u16),
+    Byte(&'a mut u8),
     Number(&'a mut f64),
 }
 
-// ---- what tables hold
+// ---- what tables hold, as it stands there: symbols by their places, 0 for none
 
 #[derive(Clone, Debug, Default)]
-pub struct VariableWords {
+pub struct HeldVariable {
     pub number: u64,
-    pub symbol: u64,
+    pub place: u8,
     pub uses: u64,
-    pub changed: u64,
+    pub changed: u8,
     pub old: f64,
 }
 
+/// The marker and the other, and the strength.
+#[derive(Clone, Copy, Debug, Default)]
+pub struct HeldTag {
+    pub marker: u8,
+    pub other: u8,
+    pub strength: f64,
+}
+
 #[derive(Clone, Debug, Default)]
-pub struct ConstraintWords {
+pub struct HeldConstraint {
     pub number: u64,
-    pub marker: u64,
-    pub other: u64,
-    pub strength: f64,
-    pub count: u64,
-    pub terms: Vec<(u64, f64)>,
+    pub tag: HeldTag,
+    pub count: u8,
 }
 
 #[derive(Clone, Debug, Default)]
-pub struct EditWords {
-    pub variable: u64,
-    pub marker: u64,
-    pub other: u64,
-    pub strength: f64,
+pub struct HeldEdit {
+    pub variable: u8,
+    pub tag: HeldTag,
     pub suggestion: f64,
-}
-
-#[derive(Clone, Debug, Default)]
-pub struct RowWords {
-    pub symbol: u64,
-    pub constant: f64,
-    pub cells: Vec<f64>,
 }
 
 /// The counts as they stand, which may be above the room; the lists hold no more than the room does.
 #[derive(Clone, Debug, Default)]
-pub struct Words {
+pub struct Held {
     pub next: u64,
     pub clear: u64,
     pub whole: u64,
     pub symbol_count: u64,
     pub row_count: u64,
+    pub cell_count: u64,
     pub variable_count: u64,
     pub constraint_count: u64,
     pub edit_count: u64,
-    pub symbols: Vec<u64>,
-    pub rows: Vec<RowWords>,
+    /// id and kind
+    pub symbols: Vec<(u64, u8)>,
+    /// the basic symbol's place and the constant
+    pub rows: Vec<(u8, f64)>,
+    pub cells: Vec<(u16, f64)>,
     pub objective: Vec<f64>,
-    pub variables: Vec<VariableWords>,
-    pub constraints: Vec<ConstraintWords>,
-    pub edits: Vec<EditWords>,
+    pub variables: Vec<HeldVariable>,
+    pub constraints: Vec<HeldConstraint>,
+    /// of all constraints, one after the other: the variable's place and the coefficient
+    pub terms: Vec<(u8, f64)>,
+    pub edits: Vec<HeldEdit>,
 }
 
 fn held(count: u64, room: usize) -> usize {
     count.min(room as u64) as usize
 }
 
-impl Words {
-    pub fn of(t: &Tables) -> Words {
-        let h = &t.head;
-        let mut w = Words {
-            next: h[NEXT],
-            clear: h[CLEAR],
-            whole: h[WHOLE],
-            symbol_count: h[SYMBOL_COUNT],
-            row_count: h[ROW_COUNT],
-            variable_count: h[VARIABLE_COUNT],
-            constraint_count: h[CONSTRAINT_COUNT],
-            edit_count: h[EDIT_COUNT],
-            ..Words::default()
+impl Held {
+    pub fn of(t: &Tables) -> Held {
+        let (w, b, f) = (&t.words, &t.bytes, &t.reals);
+        let mut h = Held {
+            next: w[NEXT],
+            clear: w[CLEAR],
+            whole: w[WHOLE],
+            symbol_count: w[SYMBOL_COUNT],
+            row_count: w[ROW_COUNT],
+            cell_count: w[CELL_COUNT],
+            variable_count: w[VARIABLE_COUNT],
+            constraint_count: w[CONSTRAINT_COUNT],
+            edit_count: w[EDIT_COUNT],
+            ..Held::default()
         };
-        let (k, r) = (held(w.symbol_count, SYMBOL_ROOM), held(w.row_count, BASIC_ROOM));
-        w.symbols = h[SYMBOLS..SYMBOLS + k].to_vec();
-        w.objective = t.rows[OBJECTIVE][CELLS..CELLS + k].to_vec();
-        w.rows = (0..r)
-            .map(|i| RowWords { symbol: h[BASICS + i], constant: t.rows[FIRST_ROW + i][CONSTANT], cells: t.rows[FIRST_ROW + i][CELLS..CELLS + k].to_vec() })
+        let k = held(h.symbol_count, SYMBOL_ROOM);
+        h.symbols = (0..k).map(|i| (w[IDS + i], b[KINDS + i])).collect();
+        h.objective = f[OBJECTIVE..OBJECTIVE + k].to_vec();
+        h.rows = (0..held(h.row_count, ROW_ROOM)).map(|i| (b[BASICS + i], f[CONSTANTS + i])).collect();
+        h.cells = (0..held(h.cell_count, CELLS)).map(|i| (t.keys[i], t.values[i])).collect();
+        h.variables = (0..held(h.variable_count, VARIABLE_ROOM))
+            .map(|i| HeldVariable { number: w[NUMBERS + i], place: b[PLACES + i], uses: w[USES + i], changed: b[CHANGED + i], old: f[OLD + i] })
             .collect();
-        w.read_items(&t);
-        w
+        h.read_records(t);
+        h
     }
 
-    fn read_items(&mut self, t: &Tables) {
-        let item = |i: usize| (&t.names[i], &t.reals[i]);
-        self.variables = (VARIABLES..VARIABLES + held(self.variable_count, ITEMS - VARIABLES))
-            .map(item)
-            .map(|(n, r)| VariableWords { number: n[NUMBER], symbol: n[SYMBOL], uses: n[USES], changed: n[CHANGED], old: r[OLD] })
-            .collect();
-        self.constraints = (CONSTRAINTS..CONSTRAINTS + held(self.constraint_count, ITEMS - CONSTRAINTS))
-            .map(item)
-            .map(|(n, r)| ConstraintWords {
-                number: n[NUMBER],
-                marker: n[SYMBOL],
-                other: n[USES],
-                strength: r[OLD],
-                count: n[CHANGED],
-                terms: (0..held(n[CHANGED], TERM_ROOM)).map(|j| (n[TERMS + j], r[COEFFICIENTS + j])).collect(),
+    fn read_records(&mut self, t: &Tables) {
+        let (w, b, f) = (&t.words, &t.bytes, &t.reals);
+        self.constraints = (0..held(self.constraint_count, RECORD_ROOM))
+            .map(|i| {
+                let tag = HeldTag { marker: b[MARKERS + i], other: b[OTHERS + i], strength: f[STRENGTHS + i] };
+                HeldConstraint { number: w[CONSTRAINTS + i], tag, count: b[TERM_COUNTS + i] }
             })
             .collect();
-        self.edits = (EDITS..EDITS + held(self.edit_count, ITEMS - EDITS))
-            .map(item)
-            .map(|(n, r)| EditWords { variable: n[NUMBER], marker: n[SYMBOL], other: n[USES], strength: r[OLD], suggestion: r[SUGGESTION] })
+        let terms = self.constraints.iter().map(|c| usize::from(c.count)).sum::<usize>().min(TERM_ROOM);
+        self.terms = (0..terms).map(|j| (b[TERMS + j], f[COEFFICIENTS + j])).collect();
+        self.edits = (0..held(self.edit_count, RECORD_ROOM))
+            .map(|i| {
+                let tag = HeldTag { marker: b[EDIT_MARKERS + i], other: b[EDIT_OTHERS + i], strength: f[EDIT_STRENGTHS + i] };
+                HeldEdit { variable: b[EDITED + i], tag, suggestion: f[SUGGESTIONS + i] }
+            })
             .collect();
     }
 
     /// Each count is that of its list.
-    pub fn counted(mut self) -> Words {
+    pub fn counted(mut self) -> Held {
         self.symbol_count = self.symbols.len() as u64;
         self.row_count = self.rows.len() as u64;
+        self.cell_count = self.cells.len() as u64;
         self.variable_count = self.variables.len() as u64;
         self.constraint_count = self.constraints.len() as u64;
         self.edit_count = self.edits.len() as u64;
@@ -283,42 +317,45 @@ impl Words {
     /// the next one leaves free.
     pub fn lay(&self, t: &mut Tables) {
         let heading = [
-            (NEXT, self.next),
-            (SYMBOL_COUNT, self.symbol_count),
-            (ROW_COUNT, self.row_count),
-            (VARIABLE_COUNT, self.variable_count),
-            (CONSTRAINT_COUNT, self.constraint_count),
-            (EDIT_COUNT, self.edit_count),
-            (CLEAR, self.clear),
-            (WHOLE, self.whole),
+            self.next,
+            self.symbol_count,
+            self.row_count,
+            self.cell_count,
+            self.variable_count,
+            self.constraint_count,
+            self.edit_count,
+            self.clear,
+            self.whole,
         ];
-        heading.iter().for_each(|&(place, word)| t.head[place] = word);
-        t.head[SYMBOLS..SYMBOLS + self.symbols.len()].copy_from_slice(&self.symbols);
-        t.rows[OBJECTIVE][CELLS..CELLS + self.objective.len()].copy_from_slice(&self.objective);
-        for (i, r) in self.rows.iter().enumerate() {
-            t.head[BASICS + i] = r.symbol;
-            t.rows[FIRST_ROW + i][CONSTANT] = r.constant;
-            t.rows[FIRST_ROW + i][CELLS..CELLS + r.cells.len()].copy_from_slice(&r.cells);
+        t.words[..HEADING].copy_from_slice(&heading);
+        for (i, &(id, kind)) in self.symbols.iter().enumerate() {
+            (t.words[IDS + i], t.bytes[KINDS + i]) = (id, kind);
         }
-        self.lay_items(t);
+        t.reals[OBJECTIVE..OBJECTIVE + self.objective.len()].copy_from_slice(&self.objective);
+        for (i, &(place, constant)) in self.rows.iter().enumerate() {
+            (t.bytes[BASICS + i], t.reals[CONSTANTS + i]) = (place, constant);
+        }
+        for (i, &(key, value)) in self.cells.iter().enumerate() {
+            (t.keys[i], t.values[i]) = (key, value);
+        }
+        for (i, v) in self.variables.iter().enumerate() {
+            (t.words[NUMBERS + i], t.words[USES + i]) = (v.number, v.uses);
+            (t.bytes[PLACES + i], t.bytes[CHANGED + i], t.reals[OLD + i]) = (v.place, v.changed, v.old);
+        }
+        self.lay_records(t);
     }
 
-    fn lay_items(&self, t: &mut Tables) {
-        for (i, v) in self.variables.iter().enumerate() {
-            t.names[VARIABLES + i][..=CHANGED].copy_from_slice(&[v.number, v.symbol, v.uses, v.changed]);
-            t.reals[VARIABLES + i][OLD] = v.old;
-        }
+    fn lay_records(&self, t: &mut Tables) {
         for (i, c) in self.constraints.iter().enumerate() {
-            t.names[CONSTRAINTS + i][..TERMS].copy_from_slice(&[c.number, c.marker, c.other, c.count]);
-            t.reals[CONSTRAINTS + i][OLD] = c.strength;
-            for (j, &(v, k)) in c.terms.iter().enumerate() {
-                t.names[CONSTRAINTS + i][TERMS + j] = v;
-                t.reals[CONSTRAINTS + i][COEFFICIENTS + j] = k;
-            }
+            (t.words[CONSTRAINTS + i], t.bytes[TERM_COUNTS + i]) = (c.number, c.count);
+            (t.bytes[MARKERS + i], t.bytes[OTHERS + i], t.reals[STRENGTHS + i]) = (c.tag.marker, c.tag.other, c.tag.strength);
+        }
+        for (j, &(place, coefficient)) in self.terms.iter().enumerate() {
+            (t.bytes[TERMS + j], t.reals[COEFFICIENTS + j]) = (place, coefficient);
         }
         for (i, e) in self.edits.iter().enumerate() {
-            t.names[EDITS + i][..=USES].copy_from_slice(&[e.variable, e.marker, e.other]);
-            t.reals[EDITS + i][..=SUGGESTION].copy_from_slice(&[e.strength, e.suggestion]);
+            (t.bytes[EDITED + i], t.reals[SUGGESTIONS + i]) = (e.variable, e.suggestion);
+            (t.bytes[EDIT_MARKERS + i], t.bytes[EDIT_OTHERS + i], t.reals[EDIT_STRENGTHS + i]) = (e.tag.marker, e.tag.other, e.tag.strength);
         }
     }
 }

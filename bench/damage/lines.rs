@@ -12,12 +12,14 @@ mod memory;
 mod model;
 #[allow(dead_code)]
 mod reading;
+mod state;
 
 use archive::{ask, clip, create, fetch, Call, ANSWER, FETCHED};
 use cassowary_patched::{Solver, State};
 use format::{bits, Relation};
-use layout::{Tables, Words, CHANGES};
+use layout::{Held, Tables, CHANGES};
 use memory::{Lists, Set};
+use state::Words;
 
 fn kind(r: Relation) -> u32 {
     match r {
@@ -57,14 +59,14 @@ impl Program {
     }
 
     fn change(&mut self, change: impl FnOnce(&mut State) -> bool) -> String {
-        let mut state = model::state(&Words::of(&self.tables));
+        let mut state = model::state(&Words::of(&Held::of(&self.tables)));
         let found = change(&mut state);
-        model::words(&state).lay(&mut self.tables);
+        model::words(&state).held().lay(&mut self.tables);
         if found { "set" } else { "no" }.to_string()
     }
 
     fn answer(&mut self, call: format::Call) -> String {
-        let words = Words::of(&self.tables);
+        let held = Held::of(&self.tables);
         let call = match call {
             format::Call::Value(v) => return bits(self.ask(v).0),
             format::Call::HasConstraint(n) => return (self.ask(n).1 as u8).to_string(),
@@ -72,8 +74,8 @@ impl Program {
             format::Call::Fetch => return self.fetch(),
             format::Call::Create(a, b, c, w) => return bits(create(a, b, c, w)),
             format::Call::Clip(s) => return bits(clip(s)),
-            format::Call::Dump => return Solver::from_state(&model::state(&words)).dump(),
-            format::Call::Check => return if reading::reads(&words, None) { "reads" } else { "no" }.to_string(),
+            format::Call::Dump => return Solver::from_state(&model::state(&Words::of(&held))).dump(),
+            format::Call::Check => return if reading::reads(&held, None) { "reads" } else { "no" }.to_string(),
             format::Call::SetNext(id) => {
                 return self.change(|s| {
                     s.next = id as usize;

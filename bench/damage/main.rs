@@ -9,10 +9,11 @@ mod memory;
 mod model;
 mod random;
 mod reading;
+mod state;
 
 use archive::Call;
 use check::{clause_names, Checker, Difference};
-use layout::{Tables, Word, Words, CHANGES};
+use layout::{Held, Tables, Word, CHANGES};
 use memory::TRIAL;
 use random::Random;
 use std::sync::atomic::Ordering;
@@ -48,21 +49,25 @@ fn random_tables(g: &mut Random) -> Tables {
     Tables::filled(|| a.below(most) as u64, || b.tame())
 }
 
+fn other_count(g: &mut Random, x: u64) -> u64 {
+    match g.below(8) {
+        0 => g.word(),
+        1 => x ^ (1 << g.below(64)),
+        2 => x.wrapping_add(1),
+        3 => x.wrapping_sub(1),
+        4 => x.wrapping_add(4),
+        5 => g.below(300) as u64,
+        6 => 0,
+        _ => x ^ (1 + g.below(3) as u64),
+    }
+}
+
 fn damage(g: &mut Random, t: &mut Tables) {
     let place = if g.one_in(4) { g.below(usize::MAX) } else { t.live_place(|n| g.below(n)) };
     match t.word_at(place) {
-        Word::Count(x) => {
-            *x = match g.below(8) {
-                0 => g.word(),
-                1 => *x ^ (1 << g.below(64)),
-                2 => x.wrapping_add(1),
-                3 => x.wrapping_sub(1),
-                4 => x.wrapping_add(4),
-                5 => g.below(300) as u64,
-                6 => 0,
-                _ => *x ^ (1 + g.below(3) as u64),
-            }
-        }
+        Word::Count(x) => *x = other_count(g, *x),
+        Word::Key(x) => *x = other_count(g, u64::from(*x)) as u16,
+        Word::Byte(x) => *x = other_count(g, u64::from(*x)) as u8,
         Word::Number(x) => {
             *x = match g.below(8) {
                 0 => f64::from_bits(g.word()),
@@ -78,17 +83,17 @@ fn damage(g: &mut Random, t: &mut Tables) {
 }
 
 impl Run {
-    fn made_up(&mut self, w: Words) -> Tables {
+    fn made_up(&mut self, h: Held) -> Tables {
         let mut t = any_tables(&mut self.g);
-        w.lay(&mut t);
+        h.lay(&mut t);
         t
     }
 
     fn tables(&mut self, kind: usize) -> Tables {
-        let words = if kind == 3 { breaks::broken(&mut self.g) } else { craft::state(&mut self.g) };
+        let held = if kind == 3 { breaks::broken(&mut self.g) } else { craft::state(&mut self.g).held() };
         let mut t = match kind {
             1 => self.live.clone(),
-            2..=4 => self.made_up(words),
+            2..=4 => self.made_up(held),
             _ => random_tables(&mut self.g),
         };
         if kind == 1 || kind == 4 {
@@ -99,11 +104,11 @@ impl Run {
     }
 
     fn call(&mut self, t: &Tables) -> Result<(u32, Tables), Difference> {
-        let w = Words::of(t);
+        let h = Held::of(t);
         let numbers = |list: Vec<u64>| -> Vec<u32> { list.into_iter().map(|n| n as u32).collect() };
-        let variables = numbers(w.variables.iter().map(|v| v.number).collect());
-        let constraints = numbers(w.constraints.iter().map(|c| c.number).collect());
-        let edits = numbers(w.edits.iter().map(|e| e.variable).collect());
+        let variables = numbers(h.variables.iter().map(|v| v.number).collect());
+        let constraints = numbers(h.constraints.iter().map(|c| c.number).collect());
+        let edits = numbers(h.edits.iter().map(|e| h.variables.iter().find(|v| v.place == e.variable).map_or(0, |v| v.number)).collect());
         let call = self.g.call(&variables, &constraints, &edits);
         let (room, last) = (any_tables(&mut self.g), self.g.one_in(2));
         let (answer, after) = self.checker.call(&call, t, &room, last)?;
@@ -144,7 +149,7 @@ impl Run {
 fn run(trials: u64, seed: u64, left_out: Option<usize>) -> (Run, Result<(), (u64, Difference)>) {
     let mut g = Random(seed);
     let mut live = any_tables(&mut g);
-    Words { next: 1, whole: 1, ..Words::default() }.lay(&mut live);
+    Held { next: 1, whole: 1, ..Held::default() }.lay(&mut live);
     let mut run = Run { g, checker: Checker::new(left_out), counts: Counts::default(), live };
     for trial in 0..trials {
         TRIAL.store(trial, Ordering::SeqCst);

@@ -1,7 +1,7 @@
 //! Memory that ends at pages nobody may touch: what is lent stands against the page before it or the page behind it, and the
 //! rest of its own pages is filled with a pattern that must stay.
 use crate::archive::Lent;
-use crate::layout::{Name, Real, Row, Tables, LENGTHS};
+use crate::layout::{Tables, LENGTHS};
 use std::sync::atomic::{AtomicU64, Ordering};
 
 const PAGE: usize = 4096;
@@ -80,32 +80,46 @@ impl<T: Copy + 'static> Fenced<T> {
     }
 }
 
-/// Memory for four tables.
+/// Memory for five tables.
 pub struct Set {
-    head: Fenced<u64>,
-    names: Fenced<Name>,
-    reals: Fenced<Real>,
-    rows: Fenced<Row>,
+    words: Fenced<u64>,
+    keys: Fenced<u16>,
+    bytes: Fenced<u8>,
+    reals: Fenced<f64>,
+    values: Fenced<f64>,
 }
 
 impl Set {
     pub fn new() -> Set {
-        let [a, b, c, d] = LENGTHS;
-        Set { head: Fenced::new(a), names: Fenced::new(b), reals: Fenced::new(c), rows: Fenced::new(d) }
+        let [a, b, c, d, e] = LENGTHS;
+        Set { words: Fenced::new(a), keys: Fenced::new(b), bytes: Fenced::new(c), reals: Fenced::new(d), values: Fenced::new(e) }
     }
 
     pub fn lend(&mut self, t: &Tables, last: bool) -> Lent<'static> {
-        self.head.lend(&t.head, last);
-        self.names.lend(&t.names, last);
+        self.words.lend(&t.words, last);
+        self.keys.lend(&t.keys, last);
+        self.bytes.lend(&t.bytes, last);
         self.reals.lend(&t.reals, last);
-        self.rows.lend(&t.rows, last);
-        Lent { head: self.head.array(), names: self.names.array(), reals: self.reals.array(), rows: self.rows.array() }
+        self.values.lend(&t.values, last);
+        Lent {
+            words: self.words.array(),
+            keys: self.keys.array(),
+            bytes: self.bytes.array(),
+            reals: self.reals.array(),
+            values: self.values.array(),
+        }
     }
 
     /// What stands there now, or none if something beside it changed.
     pub fn back(&mut self) -> Option<Tables> {
-        let stays = self.head.rest_stays() & self.names.rest_stays() & self.reals.rest_stays() & self.rows.rest_stays();
-        let t = Tables { head: self.head.slice().to_vec(), names: self.names.slice().to_vec(), reals: self.reals.slice().to_vec(), rows: self.rows.slice().to_vec() };
+        let stays = self.words.rest_stays() & self.keys.rest_stays() & self.bytes.rest_stays() & self.reals.rest_stays() & self.values.rest_stays();
+        let t = Tables {
+            words: self.words.slice().to_vec(),
+            keys: self.keys.slice().to_vec(),
+            bytes: self.bytes.slice().to_vec(),
+            reals: self.reals.slice().to_vec(),
+            values: self.values.slice().to_vec(),
+        };
         Some(t).filter(|_| stays)
     }
 }

@@ -1,6 +1,7 @@
 //! The patched crate's solver made from tables that read, the call made on it, and the tables that it comes to.
 use crate::archive::{Answer, Call};
-use crate::layout::{code, id_of, kind_of, ConstraintWords, EditWords, RowWords, Tables, VariableWords, Words, DUMMY, ERROR, EXTERNAL, NONE, SLACK};
+use crate::layout::{code, id_of, kind_of, Tables, DUMMY, ERROR, EXTERNAL, NONE, SLACK};
+use crate::state::{ConstraintWords, EditWords, RowWords, VariableWords, Words};
 use cassowary_patched::{Constraint, ConstraintState, EditState, Expression, Name, RelationalOperator, RowState, Solver, State, Symbol, SymbolType, Term, Variable, VariableState};
 
 // ---- symbols
@@ -68,7 +69,6 @@ pub fn words(s: &State) -> Words {
         marker: word(c.marker),
         other: word(c.other),
         strength: c.strength,
-        count: c.terms.len() as u64,
         terms: c.terms.iter().map(|&(v, k)| (v.into(), k)).collect(),
     };
     Words {
@@ -81,9 +81,7 @@ pub fn words(s: &State) -> Words {
         variables: s.variables.iter().map(|v| VariableWords { number: v.number.into(), symbol: word(v.symbol), uses: v.uses as u64, changed: v.changed.into(), old: v.old }).collect(),
         constraints: s.constraints.iter().map(constraint).collect(),
         edits: s.edits.iter().map(|e| EditWords { variable: e.variable.into(), marker: word(e.marker), other: word(e.other), strength: e.strength, suggestion: e.suggestion }).collect(),
-        ..Words::default()
     }
-    .counted()
 }
 
 // ---- calls
@@ -117,7 +115,7 @@ pub fn call(w: &Words, t: &Tables, call: &Call) -> (Answer, Tables) {
     let answer = made(&mut solver, call);
     let mut after = t.clone();
     if answer.number == 0 {
-        words(&solver.state()).lay(&mut after);
+        words(&solver.state()).held().lay(&mut after);
     }
     (answer, after)
 }
@@ -127,7 +125,7 @@ pub fn fetch(w: &Words, t: &Tables) -> (Vec<(u64, f64)>, Tables) {
     let mut solver = Solver::from_state(&state(w));
     let list = solver.fetch_changes().iter().map(|(v, x)| (v.0.into(), *x)).collect();
     let mut after = t.clone();
-    words(&solver.state()).lay(&mut after);
+    words(&solver.state()).held().lay(&mut after);
     (list, after)
 }
 

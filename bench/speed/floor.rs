@@ -1,64 +1,53 @@
 //! What the tables ask of a call before any test, step or answer: plain loops over tables of the archive's shape.
-use super::{black_box, least, Layout, REQUIRED};
+use super::{black_box, built, least, Layout, Patched};
 
-const WIDTH: usize = 130;
-const ROWS: usize = 51;
-/// head, names, reals and rows: include/knobharbor.h has the sizes
-const ROOM: usize = 196 + 128 * 20 + 128 * 17 + ROWS * WIDTH;
+/// Keys and values of all rows' cells.
+const CELLS: usize = 6579;
+/// The bytes of five tables: include/knobharbor.h has the sizes.
+const ROOM: usize = 78_224;
 
-type Cells = [[u64; WIDTH]; ROWS];
+struct Cells {
+    keys: [u16; CELLS],
+    values: [u64; CELLS],
+}
 
-/// The rows, the objective among them, and the columns that are in use once the layout stands.
+/// The rows, and the cells that they keep once the layout stands.
 fn live(l: &Layout) -> (usize, usize) {
-    let symbols: usize = l
-        .demands
-        .iter()
-        .map(|d| if d.strength < REQUIRED { 2 } else { 1 })
-        .sum();
-    (1 + l.demands.len() + l.edits.len(), 1 + l.variables as usize + symbols + 2 * l.edits.len())
+    let state = built::<Patched>(l).solver.state();
+    (state.rows.len(), state.rows.iter().map(|r| r.cells.len()).sum())
 }
 
-/// Eight at a time, which is what the compiler makes the best of.
-fn read(cells: &Cells, rows: usize, columns: usize) -> u64 {
-    let mut lanes = [0u64; 8];
-    let mut rest = 0;
-    for row in &cells[..rows] {
-        let eights = row[..columns].chunks_exact(8);
-        rest = eights.remainder().iter().fold(rest, |a, &x| a | x);
-        for eight in eights {
-            lanes.iter_mut().zip(eight).for_each(|(a, &x)| *a |= x);
-        }
-    }
-    lanes.iter().fold(rest, |a, &x| a | x)
+fn read(t: &Cells, n: usize) -> u64 {
+    let keys = t.keys[..n].iter().fold(0, |a, &k| a | k);
+    t.values[..n].iter().fold(u64::from(keys), |a, &x| a | x)
 }
 
-fn copy(to: &mut Cells, from: &Cells, rows: usize, columns: usize) {
-    for (t, f) in to[..rows].iter_mut().zip(&from[..rows]) {
-        t[..columns].copy_from_slice(&f[..columns]);
-    }
+fn copy(to: &mut Cells, from: &Cells, n: usize) {
+    to.keys[..n].copy_from_slice(&from.keys[..n]);
+    to.values[..n].copy_from_slice(&from.values[..n]);
 }
 
 /// Microseconds: every live cell read once, every live cell copied once, the room cleared once, and the sum for a drag and its
 /// fetch, which are two tests, a copy in, a copy back and a clearing.
 pub(super) fn floor(l: &Layout, rounds: usize) {
-    let (rows, columns) = live(l);
-    let mut tables = Box::new([[1u64; WIDTH]; ROWS]);
-    let mut room = vec![1u64; ROOM];
-    let mut other = Box::new([[0u64; WIDTH]; ROWS]);
+    let (rows, cells) = live(l);
+    let mut tables = Box::new(Cells { keys: [1; CELLS], values: [1; CELLS] });
+    let mut other = Box::new(Cells { keys: [0; CELLS], values: [0; CELLS] });
+    let mut room = vec![1u64; ROOM / 8];
     let reading = least(rounds, |_| {
-        black_box(read(black_box(&tables), rows, columns));
+        black_box(read(black_box(&tables), cells));
     });
     let copying = least(rounds, |i| {
-        tables[0][0] = i as u64;
-        copy(black_box(&mut *other), &tables, rows, columns);
+        tables.values[0] = i as u64;
+        copy(black_box(&mut *other), &tables, cells);
     });
     let clearing = least(rounds, |_| black_box(&mut room).fill(0));
     let all = 2.0 * reading + 2.0 * copying + clearing;
     println!(
-        "| {} | {} x {} | {:.2} | {:.2} | {:.2} | {:.2} |",
+        "| {} | {} and {} | {:.2} | {:.2} | {:.2} | {:.2} |",
         l.name,
         rows,
-        columns,
+        cells,
         reading / 1000.0,
         copying / 1000.0,
         clearing / 1000.0,

@@ -340,7 +340,7 @@ fn main() {
         workings(l, rounds);
     }
     println!();
-    println!("| layout | live rows and columns | every live cell read once, us | copied once, us | the room cleared, us | two reads, two copies, one clearing, us |");
+    println!("| layout | rows and their cells | every live cell read once, us | copied once, us | the room cleared, us | two reads, two copies, one clearing, us |");
     println!("|---|---|---|---|---|---|");
     for l in &layouts {
         floor::floor(l, rounds);

@@ -140,7 +140,7 @@ int main(void)
     let_go();
     redraw();
 
-    screen.head[2] += 1;
+    screen.words[2] += 1;
     a = drag(3, 340, 20);
     expect(a.number == KNOBHARBOR_NOT_A_STATE, "a damaged table is refused");
     printf("all as expected\n");

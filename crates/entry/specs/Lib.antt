@@ -1,2 +1,2 @@
--- Tables lent as slices of arrays.
+-- The calls over slices of arrays.
 pub mod Entry

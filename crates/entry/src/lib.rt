@@ -1,112 +1,178 @@
 // The changing call and reset over slices of arrays: "18 | a lent table has the wrong length" where one is lent other than once.
 ghost use mathlib.Core.Path.{_≡_};
 ghost use mathlib.Core.Bool.{_&&_, not};
-ghost use lib.ListN.{length};
 ghost use Rattle.laws.specs.Given.{Then};
+ghost use Rattle.steps.specs.Number.{zero64};
 ghost use Rattle.steps.specs.Changing.{made};
-ghost use Rattle.shell.specs.Room.{zeroNames, zeroReals, zeroRow};
-ghost use Rattle.shell.specs.Shell.{answerOf, called, callOf};
-ghost use Rattle.shell.specs.Reset.{resetOf};
+ghost use Rattle.cells.specs.Names.{cellRoom};
+ghost use Rattle.sparse.specs.Places.{wordsSize, bytesSize, realsSize};
+ghost use Rattle.waist.specs.Working.{lent};
+ghost use Rattle.lending.specs.Lending.{answerOf, called, callOf};
+ghost use Rattle.lending.specs.Entered.{zeroRoom};
 ghost use Rattle.changes.specs.Change.{changingOf};
-ghost use Rattle.entry.specs.Entry.{lists, onceEach, lentOnce, each, emptied, emptiedLists};
+ghost use Rattle.entry.specs.Entry.{lists, onceEach, lentOnce, zeroes, each, zeroed, callOn, resetOn};
 use changes::Change;
-use lent::Head;
-use lent::Names;
-use lent::Reals;
-use lent::Rows;
-use shell::Answer;
+use lending::Answer;
+use sparse::Bytes;
+use sparse::Keys;
+use sparse::Reals;
+use sparse::Values;
+use sparse::Words;
 use terms::Pack;
 
-fn clear_heads(work: &mut [Head])
-    ensures { λ _. ⌜ now (work .exit) ≡ each (emptied 0) (now (work .entry)) ⌝ }
+fn clear_all_words(work: &mut [Words])
+    ensures { λ _. ⌜ now (work .exit) ≡ each (zeroes wordsSize 0) (now (work .entry)) ⌝ }
 {
     let n = work.len();
     let mut i = 0;
     while i < n {
-        shell::room::clear_head(&mut work[i]);
+        sparse_copy::clear::clear_words(&mut work[i]);
         i += 1;
     }
 }
 
-fn clear_all_names(work: &mut [Names])
-    ensures { λ _. ⌜ now (work .exit) ≡ each (emptied zeroNames) (now (work .entry)) ⌝ }
+fn clear_all_keys(work: &mut [Keys])
+    ensures { λ _. ⌜ now (work .exit) ≡ each (zeroes cellRoom 0) (now (work .entry)) ⌝ }
 {
     let n = work.len();
     let mut i = 0;
     while i < n {
-        shell::room::clear_names(&mut work[i]);
+        sparse_copy::clear::clear_keys(&mut work[i]);
+        i += 1;
+    }
+}
+
+fn clear_all_bytes(work: &mut [Bytes])
+    ensures { λ _. ⌜ now (work .exit) ≡ each (zeroes bytesSize 0) (now (work .entry)) ⌝ }
+{
+    let n = work.len();
+    let mut i = 0;
+    while i < n {
+        sparse_copy::clear::clear_bytes(&mut work[i]);
         i += 1;
     }
 }
 
 fn clear_all_reals(work: &mut [Reals])
-    ensures { λ _. ⌜ now (work .exit) ≡ each (emptied zeroReals) (now (work .entry)) ⌝ }
+    ensures { λ _. ⌜ now (work .exit) ≡ each (zeroes realsSize zero64) (now (work .entry)) ⌝ }
 {
     let n = work.len();
     let mut i = 0;
     while i < n {
-        shell::room::clear_reals(&mut work[i]);
+        sparse_copy::clear::clear_reals(&mut work[i]);
         i += 1;
     }
 }
 
-fn clear_all_rows(work: &mut [Rows])
-    ensures { λ _. ⌜ now (work .exit) ≡ each (emptied zeroRow) (now (work .entry)) ⌝ }
+fn clear_all_values(work: &mut [Values])
+    ensures { λ _. ⌜ now (work .exit) ≡ each (zeroes cellRoom zero64) (now (work .entry)) ⌝ }
 {
     let n = work.len();
     let mut i = 0;
     while i < n {
-        shell::room::clear_rows(&mut work[i]);
+        sparse_copy::clear::clear_values(&mut work[i]);
         i += 1;
     }
 }
 
-fn clear(whead: &mut [Head], wnames: &mut [Names], wreals: &mut [Reals], wrows: &mut [Rows])
-    ensures { λ _. ⌜ lists (now (whead .exit)) (now (wnames .exit)) (now (wreals .exit)) (now (wrows .exit)) ≡ emptiedLists (lists (now (whead .entry)) (now (wnames .entry)) (now (wreals .entry)) (now (wrows .entry))) ⌝ }
-{
-    clear_heads(whead);
-    clear_all_names(wnames);
-    clear_all_reals(wreals);
-    clear_all_rows(wrows);
-}
-
-fn once(head: &[Head], names: &[Names], reals: &[Reals], rows: &[Rows]) -> bool
-    ensures { λ r. ⌜ r ≡ onceEach (lists (now (head .entry)) (now (names .entry)) (now (reals .entry)) (now (rows .entry))) ⌝ }
-{
-    (head.len() == 1) & (names.len() == 1) & (reals.len() == 1) & (rows.len() == 1)
-}
-
-pub fn change(
-    head: &mut [Head],
-    names: &mut [Names],
-    reals: &mut [Reals],
-    rows: &mut [Rows],
-    whead: &mut [Head],
-    wnames: &mut [Names],
+fn clear(
+    wwords: &mut [Words],
+    wkeys: &mut [Keys],
+    wbytes: &mut [Bytes],
     wreals: &mut [Reals],
-    wrows: &mut [Rows],
+    wvalues: &mut [Values],
+)
+    ensures { λ _. ⌜ lists (now (wwords .exit)) (now (wkeys .exit)) (now (wbytes .exit)) (now (wreals .exit)) (now (wvalues .exit)) ≡ zeroed (lists (now (wwords .entry)) (now (wkeys .entry)) (now (wbytes .entry)) (now (wreals .entry)) (now (wvalues .entry))) ⌝ }
+{
+    clear_all_words(wwords);
+    clear_all_keys(wkeys);
+    clear_all_bytes(wbytes);
+    clear_all_reals(wreals);
+    clear_all_values(wvalues);
+}
+
+fn once(words: &[Words], keys: &[Keys], bytes: &[Bytes], reals: &[Reals], values: &[Values]) -> bool
+    ensures { λ r. ⌜ r ≡ onceEach (lists (now (words .entry)) (now (keys .entry)) (now (bytes .entry)) (now (reals .entry)) (now (values .entry))) ⌝ }
+{
+    (words.len() == 1)
+        & (keys.len() == 1)
+        & (bytes.len() == 1)
+        & (reals.len() == 1)
+        & (values.len() == 1)
+}
+
+// Each lent once: the call over arrays. The room is told its lengths, so that what is cleared is all of it.
+fn change_once(
+    words: &mut Words,
+    keys: &mut Keys,
+    bytes: &mut Bytes,
+    reals: &mut Reals,
+    values: &mut Values,
+    wwords: &mut Words,
+    wkeys: &mut Keys,
+    wbytes: &mut Bytes,
+    wreals: &mut Reals,
+    wvalues: &mut Values,
     c: Change,
     p: Pack,
     budget: u16,
 ) -> Answer
-    ensures { λ r. ⌜ called (answerOf r) (lentOnce (lists (now (head .exit)) (now (names .exit)) (now (reals .exit)) (now (rows .exit)))) ≡ callOf (made (changingOf c p budget)) (lentOnce (lists (now (whead .entry)) (now (wnames .entry)) (now (wreals .entry)) (now (wrows .entry)))) (lentOnce (lists (now (head .entry)) (now (names .entry)) (now (reals .entry)) (now (rows .entry)))) ⌝ }
-    ensures { λ _. ⌜ Then (not (onceEach (lists (now (head .entry)) (now (names .entry)) (now (reals .entry)) (now (rows .entry))) && onceEach (lists (now (whead .entry)) (now (wnames .entry)) (now (wreals .entry)) (now (wrows .entry))))) (lists (now (head .exit)) (now (names .exit)) (now (reals .exit)) (now (rows .exit)) ≡ lists (now (head .entry)) (now (names .entry)) (now (reals .entry)) (now (rows .entry))) ⌝ }
-    ensures { λ _. ⌜ lists (now (whead .exit)) (now (wnames .exit)) (now (wreals .exit)) (now (wrows .exit)) ≡ emptiedLists (lists (now (whead .entry)) (now (wnames .entry)) (now (wreals .entry)) (now (wrows .entry))) ⌝ }
+    ensures { λ r. ⌜ called (answerOf r) (lent (words .exit) (keys .exit) (bytes .exit) (reals .exit) (values .exit)) ≡ callOf (made (changingOf c p budget)) (lent (wwords .entry) (wkeys .entry) (wbytes .entry) (wreals .entry) (wvalues .entry)) (lent (words .entry) (keys .entry) (bytes .entry) (reals .entry) (values .entry)) ⌝ }
+    ensures { λ _. ⌜ lent (wwords .exit) (wkeys .exit) (wbytes .exit) (wreals .exit) (wvalues .exit) ≡ zeroRoom ⌝ }
 {
-    let ok = once(head, names, reals, rows) & once(whead, wnames, wreals, wrows);
+    lending::room::long(wwords, wkeys, wbytes, wreals, wvalues);
+    solver::change(
+        words,
+        keys,
+        bytes,
+        reals,
+        values,
+        wwords,
+        wkeys,
+        wbytes,
+        wreals,
+        wvalues,
+        c,
+        p,
+        budget,
+    )
+}
+
+pub fn change(
+    words: &mut [Words],
+    keys: &mut [Keys],
+    bytes: &mut [Bytes],
+    reals: &mut [Reals],
+    values: &mut [Values],
+    wwords: &mut [Words],
+    wkeys: &mut [Keys],
+    wbytes: &mut [Bytes],
+    wreals: &mut [Reals],
+    wvalues: &mut [Values],
+    c: Change,
+    p: Pack,
+    budget: u16,
+) -> Answer
+    ensures { λ r. ⌜ called (answerOf r) (lentOnce (lists (now (words .exit)) (now (keys .exit)) (now (bytes .exit)) (now (reals .exit)) (now (values .exit)))) ≡ callOn (made (changingOf c p budget)) (lists (now (wwords .entry)) (now (wkeys .entry)) (now (wbytes .entry)) (now (wreals .entry)) (now (wvalues .entry))) (lists (now (words .entry)) (now (keys .entry)) (now (bytes .entry)) (now (reals .entry)) (now (values .entry))) ⌝ }
+    ensures { λ _. ⌜ Then (not (onceEach (lists (now (words .entry)) (now (keys .entry)) (now (bytes .entry)) (now (reals .entry)) (now (values .entry))) && onceEach (lists (now (wwords .entry)) (now (wkeys .entry)) (now (wbytes .entry)) (now (wreals .entry)) (now (wvalues .entry))))) (lists (now (words .exit)) (now (keys .exit)) (now (bytes .exit)) (now (reals .exit)) (now (values .exit)) ≡ lists (now (words .entry)) (now (keys .entry)) (now (bytes .entry)) (now (reals .entry)) (now (values .entry))) ⌝ }
+    ensures { λ _. ⌜ lists (now (wwords .exit)) (now (wkeys .exit)) (now (wbytes .exit)) (now (wreals .exit)) (now (wvalues .exit)) ≡ zeroed (lists (now (wwords .entry)) (now (wkeys .entry)) (now (wbytes .entry)) (now (wreals .entry)) (now (wvalues .entry))) ⌝ }
+{
+    let ok = once(words, keys, bytes, reals, values) & once(wwords, wkeys, wbytes, wreals, wvalues);
     if !ok {
-        clear(whead, wnames, wreals, wrows);
-        return shell::refuse18();
+        clear(wwords, wkeys, wbytes, wreals, wvalues);
+        return lending::refuse18();
     }
-    calls::change(
-        &mut head[0],
-        &mut names[0],
+    change_once(
+        &mut words[0],
+        &mut keys[0],
+        &mut bytes[0],
         &mut reals[0],
-        &mut rows[0],
-        &mut whead[0],
-        &mut wnames[0],
+        &mut values[0],
+        &mut wwords[0],
+        &mut wkeys[0],
+        &mut wbytes[0],
         &mut wreals[0],
-        &mut wrows[0],
+        &mut wvalues[0],
         c,
         p,
         budget,
@@ -115,17 +181,24 @@ pub fn change(
 
 // "Reset refuses only wrong lengths."
 pub fn reset(
-    head: &mut [Head],
-    names: &mut [Names],
+    words: &mut [Words],
+    keys: &mut [Keys],
+    bytes: &mut [Bytes],
     reals: &mut [Reals],
-    rows: &mut [Rows],
+    values: &mut [Values],
 ) -> Answer
-    ensures { λ r. ⌜ called (answerOf r) (lentOnce (lists (now (head .exit)) (now (names .exit)) (now (reals .exit)) (now (rows .exit)))) ≡ resetOf (lentOnce (lists (now (head .entry)) (now (names .entry)) (now (reals .entry)) (now (rows .entry)))) ⌝ }
-    ensures { λ _. ⌜ Then (not (onceEach (lists (now (head .entry)) (now (names .entry)) (now (reals .entry)) (now (rows .entry))))) (lists (now (head .exit)) (now (names .exit)) (now (reals .exit)) (now (rows .exit)) ≡ lists (now (head .entry)) (now (names .entry)) (now (reals .entry)) (now (rows .entry))) ⌝ }
+    ensures { λ r. ⌜ called (answerOf r) (lentOnce (lists (now (words .exit)) (now (keys .exit)) (now (bytes .exit)) (now (reals .exit)) (now (values .exit)))) ≡ resetOn (lists (now (words .entry)) (now (keys .entry)) (now (bytes .entry)) (now (reals .entry)) (now (values .entry))) ⌝ }
+    ensures { λ _. ⌜ Then (not (onceEach (lists (now (words .entry)) (now (keys .entry)) (now (bytes .entry)) (now (reals .entry)) (now (values .entry))))) (lists (now (words .exit)) (now (keys .exit)) (now (bytes .exit)) (now (reals .exit)) (now (values .exit)) ≡ lists (now (words .entry)) (now (keys .entry)) (now (bytes .entry)) (now (reals .entry)) (now (values .entry))) ⌝ }
 {
-    let ok = once(head, names, reals, rows);
+    let ok = once(words, keys, bytes, reals, values);
     if !ok {
-        return shell::refuse18();
+        return lending::refuse18();
     }
-    shell::reset(&mut head[0], &mut names[0], &mut reals[0], &mut rows[0])
+    lending::reset(
+        &mut words[0],
+        &mut keys[0],
+        &mut bytes[0],
+        &mut reals[0],
+        &mut values[0],
+    )
 }

@@ -7,35 +7,35 @@ use lib.Dec.{eqb, ltb}
 use lib.ListN.{length}
 use lib.Ieee.{Float}
 use Rattle.steps.specs.Calls.{Answer, add}
-use Rattle.layout.specs.Layout.{Tables}
-use Rattle.shell.specs.Shell.{Called, called, refused18, callOf}
+use Rattle.sparse.specs.Sparse.{Sparse}
+use Rattle.lending.specs.Lending.{Called, called, refused18, callOf}
 use Rattle.tags.specs.declared.Relation.{Relation}
 use Rattle.tags.specs.Tags.{relationOf}
 use Rattle.terms.specs.declared.Term.{Term}
 use Rattle.terms.specs.declared.Pack.{Pack}
 use Rattle.terms.specs.Terms.{packOf, termsIn, listed}
-use Rattle.calls.specs.Listed.{listed-call}
+use Rattle.solver.specs.Listed.{listed-call}
 use Rattle.knobharbor.specs.Given.{given, relationBy}
 use Rattle.knobharbor.specs.Places.{Placed, placedBy}
 
 -- a kind that is none of the three is answered as a table that doesn't read
-unfoldable pub addOf : ℕ → List Term → Float → ℕ → Float → ℕ → Tables → Tables → Called
+unfoldable pub addOf : ℕ → List Term → Float → ℕ → Float → ℕ → Sparse → Sparse → Called
 addOf n ts constant kind strength budget work t = cond (ltb kind 3) (callOf (add n (termsIn ts) constant (relationBy kind strength) budget) work t) (called refused18 t)
 
 -- and so are lists of different lengths
-unfoldable pub addListsOf : ℕ → List ℕ → List Float → Float → ℕ → Float → ℕ → Tables → Tables → Called
+unfoldable pub addListsOf : ℕ → List ℕ → List Float → Float → ℕ → Float → ℕ → Sparse → Sparse → Called
 addListsOf n vars coefs constant kind strength budget work t = cond (eqb (length vars) (length coefs)) (addOf n (given vars coefs) constant kind strength budget work t) (called refused18 t)
 
 -- ---- the code
 
 -- the call of the list that a pack stands for
-unfoldable pub packedOf : ℕ → Pack → Float → ℕ → Float → ℕ → Tables → Tables → Called
+unfoldable pub packedOf : ℕ → Pack → Float → ℕ → Float → ℕ → Sparse → Sparse → Called
 packedOf n p = addOf n (listed p)
 
-pub refused : {a : Answer} {t u : Tables} → a ≡ refused18 → u ≡ t → called a u ≡ called refused18 t
+pub refused : {a : Answer} {t u : Sparse} → a ≡ refused18 → u ≡ t → called a u ≡ called refused18 t
 refused e f = rw (e, f) refl
 
-module _ (n : ℕ) (constant : Float) (kind : ℕ) (strength : Float) (budget : ℕ) (work t : Tables) where
+module _ (n : ℕ) (constant : Float) (kind : ℕ) (strength : Float) (budget : ℕ) (work t : Sparse) where
   pub packed-unfit : (p : Pack) (c : Called) → ltb kind 3 ≡ false → c ≡ called refused18 t → c ≡ packedOf n p constant kind strength budget work t
   unfolding packedOf addOf
   packed-unfit p c e f = rw (e, f) refl

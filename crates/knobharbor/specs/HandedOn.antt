@@ -13,13 +13,13 @@ use lib.Ieee.{Float, nan}
 use Rattle.laws.specs.Lists.{listOf, listOf-is}
 use Rattle.grammar.specs.Sums.{Relation, atMost, equal, atLeast, Term, Reading, reads}
 use Rattle.grammar.specs.Reader.{readLine}
-use Rattle.layout.specs.Layout.{Tables}
+use Rattle.sparse.specs.Sparse.{Sparse}
 use Rattle.layout.specs.Laying.{getD-map}
 use Rattle.steps.specs.Number.{zero64}
 use Rattle.steps.specs.Strength.{required}
 use Rattle.steps.specs.State as steps
 use Rattle.steps.specs.Calls.{add}
-use Rattle.shell.specs.Shell.{Called, callOf}
+use Rattle.lending.specs.Lending.{Called, callOf}
 use Rattle.terms.specs.Terms.{noTerm, termsIn}
 use Rattle.knobharbor.specs.Given.{termAt, given, relationBy}
 use Rattle.knobharbor.specs.Adding.{addOf, addListsOf}
@@ -28,7 +28,7 @@ use Rattle.typed.specs.Adding.{text, addRead, textOf}
 use Rattle.handed.specs.Handed.{kindOf, Handed, handedOf, placed}
 
 -- the lists up to the count, the constant, the kind and the strength, as `knobharbor_add_lists` takes them
-abbrev pub addHanded : ℕ → Handed → ℕ → Tables → Tables → Called
+abbrev pub addHanded : ℕ → Handed → ℕ → Sparse → Sparse → Called
 addHanded number g budget work t =
     addListsOf number (take (getD (g .words) 4 0) (g .variables)) (take (getD (g .words) 4 0) (g .coefficients)) (getD (g .reals) 0 zero64) (getD (g .words) 3 0) (getD (g .reals) 1 zero64) budget work t
 
@@ -71,7 +71,7 @@ kind-required equal = refl
 kind-required atLeast = refl
 
 -- a line that the cable's reader hands over, handed on to `knobharbor_add_lists`, is the line added by `knobharbor_add_text`
-pub handed-on : (line : List ℕ) (r : Reading) → readLine line ≡ reads r → (n : ℕ) (c : List ℕ) (number budget : ℕ) (work t : Tables)
+pub handed-on : (line : List ℕ) (r : Reading) → readLine line ≡ reads r → (n : ℕ) (c : List ℕ) (number budget : ℕ) (work t : Sparse)
     → text 0 (addHanded number (handedOf (some (reads r)) n c) budget work t) ≡ textOf number line budget work t
 unfolding textOf addRead handedOf addListsOf addOf
 handed-on line r e n c number budget work t =

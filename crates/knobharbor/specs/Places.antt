@@ -4,10 +4,11 @@ use mathlib.Core.Path.{_≡_, ap, _∙_}
 use mathlib.Core.List.{List, [], _∷_}
 use lib.Ieee.{Float}
 use Rattle.steps.specs.Calls.{Answer}
-use Rattle.layout.specs.Layout.{Tables, bitOf}
-use Rattle.shell.specs.Shell.{Called, called}
-use Rattle.fetching.specs.Fetch.{Fetch, fetchBy, fetchOf, places}
-use Rattle.fetching.specs.declared.Fetched as code
+use Rattle.layout.specs.Layout.{bitOf}
+use Rattle.sparse.specs.Sparse.{Sparse}
+use Rattle.lending.specs.Lending.{Called, called}
+use Rattle.fetches.specs.Fetch.{Fetch, fetchBy, fetchOf}
+use Rattle.fetches.specs.declared.Fetched as code
 use Rattle.typed.specs.Adding.{Text, text}
 
 -- an answer's three places: the number, the pivots, the whole mark as 0 or 1
@@ -17,9 +18,9 @@ inPlaces a = a .number ∷ a .pivots ∷ bitOf (a .whole) ∷ []
 -- an answer's places, and the tables
 pub record Placed : Type 0 where
   pub answer : List ℕ
-  pub tables : Tables
+  pub tables : Sparse
 
-abbrev pub placed : List ℕ → Tables → Placed
+abbrev pub placed : List ℕ → Sparse → Placed
 placed a t = record { answer = a; tables = t }
 
 -- what a call answers and leaves, in its places
@@ -42,9 +43,9 @@ pub record PlacedList : Type 0 where
   pub answer : List ℕ
   pub numbers : List ℕ
   pub values : List Float
-  pub tables : Tables
+  pub tables : Sparse
 
-abbrev pub placedList : List ℕ → List ℕ → List Float → Tables → PlacedList
+abbrev pub placedList : List ℕ → List ℕ → List Float → Sparse → PlacedList
 placedList a ns vs t = record { answer = a; numbers = ns; values = vs; tables = t }
 
 abbrev pub placedFetch : Fetch → PlacedList
@@ -52,12 +53,11 @@ placedFetch f = placedList (f .number ∷ f .count ∷ []) (f .numbers) (f .valu
 
 -- ---- from what is called to the places
 
-pub call-placed : {a : Answer} {w : List ℕ} {u : Tables} {c : Called} → w ≡ inPlaces a → called a u ≡ c → placed w u ≡ placedBy c
+pub call-placed : {a : Answer} {w : List ℕ} {u : Sparse} {c : Called} → w ≡ inPlaces a → called a u ≡ c → placed w u ≡ placedBy c
 call-placed {u = u} e f = ap (λ (l : List ℕ). placed l u) e ∙ ap placedBy f
 
-pub text-placed : {a : Answer} {at k : ℕ} {w : List ℕ} {u : Tables} {x : Text} → k ≡ at → w ≡ inPlaces a → text at (called a u) ≡ x → placedText k (placed w u) ≡ placedLine x
+pub text-placed : {a : Answer} {at k : ℕ} {w : List ℕ} {u : Sparse} {x : Text} → k ≡ at → w ≡ inPlaces a → text at (called a u) ≡ x → placedText k (placed w u) ≡ placedLine x
 text-placed {a} {k = k} {u = u} d e f = ap (λ (l : List ℕ). placedText k (placed l u)) e ∙ ap (λ (y : ℕ). placedText y (placed (inPlaces a) u)) d ∙ ap placedLine f
 
-pub fetch-placed : {f : code.Fetched} {w ns : List ℕ} {vs : List Float} {u : Tables} (t : Tables) {a b : ℕ} → w ≡ f .number ∷ f .count ∷ [] → a ≡ places → b ≡ places → fetchBy f ns vs u ≡ fetchOf a b t
-    → placedList w ns vs u ≡ placedFetch (fetchOf places places t)
-fetch-placed {ns = ns} {vs} {u} t {b = b} e i j g = ap (λ (l : List ℕ). placedList l ns vs u) e ∙ ap placedFetch (g ∙ ap (λ (x : ℕ). fetchOf x b t) i ∙ ap (λ (y : ℕ). fetchOf places y t) j)
+pub fetch-placed : {f : code.Fetched} {w ns : List ℕ} {vs : List Float} {u : Sparse} (t : Sparse) → w ≡ f .number ∷ f .count ∷ [] → fetchBy f ns vs u ≡ fetchOf t → placedList w ns vs u ≡ placedFetch (fetchOf t)
+fetch-placed {ns = ns} {vs} {u} t e g = ap (λ (l : List ℕ). placedList l ns vs u) e ∙ ap placedFetch g

@@ -1,8 +1,8 @@
 // Add. The terms come as a lent list of records; or as two lists, the i-th term the i-th variable times the i-th coefficient. The kind is 0 for at most, 1 for equal, 2 for at least.
 ghost use mathlib.Core.Path.{_≡_};
-ghost use Rattle.lent.specs.Lent.{lent};
-ghost use Rattle.shell.specs.Room.{cleared};
-ghost use Rattle.shell.specs.Shell.{answerOf, called, refused18};
+ghost use Rattle.waist.specs.Working.{lent};
+ghost use Rattle.sparse_copy.specs.Over.{cleared};
+ghost use Rattle.lending.specs.Lending.{answerOf, called, refused18};
 ghost use Rattle.knobharbor.specs.Adding.{addOf, addListsOf, packedOf};
 ghost use Rattle.knobharbor.specs.Places.{placed, placedBy};
 use crate::changed::change;
@@ -10,51 +10,41 @@ use crate::given::gather;
 use crate::given::relation;
 use crate::places::put;
 use changes::Change;
-use lent::Head;
-use lent::Names;
-use lent::Reals;
-use lent::Rows;
-use shell::Answer;
+use lending::Answer;
+use sparse::Bytes;
+use sparse::Keys;
+use sparse::Reals;
+use sparse::Values;
+use sparse::Words;
 use terms::Pack;
 use terms::Term;
 
 // What no call can be made of: 18, and the room is cleared.
 fn refuse(
-    head: &mut Head,
-    names: &mut Names,
-    reals: &mut Reals,
-    rows: &mut Rows,
-    whead: &mut Head,
-    wnames: &mut Names,
+    wwords: &mut Words,
+    wkeys: &mut Keys,
+    wbytes: &mut Bytes,
     wreals: &mut Reals,
-    wrows: &mut Rows,
+    wvalues: &mut Values,
 ) -> Answer
-    ensures { λ r. ⌜ called (answerOf r) (lent (head .exit) (names .exit) (reals .exit) (rows .exit)) ≡ called refused18 (lent (head .entry) (names .entry) (reals .entry) (rows .entry)) ⌝ }
-    ensures { λ _. ⌜ lent (whead .exit) (wnames .exit) (wreals .exit) (wrows .exit) ≡ cleared (lent (whead .entry) (wnames .entry) (wreals .entry) (wrows .entry)) ⌝ }
+    ensures { λ r. ⌜ answerOf r ≡ refused18 ⌝ }
+    ensures { λ _. ⌜ lent (wwords .exit) (wkeys .exit) (wbytes .exit) (wreals .exit) (wvalues .exit) ≡ cleared (lent (wwords .entry) (wkeys .entry) (wbytes .entry) (wreals .entry) (wvalues .entry)) ⌝ }
 {
-    shell::leave(
-        false,
-        head,
-        names,
-        reals,
-        rows,
-        whead,
-        wnames,
-        wreals,
-        wrows,
-    );
-    shell::refuse18()
+    lending::clearing::clear_room(wwords, wkeys, wbytes, wreals, wvalues);
+    lending::refuse18()
 }
 
 fn add_packed(
-    head: &mut Head,
-    names: &mut Names,
+    words: &mut Words,
+    keys: &mut Keys,
+    bytes: &mut Bytes,
     reals: &mut Reals,
-    rows: &mut Rows,
-    whead: &mut Head,
-    wnames: &mut Names,
+    values: &mut Values,
+    wwords: &mut Words,
+    wkeys: &mut Keys,
+    wbytes: &mut Bytes,
     wreals: &mut Reals,
-    wrows: &mut Rows,
+    wvalues: &mut Values,
     answer: &mut [u32; 3],
     number: u32,
     p: Pack,
@@ -63,26 +53,28 @@ fn add_packed(
     strength: f64,
     budget: u16,
 )
-    ensures { λ _. ⌜ placed (now (answer .exit)) (lent (head .exit) (names .exit) (reals .exit) (rows .exit)) ≡ placedBy (packedOf number p constant kind strength budget (lent (whead .entry) (wnames .entry) (wreals .entry) (wrows .entry)) (lent (head .entry) (names .entry) (reals .entry) (rows .entry))) ⌝ }
-    ensures { λ _. ⌜ lent (whead .exit) (wnames .exit) (wreals .exit) (wrows .exit) ≡ cleared (lent (whead .entry) (wnames .entry) (wreals .entry) (wrows .entry)) ⌝ }
+    ensures { λ _. ⌜ placed (now (answer .exit)) (lent (words .exit) (keys .exit) (bytes .exit) (reals .exit) (values .exit)) ≡ placedBy (packedOf number p constant kind strength budget (lent (wwords .entry) (wkeys .entry) (wbytes .entry) (wreals .entry) (wvalues .entry)) (lent (words .entry) (keys .entry) (bytes .entry) (reals .entry) (values .entry))) ⌝ }
+    ensures { λ _. ⌜ lent (wwords .exit) (wkeys .exit) (wbytes .exit) (wreals .exit) (wvalues .exit) ≡ cleared (lent (wwords .entry) (wkeys .entry) (wbytes .entry) (wreals .entry) (wvalues .entry)) ⌝ }
 {
     let ok = kind < 3;
     if !ok {
-        let a = refuse(head, names, reals, rows, whead, wnames, wreals, wrows);
+        let a = refuse(wwords, wkeys, wbytes, wreals, wvalues);
         put(answer, a);
         return;
     }
     let relation = relation(kind, strength);
     let c = Change::Add(number, constant, relation);
     change(
-        head,
-        names,
+        words,
+        keys,
+        bytes,
         reals,
-        rows,
-        whead,
-        wnames,
+        values,
+        wwords,
+        wkeys,
+        wbytes,
         wreals,
-        wrows,
+        wvalues,
         answer,
         c,
         p,
@@ -93,14 +85,16 @@ fn add_packed(
 // "A thin entry over a slice of term structs that hands variable and coefficient to covered functions.": `collect` gathers the terms, and `add_packed` makes the call of their list.
 #[no_mangle]
 pub extern "C" fn knobharbor_add(
-    head: &mut Head,
-    names: &mut Names,
+    words: &mut Words,
+    keys: &mut Keys,
+    bytes: &mut Bytes,
     reals: &mut Reals,
-    rows: &mut Rows,
-    whead: &mut Head,
-    wnames: &mut Names,
+    values: &mut Values,
+    wwords: &mut Words,
+    wkeys: &mut Keys,
+    wbytes: &mut Bytes,
     wreals: &mut Reals,
-    wrows: &mut Rows,
+    wvalues: &mut Values,
     answer: &mut [u32; 3],
     number: u32,
     terms: &[Term],
@@ -109,19 +103,21 @@ pub extern "C" fn knobharbor_add(
     strength: f64,
     budget: u16,
 )
-    ensures { λ _. ⌜ placed (now (answer .exit)) (lent (head .exit) (names .exit) (reals .exit) (rows .exit)) ≡ placedBy (addOf number (now (terms .entry)) constant kind strength budget (lent (whead .entry) (wnames .entry) (wreals .entry) (wrows .entry)) (lent (head .entry) (names .entry) (reals .entry) (rows .entry))) ⌝ }
-    ensures { λ _. ⌜ lent (whead .exit) (wnames .exit) (wreals .exit) (wrows .exit) ≡ cleared (lent (whead .entry) (wnames .entry) (wreals .entry) (wrows .entry)) ⌝ }
+    ensures { λ _. ⌜ placed (now (answer .exit)) (lent (words .exit) (keys .exit) (bytes .exit) (reals .exit) (values .exit)) ≡ placedBy (addOf number (now (terms .entry)) constant kind strength budget (lent (wwords .entry) (wkeys .entry) (wbytes .entry) (wreals .entry) (wvalues .entry)) (lent (words .entry) (keys .entry) (bytes .entry) (reals .entry) (values .entry))) ⌝ }
+    ensures { λ _. ⌜ lent (wwords .exit) (wkeys .exit) (wbytes .exit) (wreals .exit) (wvalues .exit) ≡ cleared (lent (wwords .entry) (wkeys .entry) (wbytes .entry) (wreals .entry) (wvalues .entry)) ⌝ }
 {
     let p = terms::collect(terms);
     add_packed(
-        head,
-        names,
+        words,
+        keys,
+        bytes,
         reals,
-        rows,
-        whead,
-        wnames,
+        values,
+        wwords,
+        wkeys,
+        wbytes,
         wreals,
-        wrows,
+        wvalues,
         answer,
         number,
         p,
@@ -134,14 +130,16 @@ pub extern "C" fn knobharbor_add(
 
 #[no_mangle]
 pub extern "C" fn knobharbor_add_lists(
-    head: &mut Head,
-    names: &mut Names,
+    words: &mut Words,
+    keys: &mut Keys,
+    bytes: &mut Bytes,
     reals: &mut Reals,
-    rows: &mut Rows,
-    whead: &mut Head,
-    wnames: &mut Names,
+    values: &mut Values,
+    wwords: &mut Words,
+    wkeys: &mut Keys,
+    wbytes: &mut Bytes,
     wreals: &mut Reals,
-    wrows: &mut Rows,
+    wvalues: &mut Values,
     answer: &mut [u32; 3],
     number: u32,
     vars: &[u32],
@@ -151,25 +149,27 @@ pub extern "C" fn knobharbor_add_lists(
     strength: f64,
     budget: u16,
 )
-    ensures { λ _. ⌜ placed (now (answer .exit)) (lent (head .exit) (names .exit) (reals .exit) (rows .exit)) ≡ placedBy (addListsOf number (now (vars .entry)) (now (coefs .entry)) constant kind strength budget (lent (whead .entry) (wnames .entry) (wreals .entry) (wrows .entry)) (lent (head .entry) (names .entry) (reals .entry) (rows .entry))) ⌝ }
-    ensures { λ _. ⌜ lent (whead .exit) (wnames .exit) (wreals .exit) (wrows .exit) ≡ cleared (lent (whead .entry) (wnames .entry) (wreals .entry) (wrows .entry)) ⌝ }
+    ensures { λ _. ⌜ placed (now (answer .exit)) (lent (words .exit) (keys .exit) (bytes .exit) (reals .exit) (values .exit)) ≡ placedBy (addListsOf number (now (vars .entry)) (now (coefs .entry)) constant kind strength budget (lent (wwords .entry) (wkeys .entry) (wbytes .entry) (wreals .entry) (wvalues .entry)) (lent (words .entry) (keys .entry) (bytes .entry) (reals .entry) (values .entry))) ⌝ }
+    ensures { λ _. ⌜ lent (wwords .exit) (wkeys .exit) (wbytes .exit) (wreals .exit) (wvalues .exit) ≡ cleared (lent (wwords .entry) (wkeys .entry) (wbytes .entry) (wreals .entry) (wvalues .entry)) ⌝ }
 {
     let ok = vars.len() == coefs.len();
     if !ok {
-        let a = refuse(head, names, reals, rows, whead, wnames, wreals, wrows);
+        let a = refuse(wwords, wkeys, wbytes, wreals, wvalues);
         put(answer, a);
         return;
     }
     let p = gather(vars, coefs);
     add_packed(
-        head,
-        names,
+        words,
+        keys,
+        bytes,
         reals,
-        rows,
-        whead,
-        wnames,
+        values,
+        wwords,
+        wkeys,
+        wbytes,
         wreals,
-        wrows,
+        wvalues,
         answer,
         number,
         p,

@@ -5,84 +5,90 @@ ghost use Rattle.steps.specs.Number.{zero64};
 ghost use Rattle.steps.specs.Strength.{create, clip};
 ghost use Rattle.steps.specs.Changes.{value};
 ghost use Rattle.steps.specs.Tests.{hasConstraint, hasEdit};
-ghost use Rattle.lent.specs.Lent.{lent};
-ghost use Rattle.asking.specs.Asked.{asked};
-ghost use Rattle.shell.specs.Reset.{resetOf};
-ghost use Rattle.fetching.specs.Fetch.{fetchOf, places};
+ghost use Rattle.waist.specs.Working.{lent};
+ghost use Rattle.sparse_test.specs.Asked.{asked};
+ghost use Rattle.lending.specs.Reset.{resetOf};
+ghost use Rattle.fetches.specs.Fetch.{fetchOf};
 ghost use Rattle.knobharbor.specs.Places.{placed, placedBy, placedList, placedFetch};
 use crate::places::put;
 use crate::places::put_fetched;
-use lent::Head;
-use lent::Names;
-use lent::Reals;
-use lent::Rows;
+use sparse::Bytes;
+use sparse::Keys;
+use sparse::Reals;
+use sparse::Values;
+use sparse::Words;
 
 #[no_mangle]
 pub extern "C" fn knobharbor_reset(
-    head: &mut Head,
-    names: &mut Names,
+    words: &mut Words,
+    keys: &mut Keys,
+    bytes: &mut Bytes,
     reals: &mut Reals,
-    rows: &mut Rows,
+    values: &mut Values,
     answer: &mut [u32; 3],
 )
-    ensures { λ _. ⌜ placed (now (answer .exit)) (lent (head .exit) (names .exit) (reals .exit) (rows .exit)) ≡ placedBy (resetOf (lent (head .entry) (names .entry) (reals .entry) (rows .entry))) ⌝ }
+    ensures { λ _. ⌜ placed (now (answer .exit)) (lent (words .exit) (keys .exit) (bytes .exit) (reals .exit) (values .exit)) ≡ placedBy (resetOf (lent (words .entry) (keys .entry) (bytes .entry) (reals .entry) (values .entry))) ⌝ }
 {
-    let a = shell::reset(head, names, reals, rows);
+    let a = lending::reset(words, keys, bytes, reals, values);
     put(answer, a);
 }
 
 #[no_mangle]
 pub extern "C" fn knobharbor_has_constraint(
-    head: &Head,
-    names: &Names,
+    words: &Words,
+    keys: &Keys,
+    bytes: &Bytes,
     reals: &Reals,
-    rows: &Rows,
+    values: &Values,
     number: u32,
 ) -> bool
-    ensures { λ r. ⌜ r ≡ asked (hasConstraint number) false (lent (head .entry) (names .entry) (reals .entry) (rows .entry)) ⌝ }
+    ensures { λ r. ⌜ r ≡ asked (hasConstraint number) false (lent (words .entry) (keys .entry) (bytes .entry) (reals .entry) (values .entry)) ⌝ }
 {
-    asking::has_constraint(head, names, reals, rows, number)
+    sparse_test::asking::has_constraint(words, keys, bytes, reals, values, number)
 }
 
 #[no_mangle]
 pub extern "C" fn knobharbor_has_edit(
-    head: &Head,
-    names: &Names,
+    words: &Words,
+    keys: &Keys,
+    bytes: &Bytes,
     reals: &Reals,
-    rows: &Rows,
+    values: &Values,
     variable: u32,
 ) -> bool
-    ensures { λ r. ⌜ r ≡ asked (hasEdit variable) false (lent (head .entry) (names .entry) (reals .entry) (rows .entry)) ⌝ }
+    ensures { λ r. ⌜ r ≡ asked (hasEdit variable) false (lent (words .entry) (keys .entry) (bytes .entry) (reals .entry) (values .entry)) ⌝ }
 {
-    asking::has_edit(head, names, reals, rows, variable)
+    sparse_test::asking::has_edit(words, keys, bytes, reals, values, variable)
 }
 
 #[no_mangle]
 pub extern "C" fn knobharbor_value(
-    head: &Head,
-    names: &Names,
+    words: &Words,
+    keys: &Keys,
+    bytes: &Bytes,
     reals: &Reals,
-    rows: &Rows,
+    values: &Values,
     variable: u32,
 ) -> f64
-    ensures { λ r. ⌜ r ≡ asked (value variable) zero64 (lent (head .entry) (names .entry) (reals .entry) (rows .entry)) ⌝ }
+    ensures { λ r. ⌜ r ≡ asked (value variable) zero64 (lent (words .entry) (keys .entry) (bytes .entry) (reals .entry) (values .entry)) ⌝ }
 {
-    asking::get_value(head, names, reals, rows, variable)
+    sparse_test::asking::get_value(words, keys, bytes, reals, values, variable)
 }
 
 #[no_mangle]
 pub extern "C" fn knobharbor_fetch(
-    head: &mut Head,
-    names: &mut Names,
+    words: &mut Words,
+    keys: &Keys,
+    bytes: &mut Bytes,
     reals: &mut Reals,
-    rows: &Rows,
+    values: &Values,
     answer: &mut [u32; 2],
     numbers: &mut [u64; 32],
-    values: &mut [f64; 32],
+    moved: &mut [f64; 32],
 )
-    ensures { λ _. ⌜ placedList (now (answer .exit)) (now (numbers .exit)) (now (values .exit)) (lent (head .exit) (names .exit) (reals .exit) (rows .entry)) ≡ placedFetch (fetchOf places places (lent (head .entry) (names .entry) (reals .entry) (rows .entry))) ⌝ }
+    ensures { λ _. ⌜ placedList (now (answer .exit)) (now (numbers .exit)) (now (moved .exit)) (lent (words .exit) (keys .entry) (bytes .exit) (reals .exit) (values .entry)) ≡ placedFetch (fetchOf (lent (words .entry) (keys .entry) (bytes .entry) (reals .entry) (values .entry))) ⌝ }
 {
-    let f = fetching::fetch_changes(head, names, reals, rows, numbers, values);
+    let f = fetches::fetch_changes(words, keys, bytes, reals, values, numbers, moved);
     put_fetched(answer, f);
 }
 

@@ -2,46 +2,51 @@
 ghost use mathlib.Core.Path.{_≡_};
 ghost use Rattle.steps.specs.Calls.{remove, addEdit, removeEdit, suggest};
 ghost use Rattle.steps.specs.Changing.{made};
-ghost use Rattle.lent.specs.Lent.{lent};
-ghost use Rattle.shell.specs.Room.{cleared};
-ghost use Rattle.shell.specs.Shell.{callOf};
+ghost use Rattle.waist.specs.Working.{lent};
+ghost use Rattle.sparse_copy.specs.Over.{cleared};
+ghost use Rattle.lending.specs.Lending.{callOf};
 ghost use Rattle.changes.specs.Change.{changingOf};
 ghost use Rattle.knobharbor.specs.Places.{placed, placedBy};
 use crate::places::put;
 use changes::Change;
-use lent::Head;
-use lent::Names;
-use lent::Reals;
-use lent::Rows;
+use sparse::Bytes;
+use sparse::Keys;
+use sparse::Reals;
+use sparse::Values;
+use sparse::Words;
 use terms::Pack;
 
 // The one changing call, and its answer in its place. p is read by an add alone.
 pub fn change(
-    head: &mut Head,
-    names: &mut Names,
+    words: &mut Words,
+    keys: &mut Keys,
+    bytes: &mut Bytes,
     reals: &mut Reals,
-    rows: &mut Rows,
-    whead: &mut Head,
-    wnames: &mut Names,
+    values: &mut Values,
+    wwords: &mut Words,
+    wkeys: &mut Keys,
+    wbytes: &mut Bytes,
     wreals: &mut Reals,
-    wrows: &mut Rows,
+    wvalues: &mut Values,
     answer: &mut [u32; 3],
     c: Change,
     p: Pack,
     budget: u16,
 )
-    ensures { λ _. ⌜ placed (now (answer .exit)) (lent (head .exit) (names .exit) (reals .exit) (rows .exit)) ≡ placedBy (callOf (made (changingOf c p budget)) (lent (whead .entry) (wnames .entry) (wreals .entry) (wrows .entry)) (lent (head .entry) (names .entry) (reals .entry) (rows .entry))) ⌝ }
-    ensures { λ _. ⌜ lent (whead .exit) (wnames .exit) (wreals .exit) (wrows .exit) ≡ cleared (lent (whead .entry) (wnames .entry) (wreals .entry) (wrows .entry)) ⌝ }
+    ensures { λ _. ⌜ placed (now (answer .exit)) (lent (words .exit) (keys .exit) (bytes .exit) (reals .exit) (values .exit)) ≡ placedBy (callOf (made (changingOf c p budget)) (lent (wwords .entry) (wkeys .entry) (wbytes .entry) (wreals .entry) (wvalues .entry)) (lent (words .entry) (keys .entry) (bytes .entry) (reals .entry) (values .entry))) ⌝ }
+    ensures { λ _. ⌜ lent (wwords .exit) (wkeys .exit) (wbytes .exit) (wreals .exit) (wvalues .exit) ≡ cleared (lent (wwords .entry) (wkeys .entry) (wbytes .entry) (wreals .entry) (wvalues .entry)) ⌝ }
 {
-    let a = calls::change(
-        head,
-        names,
+    let a = solver::change(
+        words,
+        keys,
+        bytes,
         reals,
-        rows,
-        whead,
-        wnames,
+        values,
+        wwords,
+        wkeys,
+        wbytes,
         wreals,
-        wrows,
+        wvalues,
         c,
         p,
         budget,
@@ -51,32 +56,36 @@ pub fn change(
 
 #[no_mangle]
 pub extern "C" fn knobharbor_remove(
-    head: &mut Head,
-    names: &mut Names,
+    words: &mut Words,
+    keys: &mut Keys,
+    bytes: &mut Bytes,
     reals: &mut Reals,
-    rows: &mut Rows,
-    whead: &mut Head,
-    wnames: &mut Names,
+    values: &mut Values,
+    wwords: &mut Words,
+    wkeys: &mut Keys,
+    wbytes: &mut Bytes,
     wreals: &mut Reals,
-    wrows: &mut Rows,
+    wvalues: &mut Values,
     answer: &mut [u32; 3],
     number: u32,
     budget: u16,
 )
-    ensures { λ _. ⌜ placed (now (answer .exit)) (lent (head .exit) (names .exit) (reals .exit) (rows .exit)) ≡ placedBy (callOf (remove number budget) (lent (whead .entry) (wnames .entry) (wreals .entry) (wrows .entry)) (lent (head .entry) (names .entry) (reals .entry) (rows .entry))) ⌝ }
-    ensures { λ _. ⌜ lent (whead .exit) (wnames .exit) (wreals .exit) (wrows .exit) ≡ cleared (lent (whead .entry) (wnames .entry) (wreals .entry) (wrows .entry)) ⌝ }
+    ensures { λ _. ⌜ placed (now (answer .exit)) (lent (words .exit) (keys .exit) (bytes .exit) (reals .exit) (values .exit)) ≡ placedBy (callOf (remove number budget) (lent (wwords .entry) (wkeys .entry) (wbytes .entry) (wreals .entry) (wvalues .entry)) (lent (words .entry) (keys .entry) (bytes .entry) (reals .entry) (values .entry))) ⌝ }
+    ensures { λ _. ⌜ lent (wwords .exit) (wkeys .exit) (wbytes .exit) (wreals .exit) (wvalues .exit) ≡ cleared (lent (wwords .entry) (wkeys .entry) (wbytes .entry) (wreals .entry) (wvalues .entry)) ⌝ }
 {
     let c = Change::Remove(number);
     let p = terms::none();
     change(
-        head,
-        names,
+        words,
+        keys,
+        bytes,
         reals,
-        rows,
-        whead,
-        wnames,
+        values,
+        wwords,
+        wkeys,
+        wbytes,
         wreals,
-        wrows,
+        wvalues,
         answer,
         c,
         p,
@@ -86,33 +95,37 @@ pub extern "C" fn knobharbor_remove(
 
 #[no_mangle]
 pub extern "C" fn knobharbor_add_edit(
-    head: &mut Head,
-    names: &mut Names,
+    words: &mut Words,
+    keys: &mut Keys,
+    bytes: &mut Bytes,
     reals: &mut Reals,
-    rows: &mut Rows,
-    whead: &mut Head,
-    wnames: &mut Names,
+    values: &mut Values,
+    wwords: &mut Words,
+    wkeys: &mut Keys,
+    wbytes: &mut Bytes,
     wreals: &mut Reals,
-    wrows: &mut Rows,
+    wvalues: &mut Values,
     answer: &mut [u32; 3],
     variable: u32,
     strength: f64,
     budget: u16,
 )
-    ensures { λ _. ⌜ placed (now (answer .exit)) (lent (head .exit) (names .exit) (reals .exit) (rows .exit)) ≡ placedBy (callOf (addEdit variable strength budget) (lent (whead .entry) (wnames .entry) (wreals .entry) (wrows .entry)) (lent (head .entry) (names .entry) (reals .entry) (rows .entry))) ⌝ }
-    ensures { λ _. ⌜ lent (whead .exit) (wnames .exit) (wreals .exit) (wrows .exit) ≡ cleared (lent (whead .entry) (wnames .entry) (wreals .entry) (wrows .entry)) ⌝ }
+    ensures { λ _. ⌜ placed (now (answer .exit)) (lent (words .exit) (keys .exit) (bytes .exit) (reals .exit) (values .exit)) ≡ placedBy (callOf (addEdit variable strength budget) (lent (wwords .entry) (wkeys .entry) (wbytes .entry) (wreals .entry) (wvalues .entry)) (lent (words .entry) (keys .entry) (bytes .entry) (reals .entry) (values .entry))) ⌝ }
+    ensures { λ _. ⌜ lent (wwords .exit) (wkeys .exit) (wbytes .exit) (wreals .exit) (wvalues .exit) ≡ cleared (lent (wwords .entry) (wkeys .entry) (wbytes .entry) (wreals .entry) (wvalues .entry)) ⌝ }
 {
     let c = Change::AddEdit(variable, strength);
     let p = terms::none();
     change(
-        head,
-        names,
+        words,
+        keys,
+        bytes,
         reals,
-        rows,
-        whead,
-        wnames,
+        values,
+        wwords,
+        wkeys,
+        wbytes,
         wreals,
-        wrows,
+        wvalues,
         answer,
         c,
         p,
@@ -122,32 +135,36 @@ pub extern "C" fn knobharbor_add_edit(
 
 #[no_mangle]
 pub extern "C" fn knobharbor_remove_edit(
-    head: &mut Head,
-    names: &mut Names,
+    words: &mut Words,
+    keys: &mut Keys,
+    bytes: &mut Bytes,
     reals: &mut Reals,
-    rows: &mut Rows,
-    whead: &mut Head,
-    wnames: &mut Names,
+    values: &mut Values,
+    wwords: &mut Words,
+    wkeys: &mut Keys,
+    wbytes: &mut Bytes,
     wreals: &mut Reals,
-    wrows: &mut Rows,
+    wvalues: &mut Values,
     answer: &mut [u32; 3],
     variable: u32,
     budget: u16,
 )
-    ensures { λ _. ⌜ placed (now (answer .exit)) (lent (head .exit) (names .exit) (reals .exit) (rows .exit)) ≡ placedBy (callOf (removeEdit variable budget) (lent (whead .entry) (wnames .entry) (wreals .entry) (wrows .entry)) (lent (head .entry) (names .entry) (reals .entry) (rows .entry))) ⌝ }
-    ensures { λ _. ⌜ lent (whead .exit) (wnames .exit) (wreals .exit) (wrows .exit) ≡ cleared (lent (whead .entry) (wnames .entry) (wreals .entry) (wrows .entry)) ⌝ }
+    ensures { λ _. ⌜ placed (now (answer .exit)) (lent (words .exit) (keys .exit) (bytes .exit) (reals .exit) (values .exit)) ≡ placedBy (callOf (removeEdit variable budget) (lent (wwords .entry) (wkeys .entry) (wbytes .entry) (wreals .entry) (wvalues .entry)) (lent (words .entry) (keys .entry) (bytes .entry) (reals .entry) (values .entry))) ⌝ }
+    ensures { λ _. ⌜ lent (wwords .exit) (wkeys .exit) (wbytes .exit) (wreals .exit) (wvalues .exit) ≡ cleared (lent (wwords .entry) (wkeys .entry) (wbytes .entry) (wreals .entry) (wvalues .entry)) ⌝ }
 {
     let c = Change::RemoveEdit(variable);
     let p = terms::none();
     change(
-        head,
-        names,
+        words,
+        keys,
+        bytes,
         reals,
-        rows,
-        whead,
-        wnames,
+        values,
+        wwords,
+        wkeys,
+        wbytes,
         wreals,
-        wrows,
+        wvalues,
         answer,
         c,
         p,
@@ -157,33 +174,37 @@ pub extern "C" fn knobharbor_remove_edit(
 
 #[no_mangle]
 pub extern "C" fn knobharbor_suggest(
-    head: &mut Head,
-    names: &mut Names,
+    words: &mut Words,
+    keys: &mut Keys,
+    bytes: &mut Bytes,
     reals: &mut Reals,
-    rows: &mut Rows,
-    whead: &mut Head,
-    wnames: &mut Names,
+    values: &mut Values,
+    wwords: &mut Words,
+    wkeys: &mut Keys,
+    wbytes: &mut Bytes,
     wreals: &mut Reals,
-    wrows: &mut Rows,
+    wvalues: &mut Values,
     answer: &mut [u32; 3],
     variable: u32,
     suggestion: f64,
     budget: u16,
 )
-    ensures { λ _. ⌜ placed (now (answer .exit)) (lent (head .exit) (names .exit) (reals .exit) (rows .exit)) ≡ placedBy (callOf (suggest variable suggestion budget) (lent (whead .entry) (wnames .entry) (wreals .entry) (wrows .entry)) (lent (head .entry) (names .entry) (reals .entry) (rows .entry))) ⌝ }
-    ensures { λ _. ⌜ lent (whead .exit) (wnames .exit) (wreals .exit) (wrows .exit) ≡ cleared (lent (whead .entry) (wnames .entry) (wreals .entry) (wrows .entry)) ⌝ }
+    ensures { λ _. ⌜ placed (now (answer .exit)) (lent (words .exit) (keys .exit) (bytes .exit) (reals .exit) (values .exit)) ≡ placedBy (callOf (suggest variable suggestion budget) (lent (wwords .entry) (wkeys .entry) (wbytes .entry) (wreals .entry) (wvalues .entry)) (lent (words .entry) (keys .entry) (bytes .entry) (reals .entry) (values .entry))) ⌝ }
+    ensures { λ _. ⌜ lent (wwords .exit) (wkeys .exit) (wbytes .exit) (wreals .exit) (wvalues .exit) ≡ cleared (lent (wwords .entry) (wkeys .entry) (wbytes .entry) (wreals .entry) (wvalues .entry)) ⌝ }
 {
     let c = Change::Suggest(variable, suggestion);
     let p = terms::none();
     change(
-        head,
-        names,
+        words,
+        keys,
+        bytes,
         reals,
-        rows,
-        whead,
-        wnames,
+        values,
+        wwords,
+        wkeys,
+        wbytes,
         wreals,
-        wrows,
+        wvalues,
         answer,
         c,
         p,

@@ -1,44 +1,49 @@
 // Add a line of text, under its C name. The offset goes into a place of its own.
 ghost use mathlib.Core.Path.{_≡_};
-ghost use Rattle.lent.specs.Lent.{lent};
-ghost use Rattle.shell.specs.Room.{cleared};
+ghost use Rattle.waist.specs.Working.{lent};
+ghost use Rattle.sparse_copy.specs.Over.{cleared};
 ghost use Rattle.typed.specs.Adding.{textOf};
 ghost use Rattle.knobharbor.specs.Places.{placed, placedText, placedLine};
 use crate::places::put;
-use lent::Head;
-use lent::Names;
-use lent::Reals;
-use lent::Rows;
-use shell::Answer;
+use lending::Answer;
+use sparse::Bytes;
+use sparse::Keys;
+use sparse::Reals;
+use sparse::Values;
+use sparse::Words;
 
 #[no_mangle]
 pub extern "C" fn knobharbor_add_text(
-    head: &mut Head,
-    names: &mut Names,
+    words: &mut Words,
+    keys: &mut Keys,
+    bytes: &mut Bytes,
     reals: &mut Reals,
-    rows: &mut Rows,
-    whead: &mut Head,
-    wnames: &mut Names,
+    values: &mut Values,
+    wwords: &mut Words,
+    wkeys: &mut Keys,
+    wbytes: &mut Bytes,
     wreals: &mut Reals,
-    wrows: &mut Rows,
+    wvalues: &mut Values,
     answer: &mut [u32; 3],
     offset: &mut u64,
     number: u32,
     line: &[u8],
     budget: u16,
 )
-    ensures { λ _. ⌜ placedText (now (offset .exit)) (placed (now (answer .exit)) (lent (head .exit) (names .exit) (reals .exit) (rows .exit))) ≡ placedLine (textOf number (now (line .entry)) budget (lent (whead .entry) (wnames .entry) (wreals .entry) (wrows .entry)) (lent (head .entry) (names .entry) (reals .entry) (rows .entry))) ⌝ }
-    ensures { λ _. ⌜ lent (whead .exit) (wnames .exit) (wreals .exit) (wrows .exit) ≡ cleared (lent (whead .entry) (wnames .entry) (wreals .entry) (wrows .entry)) ⌝ }
+    ensures { λ _. ⌜ placedText (now (offset .exit)) (placed (now (answer .exit)) (lent (words .exit) (keys .exit) (bytes .exit) (reals .exit) (values .exit))) ≡ placedLine (textOf number (now (line .entry)) budget (lent (wwords .entry) (wkeys .entry) (wbytes .entry) (wreals .entry) (wvalues .entry)) (lent (words .entry) (keys .entry) (bytes .entry) (reals .entry) (values .entry))) ⌝ }
+    ensures { λ _. ⌜ lent (wwords .exit) (wkeys .exit) (wbytes .exit) (wreals .exit) (wvalues .exit) ≡ cleared (lent (wwords .entry) (wkeys .entry) (wbytes .entry) (wreals .entry) (wvalues .entry)) ⌝ }
 {
     let r = typed::add::add_text(
-        head,
-        names,
+        words,
+        keys,
+        bytes,
         reals,
-        rows,
-        whead,
-        wnames,
+        values,
+        wwords,
+        wkeys,
+        wbytes,
         wreals,
-        wrows,
+        wvalues,
         number,
         line,
         budget,

@@ -1,10 +1,10 @@
 // The lent places of an answer of more than one word.
 ghost use mathlib.Core.Path.{_≡_};
 ghost use mathlib.Core.List.{[], _∷_};
-ghost use Rattle.shell.specs.Shell.{answerOf};
+ghost use Rattle.lending.specs.Lending.{answerOf};
 ghost use Rattle.knobharbor.specs.Places.{inPlaces};
-use fetching::Fetched;
-use shell::Answer;
+use fetches::Fetched;
+use lending::Answer;
 
 pub fn put(answer: &mut [u32; 3], a: Answer)
     ensures { λ _. ⌜ now (answer .exit) ≡ inPlaces (answerOf a) ⌝ }

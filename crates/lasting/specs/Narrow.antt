@@ -24,7 +24,7 @@ use Rattle.keeps.specs.Keys.{keep-all, drop-all, keepConstraint-is, dropConstra
 use Rattle.keeps.specs.Fits.{all-map}
 use Rattle.keeps.specs.Passes.{Ends}
 use Rattle.keeps.specs.Addition.{passed}
-use Rattle.items.specs.Items.{isU32}
+use Rattle.lasting.specs.Numbers.{isU32}
 use Rattle.lasting.specs.Near.{Near, suggest-near, remove-near}
 use Rattle.lasting.specs.NearAdd.{TermNamed, add-near}
 

@@ -1,7 +1,7 @@
--- The public calls as anybody can make them: with a working room of any lengths, lists of any lengths, and a kind that may be none of the three. Assumes nothing.
+-- The public calls as anybody can make them: with any working room, lists of any lengths, and a kind that may be none of the three. Tables are arrays, whose types say their lengths. Assumes nothing.
 use Prim.Native.Nat.{ℕ}
 use mathlib.Core.Path.{_≡_, refl}
-use mathlib.Core.Bool.{Bool, true, false, _&&_, cond, true≢false, false≢true}
+use mathlib.Core.Bool.{Bool, true, false, _&&_, cond, false≢true}
 use mathlib.Core.List.{List, [], _∷_}
 use mathlib.Core.Option.{Option, none, some}
 use lib.Dec.{eqb, ltb}
@@ -11,34 +11,33 @@ use borrow.Author.Tests.{le-leb}
 use Rattle.steps.specs.State.{State}
 use Rattle.steps.specs.Calls.{add, remove, addEdit, removeEdit, suggest, reset}
 use Rattle.steps.specs.Changing as changing
-use Rattle.layout.specs.Layout.{Tables, read}
-use Rattle.layout.specs.Rooms.{lengthsRight, lengths-right}
-use Rattle.reading.specs.Given.{reads-lengths}
-use Rattle.shell.specs.Shell.{Called, called, callIn, callOf}
-use Rattle.shell.specs.Reset.{resetOf}
-use Rattle.fetching.specs.Fetch.{fetchOf, fetchIn, fetch18, places}
+use Rattle.sparse.specs.Sparse.{Sparse, read}
+use Rattle.sparse_test.specs.Asked.{asked}
+use Rattle.sparse_test.specs.Reads.{greatestU32}
+use Rattle.lending.specs.Lending.{Called, called, callIn, callOf}
+use Rattle.lending.specs.Reset.{resetOf}
+use Rattle.fetches.specs.Fetch.{fetchOf}
 use Rattle.terms.specs.declared.Term.{Term}
 use Rattle.terms.specs.Terms.{termOf, termsIn}
 use Rattle.knobharbor.specs.Given.{given, relationBy}
 use Rattle.knobharbor.specs.Adding.{addOf, addListsOf}
-use Rattle.asking.specs.Asked.{asked}
 use Rattle.grammar.specs.Sums as grammar
 use Rattle.grammar.specs.Reader.{readLine}
 use Rattle.grammar.specs.Names.{Named, line-named}
-use Rattle.items.specs.Items.{isU32}
 use Rattle.keeps.specs.Lists.{All}
 use Rattle.typed.specs.Typed.{typedTerm, typedTerms, wholeOf, requiredBy}
 use Rattle.typed.specs.Adding.{markIn, addRead, textOf}
 use Rattle.run.specs.Demand.{Call, resets, fetches, adds, removes, addsEdit, removesEdit, suggests, make}
+use Rattle.lasting.specs.Numbers.{isU32}
 use Rattle.lasting.specs.Narrow.{Typed}
 use Rattle.lasting.specs.NearAdd.{TermNamed}
 use Rattle.lasting.specs.Promises.{Holds, call-holds, fetch-holds, reset-holds}
 
 -- a call of a run over tables, with its working room: what its contract says that it answers and leaves. A fetch is no changing call: it leaves what its contract
 -- says, and counts as accepted here, with the stored mark, as in `make`; what it lists is `tables-fetch`.
-unfoldable pub makeOn : Call → Tables → Tables → Called
+unfoldable pub makeOn : Call → Sparse → Sparse → Called
 makeOn resets work t = resetOf t
-makeOn fetches work t = called (record { number = 0; pivots = 0; whole = read t .whole }) (fetchOf places places t .tables)
+makeOn fetches work t = called (record { number = 0; pivots = 0; whole = read t .whole }) (fetchOf t .tables)
 makeOn (adds n terms constant relation budget) work t = callOf (add n terms constant relation budget) work t
 makeOn (removes n budget) work t = callOf (remove n budget) work t
 makeOn (addsEdit v strength budget) work t = callOf (addEdit v strength budget) work t
@@ -50,31 +49,18 @@ makeOn (suggests v x budget) work t = callOf (suggest v x budget) work t
 pub data Public : Type 0 where
   -- one of a run's
   makes : Call → Public
-  -- a fetch into two lists of these lengths
-  fetchesInto : ℕ → ℕ → Public
   -- an add under its C names, of a list of records and of two lists: number, terms, constant, kind, strength, budget
   addsTerms : ℕ → List Term → Float → ℕ → Float → ℕ → Public
   addsLists : ℕ → List ℕ → List Float → Float → ℕ → Float → ℕ → Public
   -- an add of a line of text: number, bytes, budget
   addsText : ℕ → List ℕ → ℕ → Public
 
--- what its contract says that it answers and leaves; a fetch with its number, and the stored mark
-unfoldable pub publicOn : Public → Tables → Tables → Called
+-- what its contract says that it answers and leaves
+unfoldable pub publicOn : Public → Sparse → Sparse → Called
 publicOn (makes c) work t = makeOn c work t
-publicOn (fetchesInto a b) work t = called (record { number = fetchOf a b t .number; pivots = 0; whole = read t .whole }) (fetchOf a b t .tables)
 publicOn (addsTerms n ts constant kind strength budget) work t = addOf n ts constant kind strength budget work t
 publicOn (addsLists n vars coefs constant kind strength budget) work t = addListsOf n vars coefs constant kind strength budget work t
 publicOn (addsText n line budget) work t = textOf n line budget work t .call
-
--- the room that a call is lent has the right lengths; a reset and a fetch are lent none
-unfoldable pub roomFits : Call → Tables → Bool
-roomFits resets work = true
-roomFits fetches work = true
-roomFits (adds n terms constant relation budget) work = lengthsRight work
-roomFits (removes n budget) work = lengthsRight work
-roomFits (addsEdit v strength budget) work = lengthsRight work
-roomFits (removesEdit v budget) work = lengthsRight work
-roomFits (suggests v x budget) work = lengthsRight work
 
 abbrev pub addsBy : ℕ → List Term → Float → ℕ → Float → ℕ → Call
 addsBy n ts constant kind strength budget = adds n (termsIn ts) constant (relationBy kind strength) budget
@@ -83,19 +69,18 @@ addsBy n ts constant kind strength budget = adds n (termsIn ts) constant (relati
 abbrev pub addsRead : ℕ → grammar.Reading → ℕ → Call
 addsRead n r budget = adds n (termsIn (typedTerms (r .terms))) (wholeOf (r .constant)) (requiredBy (r .relation)) budget
 
-abbrev pub textCall : ℕ → grammar.Answer → ℕ → Tables → Option Call
-textCall n (grammar.reads r) budget work = cond (lengthsRight work) (some (addsRead n r budget)) none
-textCall n (grammar.outside at) budget work = none
-textCall n (grammar.refused k) budget work = none
+abbrev pub textCall : ℕ → grammar.Answer → ℕ → Option Call
+textCall n (grammar.reads r) budget = some (addsRead n r budget)
+textCall n (grammar.outside at) budget = none
+textCall n (grammar.refused k) budget = none
 
--- the call of a run that it is; none where the room, the lists or the kind are unfit, or the line does not read
-unfoldable pub runCall : Public → Tables → Option Call
-runCall (makes c) work = cond (roomFits c work) (some c) none
-runCall (fetchesInto a b) work = cond (eqb a places && eqb b places) (some fetches) none
-runCall (addsTerms n ts constant kind strength budget) work = cond (ltb kind 3 && lengthsRight work) (some (addsBy n ts constant kind strength budget)) none
-runCall (addsLists n vars coefs constant kind strength budget) work =
-    cond (eqb (length vars) (length coefs) && (ltb kind 3 && lengthsRight work)) (some (addsBy n (given vars coefs) constant kind strength budget)) none
-runCall (addsText n line budget) work = textCall n (readLine line) budget work
+-- the call of a run that it is; none where the lists or the kind are unfit, or the line does not read
+unfoldable pub runCall : Public → Option Call
+runCall (makes c) = some c
+runCall (addsTerms n ts constant kind strength budget) = cond (ltb kind 3) (some (addsBy n ts constant kind strength budget)) none
+runCall (addsLists n vars coefs constant kind strength budget) =
+    cond (eqb (length vars) (length coefs) && ltb kind 3) (some (addsBy n (given vars coefs) constant kind strength budget)) none
+runCall (addsText n line budget) = textCall n (readLine line) budget
 
 -- the number by which it is refused where it is none: 18, or the line's own
 abbrev pub lineNumber : grammar.Answer → ℕ
@@ -105,7 +90,6 @@ lineNumber (grammar.refused k) = k
 
 abbrev pub unfitNumber : Public → ℕ
 unfitNumber (makes c) = 18
-unfitNumber (fetchesInto a b) = 18
 unfitNumber (addsTerms n ts constant kind strength budget) = 18
 unfitNumber (addsLists n vars coefs constant kind strength budget) = 18
 unfitNumber (addsText n line budget) = lineNumber (readLine line)
@@ -122,7 +106,6 @@ TypedCall (suggests v x budget) = Unit {0}
 
 abbrev pub TypedPublic : Public → Type 0
 TypedPublic (makes c) = TypedCall c
-TypedPublic (fetchesInto a b) = Unit {0}
 TypedPublic (addsTerms n ts constant kind strength budget) = TypedCall (addsBy n ts constant kind strength budget)
 TypedPublic (addsLists n vars coefs constant kind strength budget) = TypedCall (addsBy n (given vars coefs) constant kind strength budget)
 TypedPublic (addsText n line budget) = isU32 n ≡ true
@@ -131,59 +114,37 @@ TypedPublic (addsText n line budget) = isU32 n ≡ true
 typed-read : (ts : List grammar.Term) → Named ts → All (TermNamed isU32) (termsIn (typedTerms ts))
 unfolding termsIn termOf typedTerm isU32
 typed-read [] h = tt
-typed-read (t ∷ ts) h = (le-leb (t .variable) 4294967295 (h .0), typed-read ts (h .1))
+typed-read (t ∷ ts) h = (le-leb (t .variable) greatestU32 (h .0), typed-read ts (h .1))
 
 -- ---- one call on tables that hold a state
 
 -- a call of a run: its answer, and its state in the tables. Any other: the number k, and the tables as they were; the mark that it answers is no, or the stored one.
-abbrev pub Steps : ℕ → State → Tables → Called → Option Call → Type 0
+abbrev pub Steps : ℕ → State → Sparse → Called → Option Call → Type 0
 Steps k s t r (some c) = (r .answer ≡ make c s .answer) × Holds (make c s .state) (r .tables)
 Steps k s t r none = (r .answer .number ≡ k) × (r .tables ≡ t) × (r .answer .whole ≡ true → read t .whole ≡ true)
 
-module _ (s : State) (w t : Tables) (h : Holds s t) where
-  abbrev long : lengthsRight t ≡ true
-  long = lengths-right t (reads-lengths t (h .reads))
-
-  fit : (c : Call) → TypedCall c → roomFits c w ≡ true → Steps 18 s t (makeOn c w t) (some c)
-  unfolding makeOn make roomFits
-  fit resets typed e = unfold resetOf callIn reset in (rw long refl, reset-holds t long (h .wide))
-  fit fetches typed e = (rw (h .state) refl, fetch-holds s t h)
-  fit (adds n ts k r b) typed e = call-holds (changing.adds n ts k r b) s w t typed e h
-  fit (removes n b) typed e = call-holds (changing.removes n b) s w t typed e h
-  fit (addsEdit v k b) typed e = call-holds (changing.addsEdit v k b) s w t typed e h
-  fit (removesEdit v b) typed e = call-holds (changing.removesEdit v b) s w t typed e h
-  fit (suggests v x b) typed e = call-holds (changing.suggests v x b) s w t typed e h
+module _ (s : State) (w t : Sparse) (h : Holds s t) where
+  made-is : (c : Call) → TypedCall c → Steps 18 s t (makeOn c w t) (some c)
+  unfolding makeOn make
+  made-is resets typed = unfold resetOf callIn reset in (refl, reset-holds t (h .lengths))
+  made-is fetches typed = (rw (h .state) refl, fetch-holds s t h)
+  made-is (adds n ts k r b) typed = call-holds (changing.adds n ts k r b) s w t typed h
+  made-is (removes n b) typed = call-holds (changing.removes n b) s w t typed h
+  made-is (addsEdit v k b) typed = call-holds (changing.addsEdit v k b) s w t typed h
+  made-is (removesEdit v b) typed = call-holds (changing.removesEdit v b) s w t typed h
+  made-is (suggests v x b) typed = call-holds (changing.suggests v x b) s w t typed h
 
   says-no : false ≡ true → read t .whole ≡ true
   says-no z = absurd (false≢true z)
 
-  no-room : (c : Call) → roomFits c w ≡ false → Steps 18 s t (makeOn c w t) none
-  unfolding makeOn roomFits callOf
-  no-room resets e = absurd (true≢false e)
-  no-room fetches e = absurd (true≢false e)
-  no-room (adds n ts k r b) e = rw (h .reads, e) (refl, refl, says-no)
-  no-room (removes n b) e = rw (h .reads, e) (refl, refl, says-no)
-  no-room (addsEdit v k b) e = rw (h .reads, e) (refl, refl, says-no)
-  no-room (removesEdit v b) e = rw (h .reads, e) (refl, refl, says-no)
-  no-room (suggests v x b) e = rw (h .reads, e) (refl, refl, says-no)
-
-  made-is : (c : Call) → TypedCall c → (b : Bool) → roomFits c w ≡ b → Steps 18 s t (makeOn c w t) (cond b (some c) none)
-  made-is c typed true e = fit c typed e
-  made-is c typed false e = no-room c e
-
-  fetched-is : (a b : ℕ) (right : Bool) → eqb a places && eqb b places ≡ right → Steps 18 s t (publicOn (fetchesInto a b) w t) (cond right (some fetches) none)
-  unfolding publicOn makeOn make fetchOf fetchIn fetch18 roomFits
-  fetched-is a b true e = rw (h .reads, e) (rw (h .reads) at (fit fetches tt refl))
-  fetched-is a b false e = rw (h .reads, e) (refl, refl, λ z. z)
-
   added-is : (n : ℕ) (ts : List Term) (k : Float) (kind : ℕ) (x : Float) (b : ℕ) → TypedCall (addsBy n ts k kind x b) → (right : Bool) → ltb kind 3 ≡ right
-      → Steps 18 s t (addOf n ts k kind x b w t) (cond (right && lengthsRight w) (some (addsBy n ts k kind x b)) none)
-  unfolding addOf makeOn roomFits
-  added-is n ts k kind x b typed true e = rw e (made-is (addsBy n ts k kind x b) typed (lengthsRight w) refl)
+      → Steps 18 s t (addOf n ts k kind x b w t) (cond right (some (addsBy n ts k kind x b)) none)
+  unfolding addOf makeOn
+  added-is n ts k kind x b typed true e = rw e (made-is (addsBy n ts k kind x b) typed)
   added-is n ts k kind x b typed false e = rw e (refl, refl, says-no)
 
   listed-is : (n : ℕ) (vars : List ℕ) (coefs : List Float) (k : Float) (kind : ℕ) (x : Float) (b : ℕ) → TypedCall (addsBy n (given vars coefs) k kind x b) → (right : Bool) → eqb (length vars) (length coefs) ≡ right
-      → Steps 18 s t (addListsOf n vars coefs k kind x b w t) (cond (right && (ltb kind 3 && lengthsRight w)) (some (addsBy n (given vars coefs) k kind x b)) none)
+      → Steps 18 s t (addListsOf n vars coefs k kind x b w t) (cond (right && ltb kind 3) (some (addsBy n (given vars coefs) k kind x b)) none)
   unfolding addListsOf
   listed-is n vars coefs k kind x b typed true e = rw e (added-is n (given vars coefs) k kind x b typed (ltb kind 3) refl)
   listed-is n vars coefs k kind x b typed false e = rw e (refl, refl, says-no)
@@ -192,16 +153,15 @@ module _ (s : State) (w t : Tables) (h : Holds s t) where
   unfolding markIn asked
   mark-stored e = rw (h .reads) at e
 
-  text-is : (n : ℕ) (a : grammar.Answer) (b : ℕ) → isU32 n ≡ true → ((r : grammar.Reading) → a ≡ grammar.reads r → Named (r .terms)) → Steps (lineNumber a) s t (addRead n a b w t .call) (textCall n a b w)
-  unfolding addRead makeOn roomFits
-  text-is n (grammar.reads r) b typed named = made-is (addsRead n r b) (typed, typed-read (r .terms) (named r refl)) (lengthsRight w) refl
+  text-is : (n : ℕ) (a : grammar.Answer) (b : ℕ) → isU32 n ≡ true → ((r : grammar.Reading) → a ≡ grammar.reads r → Named (r .terms)) → Steps (lineNumber a) s t (addRead n a b w t .call) (textCall n a b)
+  unfolding addRead makeOn
+  text-is n (grammar.reads r) b typed named = made-is (addsRead n r b) (typed, typed-read (r .terms) (named r refl))
   text-is n (grammar.outside at) b typed named = (refl, refl, mark-stored)
   text-is n (grammar.refused k) b typed named = (refl, refl, mark-stored)
 
-  pub public-step : (p : Public) → TypedPublic p → Steps (unfitNumber p) s t (publicOn p w t) (runCall p w)
+  pub public-step : (p : Public) → TypedPublic p → Steps (unfitNumber p) s t (publicOn p w t) (runCall p)
   unfolding publicOn runCall textOf
-  public-step (makes c) typed = made-is c typed (roomFits c w) refl
-  public-step (fetchesInto a b) typed = fetched-is a b (eqb a places && eqb b places) refl
+  public-step (makes c) typed = made-is c typed
   public-step (addsTerms n ts k kind x b) typed = added-is n ts k kind x b typed (ltb kind 3) refl
   public-step (addsLists n vars coefs k kind x b) typed = listed-is n vars coefs k kind x b typed (eqb (length vars) (length coefs)) refl
   public-step (addsText n line b) typed = text-is n (readLine line) b typed (line-named line)

@@ -1,6 +1,6 @@
 -- DEMANDS 2 AND 3 of the public calls: any sequence of calls over lent tables, from a reset on. What a call answers and leaves is what its contract says, whatever
--- the working room held and however long it was; the tables then read as the state of the run of the steps that the fit calls make, so what is proved of runs
--- (`run`, `stall`) holds of what the firmware has in hand. A call with a room, lists or a kind that are unfit is answered 18 and changes nothing; a line that
+-- the working room held; the tables then read as the state of the run of the steps that the fit calls make, so what is proved of runs
+-- (`run`, `stall`) holds of what the firmware has in hand. A call with lists or a kind that are unfit is answered 18 and changes nothing; a line that
 -- does not read is answered its own number and changes nothing. Assumes nothing.
 use Prim.Native.Nat.{ℕ, _≤_}
 use mathlib.Core.Path.{_≡_, refl}
@@ -14,13 +14,15 @@ use Rattle.steps.specs.State.{State}
 use Rattle.steps.specs.Changes.{Change, fetchChanges}
 use Rattle.steps.specs.Calls.{Answer, empty}
 use Rattle.keeps.specs.Lists.{All}
-use Rattle.layout.specs.Layout.{Tables, read, over}
-use Rattle.layout.specs.Rooms.{lengthsRight, Wide}
-use Rattle.shell.specs.Reset.{resetOf}
-use Rattle.asking.specs.Asked.{asked}
-use Rattle.fetching.specs.Listing.{numbersOf, valuesOf}
-use Rattle.fetching.specs.Fetch.{Fetch, fetchOf, fetchIn, places}
-use Rattle.fetching.specs.Again.{fetch-room}
+use Rattle.keeps.specs.Tested.{reads-in}
+use Rattle.layout.specs.Layout.{over}
+use Rattle.sparse.specs.Sparse.{Sparse, read}
+use Rattle.sparse.specs.Fits.{Lengths}
+use Rattle.sparse_test.specs.Asked.{asked}
+use Rattle.lending.specs.Reset.{resetOf}
+use Rattle.sparse_test.specs.Meaning.{reads-readable}
+use Rattle.fetches.specs.Fetch.{numbersOf, valuesOf, Fetch, fetchOf, fetchIn, places}
+use Rattle.fetches.specs.Few.{fetch-room}
 use Rattle.run.specs.Demand.{Call, make, accepted, next, start, after, Best, None}
 use Rattle.run.specs.Run.{yes-stored, marked-best, marked-12}
 use Rattle.stall.specs.Stall.{allWays, passesOf, budgetOf, Demand3}
@@ -28,10 +30,10 @@ use Rattle.stall.proofs.Whole.{marked-never-stalls}
 use Rattle.lasting.specs.Promises.{Holds, reset-holds}
 use Rattle.lasting.specs.Public.{Public, publicOn, runCall, unfitNumber, TypedPublic, Steps, public-step}
 
--- one call of a sequence, and the working room that is lent to it, of any lengths and with any content
+-- one call of a sequence, and the working room that is lent to it, with any content
 pub record Step : Type 0 where
   pub call : Public
-  pub room : Tables
+  pub room : Sparse
 
 -- the call's numbers are of their types
 abbrev pub Lent : Step → Type 0
@@ -39,7 +41,7 @@ Lent s = TypedPublic (s .call)
 
 -- the call of the run that a step is, if it is one
 abbrev pub callOfStep : Step → Option Call
-callOfStep s = runCall (s .call) (s .room)
+callOfStep s = runCall (s .call)
 
 abbrev pub andThen : Option Call → List Call → List Call
 andThen (some c) cs = c ∷ cs
@@ -51,16 +53,16 @@ callsOf [] = []
 callsOf (s ∷ ss) = andThen (callOfStep s) (callsOf ss)
 
 -- the tables after a reset and these calls; the last call stands first
-unfoldable pub tablesAfter : Tables → List Step → Tables
+unfoldable pub tablesAfter : Sparse → List Step → Sparse
 tablesAfter t [] = resetOf t .tables
 tablesAfter t (s ∷ ss) = publicOn (s .call) (s .room) (tablesAfter t ss) .tables
 
 -- what a call answers after these
-abbrev pub answers : Tables → Step → List Step → Answer
+abbrev pub answers : Sparse → Step → List Step → Answer
 answers t s ss = publicOn (s .call) (s .room) (tablesAfter t ss) .answer
 
 -- every call's answer says yes
-abbrev pub WholeOn : Tables → List Step → Type 0
+abbrev pub WholeOn : Sparse → List Step → Type 0
 WholeOn t [] = Unit {0}
 WholeOn t (s ∷ ss) = WholeOn t ss × (answers t s ss .whole ≡ true)
 
@@ -75,16 +77,16 @@ pub record Lists (l : List Change) (f : Fetch) : Type 0 where
 -- ---- the tables hold the run's state
 
 -- one more call, on tables that hold the state after the calls cs
-onward : (s : Step) (cs : List Call) (u : Tables) → Holds (after cs .state) u → (o : Option Call) → Steps (unfitNumber (s .call)) (after cs .state) u (publicOn (s .call) (s .room) u) o
+onward : (s : Step) (cs : List Call) (u : Sparse) → Holds (after cs .state) u → (o : Option Call) → Steps (unfitNumber (s .call)) (after cs .state) u (publicOn (s .call) (s .room) u) o
     → Holds (after (andThen o cs) .state) (publicOn (s .call) (s .room) u .tables)
 unfolding after next
 onward s cs u h (some c) e = e .1
 onward s cs u h none e = rw (e .1) h
 
-module _ (t : Tables) (long : lengthsRight t ≡ true) (wide : Wide t) where
+module _ (t : Sparse) (long : Lengths t) where
   pub tables-hold : (ss : List Step) → All Lent ss → Holds (after (callsOf ss) .state) (tablesAfter t ss)
   unfolding tablesAfter callsOf after start
-  tables-hold [] h = reset-holds t long wide
+  tables-hold [] h = reset-holds t long
   tables-hold (s ∷ ss) h =
       let held = tables-hold ss (h .1) in
       onward s (callsOf ss) (tablesAfter t ss) held (callOfStep s) (public-step (after (callsOf ss) .state) (s .room) (tablesAfter t ss) held (s .call) (h .0))
@@ -109,11 +111,11 @@ module _ (t : Tables) (long : lengthsRight t ≡ true) (wide : Wide t) where
   tables-asked query otherwise ss h = let held = tables-hold ss h in rw (held .reads, held .state) refl
 
   -- "Changes: `fetch_changes` toggles as in the crate": a fetch, by its contract, lists what the steps' fetch lists of the run's state
-  pub tables-fetch : (ss : List Step) → All Lent ss → Lists (fetchChanges (after (callsOf ss) .state) .list) (fetchOf places places (tablesAfter t ss))
+  pub tables-fetch : (ss : List Step) → All Lent ss → Lists (fetchChanges (after (callsOf ss) .state) .list) (fetchOf (tablesAfter t ss))
   unfolding fetchOf fetchIn
   tables-fetch ss h =
       let held = tables-hold ss h in
-      let room : length (fetchChanges (read (tablesAfter t ss)) .list) ≤ places = fetch-room (tablesAfter t ss) (held .reads) in
+      let room : length (fetchChanges (read (tablesAfter t ss)) .list) ≤ places = fetch-room (read (tablesAfter t ss)) (reads-in _ (reads-readable (tablesAfter t ss) (held .reads))) in
       rw (held .reads, ← held .state) (record { number = refl; count = refl; room = room; numbers = refl; values = refl })
 
   -- ---- demand 2

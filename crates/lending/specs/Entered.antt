@@ -18,7 +18,8 @@ use Rattle.sparse.specs.Sparse.{Sparse, symbolCount, rowCount, cellCount, varia
 use Rattle.sparse.specs.Fits.{Lengths}
 use Rattle.sparse.specs.Form.{indexAt, Counts, Form}
 use Rattle.sparse.specs.Copy.{putOver}
-use Rattle.sparse.specs.Copied.{copy-reads, copy-form, copy-lengths}
+use Rattle.sparse.specs.Agree.{Agree}
+use Rattle.sparse.specs.Copied.{copy-agrees, copy-reads, copy-form, copy-lengths}
 use Rattle.sparse_copy.specs.Over.{cleared}
 use Rattle.sparse_test.specs.Reads.{reads}
 use Rattle.sparse_test.specs.Meaning.{reads-form}
@@ -57,8 +58,10 @@ bare t = record { words = bareWords (t .words); keys = t .keys; bytes = t .bytes
 
 pub record Entered (t w : Sparse) : Type 0 where
   pub reads : reads t ≡ true
+  pub long : length (t .words) ≡ wordsSize
   pub form : Form w
   pub lengths : Lengths w
+  pub agrees : Agree (bare t) w
   pub tableau : read w .tableau ≡ read t .tableau
   pub changes : read w .changes ≡ read t .changes
 
@@ -109,6 +112,9 @@ module _ (t : Sparse) (w' : List ℕ) (same : SameNames (t .words) w') where
   unfolding read listOf
   variables-same = rw (count-same variableCountAt (omega arith), tab-ext (variableOf u) (variableOf t) 0 (variableCount t) (λ p a b. variable-same p)) refl
 
+  pub changes-same : getD w' shouldClearAt 0 ≡ getD (t .words) shouldClearAt 0 → read u .changes ≡ read t .changes
+  changes-same e = rw (changes-parts u, changes-parts t, variables-same, e) refl
+
   index-same : (p : ℕ) → indexAt u p ≡ indexAt t p
   unfolding indexAt
   index-same p = rw (count-same variableCountAt (omega arith)) refl
@@ -126,7 +132,7 @@ module _ (t : Sparse) (len : length (t .words) ≡ wordsSize) where
   unfolding bareWords
   bare-edits = getD-set-same (set (t .words) constraintCountAt 0) editCountAt 0 0 (omega (arith, len, length-set (t .words) constraintCountAt 0))
 
-  bare-same : SameNames (t .words) (bareWords (t .words))
+  pub bare-same : SameNames (t .words) (bareWords (t .words))
   bare-same m a b c d = bare-other m a b
 
   bare-clear : getD (bareWords (t .words)) shouldClearAt 0 ≡ getD (t .words) shouldClearAt 0
@@ -143,7 +149,7 @@ module _ (t : Sparse) (len : length (t .words) ≡ wordsSize) where
   bare-tableau = tableau-same t (bareWords (t .words)) bare-same
 
   pub bare-changes : read (bare t) .changes ≡ read t .changes
-  bare-changes = rw (changes-parts (bare t), changes-parts t, variables-same t (bareWords (t .words)) bare-same, bare-clear) refl
+  bare-changes = changes-same t (bareWords (t .words)) bare-same bare-clear
 
   pub bare-form : Form t → Form (bare t)
   bare-form f =
@@ -198,8 +204,10 @@ entered t w len l a b q e =
     let s = copy-reads (bare t) w f l in
     rw (e, q) (record {
       reads = h;
+      long = len;
       form = copy-form (bare t) w f l;
       lengths = copy-lengths (bare t) w (f .counts) l;
+      agrees = copy-agrees (bare t) w (f .counts) l;
       tableau = ap (λ (x : State). x .tableau) s ∙ bare-tableau t len;
       changes = ap (λ (x : State). x .changes) s ∙ bare-changes t len;
     })

@@ -11,6 +11,7 @@ ghost use Rattle.lending.specs.Lending.{answerOf, called, refused18};
 ghost use Rattle.lending.specs.Entered.{bareWords, zeroRoom, Entered};
 ghost use Rattle.lending.specs.Reset.{resetOf, resetWords};
 
+pub mod clearing;
 pub mod room;
 
 use sparse::Bytes;

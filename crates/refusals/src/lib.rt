@@ -145,7 +145,7 @@ pub fn add_tests(words: &Words, n: u32, p: terms::Pack, constant: f64, strength:
 }
 
 // The variable times 1, as a pack.
-fn edit_pack(n: u32) -> terms::Pack
+pub fn edit_pack(n: u32) -> terms::Pack
     ensures { λ r. ⌜ r ≡ editPack n ⌝ }
 {
     terms::push(

@@ -6,7 +6,7 @@ use mathlib.Core.List.{List, [], _∷_, map}
 use mathlib.Core.Option.{Option, none, some}
 use native.Mathlib.Omega.{arith}
 use borrow.Author.Tests.{le-leb, lt-leb}
-use lib.ListN.{length, take, replicate}
+use lib.ListN.{length, take}
 use lib.Ieee.{Float, binary64, toBits}
 use Rattle.steps.specs.Number.{zero64}
 use Rattle.steps.specs.Strength.{create, clip}
@@ -18,21 +18,20 @@ use Rattle.steps.specs.Changing.{made}
 use Rattle.steps.specs.Tests.{hasConstraint, hasEdit}
 use Rattle.steps.specs.Session as session
 use Rattle.steps.specs.Session.{resets, adds, removes, addsEdit, removesEdit, suggests, valueOf, fetches, hasConstraints, hasEdits, creates, clips, reads, dumps, setsNext}
-use Rattle.layout.specs.Layout.{Tables, tables, headSize, itemsSize, rowsSize}
-use Rattle.layout.specs.Rooms.{lengthsRight}
-use Rattle.shell.specs.Room.{zeroNames, zeroReals, zeroRow}
+use Rattle.sparse.specs.Sparse.{Sparse}
 use Rattle.tags.specs.Tags.{relationOf}
-use Rattle.asking.specs.Asked.{asked}
-use Rattle.shell.specs.Shell.{Called, called, answerOf, callOf}
-use Rattle.shell.specs.Reset.{resetOf}
-use Rattle.shell.specs.declared.Answer as code
-use Rattle.fetching.specs.Fetch.{fetchOf, places}
+use Rattle.sparse_test.specs.Asked.{asked}
+use Rattle.lending.specs.Lending.{Called, called, answerOf, callOf}
+use Rattle.lending.specs.Reset.{resetOf}
+use Rattle.lending.specs.Entered.{zeroRoom}
+use Rattle.lending.specs.declared.Answer as code
+use Rattle.fetches.specs.Fetch.{fetchOf}
 use Rattle.terms.specs.declared.Pack.{Pack}
 use Rattle.terms.specs.Terms.{termOf, termsIn, listed}
 use Rattle.changes.specs.declared.Change as changes
 use Rattle.changes.specs.declared.Change.the-variants.{Add, Remove, AddEdit, RemoveEdit, Suggest}
 use Rattle.changes.specs.Change.{changingOf}
-use Rattle.calls.specs.Listed.{listed-call}
+use Rattle.solver.specs.Listed.{listed-call}
 use Rattle.text.specs.declared.calls.Call.{Call}
 use Rattle.text.specs.declared.calls.Call.the-variants.{Reset, Change, Ask, Fetch, Bad}
 use Rattle.text.specs.declared.calls.Query.{Query}
@@ -46,19 +45,15 @@ use Rattle.text.specs.Answers.{Wrote, answerText, floatText, flagText, unreadTe
 use Rattle.session.specs.Said.{Said, said, Spoken, fetchSaid, fetch-short}
 
 -- the working room of a change: all zero
-unfoldable pub room : Tables
-room = tables (replicate headSize 0) (replicate itemsSize zeroNames) (replicate itemsSize zeroReals) (replicate rowsSize zeroRow)
-
-pub room-right : lengthsRight room ≡ true
-unfolding lengthsRight room
-room-right = refl
+abbrev pub room : Sparse
+room = zeroRoom
 
 -- "changing calls and reset `REFUSAL PIVOTS MARK`"
 unfoldable pub saidBy : Called → Said
 saidBy c = said (answerText (c .answer .number) (c .answer .pivots) (c .answer .whole)) (c .tables)
 
 -- the answer to a call over the tables t; the steps' aids for tests are no calls of the format
-unfoldable pub replyOf : Option session.Call → Tables → Said
+unfoldable pub replyOf : Option session.Call → Sparse → Said
 replyOf none t = said unreadText t
 replyOf (some resets) t = saidBy (resetOf t)
 replyOf (some (adds n ts k r b)) t = saidBy (callOf (add n ts k r b) room t)
@@ -67,7 +62,7 @@ replyOf (some (addsEdit v x b)) t = saidBy (callOf (addEdit v x b) room t)
 replyOf (some (removesEdit v b)) t = saidBy (callOf (removeEdit v b) room t)
 replyOf (some (suggests v x b)) t = saidBy (callOf (suggest v x b) room t)
 replyOf (some (valueOf v)) t = said (floatText (asked (value v) zero64 t)) t
-replyOf (some fetches) t = fetchSaid (fetchOf places places t)
+replyOf (some fetches) t = fetchSaid (fetchOf t)
 replyOf (some (hasConstraints n)) t = said (flagText (asked (hasConstraint n) false t)) t
 replyOf (some (hasEdits v)) t = said (flagText (asked (hasEdit v) false t)) t
 replyOf (some (creates a b c k)) t = said (floatText (create a b c k)) t
@@ -77,11 +72,11 @@ replyOf (some dumps) t = said unreadText t
 replyOf (some (setsNext n)) t = said unreadText t
 
 -- the answer to a line
-unfoldable pub lineReply : List ℕ → Tables → Said
+unfoldable pub lineReply : List ℕ → Sparse → Said
 lineReply line t = replyOf (format.callOf (wordsOf line)) t
 
 -- to a line that may be too long
-unfoldable pub heldReply : Option (List ℕ) → Tables → Said
+unfoldable pub heldReply : Option (List ℕ) → Sparse → Said
 heldReply none t = said unreadText t
 heldReply (some line) t = lineReply line t
 
@@ -104,17 +99,17 @@ callFrom Fetch p = some fetches
 callFrom Bad p = none
 
 -- the answer to a query
-abbrev pub askedText : Query → Tables → List ℕ
+abbrev pub askedText : Query → Sparse → List ℕ
 askedText (Value v) t = floatText (asked (value v) zero64 t)
 askedText (HasCon c) t = flagText (asked (hasConstraint c) false t)
 askedText (HasEdit v) t = flagText (asked (hasEdit v) false t)
 askedText (Create a b c k) t = floatText (create a b c k)
 askedText (Clip s) t = floatText (clip s)
 
-pub asked-wrote : (a b : List ℕ) (i j : ℕ) (t : Tables) {q d : Query} {s : List ℕ} → q ≡ d → s ≡ askedText d t → Wrote a b i j s → Wrote a b i j (askedText q t)
+pub asked-wrote : (a b : List ℕ) (i j : ℕ) (t : Sparse) {q d : Query} {s : List ℕ} → q ≡ d → s ≡ askedText d t → Wrote a b i j s → Wrote a b i j (askedText q t)
 asked-wrote a b i j t e f w = rw (e, ← f) w
 
-ask-reply : (q : Query) (p : Pack) (t : Tables) → replyOf (callFrom (Ask q) p) t ≡ said (askedText q t) t
+ask-reply : (q : Query) (p : Pack) (t : Sparse) → replyOf (callFrom (Ask q) p) t ≡ said (askedText q t) t
 unfolding replyOf
 ask-reply (Value v) p t = refl
 ask-reply (HasCon c) p t = refl
@@ -122,7 +117,7 @@ ask-reply (HasEdit v) p t = refl
 ask-reply (Create a b c k) p t = refl
 ask-reply (Clip s) p t = refl
 
-change-reply : (c : changes.Change) (p : Pack) (b : ℕ) (t : Tables) → replyOf (callFrom (Change c b) p) t ≡ saidBy (callOf (made (changingOf c p b)) room t)
+change-reply : (c : changes.Change) (p : Pack) (b : ℕ) (t : Sparse) → replyOf (callFrom (Change c b) p) t ≡ saidBy (callOf (made (changingOf c p b)) room t)
 unfolding replyOf
 change-reply (Add n k r) p b t = refl
 change-reply (Remove n) p b t = refl
@@ -142,7 +137,7 @@ related (equal s) = refl
 related (atLeast s) = refl
 
 -- a line's call and terms are answered as the call that it names
-line-reply : (o : Option session.Call) (t : Tables) → replyOf o t ≡ replyOf (callFrom (lineOf o .call) (lineOf o .terms)) t
+line-reply : (o : Option session.Call) (t : Sparse) → replyOf o t ≡ replyOf (callFrom (lineOf o .call) (lineOf o .terms)) t
 unfolding replyOf
 line-reply none t = refl
 line-reply (some resets) t = refl
@@ -163,22 +158,22 @@ line-reply (some (setsNext n)) t = refl
 
 -- ---- what each arm of the code says
 
-module _ (call : Call) (p : Pack) (t : Tables) (a b : List ℕ) (i j : ℕ) where
-  abbrev Says : Tables → Type 0
+module _ (call : Call) (p : Pack) (t : Sparse) (a b : List ℕ) (i j : ℕ) where
+  abbrev Says : Sparse → Type 0
   Says u = Spoken (replyOf (callFrom call p) t) a b i j u
 
-  answer-said : {u : Tables} (c : Called) (r : code.Answer) → replyOf (callFrom call p) t ≡ saidBy c → called (answerOf r) u ≡ c → Wrote a b i j (answerText (r .number) (r .pivots) (r .whole)) → Says u
+  answer-said : {u : Sparse} (c : Called) (r : code.Answer) → replyOf (callFrom call p) t ≡ saidBy c → called (answerOf r) u ≡ c → Wrote a b i j (answerText (r .number) (r .pivots) (r .whole)) → Says u
   unfolding saidBy
   answer-said c r e f w = rw (e, ← f) (w, refl)
 
-  pub reset-said : {u : Tables} (r : code.Answer) → call ≡ Reset → called (answerOf r) u ≡ resetOf t → Wrote a b i j (answerText (r .number) (r .pivots) (r .whole)) → Says u
+  pub reset-said : {u : Sparse} (r : code.Answer) → call ≡ Reset → called (answerOf r) u ≡ resetOf t → Wrote a b i j (answerText (r .number) (r .pivots) (r .whole)) → Says u
   unfolding replyOf
   reset-said r e = answer-said (resetOf t) r (rw e refl)
 
-  pub change-said : {u : Tables} (r : code.Answer) {c : changes.Change} {k : ℕ} → call ≡ Change c k → called (answerOf r) u ≡ callOf (made (changingOf c p k)) room t → Wrote a b i j (answerText (r .number) (r .pivots) (r .whole)) → Says u
+  pub change-said : {u : Sparse} (r : code.Answer) {c : changes.Change} {k : ℕ} → call ≡ Change c k → called (answerOf r) u ≡ callOf (made (changingOf c p k)) room t → Wrote a b i j (answerText (r .number) (r .pivots) (r .whole)) → Says u
   change-said r {c} {k} e = answer-said (callOf (made (changingOf c p k)) room t) r (rw e (change-reply c p k t))
 
-  pub fetched-said : {u : Tables} → call ≡ Fetch → Spoken (fetchSaid (fetchOf places places t)) a b i j u → Says u
+  pub fetched-said : {u : Sparse} → call ≡ Fetch → Spoken (fetchSaid (fetchOf t)) a b i j u → Says u
   unfolding replyOf
   fetched-said e w = rw e w
 
@@ -201,7 +196,7 @@ float-short x = omega (arith, hex-length 16 (toBits binary64 x))
 flag-short : (b : Bool) → length (flagText b) ≤ 1236
 flag-short b = omega (arith, flag-length b)
 
-reply-short : (o : Option session.Call) (t : Tables) → length (replyOf o t .text) ≤ 1236
+reply-short : (o : Option session.Call) (t : Sparse) → length (replyOf o t .text) ≤ 1236
 unfolding replyOf
 reply-short none t = omega arith
 reply-short (some resets) t = by-short (resetOf t)
@@ -222,7 +217,7 @@ reply-short (some (setsNext n)) t = omega arith
 
 -- ---- a line
 
-module _ (line : List ℕ) (held : ℕ) (t : Tables) where
+module _ (line : List ℕ) (held : ℕ) (t : Sparse) where
   pub held-long : 4096 < held → heldReply (heldOf line held) t ≡ replyOf none t
   unfolding heldReply heldOf replyOf
   held-long h = rw (lt-leb held 4096 (omega arith)) refl
@@ -232,5 +227,5 @@ module _ (line : List ℕ) (held : ℕ) (t : Tables) where
   held-line h e = rw (le-leb held 4096 h, e) (line-reply (format.callOf (wordsOf (take held line))) t)
 
 -- as it is said, and there is room for it
-pub held-said : {s : Said} (o : Option session.Call) (t : Tables) (a b : List ℕ) (i j : ℕ) {u : Tables} → s ≡ replyOf o t → i ≤ 6000 → Spoken (replyOf o t) a b i j u → (Spoken s a b i j u) × (j ≤ 8000)
+pub held-said : {s : Said} (o : Option session.Call) (t : Sparse) (a b : List ℕ) (i j : ℕ) {u : Sparse} → s ≡ replyOf o t → i ≤ 6000 → Spoken (replyOf o t) a b i j u → (Spoken s a b i j u) × (j ≤ 8000)
 held-said o t a b i j e h p = let q = reply-short o t in (rw e p, omega (arith, p .0 .0))

@@ -1,31 +1,34 @@
 -- What a call is answered as text, and what it leaves of the tables.
 use Prim.Native.Nat.{ℕ, _≤_}
-use mathlib.Core.Path.{_≡_, refl}
-use mathlib.Core.Bool.{Bool, true, false, _&&_, cond}
+use mathlib.Core.Path.{_≡_, refl, _∙_}
+use mathlib.Core.Bool.{Bool, true, false, cond}
 use mathlib.Core.List.{List}
 use native.Mathlib.Omega.{arith}
-use lib.Dec.{eqb}
-use lib.ListN.{length, length-append}
+use lib.ListN.{length, length-append, replicate, length-replicate}
 use lib.Ieee.{Float}
-use Rattle.steps.specs.Changes.{Change}
-use Rattle.layout.specs.Layout.{Tables}
-use Rattle.layout.specs.Rooms.{both}
-use Rattle.reading.specs.Reads.{reads}
-use Rattle.fetching.specs.Fetch.{Fetch, fetchBy, fetchIn, fetch18, fetchOf, places}
-use Rattle.fetching.specs.Again.{fetch-room}
-use Rattle.fetching.specs.declared.Fetched as code
+use Rattle.laws.specs.Lists.{length-laid}
+use Rattle.steps.specs.Number.{zero64}
+use Rattle.steps.specs.Changes.{Change, fetchChanges}
+use Rattle.layout.specs.Layout.{over}
+use Rattle.keeps.specs.Tested.{reads-in}
+use Rattle.sparse.specs.Sparse.{Sparse, read}
+use Rattle.sparse_test.specs.Reads.{reads}
+use Rattle.sparse_test.specs.Meaning.{reads-readable}
+use Rattle.fetches.specs.Fetch.{numbersOf, valuesOf, places, Fetch, fetchBy, fetchIn, fetch18, fetchOf}
+use Rattle.fetches.specs.Few.{fetch-room}
+use Rattle.fetches.specs.declared.Fetched as code
 use Rattle.text.specs.Answers.{Wrote, numberText, fetchText, changesText, listedIn, decimal-short, changes-short, listed-length}
 
 -- the answer's text, and the tables afterwards
 pub record Said : Type 0 where
   pub text : List ℕ
-  pub tables : Tables
+  pub tables : Sparse
 
-abbrev pub said : List ℕ → Tables → Said
+abbrev pub said : List ℕ → Sparse → Said
 said s t = record { text = s; tables = t }
 
 -- the text stands in the buffer from a place on, up to the next place; these are the tables
-abbrev pub Spoken : Said → List ℕ → List ℕ → ℕ → ℕ → Tables → Type 0
+abbrev pub Spoken : Said → List ℕ → List ℕ → ℕ → ℕ → Sparse → Type 0
 Spoken s before after at next t = (Wrote before after at next (s .text)) × (t ≡ s .tables)
 
 -- "`fetch` as `COUNT V:BITS V:BITS ...`"
@@ -34,27 +37,39 @@ fetchSaid f = said (fetchText (listedIn (f .count) (f .numbers) (f .values))) (f
 
 -- ---- a fetch lists at most 32 variables
 
-fetch-few : (t : Tables) → fetchOf places places t .count ≤ 32
-unfolding fetchOf fetch18
-fetch-few t = go (reads t && (eqb 32 places && eqb 32 places)) refl
+fetch-few : (t : Sparse) → fetchOf t .count ≤ 32
+unfolding fetchOf fetchIn fetch18
+fetch-few t = go (reads t) refl
   where
-    go : (b : Bool) → reads t && (eqb 32 places && eqb 32 places) ≡ b → cond b (fetchIn t) (fetch18 32 32 t) .count ≤ 32
-    go true e = fetch-room t (both (reads t) _ e .0)
+    go : (b : Bool) → reads t ≡ b → cond b (fetchIn t) (fetch18 t) .count ≤ 32
+    go true e = fetch-room (read t) (reads-in (read t) (reads-readable t e))
     go false e = omega arith
 
-pub fetch-short : (t : Tables) → length (fetchSaid (fetchOf places places t) .text) ≤ 1236
+-- and fills lists of 32 places
+fetch-long : (t : Sparse) → (length (fetchOf t .numbers) ≡ 32) × (length (fetchOf t .values) ≡ 32)
+unfolding fetchOf fetchIn fetch18 over
+fetch-long t = go (reads t)
+  where
+    go : (b : Bool) → (length (cond b (fetchIn t) (fetch18 t) .numbers) ≡ 32) × (length (cond b (fetchIn t) (fetch18 t) .values) ≡ 32)
+    go true = (length-laid (λ x _. x) 0 (numbersOf (fetchChanges (read t) .list)) (replicate places 0) ∙ length-replicate {A = ℕ} places 0, length-laid (λ x _. x) 0 (valuesOf (fetchChanges (read t) .list)) (replicate places zero64) ∙ length-replicate places zero64)
+    go false = (length-replicate {A = ℕ} places 0, length-replicate places zero64)
+
+pub fetch-short : (t : Sparse) → length (fetchSaid (fetchOf t) .text) ≤ 1236
 unfolding fetchSaid fetchText
 fetch-short t =
-    let f : Fetch = fetchOf places places t in
+    let f : Fetch = fetchOf t in
     let cs : List Change = listedIn (f .count) (f .numbers) (f .values) in
     let e = length-append (numberText (length cs)) (changesText cs) in
     omega (arith, e, decimal-short 20 (length cs), changes-short cs, listed-length (f .numbers) (f .values) (f .count), fetch-few t)
 
 -- what the code's fetch counts, and what is said of it
-module _ (t : Tables) (r : code.Fetched) {ns : List ℕ} {vs : List Float} {u : Tables} (e : fetchBy r ns vs u ≡ fetchOf places places t) where
+module _ (t : Sparse) (r : code.Fetched) {ns : List ℕ} {vs : List Float} {u : Sparse} (e : fetchBy r ns vs u ≡ fetchOf t) where
   pub fetched-few : r .count ≤ 32
   fetched-few = rw (← e) at (fetch-few t)
 
-  pub fetch-said : (a b : List ℕ) (i j : ℕ) → Wrote a b i j (fetchText (listedIn (r .count) ns vs)) → Spoken (fetchSaid (fetchOf places places t)) a b i j u
+  pub fetched-long : (length ns ≡ 32) × (length vs ≡ 32)
+  fetched-long = rw (← e) at (fetch-long t)
+
+  pub fetch-said : (a b : List ℕ) (i j : ℕ) → Wrote a b i j (fetchText (listedIn (r .count) ns vs)) → Spoken (fetchSaid (fetchOf t)) a b i j u
   unfolding fetchSaid
   fetch-said a b i j w = rw (← e) (w, refl)

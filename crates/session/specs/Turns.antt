@@ -13,23 +13,24 @@ use Rattle.steps.specs.Number.{zero64}
 use Rattle.steps.specs.Changes.{Change, fetchChanges}
 use Rattle.steps.specs.Session.{Call, turn, answered, resets, adds, removes, addsEdit, removesEdit, suggests, valueOf, fetches, hasConstraints, hasEdits, creates, clips, reads as readsAid, dumps, setsNext}
 use Rattle.laws.specs.Lists.{listOf-is, laid-in}
-use Rattle.layout.specs.Layout.{Tables, read, write, over}
-use Rattle.layout.specs.Rooms.{lengthsRight, both}
-use Rattle.layout.specs.Written.{write-read}
-use Rattle.reading.specs.Reads.{reads}
-use Rattle.reading.specs.Given.{reads-coded}
-use Rattle.asking.specs.Asked.{asked}
-use Rattle.shell.specs.Shell.{callIn, callOf}
-use Rattle.shell.specs.Reset.{resetOf}
-use Rattle.fetching.specs.Listing.{numbersOf, valuesOf}
-use Rattle.fetching.specs.Fetch.{fetchOf, fetchIn, places}
-use Rattle.fetching.specs.Again.{fetch-room}
+use Rattle.keeps.specs.Tested.{reads-in}
+use Rattle.layout.specs.Layout.{over}
+use Rattle.sparse.specs.Sparse.{Sparse, read}
+use Rattle.sparse.specs.Write.{write}
+use Rattle.sparse.specs.Written.{write-read}
+use Rattle.sparse_test.specs.Reads.{reads}
+use Rattle.sparse_test.specs.Meaning.{reads-form, reads-readable}
+use Rattle.sparse_test.specs.Asked.{asked}
+use Rattle.lending.specs.Lending.{callIn, callOf}
+use Rattle.lending.specs.Reset.{resetOf}
+use Rattle.fetches.specs.Fetch.{numbersOf, valuesOf, fetchOf, fetchIn, places}
+use Rattle.fetches.specs.Few.{fetch-room}
 use Rattle.text.specs.Answers.{listedAt, listedIn, replyText}
 use Rattle.session.specs.Said.{Said, said, fetchSaid}
-use Rattle.session.specs.Calls.{saidBy, room-right, replyOf}
+use Rattle.session.specs.Calls.{saidBy, replyOf}
 
 -- the steps' turn, as text and tables
-unfoldable pub turnSaid : Call → Tables → Said
+unfoldable pub turnSaid : Call → Sparse → Said
 turnSaid c t = said (replyText (turn c (read t) .reply)) (write (turn c (read t) .state) t)
 
 -- every call but the steps' three aids for tests
@@ -57,7 +58,7 @@ module _ (l : List Change) (few : length l ≤ 32) where
   none-at = record { variable = 0; new = nan }
 
   number-at : (j : ℕ) → j < length l → getD (over 0 (numbersOf l) (replicate places 0)) j 0 ≡ getD l j none-at .variable
-  unfolding over
+  unfolding over numbersOf
   number-at j h =
       let e : 0 + j ≡ j = zero-add j in
       let k : length (numbersOf l) ≡ length l = length-map l (λ (c : Change). c .variable) in
@@ -66,7 +67,7 @@ module _ (l : List Change) (few : length l ≤ 32) where
       ∙ List·getD-map (λ (c : Change). c .variable) l j none-at
 
   value-at : (j : ℕ) → j < length l → getD (over 0 (valuesOf l) (replicate places zero64)) j nan ≡ getD l j none-at .new
-  unfolding over
+  unfolding over valuesOf
   value-at j h =
       let e : 0 + j ≡ j = zero-add j in
       let k : length (valuesOf l) ≡ length l = length-map l (λ (c : Change). c .new) in
@@ -80,24 +81,20 @@ module _ (l : List Change) (few : length l ≤ 32) where
 
 -- ---- call by call
 
-module _ (t : Tables) (ok : reads t ≡ true) where
+module _ (t : Sparse) (ok : reads t ≡ true) where
   same : write (read t) t ≡ t
-  same = write-read t (reads-coded t ok)
-
-  right : lengthsRight t ≡ true
-  unfolding reads
-  right = both (lengthsRight t) _ ok .0
+  same = write-read t (reads-form t ok)
 
   pub reply-turn : (c : Call) → ofDocument c ≡ true → replyOf (some c) t ≡ turnSaid c t
   unfolding replyOf turnSaid turn answered replyText saidBy resetOf callOf callIn asked fetchSaid fetchOf fetchIn ofDocument
-  reply-turn resets e = rw right refl
-  reply-turn (adds n ts k r b) e = rw (ok, room-right) refl
-  reply-turn (removes n b) e = rw (ok, room-right) refl
-  reply-turn (addsEdit v x b) e = rw (ok, room-right) refl
-  reply-turn (removesEdit v b) e = rw (ok, room-right) refl
-  reply-turn (suggests v x b) e = rw (ok, room-right) refl
+  reply-turn resets e = refl
+  reply-turn (adds n ts k r b) e = rw ok refl
+  reply-turn (removes n b) e = rw ok refl
+  reply-turn (addsEdit v x b) e = rw ok refl
+  reply-turn (removesEdit v b) e = rw ok refl
+  reply-turn (suggests v x b) e = rw ok refl
   reply-turn (valueOf v) e = rw (ok, same) refl
-  reply-turn fetches e = rw (ok, listed-back (fetchChanges (read t) .list) (fetch-room t ok)) refl
+  reply-turn fetches e = rw (ok, listed-back (fetchChanges (read t) .list) (fetch-room (read t) (reads-in (read t) (reads-readable t ok)))) refl
   reply-turn (hasConstraints n) e = rw (ok, same) refl
   reply-turn (hasEdits v) e = rw (ok, same) refl
   reply-turn (creates a b c k) e = rw same refl

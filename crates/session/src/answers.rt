@@ -2,11 +2,11 @@
 ghost use mathlib.Core.Path.{_≡_};
 ghost use Prim.Native.Nat.{_≤_};
 ghost use lib.ListN.{length, take};
-ghost use Rattle.lent.specs.Lent.{lent};
-ghost use Rattle.shell.specs.Shell.{called, answerOf, callOf};
+ghost use Rattle.waist.specs.Working.{lent};
+ghost use Rattle.lending.specs.Lending.{called, answerOf, callOf};
 ghost use Rattle.steps.specs.Changing.{made};
 ghost use Rattle.changes.specs.Change.{changingOf};
-ghost use Rattle.fetching.specs.Fetch.{fetchOf, places};
+ghost use Rattle.fetches.specs.Fetch.{fetchOf};
 ghost use Rattle.text.specs.Answers.{Wrote};
 ghost use Rattle.text.specs.Words.{wordsOf};
 ghost use Rattle.text.specs.Format.{callOf as Format·callOf};
@@ -15,11 +15,12 @@ ghost use Rattle.text.specs.Stream.{heldOf};
 ghost use Rattle.session.specs.Said.{Spoken, fetchSaid};
 ghost use Rattle.session.specs.Calls.{room, replyOf, callFrom, askedText, heldReply};
 use changes::Change;
-use lent::Head;
-use lent::Names;
-use lent::Reals;
-use lent::Rows;
-use shell::Answer;
+use lending::Answer;
+use sparse::Bytes;
+use sparse::Keys;
+use sparse::Reals;
+use sparse::Values;
+use sparse::Words;
 use terms::Pack;
 use text::calls::Call;
 use text::calls::Line;
@@ -30,29 +31,33 @@ pub type Out = [u8; 8192];
 
 // A change, in a working room of its own; p: the terms of an add.
 fn change(
-    head: &mut Head,
-    names: &mut Names,
+    words: &mut Words,
+    keys: &mut Keys,
+    bytes: &mut Bytes,
     reals: &mut Reals,
-    rows: &mut Rows,
+    values: &mut Values,
     c: Change,
     p: Pack,
     budget: u16,
 ) -> Answer
-    ensures { λ r. ⌜ called (answerOf r) (lent (head .exit) (names .exit) (reals .exit) (rows .exit)) ≡ callOf (made (changingOf c p budget)) room (lent (head .entry) (names .entry) (reals .entry) (rows .entry)) ⌝ }
+    ensures { λ r. ⌜ called (answerOf r) (lent (words .exit) (keys .exit) (bytes .exit) (reals .exit) (values .exit)) ≡ callOf (made (changingOf c p budget)) room (lent (words .entry) (keys .entry) (bytes .entry) (reals .entry) (values .entry)) ⌝ }
 {
-    let mut h: Head = [0; layout::HEAD_SIZE];
-    let mut n: Names = [[0; lent::NAME_WIDTH]; layout::ITEMS_SIZE];
-    let mut r: Reals = [[0.0; lent::REAL_WIDTH]; layout::ITEMS_SIZE];
-    let mut w: Rows = [[0.0; lent::ROW_WIDTH]; layout::ROWS_SIZE];
-    calls::change(
-        head,
-        names,
+    let mut w: Words = [0; sparse::WORDS_SIZE];
+    let mut k: Keys = [0; cells::CELL_ROOM];
+    let mut b: Bytes = [0; sparse::BYTES_SIZE];
+    let mut r: Reals = [0.0; sparse::REALS_SIZE];
+    let mut v: Values = [0.0; cells::CELL_ROOM];
+    solver::change(
+        words,
+        keys,
+        bytes,
         reals,
-        rows,
-        &mut h,
-        &mut n,
-        &mut r,
+        values,
         &mut w,
+        &mut k,
+        &mut b,
+        &mut r,
+        &mut v,
         c,
         p,
         budget,
@@ -60,45 +65,47 @@ fn change(
 }
 
 fn say_fetch(
-    head: &mut Head,
-    names: &mut Names,
+    words: &mut Words,
+    keys: &Keys,
+    bytes: &mut Bytes,
     reals: &mut Reals,
-    rows: &Rows,
+    values: &Values,
     out: &mut Out,
     at: usize,
 ) -> usize
     requires { ⌜ at ≤ 6000 ⌝ }
-    ensures { λ z. ⌜ Spoken (fetchSaid (fetchOf places places (lent (head .entry) (names .entry) (reals .entry) (rows .entry)))) (now (out .entry)) (now (out .exit)) at z (lent (head .exit) (names .exit) (reals .exit) (rows .entry)) ⌝ }
+    ensures { λ z. ⌜ Spoken (fetchSaid (fetchOf (lent (words .entry) (keys .entry) (bytes .entry) (reals .entry) (values .entry)))) (now (out .entry)) (now (out .exit)) at z (lent (words .exit) (keys .entry) (bytes .exit) (reals .exit) (values .entry)) ⌝ }
 {
     let mut numbers = [0u64; 32];
-    let mut values = [0.0f64; 32];
-    let f = fetching::fetch_changes(head, names, reals, rows, &mut numbers, &mut values);
-    writing::put_fetch(out, at, &numbers, &values, f.count)
+    let mut moved = [0.0f64; 32];
+    let f = fetches::fetch_changes(words, keys, bytes, reals, values, &mut numbers, &mut moved);
+    writing::put_fetch(out, at, &numbers, &moved, f.count)
 }
 
 fn ask(
     q: Query,
-    head: &Head,
-    names: &Names,
+    words: &Words,
+    keys: &Keys,
+    bytes: &Bytes,
     reals: &Reals,
-    rows: &Rows,
+    values: &Values,
     out: &mut Out,
     at: usize,
 ) -> usize
     requires { ⌜ at ≤ 6000 ⌝ }
-    ensures { λ z. ⌜ Wrote (now (out .entry)) (now (out .exit)) at z (askedText q (lent (head .entry) (names .entry) (reals .entry) (rows .entry))) ⌝ }
+    ensures { λ z. ⌜ Wrote (now (out .entry)) (now (out .exit)) at z (askedText q (lent (words .entry) (keys .entry) (bytes .entry) (reals .entry) (values .entry))) ⌝ }
 {
     match q {
         Query::Value(v) => {
-            let x = asking::get_value(head, names, reals, rows, v);
+            let x = sparse_test::asking::get_value(words, keys, bytes, reals, values, v);
             writing::put_float(out, at, x)
         }
         Query::HasCon(c) => {
-            let b = asking::has_constraint(head, names, reals, rows, c);
+            let b = sparse_test::asking::has_constraint(words, keys, bytes, reals, values, c);
             writing::put_flag(out, at, b)
         }
         Query::HasEdit(v) => {
-            let b = asking::has_edit(head, names, reals, rows, v);
+            let b = sparse_test::asking::has_edit(words, keys, bytes, reals, values, v);
             writing::put_flag(out, at, b)
         }
         Query::Create(a, b, c, k) => writing::put_float(
@@ -114,27 +121,28 @@ fn ask(
 fn answer(
     call: Call,
     p: Pack,
-    head: &mut Head,
-    names: &mut Names,
+    words: &mut Words,
+    keys: &mut Keys,
+    bytes: &mut Bytes,
     reals: &mut Reals,
-    rows: &mut Rows,
+    values: &mut Values,
     out: &mut Out,
     at: usize,
 ) -> usize
     requires { ⌜ at ≤ 6000 ⌝ }
-    ensures { λ z. ⌜ Spoken (replyOf (callFrom call p) (lent (head .entry) (names .entry) (reals .entry) (rows .entry))) (now (out .entry)) (now (out .exit)) at z (lent (head .exit) (names .exit) (reals .exit) (rows .exit)) ⌝ }
+    ensures { λ z. ⌜ Spoken (replyOf (callFrom call p) (lent (words .entry) (keys .entry) (bytes .entry) (reals .entry) (values .entry))) (now (out .entry)) (now (out .exit)) at z (lent (words .exit) (keys .exit) (bytes .exit) (reals .exit) (values .exit)) ⌝ }
 {
     match call {
         Call::Reset => {
-            let a = shell::reset(head, names, reals, rows);
+            let a = lending::reset(words, keys, bytes, reals, values);
             writing::put_answer(out, at, a.number, a.pivots, a.whole)
         }
         Call::Change(c, b) => {
-            let a = change(head, names, reals, rows, c, p, b);
+            let a = change(words, keys, bytes, reals, values, c, p, b);
             writing::put_answer(out, at, a.number, a.pivots, a.whole)
         }
-        Call::Ask(q) => ask(q, head, names, reals, rows, out, at),
-        Call::Fetch => say_fetch(head, names, reals, rows, out, at),
+        Call::Ask(q) => ask(q, words, keys, bytes, reals, values, out, at),
+        Call::Fetch => say_fetch(words, keys, bytes, reals, values, out, at),
         Call::Bad => writing::put_unread(out, at),
     }
 }
@@ -150,15 +158,16 @@ fn read_front(line: &[u8], held: usize) -> Line
 pub fn answer_held(
     line: &[u8; 4096],
     held: usize,
-    head: &mut Head,
-    names: &mut Names,
+    words: &mut Words,
+    keys: &mut Keys,
+    bytes: &mut Bytes,
     reals: &mut Reals,
-    rows: &mut Rows,
+    values: &mut Values,
     out: &mut Out,
     at: usize,
 ) -> usize
     requires { ⌜ at ≤ 6000 ⌝ }
-    ensures { λ z. ⌜ Spoken (heldReply (heldOf (now (line .entry)) held) (lent (head .entry) (names .entry) (reals .entry) (rows .entry))) (now (out .entry)) (now (out .exit)) at z (lent (head .exit) (names .exit) (reals .exit) (rows .exit)) ⌝ }
+    ensures { λ z. ⌜ Spoken (heldReply (heldOf (now (line .entry)) held) (lent (words .entry) (keys .entry) (bytes .entry) (reals .entry) (values .entry))) (now (out .entry)) (now (out .exit)) at z (lent (words .exit) (keys .exit) (bytes .exit) (reals .exit) (values .exit)) ⌝ }
     ensures { λ z. ⌜ z ≤ 8000 ⌝ }
 {
     if 4096 < held {
@@ -167,5 +176,5 @@ pub fn answer_held(
     let l = read_front(line, held);
     let call = l.call;
     let p = l.terms;
-    answer(call, p, head, names, reals, rows, out, at)
+    answer(call, p, words, keys, bytes, reals, values, out, at)
 }

@@ -2,22 +2,24 @@
 mod answers;
 mod stream;
 
-use lent::Head;
-use lent::Names;
-use lent::Reals;
-use lent::Rows;
+use sparse::Bytes;
+use sparse::Keys;
+use sparse::Reals;
+use sparse::Values;
+use sparse::Words;
 
 // The reset makes the tables read as a state. A proved loop has to end, and nothing says that the input does: it counts down
 // from a number of turns that no run uses up.
 fn main() {
-    let mut head: Head = [0; layout::HEAD_SIZE];
-    let mut names: Names = [[0; lent::NAME_WIDTH]; layout::ITEMS_SIZE];
-    let mut reals: Reals = [[0.0; lent::REAL_WIDTH]; layout::ITEMS_SIZE];
-    let mut rows: Rows = [[0.0; lent::ROW_WIDTH]; layout::ROWS_SIZE];
+    let mut words: Words = [0; sparse::WORDS_SIZE];
+    let mut keys: Keys = [0; cells::CELL_ROOM];
+    let mut bytes: Bytes = [0; sparse::BYTES_SIZE];
+    let mut reals: Reals = [0.0; sparse::REALS_SIZE];
+    let mut values: Values = [0.0; cells::CELL_ROOM];
     let mut piece = [0u8; 4096];
     let mut line = [0u8; 4096];
     let mut out = [0u8; 8192];
-    shell::reset(&mut head, &mut names, &mut reals, &mut rows);
+    lending::reset(&mut words, &mut keys, &mut bytes, &mut reals, &mut values);
     let mut p = stream::begin();
     let mut turns = u64::MAX;
     while turns > 0 && p.more {
@@ -25,10 +27,11 @@ fn main() {
         p = stream::say(
             p,
             &line,
-            &mut head,
-            &mut names,
+            &mut words,
+            &mut keys,
+            &mut bytes,
             &mut reals,
-            &mut rows,
+            &mut values,
             &mut out,
         );
         turns -= 1;

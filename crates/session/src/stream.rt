@@ -6,10 +6,11 @@ ghost use Prim.Native.Nat.{_≤_};
 ghost use lib.ListN.{length};
 use crate::answers::Out;
 use crate::answers::answer_held;
-use lent::Head;
-use lent::Names;
-use lent::Reals;
-use lent::Rows;
+use sparse::Bytes;
+use sparse::Keys;
+use sparse::Reals;
+use sparse::Values;
+use sparse::Words;
 use text::stream::keep_byte;
 use text::writing::put_byte;
 
@@ -133,10 +134,11 @@ pub fn take(piece: &mut Line, line: &mut Line, out: &Out, p: Place) -> Place
 pub fn say(
     p: Place,
     line: &Line,
-    head: &mut Head,
-    names: &mut Names,
+    words: &mut Words,
+    keys: &mut Keys,
+    bytes: &mut Bytes,
     reals: &mut Reals,
-    rows: &mut Rows,
+    values: &mut Values,
     out: &mut Out,
 ) -> Place
     requires { ⌜ p .at ≤ 8192 ⌝ }
@@ -148,7 +150,7 @@ pub fn say(
         return p;
     }
     let mut q = with_room(out, p);
-    let next = answer_held(line, q.held, head, names, reals, rows, out, q.at);
+    let next = answer_held(line, q.held, words, keys, bytes, reals, values, out, q.at);
     q.at = put_byte(out, next, 10);
     q.held = 0;
     q.whole = false;

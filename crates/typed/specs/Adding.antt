@@ -7,7 +7,7 @@ use mathlib.Core.Logic.{inl, inr}
 use native.Mathlib.Omega.{arith}
 use borrow.Author.Tests.{leb-true}
 use lib.Dec.{leb, ltb, eqb, ltb→lt}
-use lib.ListN.{length}
+use lib.ListN.{length, getD}
 use lib.IntN.{natAbs}
 use lib.Ieee.{Float}
 use Rattle.grammar.specs.Sums as grammar
@@ -23,17 +23,18 @@ use Rattle.steps.specs.State.{State}
 use Rattle.steps.specs.State as steps
 use Rattle.steps.specs.Calls as calls
 use Rattle.steps.specs.Calls.{add}
-use Rattle.layout.specs.Layout.{Tables, wholeFlag}
-use Rattle.layout.specs.Layout as layout
-use Rattle.reading.specs.Reads as reading
-use Rattle.asking.specs.Asked.{asked}
-use Rattle.shell.specs.Shell.{Called, called, callOf}
+use Rattle.sparse.specs.Places.{wholeAt}
+use Rattle.sparse.specs.Sparse.{Sparse}
+use Rattle.sparse.specs.Sparse as sparse
+use Rattle.sparse_test.specs.Reads as reading
+use Rattle.sparse_test.specs.Asked.{asked}
+use Rattle.lending.specs.Lending.{Called, called, callOf}
 use Rattle.tags.specs.declared.Relation.{Relation}
 use Rattle.tags.specs.Tags.{relationOf}
 use Rattle.terms.specs.declared.Term.{Term}
 use Rattle.terms.specs.declared.Pack.{Pack}
 use Rattle.terms.specs.Terms.{packOf, termsIn, listed}
-use Rattle.calls.specs.Listed.{listed-call}
+use Rattle.solver.specs.Listed.{listed-call}
 use Rattle.typed.specs.declared.add.TextAnswer.{TextAnswer}
 use Rattle.typed.specs.Typed.{wholeOf, typedTerms, requiredBy, termsRead, terms-read, value-stands}
 
@@ -46,20 +47,20 @@ abbrev pub text : ℕ → Called → Text
 text at c = record { offset = at; call = c }
 
 -- the stored mark of tables that read as a state, no of others
-unfoldable pub markIn : Tables → Bool
+unfoldable pub markIn : Sparse → Bool
 markIn t = asked (λ (s : State). s .whole) false t
 
 -- a line that is refused makes no call: no pivots, and no table changes
-abbrev pub unread : ℕ → Tables → Called
+abbrev pub unread : ℕ → Sparse → Called
 unread k t = called (record { number = k; pivots = 0; whole = markIn t }) t
 
 -- a line that reads is the add of its terms, its constant and its relation, required
-unfoldable pub addRead : ℕ → Answer → ℕ → Tables → Tables → Text
+unfoldable pub addRead : ℕ → Answer → ℕ → Sparse → Sparse → Text
 addRead n (reads r) budget work t = text 0 (callOf (add n (termsIn (typedTerms (r .terms))) (wholeOf (r .constant)) (requiredBy (r .relation)) budget) work t)
 addRead n (outside at) budget work t = text at (unread 20 t)
 addRead n (refused k) budget work t = text 0 (unread k t)
 
-unfoldable pub textOf : ℕ → List ℕ → ℕ → Tables → Tables → Text
+unfoldable pub textOf : ℕ → List ℕ → ℕ → Sparse → Sparse → Text
 textOf n line budget work t = addRead n (readLine line) budget work t
 
 -- the code's answer
@@ -106,13 +107,13 @@ line-fit w = by (leb (length w) 4096)
 
 -- ---- the code
 
-module _ (t : Tables) {b : Bool} where
+module _ (t : Sparse) {b : Bool} where
   pub mark-none : b ≡ reading.reads t → b ≡ false → false ≡ markIn t
   unfolding markIn asked
   mark-none e f = rw (← e, f)
 
-  pub mark-stored : {m : Bool} → b ≡ reading.reads t → b ≡ true → m ≡ eqb (wholeFlag (t .head)) 1 → m ≡ markIn t
-  unfolding markIn asked layout.read
+  pub mark-stored : {m : Bool} → b ≡ reading.reads t → b ≡ true → m ≡ eqb (getD (t .words) wholeAt 0) 1 → m ≡ markIn t
+  unfolding markIn asked sparse.read
   mark-stored e f q = q ∙ rw (← e, f) refl
 
 mark-back : (r : grammar.Relation) → sides.relationOf (markOf r) ≡ r
@@ -120,8 +121,8 @@ mark-back grammar.atMost = refl
 mark-back grammar.equal = refl
 mark-back grammar.atLeast = refl
 
-module _ (n : ℕ) (line : List ℕ) (budget : ℕ) (work t : Tables) {r : Reading} (e : r ≡ asRead (readLine line)) where
-  pub text-refused : {m : Bool} {u : Tables} → (r .number ≡ 0 → ⊥) → m ≡ markIn t → u ≡ t → text (r .offset) (called (record { number = r .number; pivots = 0; whole = m }) u) ≡ textOf n line budget work t
+module _ (n : ℕ) (line : List ℕ) (budget : ℕ) (work t : Sparse) {r : Reading} (e : r ≡ asRead (readLine line)) where
+  pub text-refused : {m : Bool} {u : Sparse} → (r .number ≡ 0 → ⊥) → m ≡ markIn t → u ≡ t → text (r .offset) (called (record { number = r .number; pivots = 0; whole = m }) u) ≡ textOf n line budget work t
   unfolding textOf addRead
   text-refused {m} {u} h f g = go (readLine line) e
     where

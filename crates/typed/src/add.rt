@@ -1,18 +1,19 @@
 // A line of text added. Its own refusals come first, 19 to 23, the solver's then.
 ghost use mathlib.Core.Path.{_≡_};
-ghost use Rattle.lent.specs.Lent.{lent};
-ghost use Rattle.shell.specs.Room.{cleared};
-ghost use Rattle.shell.specs.Shell.{called};
+ghost use Rattle.waist.specs.Working.{lent};
+ghost use Rattle.sparse_copy.specs.Over.{cleared};
+ghost use Rattle.lending.specs.Lending.{called};
 ghost use Rattle.typed.specs.Adding.{markIn, text, textAnswer, textOf};
 use crate::pack::pack_of;
 use crate::pack::required_by;
 use crate::pack::whole;
 use changes::Change;
-use lent::Head;
-use lent::Names;
-use lent::Reals;
-use lent::Rows;
 use reader::answers::read_line;
+use sparse::Bytes;
+use sparse::Keys;
+use sparse::Reals;
+use sparse::Values;
+use sparse::Words;
 
 // A changing call's answer, and beside 20 where the line leaves the grammar; else the offset is 0.
 #[repr(C)]
@@ -24,45 +25,37 @@ pub struct TextAnswer {
 }
 
 // "A refusal answers the stored mark", no where there is none.
-fn mark_of(head: &Head, names: &Names, reals: &Reals, rows: &Rows) -> bool
-    ensures { λ r. ⌜ r ≡ markIn (lent (head .entry) (names .entry) (reals .entry) (rows .entry)) ⌝ }
+fn mark_of(words: &Words, keys: &Keys, bytes: &Bytes, reals: &Reals, values: &Values) -> bool
+    ensures { λ r. ⌜ r ≡ markIn (lent (words .entry) (keys .entry) (bytes .entry) (reals .entry) (values .entry)) ⌝ }
 {
-    if !reading::reads_as_state(head, names, reals, rows) {
+    if !sparse_test::reads_as_state(words, keys, bytes, reals, values) {
         return false;
     }
-    head[layout::WHOLE] == 1
+    words[sparse::WHOLE] == 1
 }
 
 pub fn add_text(
-    head: &mut Head,
-    names: &mut Names,
+    words: &mut Words,
+    keys: &mut Keys,
+    bytes: &mut Bytes,
     reals: &mut Reals,
-    rows: &mut Rows,
-    whead: &mut Head,
-    wnames: &mut Names,
+    values: &mut Values,
+    wwords: &mut Words,
+    wkeys: &mut Keys,
+    wbytes: &mut Bytes,
     wreals: &mut Reals,
-    wrows: &mut Rows,
+    wvalues: &mut Values,
     number: u32,
     line: &[u8],
     budget: u16,
 ) -> TextAnswer
-    ensures { λ r. ⌜ text (r .offset) (called (textAnswer r) (lent (head .exit) (names .exit) (reals .exit) (rows .exit))) ≡ textOf number (now (line .entry)) budget (lent (whead .entry) (wnames .entry) (wreals .entry) (wrows .entry)) (lent (head .entry) (names .entry) (reals .entry) (rows .entry)) ⌝ }
-    ensures { λ _. ⌜ lent (whead .exit) (wnames .exit) (wreals .exit) (wrows .exit) ≡ cleared (lent (whead .entry) (wnames .entry) (wreals .entry) (wrows .entry)) ⌝ }
+    ensures { λ r. ⌜ text (r .offset) (called (textAnswer r) (lent (words .exit) (keys .exit) (bytes .exit) (reals .exit) (values .exit))) ≡ textOf number (now (line .entry)) budget (lent (wwords .entry) (wkeys .entry) (wbytes .entry) (wreals .entry) (wvalues .entry)) (lent (words .entry) (keys .entry) (bytes .entry) (reals .entry) (values .entry)) ⌝ }
+    ensures { λ _. ⌜ lent (wwords .exit) (wkeys .exit) (wbytes .exit) (wreals .exit) (wvalues .exit) ≡ cleared (lent (wwords .entry) (wkeys .entry) (wbytes .entry) (wreals .entry) (wvalues .entry)) ⌝ }
 {
     let r = read_line(line);
     if r.number != 0 {
-        let mark = mark_of(head, names, reals, rows);
-        shell::leave(
-            false,
-            head,
-            names,
-            reals,
-            rows,
-            whead,
-            wnames,
-            wreals,
-            wrows,
-        );
+        let mark = mark_of(words, keys, bytes, reals, values);
+        lending::clearing::clear_room(wwords, wkeys, wbytes, wreals, wvalues);
         return TextAnswer {
             number: r.number,
             pivots: 0,
@@ -75,15 +68,17 @@ pub fn add_text(
     let m = r.relation;
     let relation = required_by(m);
     let c = Change::Add(number, constant, relation);
-    let a = calls::change(
-        head,
-        names,
+    let a = solver::change(
+        words,
+        keys,
+        bytes,
         reals,
-        rows,
-        whead,
-        wnames,
+        values,
+        wwords,
+        wkeys,
+        wbytes,
         wreals,
-        wrows,
+        wvalues,
         c,
         p,
         budget,

@@ -2,16 +2,11 @@
 //! The sizes are those of include/knobharbor.h; tests/header.rs holds them to it.
 use crate::{RelationalOperator, Term};
 
-// The lengths of the tables, and the widths of their elements.
-const HEAD: usize = 196;
-const ITEMS: usize = 128;
-const ROWS: usize = 51;
-const NAME: usize = 20;
-const REAL: usize = 17;
-const ROW: usize = 130;
-type Name = [u64; NAME];
-type Real = [f64; REAL];
-type Row = [f64; ROW];
+// The lengths of the tables.
+const WORDS: usize = 258;
+const CELLS: usize = 6579;
+const BYTES: usize = 1312;
+const REALS: usize = 1132;
 
 /// The places of a fetch's lists.
 pub const PLACES: usize = 32;
@@ -39,30 +34,32 @@ pub struct TextAnswer {
     pub offset: usize,
 }
 
-/// The tables that hold a solver's state, or its working room, to be lent to a `LentSolver`. They are some 90 KB.
+/// The tables that hold a solver's state, or its working room, to be lent to a `LentSolver`. They are some 78 KB.
 #[repr(C)]
 #[derive(Clone)]
 pub struct Tables {
-    head: [u64; HEAD],
-    names: [Name; ITEMS],
-    reals: [Real; ITEMS],
-    rows: [Row; ROWS],
+    words: [u64; WORDS],
+    reals: [f64; REALS],
+    values: [f64; CELLS],
+    keys: [u16; CELLS],
+    bytes: [u8; BYTES],
 }
 
 impl Tables {
     /// All zero, as a `static` can be.
     #[allow(clippy::new_without_default)]
     pub const fn new() -> Tables {
-        Tables { head: [0; HEAD], names: [[0; NAME]; ITEMS], reals: [[0.0; REAL]; ITEMS], rows: [[0.0; ROW]; ROWS] }
+        Tables { words: [0; WORDS], reals: [0.0; REALS], values: [0.0; CELLS], keys: [0; CELLS], bytes: [0; BYTES] }
     }
 
     /// Table by table, where they stand.
     #[cfg(feature = "alloc")]
     pub(crate) fn copy_from(&mut self, other: &Tables) {
-        self.head.copy_from_slice(&other.head);
-        self.names.copy_from_slice(&other.names);
+        self.words.copy_from_slice(&other.words);
         self.reals.copy_from_slice(&other.reals);
-        self.rows.copy_from_slice(&other.rows);
+        self.values.copy_from_slice(&other.values);
+        self.keys.copy_from_slice(&other.keys);
+        self.bytes.copy_from_slice(&other.bytes);
     }
 }
 
@@ -73,8 +70,9 @@ macro_rules! declare_changing {
     ($($name:ident($($arg:ident: $ty:ty),*);)*) => {
         extern "C" {
             $(fn $name(
-                head: &mut [u64; HEAD], names: &mut [Name; ITEMS], reals: &mut [Real; ITEMS], rows: &mut [Row; ROWS],
-                whead: &mut [u64; HEAD], wnames: &mut [Name; ITEMS], wreals: &mut [Real; ITEMS], wrows: &mut [Row; ROWS],
+                words: &mut [u64; WORDS], keys: &mut [u16; CELLS], bytes: &mut [u8; BYTES], reals: &mut [f64; REALS],
+                values: &mut [f64; CELLS], wwords: &mut [u64; WORDS], wkeys: &mut [u16; CELLS], wbytes: &mut [u8; BYTES],
+                wreals: &mut [f64; REALS], wvalues: &mut [f64; CELLS],
                 answer: &mut Places $(, $arg: $ty)*
             );)*
         }
@@ -85,7 +83,8 @@ macro_rules! declare_asking {
     ($($name:ident($arg:ident: $ty:ty) -> $out:ty;)*) => {
         extern "C" {
             $(fn $name(
-                head: &[u64; HEAD], names: &[Name; ITEMS], reals: &[Real; ITEMS], rows: &[Row; ROWS], $arg: $ty
+                words: &[u64; WORDS], keys: &[u16; CELLS], bytes: &[u8; BYTES], reals: &[f64; REALS], values: &[f64; CELLS],
+                $arg: $ty
             ) -> $out;)*
         }
     };
@@ -111,20 +110,22 @@ declare_asking! {
 
 extern "C" {
     fn knobharbor_reset(
-        head: &mut [u64; HEAD],
-        names: &mut [Name; ITEMS],
-        reals: &mut [Real; ITEMS],
-        rows: &mut [Row; ROWS],
+        words: &mut [u64; WORDS],
+        keys: &mut [u16; CELLS],
+        bytes: &mut [u8; BYTES],
+        reals: &mut [f64; REALS],
+        values: &mut [f64; CELLS],
         answer: &mut Places,
     );
     fn knobharbor_fetch(
-        head: &mut [u64; HEAD],
-        names: &mut [Name; ITEMS],
-        reals: &mut [Real; ITEMS],
-        rows: &[Row; ROWS],
+        words: &mut [u64; WORDS],
+        keys: &[u16; CELLS],
+        bytes: &mut [u8; BYTES],
+        reals: &mut [f64; REALS],
+        values: &[f64; CELLS],
         answer: &mut [u32; 2],
         numbers: &mut [u64; PLACES],
-        values: &mut [f64; PLACES],
+        moved: &mut [f64; PLACES],
     );
     fn knobharbor_cable_take(
         cable: *mut u8,
@@ -152,8 +153,8 @@ macro_rules! change {
         // The references are to whole arrays, and a list's pointer is to as many elements as its length says.
         unsafe {
             $f(
-                &mut $t.head, &mut $t.names, &mut $t.reals, &mut $t.rows, &mut $w.head, &mut $w.names, &mut $w.reals, &mut $w.rows,
-                &mut answer $(, $arg)*
+                &mut $t.words, &mut $t.keys, &mut $t.bytes, &mut $t.reals, &mut $t.values, &mut $w.words, &mut $w.keys, &mut $w.bytes,
+                &mut $w.reals, &mut $w.values, &mut answer $(, $arg)*
             )
         };
         Answer::of(answer)
@@ -163,14 +164,14 @@ macro_rules! change {
 macro_rules! ask {
     ($f:ident, $t:expr, $arg:expr) => {
         // The references are to whole arrays.
-        unsafe { $f(&$t.head, &$t.names, &$t.reals, &$t.rows, $arg) }
+        unsafe { $f(&$t.words, &$t.keys, &$t.bytes, &$t.reals, &$t.values, $arg) }
     };
 }
 
 pub fn reset(t: &mut Tables) -> Answer {
     let mut answer: Places = [0; 3];
     // The references are to whole arrays.
-    unsafe { knobharbor_reset(&mut t.head, &mut t.names, &mut t.reals, &mut t.rows, &mut answer) };
+    unsafe { knobharbor_reset(&mut t.words, &mut t.keys, &mut t.bytes, &mut t.reals, &mut t.values, &mut answer) };
     Answer::of(answer)
 }
 
@@ -210,10 +211,10 @@ pub fn suggest(t: &mut Tables, w: &mut Tables, variable: u32, value: f64, budget
 }
 
 /// How many places of both lists are filled; none where the tables do not read as a state.
-pub fn fetch(t: &mut Tables, numbers: &mut [u64; PLACES], values: &mut [f64; PLACES]) -> usize {
+pub fn fetch(t: &mut Tables, numbers: &mut [u64; PLACES], moved: &mut [f64; PLACES]) -> usize {
     let mut answer = [0; 2];
     // The references are to whole arrays.
-    unsafe { knobharbor_fetch(&mut t.head, &mut t.names, &mut t.reals, &t.rows, &mut answer, numbers, values) };
+    unsafe { knobharbor_fetch(&mut t.words, &t.keys, &mut t.bytes, &mut t.reals, &t.values, &mut answer, numbers, moved) };
     answer[1] as usize
 }
 

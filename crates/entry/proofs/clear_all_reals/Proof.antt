@@ -5,14 +5,15 @@ use mathlib.Core.List.{[]}
 use native.Mathlib.Omega.{arith}
 use lib.ListN.{length, length-set}
 use Rattle.laws.specs.Loops.{mapIn, map-next, map-last}
-use Rattle.shell.specs.Room.{zeroReals}
-use Rattle.entry.specs.Entry.{each, emptied}
+use Rattle.steps.specs.Number.{zero64}
+use Rattle.sparse.specs.Places.{realsSize}
+use Rattle.entry.specs.Entry.{each, zeroes}
 use borrow.Author.Needs.{needs}
 use Rattle.entry.proofs.clear_all_reals.Statement.{statement}
 use Rattle.entry.proofs.clear_all_reals.Tie as tie
 
 abbrev Inv-loop : tie.InvT-loop
-Inv-loop work₀ n i₀ work i = (mapIn (emptied zeroReals) i n work ≡ mapIn (emptied zeroReals) i₀ n work₀) × (length work ≡ n) × (i ≤ n)
+Inv-loop work₀ n i₀ work i = (mapIn (zeroes realsSize zero64) i n work ≡ mapIn (zeroes realsSize zero64) i₀ n work₀) × (length work ≡ n) × (i ≤ n)
 
 abbrev μ-loop : tie.MeasureT-loop
 μ-loop work₀ n i₀ work i = n - i
@@ -21,7 +22,7 @@ loop-holds : tie.Need-loop-holds Inv-loop μ-loop
 loop-holds c = (refl, refl, search needs)
 
 loop-again : tie.Need-loop-again Inv-loop μ-loop
-loop-again c = (map-next _ _ _ _ [] (omega arith) (c .clear-reals .ensures) (c .before .before .before .loop .inv .0), simp length-set (omega arith), omega arith)
+loop-again c = (map-next (zeroes realsSize zero64) _ _ _ [] (omega arith) (c .clear-reals .ensures) (c .before .before .before .loop .inv .0), simp length-set (omega arith), omega arith)
 
 same-length : tie.Need-same-length Inv-loop μ-loop
 same-length c = omega arith

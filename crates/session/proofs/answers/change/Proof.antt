@@ -2,13 +2,13 @@
 -- Assumes nothing.
 use lib.Ieee.{ofBits}
 use borrow.Author.Needs.{needs}
-use Rattle.shell.specs.Room.{zeroNames, zeroReals, zeroRow}
-use Rattle.session.specs.Calls.{room}
+use Rattle.lending.specs.Entered.{zeroRoom}
+use Rattle.lending.specs.Lending.{callOf}
 use Rattle.session.proofs.answers.change.Statement.{statement}
 use Rattle.session.proofs.answers.change.Tie as tie
 
 returns : tie.Need-returns
-unfolding room zeroNames zeroReals zeroRow ofBits
+unfolding zeroRoom ofBits callOf
 returns c = c .change .ensures .0
 
 pub change-spec : {M : Type 1} → statement M

@@ -1,3 +1,0 @@
-// Add's steps 1 to 3 over the lent tables: the row of a constraint, built from its terms, with its tag.
-pub mod create;
-pub mod term;

@@ -1,2 +1,0 @@
--- Lent tables, behind references.
-pub mod Lent

@@ -1,0 +1,66 @@
+-- The call of a list's pack is the call of the list: what the pack doesn't hold is refused as the list is.
+-- Assumes nothing.
+use Prim.Native.Nat.{ℕ, _<_}
+use mathlib.Core.Path.{_≡_, refl, sym, ap, _∙_}
+use mathlib.Core.Bool.{Bool, true, false, not, _&&_, cond, false≢true}
+use mathlib.Core.List.{List, _∷_}
+use mathlib.Core.Option.{some}
+use lib.Dec.{leb, ltb}
+use lib.ListN.{length}
+use lib.Ieee.{Float}
+use borrow.Author.Tests.{leb-true, leb-false, lt-ltb, not-false}
+use Rattle.steps.specs.Number.{belowZero, isFinite}
+use Rattle.steps.specs.State as steps
+use Rattle.steps.specs.State.{State, strengthOf}
+use Rattle.steps.specs.Tests.{Test, _if_, firstRefusal, finiteTerms, addTests}
+use Rattle.steps.specs.Calls.{Result, add}
+use Rattle.layout.specs.Rooms.{and-left}
+use Rattle.sparse.specs.Sparse.{Sparse, read}
+use Rattle.sparse.specs.Write.{write}
+use Rattle.sparse_test.specs.Reads.{reads}
+use Rattle.lending.specs.Lending.{called, refused18, callIn, callOf}
+use Rattle.terms.specs.declared.Term.{Term}
+use Rattle.terms.specs.declared.Pack.{Pack}
+use Rattle.terms.specs.Terms.{packOf, termsIn, listed}
+use Rattle.terms.specs.Packed.{length-terms}
+use Rattle.terms.specs.Listed.{listed-finite, listed-few, listed-many}
+use Rattle.solver.specs.Adding.{refused-by}
+
+-- the number of the first of three tests that fails, the third failing where the first passes
+first-three : (a b c : Bool) (ts : List Test) → (a ≡ false → c ≡ true) → firstRefusal (1 if a ∷ 2 if b ∷ 3 if c ∷ ts) ≡ some (cond a 1 (cond b 2 3))
+unfolding firstRefusal
+first-three true b c ts h = refl
+first-three false true c ts h = refl
+first-three false false c ts h = rw (h refl) refl
+
+module _ (x budget : ℕ) (constant : Float) (relation : steps.Relation) (s : State) where
+  abbrev infinite : Bool → Bool
+  infinite b = not (b && isFinite constant && isFinite (strengthOf relation))
+
+  -- a list that is too long or not finite
+  early : (l : List steps.Term) → (finiteTerms l ≡ true → 16 < length l) → firstRefusal (addTests x l constant relation s) ≡ some (cond (infinite (finiteTerms l)) 1 (cond (belowZero (strengthOf relation)) 2 3))
+  unfolding addTests
+  early l h =
+      first-three (infinite (finiteTerms l)) (belowZero (strengthOf relation)) (ltb 16 (length l)) _ λ e.
+      lt-ltb 16 (length l) (h (and-left (finiteTerms l) (isFinite constant) (and-left (finiteTerms l && isFinite constant) (isFinite (strengthOf relation)) (not-false _ e))))
+
+  module _ (ts : List Term) where
+    refused-alike : (finiteTerms (termsIn ts) ≡ true → 16 < length ts) → add x (termsIn (listed (packOf ts))) constant relation budget s ≡ add x (termsIn ts) constant relation budget s
+    refused-alike h =
+        let f = listed-finite ts in
+        refused-by x budget _ (termsIn (listed (packOf ts))) constant relation s (early _ (λ e. let q = sym f ∙ e in listed-many ts q (h q)))
+        ∙ rw f (sym (refused-by x budget _ (termsIn ts) constant relation s (early _ (λ e. rw (length-terms ts) (h e)))))
+
+    listed-adds : add x (termsIn (listed (packOf ts))) constant relation budget s ≡ add x (termsIn ts) constant relation budget s
+    listed-adds = go (finiteTerms (termsIn ts)) (leb (length ts) 16) refl refl
+      where
+        go : (f few : Bool) → finiteTerms (termsIn ts) ≡ f → leb (length ts) 16 ≡ few → add x (termsIn (listed (packOf ts))) constant relation budget s ≡ add x (termsIn ts) constant relation budget s
+        go true true e q = ap (λ (l : List steps.Term). add x l constant relation budget s) (listed-few ts e (leb-true (length ts) 16 q))
+        go true false e q = refused-alike (λ _. leb-false (length ts) 16 q)
+        go false few e q = refused-alike (λ z. absurd (false≢true (sym e ∙ z)))
+
+pub listed-call : (x budget : ℕ) (constant : Float) (relation : steps.Relation) (w t : Sparse) (ts : List Term) {p : Pack} → p ≡ packOf ts
+    → callOf (add x (termsIn (listed p)) constant relation budget) w t ≡ callOf (add x (termsIn ts) constant relation budget) w t
+unfolding callOf callIn
+listed-call x budget constant relation w t ts e =
+    rw e (ap (λ (r : Result). cond (reads t) (called (r .answer) (write (r .state) t)) (called refused18 t)) (listed-adds x budget constant relation (read t) ts))

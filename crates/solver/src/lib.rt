@@ -1,0 +1,227 @@
+// The one changing call over lent sparse tables: the tables are tested, their tableau and variables copied into the working room, the steps run there, an accepted call's state goes back with the records, the room is cleared.
+pub mod add;
+pub mod add_edit;
+pub mod begin;
+pub mod bringing;
+pub mod looks;
+pub mod remove;
+pub mod remove_edit;
+pub mod suggest;
+
+ghost use mathlib.Core.Path.{_≡_};
+ghost use Rattle.laws.specs.Given.{Then};
+ghost use Rattle.steps.specs.Changing.{made};
+ghost use Rattle.sparse_copy.specs.Over.{cleared};
+ghost use Rattle.waist.specs.Working.{lent};
+ghost use Rattle.lending.specs.Lending.{answerOf, called, callOf};
+ghost use Rattle.lending.specs.Entered.{Entered};
+ghost use Rattle.changes.specs.Change.{changingOf};
+ghost use Rattle.solver.specs.Concluding.{Done, DoneIf};
+use changes::Change;
+use lending::Answer;
+use sparse::Bytes;
+use sparse::Keys;
+use sparse::Reals;
+use sparse::Values;
+use sparse::Words;
+use terms::Pack;
+
+// The call of the steps, in the working room alone.
+fn change_in(
+    words: &Words,
+    keys: &Keys,
+    bytes: &Bytes,
+    reals: &Reals,
+    values: &Values,
+    wwords: &mut Words,
+    wkeys: &mut Keys,
+    wbytes: &mut Bytes,
+    wreals: &mut Reals,
+    wvalues: &mut Values,
+    c: Change,
+    p: Pack,
+    budget: u32,
+) -> Answer
+    requires { ⌜ Entered (lent words keys bytes reals values) (lent wwords wkeys wbytes wreals wvalues) ⌝ }
+    ensures { λ r. ⌜ Done (made (changingOf c p budget)) r (lent (words .entry) (keys .entry) (bytes .entry) (reals .entry) (values .entry)) (lent (wwords .exit) (wkeys .exit) (wbytes .exit) (wreals .exit) (wvalues .exit)) ⌝ }
+{
+    match c {
+        Change::Add(n, k, r) => add::add(
+            words,
+            keys,
+            bytes,
+            reals,
+            values,
+            wwords,
+            wkeys,
+            wbytes,
+            wreals,
+            wvalues,
+            n,
+            p,
+            k,
+            r,
+            budget,
+        ),
+        Change::Remove(n) => remove::remove(
+            words,
+            keys,
+            bytes,
+            reals,
+            values,
+            wwords,
+            wkeys,
+            wbytes,
+            wreals,
+            wvalues,
+            n,
+            budget,
+        ),
+        Change::AddEdit(n, s) => add_edit::add_edit(
+            words,
+            keys,
+            bytes,
+            reals,
+            values,
+            wwords,
+            wkeys,
+            wbytes,
+            wreals,
+            wvalues,
+            n,
+            s,
+            budget,
+        ),
+        Change::RemoveEdit(n) => remove_edit::remove_edit(
+            words,
+            keys,
+            bytes,
+            reals,
+            values,
+            wwords,
+            wkeys,
+            wbytes,
+            wreals,
+            wvalues,
+            n,
+            budget,
+        ),
+        Change::Suggest(n, x) => suggest::suggest(
+            words,
+            keys,
+            bytes,
+            reals,
+            values,
+            wwords,
+            wkeys,
+            wbytes,
+            wreals,
+            wvalues,
+            n,
+            x,
+            budget,
+        ),
+    }
+}
+
+fn change_if(
+    ok: bool,
+    words: &Words,
+    keys: &Keys,
+    bytes: &Bytes,
+    reals: &Reals,
+    values: &Values,
+    wwords: &mut Words,
+    wkeys: &mut Keys,
+    wbytes: &mut Bytes,
+    wreals: &mut Reals,
+    wvalues: &mut Values,
+    c: Change,
+    p: Pack,
+    budget: u32,
+) -> Answer
+    requires { ⌜ Then ok (Entered (lent words keys bytes reals values) (lent wwords wkeys wbytes wreals wvalues)) ⌝ }
+    ensures { λ r. ⌜ DoneIf ok (made (changingOf c p budget)) r (lent (words .entry) (keys .entry) (bytes .entry) (reals .entry) (values .entry)) (lent (wwords .exit) (wkeys .exit) (wbytes .exit) (wreals .exit) (wvalues .exit)) ⌝ }
+{
+    if !ok {
+        return lending::refuse18();
+    }
+    change_in(
+        words,
+        keys,
+        bytes,
+        reals,
+        values,
+        wwords,
+        wkeys,
+        wbytes,
+        wreals,
+        wvalues,
+        c,
+        p,
+        budget,
+    )
+}
+
+// p is read by an add alone, whatever it holds: the call is that of the list that it stands for.
+pub fn change(
+    words: &mut Words,
+    keys: &mut Keys,
+    bytes: &mut Bytes,
+    reals: &mut Reals,
+    values: &mut Values,
+    wwords: &mut Words,
+    wkeys: &mut Keys,
+    wbytes: &mut Bytes,
+    wreals: &mut Reals,
+    wvalues: &mut Values,
+    c: Change,
+    p: Pack,
+    budget: u16,
+) -> Answer
+    ensures { λ r. ⌜ called (answerOf r) (lent (words .exit) (keys .exit) (bytes .exit) (reals .exit) (values .exit)) ≡ callOf (made (changingOf c p budget)) (lent (wwords .entry) (wkeys .entry) (wbytes .entry) (wreals .entry) (wvalues .entry)) (lent (words .entry) (keys .entry) (bytes .entry) (reals .entry) (values .entry)) ⌝ }
+    ensures { λ _. ⌜ lent (wwords .exit) (wkeys .exit) (wbytes .exit) (wreals .exit) (wvalues .exit) ≡ cleared (lent (wwords .entry) (wkeys .entry) (wbytes .entry) (wreals .entry) (wvalues .entry)) ⌝ }
+{
+    let ok = lending::enter(
+        words,
+        keys,
+        bytes,
+        reals,
+        values,
+        wwords,
+        wkeys,
+        wbytes,
+        wreals,
+        wvalues,
+    );
+    let a = change_if(
+        ok,
+        words,
+        keys,
+        bytes,
+        reals,
+        values,
+        wwords,
+        wkeys,
+        wbytes,
+        wreals,
+        wvalues,
+        c,
+        p,
+        budget as u32,
+    );
+    lending::leave(
+        ok & (a.number == 0),
+        words,
+        keys,
+        bytes,
+        reals,
+        values,
+        wwords,
+        wkeys,
+        wbytes,
+        wreals,
+        wvalues,
+    );
+    a
+}

@@ -1,0 +1,119 @@
+// Remove.
+ghost use mathlib.Core.Path.{_≡_};
+ghost use mathlib.Core.Bool.{true};
+ghost use Rattle.steps.specs.Calls.{remove};
+ghost use Rattle.sparse.specs.Places.{constraintNumbersAt};
+ghost use Rattle.sparse.specs.Sparse.{constraintCount};
+ghost use Rattle.refusals.specs.Refusals.{liveIn};
+ghost use Rattle.solver.specs.Concluding.{Done};
+ghost use Rattle.waist.specs.Working.{lent};
+ghost use Rattle.lending.specs.Entered.{Entered};
+use crate::begin::answer_of;
+use crate::begin::by_test;
+use crate::begin::close;
+use crate::begin::stored_mark;
+use lending::Answer;
+use removal::remove_steps;
+use sparse::Bytes;
+use sparse::Keys;
+use sparse::Reals;
+use sparse::Values;
+use sparse::Words;
+
+// The test passed: the constraint is live.
+fn remove_known(
+    words: &Words,
+    keys: &Keys,
+    bytes: &Bytes,
+    reals: &Reals,
+    values: &Values,
+    wwords: &mut Words,
+    wkeys: &mut Keys,
+    wbytes: &mut Bytes,
+    wreals: &mut Reals,
+    wvalues: &mut Values,
+    n: u32,
+    budget: u32,
+) -> Answer
+    requires { ⌜ Entered (lent words keys bytes reals values) (lent wwords wkeys wbytes wreals wvalues) ⌝ }
+    requires { ⌜ liveIn (now words) constraintNumbersAt (constraintCount (lent words keys bytes reals values)) n ≡ true ⌝ }
+    ensures { λ r. ⌜ Done (remove n budget) r (lent (words .entry) (keys .entry) (bytes .entry) (reals .entry) (values .entry)) (lent (wwords .exit) (wkeys .exit) (wbytes .exit) (wreals .exit) (wvalues .exit)) ⌝ }
+{
+    let before = stored_mark(words);
+    let c = words[sparse::CONSTRAINT_COUNT] as usize;
+    let j = sparse_test::asking::word_from(words, sparse::CONSTRAINT_NUMBERS, c, n as u64);
+    let marker = bytes[sparse::CONSTRAINT_MARKERS + j];
+    let other = bytes[sparse::CONSTRAINT_OTHERS + j];
+    let strength = reals[sparse::CONSTRAINT_STRENGTHS + j];
+    let p = crate::looks::constraint_terms(words, bytes, reals, j);
+    let e = remove_steps(
+        wwords,
+        wkeys,
+        wbytes,
+        wreals,
+        wvalues,
+        marker,
+        other,
+        strength,
+        p,
+        budget,
+        before,
+    );
+    if e.number != 0 {
+        return answer_of(e);
+    }
+    let wrote = e.wrote;
+    close(wwords, wrote);
+    crate::bringing::without_constraint(
+        words,
+        keys,
+        bytes,
+        reals,
+        values,
+        wwords,
+        wkeys,
+        wbytes,
+        wreals,
+        wvalues,
+        j,
+    );
+    answer_of(e)
+}
+
+// "Remove: 18, 5."
+pub fn remove(
+    words: &Words,
+    keys: &Keys,
+    bytes: &Bytes,
+    reals: &Reals,
+    values: &Values,
+    wwords: &mut Words,
+    wkeys: &mut Keys,
+    wbytes: &mut Bytes,
+    wreals: &mut Reals,
+    wvalues: &mut Values,
+    n: u32,
+    budget: u32,
+) -> Answer
+    requires { ⌜ Entered (lent words keys bytes reals values) (lent wwords wkeys wbytes wreals wvalues) ⌝ }
+    ensures { λ r. ⌜ Done (remove n budget) r (lent (words .entry) (keys .entry) (bytes .entry) (reals .entry) (values .entry)) (lent (wwords .exit) (wkeys .exit) (wbytes .exit) (wreals .exit) (wvalues .exit)) ⌝ }
+{
+    let number = refusals::remove_tests(words, n);
+    if number != 0 {
+        return by_test(words, number);
+    }
+    remove_known(
+        words,
+        keys,
+        bytes,
+        reals,
+        values,
+        wwords,
+        wkeys,
+        wbytes,
+        wreals,
+        wvalues,
+        n,
+        budget,
+    )
+}
