@@ -10,7 +10,7 @@ use lib.ListN.{getD}
 use borrow.Author.Tests.{ltb-true, ltb-false}
 use Rattle.places.specs.Finding.{placeIn, place-le, place-is, place-live}
 
--- which of the n numbers from place a on is x, n if none is
+-- which of the n numbers from place a on is x, n if none is: "finding a variable's place by walking the table"
 unfoldable pub placeFrom : List ℕ → ℕ → ℕ → ℕ → ℕ
 placeFrom l a n x = placeIn (λ j. getD l (a + j) 0) n x
 

@@ -91,4 +91,3 @@ pub const SUGGESTIONS: usize = 316;
 pub const COEFFICIENTS: usize = 364;
 
 pub const REALS_SIZE: usize = 1132;
-

@@ -1,4 +1,4 @@
-// Where a number stands among words that ascend, by halving.
+// Where a number stands among words that ascend. "The table is in order; look it up by halving."
 ghost use mathlib.Core.Path.{_≡_};
 ghost use Prim.Native.Nat.{_+_, _≤_};
 ghost use Rattle.sparse.specs.Places.{wordsSize};
