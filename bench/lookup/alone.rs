@@ -8,7 +8,9 @@ use black_box::black_box;
 
 const WORDS: usize = 258;
 const NUMBERS: u64 = 146;
-const TURNS: u64 = 20_000;
+// the least of so many batches: the cores have other work
+const BATCHES: u64 = 15;
+const TURNS: u64 = 2_000;
 
 extern "C" {
     fn lookup_by_walk(words: &[u64; WORDS], a: u64, n: u64, x: u64) -> u64;
@@ -23,11 +25,14 @@ fn asked(i: u64, n: u64, there: bool) -> u64 {
 }
 
 fn timed(f: Lookup, words: &[u64; WORDS], n: u64, there: bool) -> f64 {
-    let start = Instant::now();
-    for i in 0..TURNS {
-        black_box(unsafe { f(black_box(words), NUMBERS, n, asked(i, n, there)) });
-    }
-    start.elapsed().as_nanos() as f64 / TURNS as f64
+    let batch = |_| {
+        let start = Instant::now();
+        for i in 0..TURNS {
+            black_box(unsafe { f(black_box(words), NUMBERS, n, asked(i, n, there)) });
+        }
+        start.elapsed().as_nanos() as f64 / TURNS as f64
+    };
+    (0..BATCHES).map(batch).fold(f64::MAX, f64::min)
 }
 
 fn main() {

@@ -7,7 +7,9 @@ use std::time::Instant;
 mod black_box;
 use black_box::black_box;
 
-const TURNS: usize = 600;
+// the least of so many batches: the cores have other work
+const BATCHES: usize = 15;
+const TURNS: usize = 120;
 
 fn edge(e: u32) -> Variable {
     Variable::from_number(e)
@@ -35,15 +37,30 @@ fn row(edges: u32) -> (Solver, Vec<u32>) {
     (s, edited)
 }
 
+/// Drags along the row, each by little and back.
+fn drags(s: &mut Solver, edited: &[u32], turns: usize) {
+    for i in 0..turns {
+        let e = edited[i % edited.len()];
+        s.suggest_value(edge(e), 160.0 * f64::from(e) + (i / edited.len() % 2) as f64).unwrap();
+        black_box(s.fetch_changes().len());
+    }
+}
+
 fn main() {
+    // EDGES TURNS: so many drags and no clock, for a count of instructions
+    let given: Vec<usize> = std::env::args().skip(1).map(|a| a.parse().unwrap()).collect();
+    if let [edges, turns] = given[..] {
+        let (mut s, edited) = row(edges as u32);
+        return drags(&mut s, &edited, turns);
+    }
     for edges in [6, 20, 32] {
         let (mut s, edited) = row(edges);
-        let start = Instant::now();
-        for i in 0..TURNS {
-            let e = edited[i % edited.len()];
-            s.suggest_value(edge(e), 160.0 * f64::from(e) + (i / edited.len() % 2) as f64).unwrap();
-            black_box(s.fetch_changes().len());
+        let mut least = f64::MAX;
+        for _ in 0..BATCHES {
+            let start = Instant::now();
+            drags(&mut s, &edited, TURNS);
+            least = least.min(start.elapsed().as_nanos() as f64 / TURNS as f64);
         }
-        println!("{} {}", edges, start.elapsed().as_nanos() as f64 / TURNS as f64);
+        println!("{} {}", edges, least);
     }
 }

@@ -1,8 +1,8 @@
 #!/usr/bin/env python3
-"""Times T-03's halving beside the walk that it replaced, in one run: the two functions alone, out of the two archives' modules, and a
-drag and fetch with either archive, process by process in turn. Prints medians as a table.
-usage: times.py OUT BEFORE [ROUNDS]     BEFORE is a tree of the commit before, with its archive built (tools/archive in it)"""
-import os, re, statistics, subprocess, sys
+"""Times the lookup by halving beside the walk that it replaced, in one run: the two functions alone, out of the two archives' modules,
+and a drag and fetch with either archive, process by process in turn. Prints medians as a table.
+usage: times.py OUT BEFORE [ROUNDS]     BEFORE is the folder of the archive of T-09, as tools/archive names it in a tree of that commit"""
+import os, re, shutil, statistics, subprocess, sys
 
 HERE = os.path.dirname(os.path.realpath(__file__))
 ROOT = os.path.dirname(os.path.dirname(HERE))
@@ -18,13 +18,21 @@ def run(words):
     return done.stdout if done.returncode == 0 else fail(f"{' '.join(words[:3])} ..:\n{done.stdout[-2000:]}{done.stderr[-2000:]}")
 
 
-def alone(tree, function, name, out):
+def module(folder):
+    """The module that an archive was compiled from, which tools/cross keeps beside its folder."""
+    for path in (f"{folder}/knobharbor.ll", f"{os.path.dirname(folder)}/knobharbor.ll"):
+        if os.path.exists(path):
+            with open(path) as f:
+                return f.read()
+    fail(f"there is no knobharbor.ll in {folder} or above it")
+
+
+def alone(folder, function, name, out):
     """One function of an archive's module as an object: the rest is made internal, so that nothing of it is kept."""
-    with open(f"{tree}/target/staticlib/knobharbor.ll") as f:
-        text = f.read()
+    text = module(folder)
     found = re.search(rf'^define [^\n]*@"{function}"\(', text, re.M)
     if not found:
-        fail(f"the module of {tree} has no {function}")
+        fail(f"the module of {folder} has no {function}")
     text = re.sub(r"^define (?:internal |private )?(?:dso_local )?", "define internal ", text, flags=re.M)
     text = re.sub(rf'^define internal ([^\n]*)@"{function}"\(', rf"define \1@{name}(", text, count=1, flags=re.M)
     text = text.replace(f'@"{function}"', f"@{name}")
@@ -37,19 +45,23 @@ def alone(tree, function, name, out):
     return f"{out}/{name}.o"
 
 
-def archive(tree):
-    return run([f"{tree}/tools/archive"]).strip()
-
-
-def drag(tree, name, out):
-    """The program over one tree's Rust crate and archive."""
-    folder = os.path.dirname(archive(tree))
+def drag(folder, name, out):
+    """The program over the Rust crate and one archive."""
     own = f"{out}/{name}"
     os.makedirs(own, exist_ok=True)
     run(["rustc", "--edition", "2021", "--crate-type", "rlib", "--crate-name", "knobharbor", "-A", "unknown_lints", "-A", "unexpected_cfgs", "--cfg", 'feature="alloc"', "-O",
-         "--out-dir", own, "-L", folder, "-l", "static=knobharbor", f"{tree}/rust/knobharbor/src/lib.rs"])
+         "--out-dir", own, "-L", folder, "-l", "static=knobharbor", f"{ROOT}/rust/knobharbor/src/lib.rs"])
     run(["rustc", "--edition", "2021", "-O", "-o", f"{own}/drag", "--extern", f"knobharbor={own}/libknobharbor.rlib", f"{HERE}/drag.rs"])
     return f"{own}/drag"
+
+
+def instructions(program, n):
+    """Instructions of one drag and fetch: what 600 drags have more than 120."""
+    def count(turns):
+        said = subprocess.run(["valgrind", "--tool=callgrind", "--callgrind-out-file=/dev/null", program, n, str(turns)], text=True, capture_output=True)
+        return int(re.search(r"Collected : (\d+)", said.stderr).group(1))
+
+    return (count(600) - count(120)) / 480
 
 
 def medians(samples):
@@ -60,8 +72,9 @@ def main():
     out, before = sys.argv[1], os.path.abspath(sys.argv[2])
     rounds = int(sys.argv[3]) if len(sys.argv) > 3 else 31
     os.makedirs(out, exist_ok=True)
-    drags = {"walk": drag(before, "before", out), "halving": drag(ROOT, "after", out)}
-    objects = [alone(before, "sparse_test::asking::word_from", "lookup_by_walk", out), alone(ROOT, "sparse::lookup::look_up", "lookup_by_halving", out)]
+    after = os.path.dirname(run([f"{ROOT}/tools/archive"]).strip())
+    drags = {"walk": drag(before, "before", out), "halving": drag(after, "after", out)}
+    objects = [alone(before, "sparse_test::asking::word_from", "lookup_by_walk", out), alone(after, "sparse::lookup::look_up", "lookup_by_halving", out)]
     run(["rustc", "--edition", "2021", "-O", "-o", f"{out}/alone", *[w for o in objects for w in ("-C", f"link-arg={o}")], f"{HERE}/alone.rs"])
     lookups, whole = {}, {}
     for _ in range(rounds):
@@ -74,12 +87,13 @@ def main():
                 n, ns = line.split()
                 whole.setdefault((n, which), []).append(float(ns))
     lookups, whole = medians(lookups), medians(whole)
-    print("| variables | a number that is there: walk, ns | halving, ns | one that is not: walk, ns | halving, ns | a drag and fetch: walk, us | halving, us | gain |")
-    print("|---|---|---|---|---|---|---|---|")
+    print("| variables | a number that is there: walk, ns | halving, ns | one that is not: walk, ns | halving, ns | a drag and fetch: walk, us | halving, us | its instructions: walk | halving |")
+    print("|---|---|---|---|---|---|---|---|---|")
     for n in ("6", "20", "32"):
-        a, b = whole[n, "walk"] / 1000, whole[n, "halving"] / 1000
         cells = [f"{lookups[n, t, w]:.1f}" for t in ("there", "not") for w in ("walk", "halving")]
-        print(f"| {n} | {' | '.join(cells)} | {a:.3f} | {b:.3f} | {100 * (a - b) / a:.1f} % |")
+        cells += [f"{whole[n, w] / 1000:.3f}" for w in drags]
+        cells += [f"{instructions(program, n):,.0f}" for program in drags.values()] if shutil.which("valgrind") else ["", ""]
+        print(f"| {n} | {' | '.join(cells)} |")
 
 
 main()
