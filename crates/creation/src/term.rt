@@ -14,7 +14,7 @@ ghost use Rattle.sparse.specs.Sparse.{symbolCount, rowCount, variableCount, sym
 ghost use Rattle.terms.specs.Terms.{termsOf};
 ghost use Rattle.variables.specs.Variables.{foundIn};
 ghost use Rattle.waist.specs.Working.{lent, Sound};
-ghost use Rattle.waist.specs.Standing.{Standing};
+ghost use Rattle.waist.specs.Standing.{Owners, Standing};
 ghost use Rattle.waist.specs.Growing.{nextId};
 ghost use Rattle.creation.specs.Building.{Builds};
 ghost use Rattle.creation.specs.Steps.{Used, mostSpare, Room, Steps};
@@ -84,6 +84,7 @@ fn know_variable(
 )
     requires { ⌜ Sound false (lent words keys bytes reals values) ⌝ }
     requires { ⌜ Room n (lent words keys bytes reals values) ⌝ }
+    requires { ⌜ Owners (lent words keys bytes reals values) ⌝ }
     ensures { λ _. ⌜ ((a : Mark) → Standing false a (lent (words .entry) (keys .entry) (bytes .entry) (reals .entry) (values .entry)) → Knows n a (lent (words .entry) (keys .entry) (bytes .entry) (reals .entry) (values .entry)) (lent (words .exit) (keys .entry) (bytes .exit) (reals .exit) (values .entry)) (now (row .entry)) (now (row .exit))) ⌝ }
 {
     let f = find_variable(words, n);

@@ -20,8 +20,9 @@ use Rattle.steps.specs.Changes.{Change, valueOf, isNews, newsOf, reported}
 use Rattle.layout.specs.Layout.{over}
 use Rattle.layout.specs.Laying.{laid-nil, laid-cons, set-same}
 use Rattle.sparse.specs.Places.{mostRows, rowCountAt, variableNumbersAt, rowPlacesAt, variablePlacesAt, changedAt, constantsAt, oldValuesAt}
+use Rattle.sparse.specs.Lookup.{placeFrom}
 use Rattle.sparse.specs.Sparse.{Sparse, rowCount, variableCount, symbolAt, variableOf}
-use Rattle.sparse_test.specs.Asked.{placeFrom, constantOf}
+use Rattle.sparse_test.specs.Asked.{constantOf}
 use Rattle.fetches.specs.Fetch.{numbersOf, valuesOf}
 
 -- the reals, the two lists and how many places of them are filled

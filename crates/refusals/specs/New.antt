@@ -20,8 +20,8 @@ use Rattle.layout.specs.Copy.{most16}
 use Rattle.places.specs.Finding.{placeIn}
 use Rattle.places.specs.Listed.{map-list, member-list}
 use Rattle.sparse.specs.Places.{variableNumbersAt}
+use Rattle.sparse.specs.Lookup.{placeFrom}
 use Rattle.sparse.specs.Sparse.{Sparse, variableCount, variableOf, read}
-use Rattle.sparse_test.specs.Asked.{placeFrom}
 use Rattle.terms.specs.declared.Pack.{Pack}
 use Rattle.terms.specs.Terms.{termOf, termIn, termsOf}
 use Rattle.refusals.specs.Refusals.{liveIn, firstOf, newAt, newIn}

@@ -11,7 +11,8 @@ use Rattle.laws.specs.Lists.{allIn, sumIn}
 use Rattle.layout.specs.Layout.{bitOf}
 use Rattle.layout.specs.Copy.{most16}
 use Rattle.sparse.specs.Places.{mostVariables, mostConstraints, nextIdAt, variableCountAt, constraintCountAt, editCountAt, variableNumbersAt, constraintNumbersAt}
-use Rattle.sparse_test.specs.Asked.{placeFrom, editIn}
+use Rattle.sparse.specs.Lookup.{placeFrom}
+use Rattle.sparse_test.specs.Asked.{editIn}
 use Rattle.terms.specs.declared.Pack.{Pack}
 use Rattle.terms.specs.Terms.{packOf, keptOf}
 

@@ -2,10 +2,12 @@
 ghost use mathlib.Core.Path.{_≡_};
 ghost use mathlib.Core.Bool.{cond};
 ghost use Prim.Native.Nat.{_+_, _<_, _≤_};
-ghost use Rattle.sparse.specs.Places.{mostVariables, mostConstraints, wordsSize};
+ghost use Rattle.sparse.specs.Places.{mostVariables, mostConstraints, variableNumbersAt, constraintNumbersAt, wordsSize};
+ghost use Rattle.sparse.specs.Lookup.{Ascends};
 ghost use Rattle.refusals.specs.Refusals.{variablesIn, constraintsIn, editsIn, liveIn, editedIn, firstOf, newAt, newIn, constraintsFullIn, variablesFullIn, idsUsedIn, roomRefusal, inputRefusal, addRefusal, editPack, addEditRefusal, suggestRefusal, removeRefusal, removeEditRefusal};
 use sparse::Bytes;
 use sparse::Words;
+use sparse::lookup::look_up;
 
 // A test that fails gives its number, one that passes what the tests after it give.
 fn refusal(fails: bool, number: u64, rest: u64) -> u64
@@ -16,14 +18,16 @@ fn refusal(fails: bool, number: u64, rest: u64) -> u64
 
 fn is_live(words: &Words, a: usize, c: usize, x: u64) -> bool
     requires { ⌜ a + c ≤ wordsSize ⌝ }
+    requires { ⌜ Ascends (now words) a c ⌝ }
     ensures { λ r. ⌜ r ≡ liveIn (now (words .entry)) a c x ⌝ }
 {
-    sparse_test::asking::word_from(words, a, c, x) < c
+    look_up(words, a, c, x) < c
 }
 
 fn is_edited(words: &Words, bytes: &Bytes, x: u64) -> bool
     requires { ⌜ variablesIn (now words) ≤ mostVariables ⌝ }
     requires { ⌜ editsIn (now words) ≤ mostConstraints ⌝ }
+    requires { ⌜ Ascends (now words) variableNumbersAt (variablesIn (now words)) ⌝ }
     ensures { λ r. ⌜ r ≡ editedIn (now (words .entry)) (now (bytes .entry)) x ⌝ }
 {
     let v = words[sparse::VARIABLE_COUNT] as usize;
@@ -51,6 +55,7 @@ fn first_of(p: terms::Pack, i: usize) -> bool
 fn new_at(words: &Words, v: usize, p: terms::Pack, i: usize) -> u64
     requires { ⌜ v ≤ mostVariables ⌝ }
     requires { ⌜ i < 16 ⌝ }
+    requires { ⌜ Ascends (now words) variableNumbersAt v ⌝ }
     ensures { λ r. ⌜ r ≡ newAt (now (words .entry)) v p i ⌝ }
     ensures { λ r. ⌜ r ≤ 1 ⌝ }
 {
@@ -65,6 +70,7 @@ fn new_at(words: &Words, v: usize, p: terms::Pack, i: usize) -> u64
 
 fn new_variables(words: &Words, v: usize, p: terms::Pack) -> u64
     requires { ⌜ v ≤ mostVariables ⌝ }
+    requires { ⌜ Ascends (now words) variableNumbersAt v ⌝ }
     ensures { λ r. ⌜ r ≡ newIn (now (words .entry)) v p ⌝ }
     ensures { λ r. ⌜ r ≤ 16 ⌝ }
 {
@@ -90,6 +96,7 @@ fn constraints_full(words: &Words) -> bool
 
 fn variables_full(words: &Words, p: terms::Pack) -> bool
     requires { ⌜ variablesIn (now words) ≤ mostVariables ⌝ }
+    requires { ⌜ Ascends (now words) variableNumbersAt (variablesIn (now words)) ⌝ }
     ensures { λ r. ⌜ r ≡ variablesFullIn (now (words .entry)) p ⌝ }
 {
     let v = words[sparse::VARIABLE_COUNT];
@@ -108,6 +115,7 @@ fn room_tests(words: &Words, p: terms::Pack) -> u64
     requires { ⌜ variablesIn (now words) ≤ mostVariables ⌝ }
     requires { ⌜ constraintsIn (now words) ≤ mostConstraints ⌝ }
     requires { ⌜ editsIn (now words) ≤ mostConstraints ⌝ }
+    requires { ⌜ Ascends (now words) variableNumbersAt (variablesIn (now words)) ⌝ }
     ensures { λ r. ⌜ r ≡ roomRefusal (now (words .entry)) p ⌝ }
 {
     let ids = refusal(ids_used(words), 11, 0);
@@ -132,6 +140,8 @@ pub fn add_tests(words: &Words, n: u32, p: terms::Pack, constant: f64, strength:
     requires { ⌜ variablesIn (now words) ≤ mostVariables ⌝ }
     requires { ⌜ constraintsIn (now words) ≤ mostConstraints ⌝ }
     requires { ⌜ editsIn (now words) ≤ mostConstraints ⌝ }
+    requires { ⌜ Ascends (now words) variableNumbersAt (variablesIn (now words)) ⌝ }
+    requires { ⌜ Ascends (now words) constraintNumbersAt (constraintsIn (now words)) ⌝ }
     ensures { λ r. ⌜ r ≡ addRefusal n p constant strength (now (words .entry)) ⌝ }
 {
     let room = room_tests(words, p);
@@ -162,6 +172,7 @@ pub fn add_edit_tests(words: &Words, bytes: &Bytes, n: u32, strength: f64) -> u6
     requires { ⌜ variablesIn (now words) ≤ mostVariables ⌝ }
     requires { ⌜ constraintsIn (now words) ≤ mostConstraints ⌝ }
     requires { ⌜ editsIn (now words) ≤ mostConstraints ⌝ }
+    requires { ⌜ Ascends (now words) variableNumbersAt (variablesIn (now words)) ⌝ }
     ensures { λ r. ⌜ r ≡ addEditRefusal n strength (now (words .entry)) (now (bytes .entry)) ⌝ }
 {
     let room = room_tests(words, edit_pack(n));
@@ -173,6 +184,7 @@ pub fn add_edit_tests(words: &Words, bytes: &Bytes, n: u32, strength: f64) -> u6
 pub fn suggest_tests(words: &Words, bytes: &Bytes, n: u32, new: f64) -> u64
     requires { ⌜ variablesIn (now words) ≤ mostVariables ⌝ }
     requires { ⌜ editsIn (now words) ≤ mostConstraints ⌝ }
+    requires { ⌜ Ascends (now words) variableNumbersAt (variablesIn (now words)) ⌝ }
     ensures { λ r. ⌜ r ≡ suggestRefusal n new (now (words .entry)) (now (bytes .entry)) ⌝ }
 {
     let known = remove_edit_tests(words, bytes, n);
@@ -182,6 +194,7 @@ pub fn suggest_tests(words: &Words, bytes: &Bytes, n: u32, new: f64) -> u64
 // "Remove: 18, 5."
 pub fn remove_tests(words: &Words, n: u32) -> u64
     requires { ⌜ constraintsIn (now words) ≤ mostConstraints ⌝ }
+    requires { ⌜ Ascends (now words) constraintNumbersAt (constraintsIn (now words)) ⌝ }
     ensures { λ r. ⌜ r ≡ removeRefusal n (now (words .entry)) ⌝ }
 {
     let c = words[sparse::CONSTRAINT_COUNT] as usize;
@@ -196,6 +209,7 @@ pub fn remove_tests(words: &Words, n: u32) -> u64
 pub fn remove_edit_tests(words: &Words, bytes: &Bytes, n: u32) -> u64
     requires { ⌜ variablesIn (now words) ≤ mostVariables ⌝ }
     requires { ⌜ editsIn (now words) ≤ mostConstraints ⌝ }
+    requires { ⌜ Ascends (now words) variableNumbersAt (variablesIn (now words)) ⌝ }
     ensures { λ r. ⌜ r ≡ removeEditRefusal n (now (words .entry)) (now (bytes .entry)) ⌝ }
 {
     refusal(!is_edited(words, bytes, n as u64), 8, 0)

@@ -23,7 +23,8 @@ use Rattle.cells.specs.Names.{rowSpan, lastPlace}
 use Rattle.cells.specs.Cells.{Present}
 use Rattle.merging.specs.Merge.{Placed}
 use Rattle.places.specs.Finding.{all-at}
-use Rattle.sparse.specs.Places.{mostRows, wholeAt, nextIdAt, idsAt, kindsAt, rowPlacesAt, variablePlacesAt, rowCountAt, symbolCountAt, variableCountAt}
+use Rattle.sparse.specs.Places.{mostRows, wholeAt, nextIdAt, idsAt, variableNumbersAt, constraintNumbersAt, kindsAt, rowPlacesAt, variablePlacesAt, rowCountAt, symbolCountAt, variableCountAt}
+use Rattle.sparse.specs.Lookup.{Ascends}
 use Rattle.sparse.specs.Sparse.{Sparse, symbolCount, rowCount, cellCount, variableCount, constraintCount, editCount, symbolAt, otherAt, variableOf, constraintOf, editOf, symbolsOf, basicsOf, read}
 use Rattle.sparse.specs.Widths.{symbols-read, rows-read}
 use Rattle.sparse.specs.Form.{Counts, Form}
@@ -34,7 +35,7 @@ use Rattle.sparse_test.specs.Stretch.{ascends}
 use Rattle.sparse_test.specs.Meaning.{reads-form, reads-readable}
 use Rattle.sparse_test.specs.Tested.{kindAt, externalsIn}
 use Rattle.sparse_test.specs.Parts.{Parts, parts}
-use Rattle.sparse_test.specs.Meant.{tested-is, reads-apart}
+use Rattle.sparse_test.specs.Meant.{tested-is, reads-apart, reads-constraints}
 use Rattle.substituting.specs.Held.{Held}
 use Rattle.substituting.specs.Named.{Named}
 use Rattle.rows.specs.declared.number.Wrote.{Wrote}
@@ -101,6 +102,13 @@ module _ (t w : Sparse) (en : Entered t w) where
 
   pub counts-at-start : Counts t
   counts-at-start = reads-form t (en .reads) .counts
+
+  -- "variable and constraint numbers ascend": what a lookup by halving needs
+  pub numbers-at-start : Ascends (t .words) variableNumbersAt (variableCount t)
+  numbers-at-start = reads-form t (en .reads) .numbers
+
+  pub constraints-at-start : Ascends (t .words) constraintNumbersAt (constraintCount t)
+  constraints-at-start = reads-constraints t (en .reads)
 
   tests : Parts t
   tests = parts t (tested-is t ∙ en .reads)

@@ -18,11 +18,12 @@ use Rattle.keeps.specs.Keys.{findBy, findConstraint-is, findEdit-is}
 use Rattle.keeps.specs.Reads.{Reads, conNumber, editNumber}
 use Rattle.places.specs.Finding.{placeIn, place-is, place-at}
 use Rattle.sparse.specs.Places.{variableNumbersAt, constraintNumbersAt, variablePlacesAt, editVariablesAt}
+use Rattle.sparse.specs.Lookup.{placeFrom}
 use Rattle.sparse.specs.Sparse.{Sparse, variableCount, constraintCount, editCount, numberAt, constraintOf, editOf, read}
 use Rattle.sparse.specs.Form.{indexAt, index-named}
 use Rattle.sparse_test.specs.Reads.{reads}
 use Rattle.sparse_test.specs.Meant.{reads-apart}
-use Rattle.sparse_test.specs.Asked.{placeFrom, editIn}
+use Rattle.sparse_test.specs.Asked.{editIn}
 use Rattle.refusals.specs.Refusals.{variablesIn, editsIn, liveIn, editedIn}
 use Rattle.solver.specs.Begin.{constraints-count, edits-count}
 

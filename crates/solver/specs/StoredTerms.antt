@@ -17,13 +17,13 @@ use Rattle.layout.specs.Copied.{length-listOf}
 use Rattle.places.specs.Listed.{map-list}
 use Rattle.places.specs.Finding.{placeIn}
 use Rattle.sparse.specs.Places.{mostVariables, mostTerms, variableNumbersAt, variablePlacesAt, termCountsAt, termsAt, coefficientsAt}
+use Rattle.sparse.specs.Lookup.{placeFrom}
 use Rattle.sparse.specs.Sparse.{Sparse, variableCount, constraintCount, numberAt, termsFrom, termOf, constraintOf}
 use Rattle.sparse.specs.Concat.{sum-in, sum-le, sum-most}
 use Rattle.sparse.specs.Form.{indexAt, index-named, Form}
 use Rattle.sparse_test.specs.Stretch.{most}
 use Rattle.sparse_test.specs.Reads.{greatestU32, reads}
 use Rattle.sparse_test.specs.Meaning.{reads-form}
-use Rattle.sparse_test.specs.Asked.{placeFrom}
 use Rattle.sparse_test.specs.Parts.{parts}
 use Rattle.sparse_test.specs.Meant.{tested-is}
 use Rattle.lending.specs.Entered.{termsIn}

@@ -3,8 +3,8 @@ ghost use mathlib.Core.Path.{_≡_};
 ghost use Prim.Native.Nat.{_+_, _≤_, _<_};
 ghost use lib.ListN.{getD};
 ghost use Rattle.sparse.specs.Places.{mostVariables, mostConstraints, bytesSize};
-ghost use Rattle.sparse_test.specs.Asked.{placeFrom};
 ghost use Rattle.sparse.specs.Places.{variableNumbersAt, termCountsAt};
+ghost use Rattle.sparse.specs.Lookup.{Ascends, placeFrom};
 ghost use Rattle.lending.specs.Entered.{termsIn};
 ghost use Rattle.refusals.specs.Refusals.{variablesIn, editsIn};
 ghost use Rattle.solver.specs.Placed.{editPlace};
@@ -12,8 +12,8 @@ ghost use Rattle.solver.specs.StoredTerms.{variableAt, storedTerm, store
 use sparse::Bytes;
 use sparse::Reals;
 use sparse::Words;
+use sparse::lookup::look_up;
 use sparse_test::asking::byte_from;
-use sparse_test::asking::word_from;
 use terms::Pack;
 use terms::Term;
 
@@ -22,11 +22,12 @@ pub fn edit_place(words: &Words, bytes: &Bytes, n: u64) -> usize
     requires { ⌜ variablesIn (now words) ≤ mostVariables ⌝ }
     requires { ⌜ editsIn (now words) ≤ mostConstraints ⌝ }
     requires { ⌜ placeFrom (now words) variableNumbersAt (variablesIn (now words)) n < variablesIn (now words) ⌝ }
+    requires { ⌜ Ascends (now words) variableNumbersAt (variablesIn (now words)) ⌝ }
     ensures { λ r. ⌜ r ≡ editPlace (now (words .entry)) (now (bytes .entry)) n ⌝ }
 {
     let v = words[sparse::VARIABLE_COUNT] as usize;
     let e = words[sparse::EDIT_COUNT] as usize;
-    let z = word_from(words, sparse::VARIABLE_NUMBERS, v, n);
+    let z = look_up(words, sparse::VARIABLE_NUMBERS, v, n);
     byte_from(
         bytes,
         sparse::EDIT_VARIABLES,

@@ -19,6 +19,7 @@ use sparse::Keys;
 use sparse::Reals;
 use sparse::Values;
 use sparse::Words;
+use sparse::lookup::look_up;
 
 // The test passed: the constraint is live.
 fn remove_known(
@@ -41,7 +42,7 @@ fn remove_known(
 {
     let before = stored_mark(words);
     let c = words[sparse::CONSTRAINT_COUNT] as usize;
-    let j = sparse_test::asking::word_from(words, sparse::CONSTRAINT_NUMBERS, c, n as u64);
+    let j = look_up(words, sparse::CONSTRAINT_NUMBERS, c, n as u64);
     let marker = bytes[sparse::CONSTRAINT_MARKERS + j];
     let other = bytes[sparse::CONSTRAINT_OTHERS + j];
     let strength = reals[sparse::CONSTRAINT_STRENGTHS + j];

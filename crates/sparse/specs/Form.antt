@@ -10,6 +10,7 @@ use Rattle.laws.specs.Loops.{first}
 use Rattle.cells.specs.Names.{lastPlace, cellRoom}
 use Rattle.cells.specs.Seek.{first-elim, first-at}
 use Rattle.sparse.specs.Places.{mostRows, mostVariables, mostConstraints, mostTerms, shouldClearAt, wholeAt, idsAt, variableNumbersAt, kindsAt, rowPlacesAt, variablePlacesAt, changedAt, constraintMarkersAt, constraintOthersAt, editVariablesAt, editMarkersAt, editOthersAt, termsAt}
+use Rattle.sparse.specs.Lookup.{Ascends}
 use Rattle.sparse.specs.Sparse.{Sparse, symbolCount, rowCount, cellCount, variableCount, constraintCount, editCount, numberAt, termsFrom}
 use Rattle.sparse.specs.Repack.{Held}
 
@@ -50,7 +51,7 @@ pub record Form (t : Sparse) : Type 0 where
   pub kinds : (p : ℕ) → 1 ≤ p → p ≤ symbolCount t → getD (t .bytes) (kindsAt + p) 0 ≤ 3
   pub rows : (i : ℕ) → 1 ≤ i → i ≤ rowCount t → At t (getD (t .bytes) (rowPlacesAt + i) 0)
   pub cells : Held (t .keys) (t .values) (cellCount t) (symbolCount t) (rowCount t)
-  pub numbers : (i j : ℕ) → i < j → j < variableCount t → getD (t .words) (variableNumbersAt + i) 0 < getD (t .words) (variableNumbersAt + j) 0
+  pub numbers : Ascends (t .words) variableNumbersAt (variableCount t)
   pub owners : (i : ℕ) → i < variableCount t → At t (getD (t .bytes) (variablePlacesAt + i) 0)
   pub changed : (i : ℕ) → i < variableCount t → getD (t .bytes) (changedAt + i) 0 ≤ 1
   pub markers : (i : ℕ) → i < constraintCount t → At t (getD (t .bytes) (constraintMarkersAt + i) 0)

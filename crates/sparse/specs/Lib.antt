@@ -1,4 +1,5 @@
 pub mod Places
+pub mod Lookup
 pub mod Sparse
 pub mod Widths
 pub mod Stretches

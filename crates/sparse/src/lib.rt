@@ -1,6 +1,8 @@
 // The places of the sparse tables. specs/Sparse.antt says what stands there.
 // A symbol is named by its place, from 1 by ascending id, and 0 is none; rows are counted from 1, and row 0's keys are a loose row's.
 
+pub mod lookup;
+
 use cells::CELL_ROOM;
 
 // The five tables, as a function borrows them: arrays, whose lengths are their types'.
@@ -89,5 +91,3 @@ pub const SUGGESTIONS: usize = 316;
 pub const COEFFICIENTS: usize = 364;
 
 pub const REALS_SIZE: usize = 1132;
-
-pub fn nothing() {}

@@ -24,19 +24,16 @@ use Rattle.steps.specs.Tests.{findConstraint, findEdit, hasConstraint, hasEdit}
 use Rattle.places.specs.Finding.{placeIn, place-is, place-live, Apart}
 use Rattle.places.specs.Listed.{same}
 use Rattle.sparse.specs.Places.{idsAt, variableNumbersAt, constraintNumbersAt, rowPlacesAt, variablePlacesAt, editVariablesAt, constantsAt}
+use Rattle.sparse.specs.Lookup.{Ascends, placeFrom}
 use Rattle.sparse.specs.Sparse.{Sparse, rowCount, variableCount, constraintCount, editCount, symbolAt, numberAt, variableOf, constraintOf, editOf, basicOf, basicsOf, read}
 use Rattle.sparse.specs.Form.{indexAt, index-named, Counts, At, Form}
 use Rattle.sparse_test.specs.Reads.{reads}
 use Rattle.sparse_test.specs.Meaning.{reads-form}
-use Rattle.sparse_test.specs.Meant.{reads-apart}
+use Rattle.sparse_test.specs.Meant.{reads-apart, reads-constraints}
 
 -- "Queries give false or 0.0 .. beside 18"
 unfoldable pub asked : {A : Type 0} → (State → A) → A → Sparse → A
 asked q otherwise t = cond (reads t) (q (read t)) otherwise
-
--- which of the n numbers from place a on is x, n if none is
-unfoldable pub placeFrom : List ℕ → ℕ → ℕ → ℕ → ℕ
-placeFrom l a n x = placeIn (λ j. getD l (a + j) 0) n x
 
 -- the constant of the row whose symbol stands at place p, 0.0 if there is none
 unfoldable pub constantOf : List ℕ → List Float → ℕ → ℕ → Float
@@ -246,3 +243,10 @@ module _ (t : Sparse) (n : ℕ) {x : Bool} (e : x ≡ reads t) where
 
   pub counts-asked : x ≡ true → Counts t
   counts-asked h = reads-form t (sym e ∙ h) .counts
+
+  -- the test that the tables read is what a lookup needs
+  pub numbers-asked : x ≡ true → Ascends (t .words) variableNumbersAt (variableCount t)
+  numbers-asked h = reads-form t (sym e ∙ h) .numbers
+
+  pub constraints-asked : x ≡ true → Ascends (t .words) constraintNumbersAt (constraintCount t)
+  constraints-asked h = reads-constraints t (sym e ∙ h)

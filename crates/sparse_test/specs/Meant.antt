@@ -22,6 +22,7 @@ use Rattle.places.specs.Finding.{at-all, Apart}
 use Rattle.places.specs.Listed.{join, same, ascend-list}
 use Rattle.places.specs.Shares.{finiteIn}
 use Rattle.sparse.specs.Places.{nextIdAt, idsAt, variableNumbersAt, constraintNumbersAt, kindsAt, rowPlacesAt, variablePlacesAt, changedAt, constraintMarkersAt, constraintOthersAt, termCountsAt, editVariablesAt, editMarkersAt, editOthersAt, termsAt, constantsAt, objectiveAt, constraintStrengthsAt, editStrengthsAt, suggestionsAt, coefficientsAt}
+use Rattle.sparse.specs.Lookup.{Ascends}
 use Rattle.sparse.specs.Sparse.{Sparse, symbolCount, rowCount, cellCount, variableCount, constraintCount, editCount, numberAt, termsFrom, basicOf, basicsOf, variableOf, read}
 use Rattle.sparse.specs.Form.{indexAt, index-named, At}
 use Rattle.sparse_test.specs.Stretch.{ascendIn, betweenIn, mostIn, ascends, between, in-between, most, in-most}
@@ -254,6 +255,10 @@ module _ (t : Sparse) where
     -- no two variables' symbols stand at one place
     pub reads-apart : Apart (λ j. byte (variablePlacesAt + j)) (variableCount t)
     reads-apart = places-apart (owns-distinct t up-of (all-placed t placed-of) owned-of)
+
+    -- "variable and constraint numbers ascend"
+    pub reads-constraints : Ascends (t .words) constraintNumbersAt (constraintCount t)
+    reads-constraints = ascends (t .words) constraintNumbersAt (constraintCount t) (sym constraints-up ∙ ups-of .1)
 
     few-of : steps.all (fewTerms t) (read t .constraints) ≡ true
     unfolding steps.countsInRange

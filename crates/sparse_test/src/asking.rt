@@ -5,32 +5,19 @@ ghost use Prim.Native.Nat.{_+_, _≤_};
 ghost use Rattle.steps.specs.Number.{zero64};
 ghost use Rattle.steps.specs.Changes.{value};
 ghost use Rattle.steps.specs.Tests.{hasConstraint, hasEdit};
-ghost use Rattle.sparse.specs.Places.{mostRows, mostVariables, mostConstraints, wordsSize, bytesSize};
+ghost use Rattle.sparse.specs.Places.{mostRows, mostVariables, mostConstraints, variableNumbersAt, bytesSize};
 ghost use Rattle.sparse_test.specs.Whole.{tables};
-ghost use Rattle.sparse_test.specs.Asked.{asked, placeFrom, constantOf, valueIn, editIn};
+ghost use Rattle.sparse.specs.Lookup.{Ascends, placeFrom};
+ghost use Rattle.sparse_test.specs.Asked.{asked, constantOf, valueIn, editIn};
 use crate::reads_as_state;
 use sparse::Bytes;
 use sparse::Keys;
 use sparse::Reals;
 use sparse::Values;
 use sparse::Words;
+use sparse::lookup::look_up;
 
-// Which of the n words from place a on is x; n if none is.
-pub fn word_from(words: &Words, a: usize, n: usize, x: u64) -> usize
-    requires { ⌜ a + n ≤ wordsSize ⌝ }
-    ensures { λ r. ⌜ r ≡ placeFrom (now (words .entry)) a n x ⌝ }
-    ensures { λ r. ⌜ r ≤ n ⌝ }
-{
-    let mut i = 0;
-    while i < n {
-        if x == words[a + i] {
-            return i;
-        }
-        i += 1;
-    }
-    n
-}
-
+// Which of the n bytes from place a on is x; n if none is. Variables' and edits' bytes stand in no order.
 pub fn byte_from(bytes: &Bytes, a: usize, n: usize, x: u8) -> usize
     requires { ⌜ a + n ≤ bytesSize ⌝ }
     ensures { λ r. ⌜ r ≡ placeFrom (now (bytes .entry)) a n x ⌝ }
@@ -62,9 +49,10 @@ pub fn constant_of(bytes: &Bytes, reals: &Reals, r: usize, p: u8) -> f64
 fn value_in(words: &Words, bytes: &Bytes, reals: &Reals, v: usize, r: usize, n: u64) -> f64
     requires { ⌜ v ≤ mostVariables ⌝ }
     requires { ⌜ r ≤ mostRows ⌝ }
+    requires { ⌜ Ascends (now words) variableNumbersAt v ⌝ }
     ensures { λ f. ⌜ f ≡ valueIn (now (words .entry)) (now (bytes .entry)) (now (reals .entry)) v r n ⌝ }
 {
-    let i = word_from(words, sparse::VARIABLE_NUMBERS, v, n);
+    let i = look_up(words, sparse::VARIABLE_NUMBERS, v, n);
     if i < v {
         constant_of(bytes, reals, r, bytes[sparse::VARIABLE_PLACES + i])
     } else {
@@ -75,9 +63,10 @@ fn value_in(words: &Words, bytes: &Bytes, reals: &Reals, v: usize, r: usize, n: 
 pub fn edit_in(words: &Words, bytes: &Bytes, v: usize, e: usize, n: u64) -> bool
     requires { ⌜ v ≤ mostVariables ⌝ }
     requires { ⌜ e ≤ mostConstraints ⌝ }
+    requires { ⌜ Ascends (now words) variableNumbersAt v ⌝ }
     ensures { λ b. ⌜ b ≡ editIn (now (words .entry)) (now (bytes .entry)) v e n ⌝ }
 {
-    let i = word_from(words, sparse::VARIABLE_NUMBERS, v, n);
+    let i = look_up(words, sparse::VARIABLE_NUMBERS, v, n);
     if i < v {
         byte_from(
             bytes,
@@ -105,7 +94,7 @@ pub fn has_constraint(
         return false;
     }
     let c = words[sparse::CONSTRAINT_COUNT] as usize;
-    word_from(words, sparse::CONSTRAINT_NUMBERS, c, n as u64) < c
+    look_up(words, sparse::CONSTRAINT_NUMBERS, c, n as u64) < c
 }
 
 pub fn has_edit(

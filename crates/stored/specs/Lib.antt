@@ -1,4 +1,4 @@
--- The stored constraints and edits of sparse tables: carried from one set of tables into another, found by number, and what is read afterwards.
+-- The stored constraints and edits of sparse tables: carried from one set of tables into another, and what is read afterwards.
 pub mod Parts
 pub mod Maps
 pub mod Carried
@@ -12,5 +12,4 @@ pub mod Reading
 pub mod Ended
 pub mod Ends
 pub mod Came
-pub mod Found
 pub mod Suggested

@@ -12,6 +12,7 @@ use borrow.Author.Tests.{ltb-true, ltb-false}
 use Rattle.laws.specs.Lists.{sumIn}
 use Rattle.cells.specs.Names.{lastPlace}
 use Rattle.sparse.specs.Places.{mostVariables, mostConstraints, mostTerms, symbolCountAt, variableCountAt, constraintCountAt, editCountAt, idsAt, variableNumbersAt, constraintNumbersAt, variablePlacesAt, constraintMarkersAt, termCountsAt}
+use Rattle.sparse.specs.Lookup.{Ascends, placeFrom, place-here}
 use Rattle.sparse.specs.Sparse.{Sparse, variableCount, termsFrom}
 use Rattle.sparse.specs.Form.{Form}
 
@@ -30,6 +31,9 @@ pub record Names (words bytes : List ℕ) : Type 0 where
   pub ids : Rise words idsAt 1 (1 + getD words symbolCountAt 0)
   pub numbers : Rise words variableNumbersAt 0 (getD words variableCountAt 0)
   pub apart : (i j : ℕ) → i < j → j < getD words variableCountAt 0 → getD bytes (variablePlacesAt + i) 0 ≡ getD bytes (variablePlacesAt + j) 0 → ⊥
+
+pub names-ascend : {words bytes : List ℕ} → Names words bytes → Ascends words variableNumbersAt (getD words variableCountAt 0)
+names-ascend n i j h k = n .numbers i j (omega arith) h k
 
 -- how many terms the c-th constraint has
 abbrev pub countsIn : List ℕ → ℕ → ℕ
@@ -245,8 +249,8 @@ module _ (fw fb tw tb : List ℕ) (s : Names fw fb) (s' : Names tw tb) where
   variables-last r q i h t = record { long = t .long; at = λ i' j a b c. t .at i' j (omega (arith, a, h)) b c }
 
   -- the place of the variable of a number
-  pub number-placed : (n q x : ℕ) → Sought tw variableNumbersAt 0 (getD tw variableCountAt 0) n q → VariableHere tw tb (getD tw variableCountAt 0) q n x → NumberPlace tw tb n x
+  pub number-placed : (n q x : ℕ) → q ≡ placeFrom tw variableNumbersAt (getD tw variableCountAt 0) n → VariableHere tw tb (getD tw variableCountAt 0) q n x → NumberPlace tw tb n x
   number-placed n q x k e j a h =
-      let y = sought-is tw variableNumbersAt 0 0 (getD tw variableCountAt 0) n q (omega arith) (s' .numbers) k (λ i b c. absurd (omega (arith, c))) j (omega arith) a h in
+      let y : q ≡ j = k ∙ sym (place-here tw variableNumbersAt (getD tw variableCountAt 0) n (names-ascend s') j a h) in
       let m : getD tw (variableNumbersAt + q) 0 ≡ n = rw y h in
       e (omega (arith, y, a)) m ∙ rw y refl

@@ -6,6 +6,7 @@ ghost use Rattle.stored.specs.Maps.{Names, Sought, TagHere, VariableHere
 use crate::parts::wide;
 use sparse::Bytes;
 use sparse::Words;
+use sparse::lookup::look_up;
 
 // The first of the places from `start` on, before e, whose number is no smaller than x; e if there is none.
 pub fn seek(words: &Words, base: usize, start: usize, e: usize, x: u64) -> usize
@@ -98,6 +99,6 @@ pub fn number_place(words: &Words, bytes: &Bytes, n: u64) -> u8
     ensures { λ r. ⌜ NumberPlace (now (words .entry)) (now (bytes .entry)) n r ⌝ }
 {
     let e = words[sparse::VARIABLE_COUNT] as usize;
-    let q = seek(words, sparse::VARIABLE_NUMBERS, 0, e, n);
+    let q = look_up(words, sparse::VARIABLE_NUMBERS, e, n);
     variable_at(words, bytes, e, q, n)
 }

@@ -1,14 +1,14 @@
 -- A variable found by number: what the steps' `findVariable` makes of the variables that are read.
 -- Assumes nothing.
-use Prim.Native.Nat.{ℕ, zero, suc, _+_, _-_, _<_}
+use Prim.Native.Nat.{ℕ, zero, suc, _+_, _-_, _≤_, _<_}
 use mathlib.Core.Path.{_≡_, refl}
 use mathlib.Core.Bool.{Bool, true, false, cond}
 use mathlib.Core.List.{List}
 use mathlib.Core.Option.{none, some}
 use native.Mathlib.Omega.{arith}
-use lib.Dec.{eqb}
+use lib.Dec.{eqb, ltb}
 use lib.ListN.{getD}
-use borrow.Author.Tests.{eqb-true, eqb-false}
+use borrow.Author.Tests.{eqb-true, eqb-false, lt-ltb, le-ltb}
 use Rattle.laws.specs.Loops.{seek, first}
 use Rattle.laws.specs.Lists.{tab, listOf}
 use Rattle.steps.specs.Changes.{findVariable}
@@ -16,7 +16,9 @@ use Rattle.choose.specs.declared.Found.{Found}
 use Rattle.choose.specs.declared.Found.the-variants.{At, Nothing}
 use Rattle.choose.specs.Choose.{onFound}
 use Rattle.cells.specs.Seek.{first-elim}
+use Rattle.places.specs.Finding.{placeIn}
 use Rattle.sparse.specs.Places.{variableCountAt, variableNumbersAt}
+use Rattle.sparse.specs.Lookup.{placeFrom}
 use Rattle.sparse.specs.Sparse.{Sparse, variableCount, variableOf, read}
 use Rattle.variables.specs.Variables.{foundIn}
 
@@ -70,3 +72,31 @@ module _ (n : ℕ) (words : List ℕ) where
   pub found-none : foundIn n words ≡ Nothing → (j : ℕ) → j < count → n ≡ number j → ⊥
   unfolding Tells
   found-none e = told e
+
+-- ---- by the walk's place, as the lookup gives it
+
+on-place : (p : ℕ → Bool) (e k i : ℕ) → i + k ≡ e → seek p At Nothing k i ≡ cond (ltb (seek p (λ j. j) e k i) e) (At (seek p (λ j. j) e k i)) Nothing
+unfolding seek
+on-place p e zero i s = rw (le-ltb e e (omega arith)) refl
+on-place p e (suc k) i s = go (p i) (on-place p e k (suc i) (omega (arith, s)))
+  where
+    go : (b : Bool) → seek p At Nothing k (suc i) ≡ cond (ltb (seek p (λ j. j) e k (suc i)) e) (At (seek p (λ j. j) e k (suc i))) Nothing
+        → cond b (At i) (seek p At Nothing k (suc i)) ≡ cond (ltb (cond b i (seek p (λ j. j) e k (suc i))) e) (At (cond b i (seek p (λ j. j) e k (suc i)))) Nothing
+    go true r = rw (lt-ltb i e (omega (arith, s))) refl
+    go false r = r
+
+module _ (n : ℕ) (words : List ℕ) {v : ℕ} (e : v ≡ placeFrom words variableNumbersAt (getD words variableCountAt 0) n) where
+  by-place : foundIn n words ≡ cond (ltb v (getD words variableCountAt 0)) (At v) Nothing
+  unfolding foundIn first placeFrom placeIn
+  by-place =
+      let k : ℕ = getD words variableCountAt 0 in
+      let q : k - 0 ≡ k = omega arith in
+      let w : ℕ → ℕ = λ j. getD words (variableNumbersAt + j) 0 in
+      let e' : v ≡ seek (λ j. eqb n (w j)) (λ j. j) k k 0 = rw q at e in
+      rw (q, e') (on-place (λ j. eqb n (w j)) k k 0 (omega arith))
+
+  pub placed-at : v < getD words variableCountAt 0 → At v ≡ foundIn n words
+  placed-at h = rw (by-place, lt-ltb v (getD words variableCountAt 0) h) refl
+
+  pub placed-nowhere : getD words variableCountAt 0 ≤ v → Nothing ≡ foundIn n words
+  placed-nowhere h = rw (by-place, le-ltb v (getD words variableCountAt 0) h) refl

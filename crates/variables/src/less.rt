@@ -2,7 +2,8 @@
 ghost use mathlib.Core.Path.{_≡_};
 ghost use Prim.Native.Nat.{_-_, _≤_, _<_};
 ghost use lib.ListN.{getD};
-ghost use Rattle.sparse.specs.Places.{mostVariables, variableCountAt};
+ghost use Rattle.sparse.specs.Places.{mostVariables, variableCountAt, variableNumbersAt};
+ghost use Rattle.sparse.specs.Lookup.{Ascends};
 ghost use Rattle.variables.specs.declared.less.Gone.the-variants.{Stays};
 ghost use Rattle.variables.specs.Less.{wentWords, wentBytes, wentReals, loss, lostUse, lessOf};
 use crate::found::find_variable;
@@ -68,6 +69,7 @@ fn lose_use(words: &mut Words, bytes: &mut Bytes, reals: &mut Reals, v: usize) -
 // One use of the variable less: at its last use it goes, and the place of its symbol is given back.
 pub fn use_less(words: &mut Words, bytes: &mut Bytes, reals: &mut Reals, n: u64) -> Gone
     requires { ⌜ getD (now words) variableCountAt 0 ≤ mostVariables ⌝ }
+    requires { ⌜ Ascends (now words) variableNumbersAt (getD (now words) variableCountAt 0) ⌝ }
     ensures { λ r. ⌜ loss (now (words .exit)) (now (bytes .exit)) (now (reals .exit)) r ≡ lessOf n (now (words .entry)) (now (bytes .entry)) (now (reals .entry)) ⌝ }
 {
     let f = find_variable(words, n);

@@ -18,7 +18,7 @@ unfolding addRefusal
 says w p u constant strength h₁ h₂ h₃ h₄ = rw (h₄, h₃, h₂, h₁) refl
 
 is-live-requires : tie.Need-is-live-requires
-is-live-requires c κs = omega arith
+is-live-requires c κs = (omega arith, search needs)
 
 returns : tie.Need-returns
 returns c = says (c .before .before .before .before .before .args .words .now) (c .before .before .before .before .before .args .p) (c .before .before .before .before .before .args .n) (c .before .before .before .before .before .args .constant) (c .before .before .before .before .before .args .strength) (c .before .before .before .before .room-tests .ensures) (c .before .before .is-live .ensures) (c .before .refusal .ensures) (c .input-tests .ensures)

@@ -9,7 +9,7 @@ use Rattle.refusals.proofs.is_live.Tie as tie
 
 returns : tie.Need-returns
 unfolding liveIn
-returns c = ap (λ (z : ℕ). ltb z (c .before .args .c)) (c .word-from .ensures .0)
+returns c = ap (λ (z : ℕ). ltb z (c .before .args .c)) (c .look-up .ensures .0)
 
 pub is-live-spec : {M : Type 1} → statement M
 is-live-spec = tie.close (tie.spec (λ c κs. search needs) returns)

@@ -24,7 +24,7 @@ loop-holds c = (
 )
 
 new-at-requires : tie.Need-new-at-requires Inv-loop μ-loop
-new-at-requires c κs = (search needs, omega arith)
+new-at-requires c κs = (search needs, (omega arith, search needs))
 
 add-s : tie.Need-add-s Inv-loop μ-loop
 add-s c = omega (arith, c .new-at .ensures .1)

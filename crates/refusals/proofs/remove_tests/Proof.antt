@@ -15,7 +15,7 @@ unfolding removeRefusal
 says w u h₁ h₂ = rw (h₂, h₁) refl
 
 is-live-requires : tie.Need-is-live-requires
-is-live-requires c κs = omega arith
+is-live-requires c κs = (omega arith, search needs)
 
 returns : tie.Need-returns
 returns c = says (c .before .before .before .args .words .now) (c .before .before .before .args .n) (c .before .is-live .ensures) (c .refusal .ensures)

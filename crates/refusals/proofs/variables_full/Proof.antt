@@ -17,7 +17,7 @@ unfolding variablesFullIn
 says w p h₁ h₂ = rw (h₂, h₁) refl
 
 new-variables-requires : tie.Need-new-variables-requires
-new-variables-requires c κs = omega arith
+new-variables-requires c κs = (omega arith, search needs)
 
 add-result : tie.Need-add-result
 add-result c = omega (arith, c .new-variables .ensures .1)

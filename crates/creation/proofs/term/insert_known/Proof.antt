@@ -10,7 +10,7 @@ use Rattle.creation.proofs.term.insert_known.Statement.{statement}
 use Rattle.creation.proofs.term.insert_known.Tie as tie
 
 find-variable-requires : tie.Need-find-variable-requires
-find-variable-requires c κs = c .before .pre .0 .sound .named .few-variables
+find-variable-requires c κs = (c .before .pre .0 .sound .named .few-variables, c .before .pre .0 .owners .up)
 
 returns : tie.Need-returns
 returns c = (used-none _ _ _ _ (c .before .before .before .before .pre .0) _ (sym (c .before .before .find-variable .ensures .0) ∙ c .enum-told .given .1), steps-none 0 1 _)

@@ -7,7 +7,7 @@ use Rattle.creation.proofs.term.insert_term.Statement.{statement}
 use Rattle.creation.proofs.term.insert_term.Tie as tie
 
 know-variable-requires : tie.Need-know-variable-requires
-know-variable-requires c κs = (c .before .before .before .before .pre .0 .sound, c .before .before .before .before .pre .1 .0)
+know-variable-requires c κs = (c .before .before .before .before .pre .0 .sound, (c .before .before .before .before .pre .1 .0, c .before .before .before .before .pre .0 .owners))
 
 insert-known-requires : tie.Need-insert-known-requires
 insert-known-requires c κs = let h = c .before .before .before .before .know-variable .ensures _ (c .before .before .before .before .before .before .before .before .before .pre .0) in (h .builds .stands, λ v l. let u = h .steps .uses mostSpare (c .before .before .before .before .before .before .before .before .before .pre .1 .1) v l in omega (arith, u))

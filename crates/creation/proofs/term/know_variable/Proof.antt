@@ -8,10 +8,10 @@ use Rattle.creation.proofs.term.know_variable.Statement.{statement}
 use Rattle.creation.proofs.term.know_variable.Tie as tie
 
 find-variable-requires : tie.Need-find-variable-requires
-find-variable-requires c κs = c .before .pre .0 .named .few-variables
+find-variable-requires c κs = (c .before .pre .0 .named .few-variables, c .before .pre .1 .1 .up)
 
 new-variable-requires : tie.Need-new-variable-requires
-new-variable-requires c κs = let e = sym (c .before .before .before .before .before .before .find-variable .ensures .0) ∙ c .before .before .before .before .enum-told .given .1 in let r = c .before .before .before .before .before .before .before .before .pre .1 e in (c .before .before .before .before .before .before .before .before .pre .0, (omega (arith, r .1), (omega (arith, r .0), (r .2, e))))
+new-variable-requires c κs = let e = sym (c .before .before .before .before .before .before .find-variable .ensures .0) ∙ c .before .before .before .before .enum-told .given .1 in let r = c .before .before .before .before .before .before .before .before .pre .1 .0 e in (c .before .before .before .before .before .before .before .before .pre .0, (omega (arith, r .1), (omega (arith, r .0), (r .2, e))))
 
 returns : tie.Need-returns
 returns c = λ a s. let h = c .new-variable .ensures a s in known-new _ a _ _ _ _ (sym (c .before .before .before .before .before .before .before .find-variable .ensures .0) ∙ c .before .before .before .before .before .enum-told .given .1) (h .0) (h .1)

@@ -6,14 +6,19 @@ use Rattle.terms.specs.Terms.{listed}
 use Rattle.sparse_copy.specs.Over.{tables}
 use Rattle.refusals.specs.Refusals.{addRefusal}
 use Rattle.refusals.specs.Numbers.{add-low}
-use Rattle.solver.specs.Begin.{counts-at-start}
+use Rattle.solver.specs.Begin.{counts-at-start, numbers-at-start, constraints-at-start}
 use Rattle.solver.specs.Adding.{add-by-test}
 use borrow.Author.Needs.{needs}
 use Rattle.solver.proofs.add.add.Statement.{statement}
 use Rattle.solver.proofs.add.add.Tie as tie
 
 add-tests-requires : tie.Need-add-tests-requires
-add-tests-requires c κs = let k = counts-at-start (tables (c .before .before .args .words .now) (c .before .before .args .keys .now) (c .before .before .args .bytes .now) (c .before .before .args .reals .now) (c .before .before .args .values .now)) (tables (c .before .before .args .wwords .now) (c .before .before .args .wkeys .now) (c .before .before .args .wbytes .now) (c .before .before .args .wreals .now) (c .before .before .args .wvalues .now)) (c .before .before .pre) in (k .variables, (k .constraints, k .edits))
+add-tests-requires c κs =
+    let t = tables (c .before .before .args .words .now) (c .before .before .args .keys .now) (c .before .before .args .bytes .now) (c .before .before .args .reals .now) (c .before .before .args .values .now) in
+    let w = tables (c .before .before .args .wwords .now) (c .before .before .args .wkeys .now) (c .before .before .args .wbytes .now) (c .before .before .args .wreals .now) (c .before .before .args .wvalues .now) in
+    let en = c .before .before .pre in
+    let k = counts-at-start t w en in
+    (k .variables, (k .constraints, (k .edits, (numbers-at-start t w en, constraints-at-start t w en))))
 
 by-test-requires : tie.Need-by-test-requires
 by-test-requires c κs = rw (c .before .add-tests .ensures) (add-low (c .before .before .before .before .args .n) (c .before .before .before .proper .result) (c .before .before .before .before .args .constant) (c .before .before .strength-of .result) (c .before .before .before .before .args .words .now))

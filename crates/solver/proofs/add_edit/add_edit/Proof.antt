@@ -4,14 +4,19 @@ use lib.Ieee.{Float}
 use Rattle.sparse_copy.specs.Over.{tables}
 use Rattle.refusals.specs.Refusals.{addEditRefusal}
 use Rattle.refusals.specs.Numbers.{add-edit-low}
-use Rattle.solver.specs.Begin.{counts-at-start}
+use Rattle.solver.specs.Begin.{counts-at-start, numbers-at-start}
 use Rattle.solver.specs.EditAdding.{add-edit-by-test}
 use borrow.Author.Needs.{needs}
 use Rattle.solver.proofs.add_edit.add_edit.Statement.{statement}
 use Rattle.solver.proofs.add_edit.add_edit.Tie as tie
 
 add-edit-tests-requires : tie.Need-add-edit-tests-requires
-add-edit-tests-requires c κs = let k = counts-at-start (tables (c .before .args .words .now) (c .before .args .keys .now) (c .before .args .bytes .now) (c .before .args .reals .now) (c .before .args .values .now)) (tables (c .before .args .wwords .now) (c .before .args .wkeys .now) (c .before .args .wbytes .now) (c .before .args .wreals .now) (c .before .args .wvalues .now)) (c .before .pre) in (k .variables, (k .constraints, k .edits))
+add-edit-tests-requires c κs =
+    let t = tables (c .before .args .words .now) (c .before .args .keys .now) (c .before .args .bytes .now) (c .before .args .reals .now) (c .before .args .values .now) in
+    let w = tables (c .before .args .wwords .now) (c .before .args .wkeys .now) (c .before .args .wbytes .now) (c .before .args .wreals .now) (c .before .args .wvalues .now) in
+    let en = c .before .pre in
+    let k = counts-at-start t w en in
+    (k .variables, (k .constraints, (k .edits, numbers-at-start t w en)))
 
 by-test-requires : tie.Need-by-test-requires
 by-test-requires c κs = rw (c .before .add-edit-tests .ensures) (add-edit-low (c .before .before .before .args .n) (c .before .before .clip .result) (c .before .before .before .args .words .now) (c .before .before .before .args .bytes .now))

@@ -3,14 +3,18 @@ use mathlib.Core.Path.{sym, _∙_}
 use Rattle.sparse_copy.specs.Over.{tables}
 use Rattle.refusals.specs.Known.{remove-passed}
 use Rattle.refusals.specs.Numbers.{remove-low}
-use Rattle.solver.specs.Begin.{counts-at-start}
+use Rattle.solver.specs.Begin.{counts-at-start, constraints-at-start}
 use Rattle.solver.specs.Removing.{remove-by-test}
 use borrow.Author.Needs.{needs}
 use Rattle.solver.proofs.remove.remove.Statement.{statement}
 use Rattle.solver.proofs.remove.remove.Tie as tie
 
 remove-tests-requires : tie.Need-remove-tests-requires
-remove-tests-requires c κs = let k = counts-at-start (tables (c .args .words .now) (c .args .keys .now) (c .args .bytes .now) (c .args .reals .now) (c .args .values .now)) (tables (c .args .wwords .now) (c .args .wkeys .now) (c .args .wbytes .now) (c .args .wreals .now) (c .args .wvalues .now)) (c .pre) in k .constraints
+remove-tests-requires c κs =
+    let t = tables (c .args .words .now) (c .args .keys .now) (c .args .bytes .now) (c .args .reals .now) (c .args .values .now) in
+    let w = tables (c .args .wwords .now) (c .args .wkeys .now) (c .args .wbytes .now) (c .args .wreals .now) (c .args .wvalues .now) in
+    let en = c .pre in
+    (counts-at-start t w en .constraints, constraints-at-start t w en)
 
 by-test-requires : tie.Need-by-test-requires
 by-test-requires c κs = rw (c .before .remove-tests .ensures) (remove-low (c .before .before .args .n) (c .before .before .args .words .now))

@@ -3,14 +3,19 @@ use mathlib.Core.Path.{sym, _∙_}
 use Rattle.sparse_copy.specs.Over.{tables}
 use Rattle.refusals.specs.Known.{remove-edit-passed}
 use Rattle.refusals.specs.Numbers.{remove-edit-low}
-use Rattle.solver.specs.Begin.{counts-at-start}
+use Rattle.solver.specs.Begin.{counts-at-start, numbers-at-start}
 use Rattle.solver.specs.EditRemoving.{remove-edit-by-test}
 use borrow.Author.Needs.{needs}
 use Rattle.solver.proofs.remove_edit.remove_edit.Statement.{statement}
 use Rattle.solver.proofs.remove_edit.remove_edit.Tie as tie
 
 remove-edit-tests-requires : tie.Need-remove-edit-tests-requires
-remove-edit-tests-requires c κs = let k = counts-at-start (tables (c .args .words .now) (c .args .keys .now) (c .args .bytes .now) (c .args .reals .now) (c .args .values .now)) (tables (c .args .wwords .now) (c .args .wkeys .now) (c .args .wbytes .now) (c .args .wreals .now) (c .args .wvalues .now)) (c .pre) in (k .variables, k .edits)
+remove-edit-tests-requires c κs =
+    let t = tables (c .args .words .now) (c .args .keys .now) (c .args .bytes .now) (c .args .reals .now) (c .args .values .now) in
+    let w = tables (c .args .wwords .now) (c .args .wkeys .now) (c .args .wbytes .now) (c .args .wreals .now) (c .args .wvalues .now) in
+    let en = c .pre in
+    let k = counts-at-start t w en in
+    (k .variables, (k .edits, numbers-at-start t w en))
 
 by-test-requires : tie.Need-by-test-requires
 by-test-requires c κs = rw (c .before .remove-edit-tests .ensures) (remove-edit-low (c .before .before .args .n) (c .before .before .args .words .now) (c .before .before .args .bytes .now))

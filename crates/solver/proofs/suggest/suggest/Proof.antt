@@ -3,14 +3,19 @@ use mathlib.Core.Path.{sym, _∙_}
 use Rattle.sparse_copy.specs.Over.{tables}
 use Rattle.refusals.specs.Known.{suggest-passed}
 use Rattle.refusals.specs.Numbers.{suggest-low}
-use Rattle.solver.specs.Begin.{counts-at-start}
+use Rattle.solver.specs.Begin.{counts-at-start, numbers-at-start}
 use Rattle.solver.specs.Suggesting.{suggest-by-test}
 use borrow.Author.Needs.{needs}
 use Rattle.solver.proofs.suggest.suggest.Statement.{statement}
 use Rattle.solver.proofs.suggest.suggest.Tie as tie
 
 suggest-tests-requires : tie.Need-suggest-tests-requires
-suggest-tests-requires c κs = let k = counts-at-start (tables (c .args .words .now) (c .args .keys .now) (c .args .bytes .now) (c .args .reals .now) (c .args .values .now)) (tables (c .args .wwords .now) (c .args .wkeys .now) (c .args .wbytes .now) (c .args .wreals .now) (c .args .wvalues .now)) (c .pre) in (k .variables, k .edits)
+suggest-tests-requires c κs =
+    let t = tables (c .args .words .now) (c .args .keys .now) (c .args .bytes .now) (c .args .reals .now) (c .args .values .now) in
+    let w = tables (c .args .wwords .now) (c .args .wkeys .now) (c .args .wbytes .now) (c .args .wreals .now) (c .args .wvalues .now) in
+    let en = c .pre in
+    let k = counts-at-start t w en in
+    (k .variables, (k .edits, numbers-at-start t w en))
 
 by-test-requires : tie.Need-by-test-requires
 by-test-requires c κs = rw (c .before .suggest-tests .ensures) (suggest-low (c .before .before .args .n) (c .before .before .args .new) (c .before .before .args .words .now) (c .before .before .args .bytes .now))

@@ -1,7 +1,7 @@
 -- `solver::suggest::suggest_known` meets its contract. Assumes nothing.
 use native.Mathlib.Omega.{arith}
 use Rattle.sparse_copy.specs.Over.{tables}
-use Rattle.solver.specs.Begin.{counts-at-start, standing-at-start}
+use Rattle.solver.specs.Begin.{counts-at-start, numbers-at-start, standing-at-start}
 use Rattle.solver.specs.Placed.{variable-known}
 use Rattle.solver.specs.Suggesting.{in-range, drag-live, drag-comes, drag-refused, drag-accepted}
 use borrow.Author.Needs.{needs}
@@ -9,7 +9,12 @@ use Rattle.solver.proofs.suggest.suggest_known.Statement.{statement}
 use Rattle.solver.proofs.suggest.suggest_known.Tie as tie
 
 edit-place-requires : tie.Need-edit-place-requires
-edit-place-requires c κs = let k = counts-at-start (tables (c .before .args .words .now) (c .before .args .keys .now) (c .before .args .bytes .now) (c .before .args .reals .now) (c .before .args .values .now)) (tables (c .before .args .wwords .now) (c .before .args .wkeys .now) (c .before .args .wbytes .now) (c .before .args .wreals .now) (c .before .args .wvalues .now)) (c .before .pre .0) in (k .variables, (k .edits, variable-known (c .before .args .words .now) (c .before .args .bytes .now) (c .before .args .n) (c .before .pre .1 .1)))
+edit-place-requires c κs =
+    let t = tables (c .before .args .words .now) (c .before .args .keys .now) (c .before .args .bytes .now) (c .before .args .reals .now) (c .before .args .values .now) in
+    let w = tables (c .before .args .wwords .now) (c .before .args .wkeys .now) (c .before .args .wbytes .now) (c .before .args .wreals .now) (c .before .args .wvalues .now) in
+    let en = c .before .pre .0 in
+    let k = counts-at-start t w en in
+    (k .variables, (k .edits, (variable-known (c .before .args .words .now) (c .before .args .bytes .now) (c .before .args .n) (c .before .pre .1 .1), numbers-at-start t w en)))
 
 add-marker : tie.Need-add-marker
 add-marker c = let k = counts-at-start (tables (c .before .before .args .words .now) (c .before .before .args .keys .now) (c .before .before .args .bytes .now) (c .before .before .args .reals .now) (c .before .before .args .values .now)) (tables (c .before .before .args .wwords .now) (c .before .before .args .wkeys .now) (c .before .before .args .wbytes .now) (c .before .before .args .wreals .now) (c .before .before .args .wvalues .now)) (c .before .before .pre .0) .edits in let l = in-range (c .before .before .args .n) (c .before .before .args .budget) (c .before .before .args .new) (tables (c .before .before .args .words .now) (c .before .before .args .keys .now) (c .before .before .args .bytes .now) (c .before .before .args .reals .now) (c .before .before .args .values .now)) (tables (c .before .before .args .wwords .now) (c .before .before .args .wkeys .now) (c .before .before .args .wbytes .now) (c .before .before .args .wreals .now) (c .before .before .args .wvalues .now)) (c .before .before .pre .0) (c .edit-place .result) (c .before .before .pre .1 .0) (c .before .before .pre .1 .1) (c .edit-place .ensures) in omega (arith, k, l)

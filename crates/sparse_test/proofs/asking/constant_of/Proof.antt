@@ -8,7 +8,8 @@ use lib.ListN.{getD}
 use borrow.Author.Tests.{lt-ltb, le-ltb}
 use Rattle.steps.specs.Number.{zero64}
 use Rattle.sparse.specs.Places.{rowPlacesAt, constantsAt}
-use Rattle.sparse_test.specs.Asked.{placeFrom, constantOf}
+use Rattle.sparse.specs.Lookup.{placeFrom}
+use Rattle.sparse_test.specs.Asked.{constantOf}
 use borrow.Author.Needs.{needs}
 use Rattle.sparse_test.proofs.asking.constant_of.Statement.{statement}
 use Rattle.sparse_test.proofs.asking.constant_of.Tie as tie

@@ -8,7 +8,8 @@ use lib.Dec.{ltb}
 use lib.ListN.{getD}
 use borrow.Author.Tests.{lt-ltb, le-ltb}
 use Rattle.sparse.specs.Places.{variableNumbersAt, variablePlacesAt, editVariablesAt}
-use Rattle.sparse_test.specs.Asked.{placeFrom, editIn}
+use Rattle.sparse.specs.Lookup.{placeFrom}
+use Rattle.sparse_test.specs.Asked.{editIn}
 use borrow.Author.Needs.{needs}
 use Rattle.sparse_test.proofs.asking.edit_in.Statement.{statement}
 use Rattle.sparse_test.proofs.asking.edit_in.Tie as tie
@@ -23,10 +24,10 @@ module _ (w b : List ℕ) (v e n : ℕ) where
   none {i} q h = rw (← q, le-ltb i v h) refl
 
 returns : tie.Need-returns
-returns c = found _ _ _ _ _ (c .before .before .before .word-from .ensures .0) (c .before .before .if1 .taken) (c .byte-from .ensures .0)
+returns c = found _ _ _ _ _ (c .before .before .before .look-up .ensures .0) (c .before .before .if1 .taken) (c .byte-from .ensures .0)
 
 returns-2 : tie.Need-returns-2
-returns-2 c = none _ (c .before .before .args .bytes .now) _ (c .before .before .args .e) _ (c .before .word-from .ensures .0) (c .if1 .left)
+returns-2 c = none _ (c .before .before .args .bytes .now) _ (c .before .before .args .e) _ (c .before .look-up .ensures .0) (c .if1 .left)
 
 pub edit-in-spec : {M : Type 1} → statement M
 edit-in-spec =

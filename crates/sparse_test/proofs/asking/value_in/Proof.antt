@@ -8,7 +8,8 @@ use lib.ListN.{getD}
 use borrow.Author.Tests.{lt-ltb, le-ltb}
 use Rattle.steps.specs.Number.{zero64}
 use Rattle.sparse.specs.Places.{variableNumbersAt, variablePlacesAt}
-use Rattle.sparse_test.specs.Asked.{placeFrom, constantOf, valueIn}
+use Rattle.sparse.specs.Lookup.{placeFrom}
+use Rattle.sparse_test.specs.Asked.{constantOf, valueIn}
 use borrow.Author.Needs.{needs}
 use Rattle.sparse_test.proofs.asking.value_in.Statement.{statement}
 use Rattle.sparse_test.proofs.asking.value_in.Tie as tie
@@ -23,11 +24,11 @@ module _ (w b : List ℕ) (f : List Float) (v r n : ℕ) where
   none {i} e h = rw (← e, le-ltb i v h) refl
 
 returns : tie.Need-returns
-returns c = found _ _ _ _ _ _ (c .before .before .before .word-from .ensures .0) (c .before .before .if1 .taken) (c .constant-of .ensures)
+returns c = found _ _ _ _ _ _ (c .before .before .before .look-up .ensures .0) (c .before .before .if1 .taken) (c .constant-of .ensures)
 
 returns-2 : tie.Need-returns-2
 unfolding zero64
-returns-2 c = none _ (c .before .before .args .bytes .now) (c .before .before .args .reals .now) _ (c .before .before .args .r) _ (c .before .word-from .ensures .0) (c .if1 .left)
+returns-2 c = none _ (c .before .before .args .bytes .now) (c .before .before .args .reals .now) _ (c .before .before .args .r) _ (c .before .look-up .ensures .0) (c .if1 .left)
 
 pub value-in-spec : {M : Type 1} → statement M
 value-in-spec =
