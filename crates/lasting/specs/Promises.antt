@@ -4,6 +4,8 @@ use mathlib.Core.Path.{_≡_, refl, sym, ap, _∙_}
 use mathlib.Core.Logic.{_≢_}
 use mathlib.Core.Bool.{Bool, true, false, cond}
 use native.Mathlib.Omega.{arith}
+use lib.Ieee.{Float}
+use Rattle.steps.specs.Number.{cutoffFits}
 use Rattle.steps.specs.State.{State}
 use Rattle.steps.specs.Changes.{fetchChanges}
 use Rattle.steps.specs.Calls.{Result, reset, empty}
@@ -88,7 +90,7 @@ fetch-holds s t h =
     let e : read t ≡ s = h .state in
     rw (h .reads, ← e) (written-holds (fetchChanges (read t) .state) t (fetch-reads (read t) (reads-readable t (h .reads))) (fetch-narrow (read t) (narrow-of t (h .reads))) (fetch-plain (read t) (plain-of t (h .reads))) (h .lengths))
 
--- a reset of any tables of the right lengths
-pub reset-holds : (t : Sparse) → Lengths t → Holds empty (resetOf t .tables)
-unfolding resetOf callIn reset
-reset-holds t l = written-holds empty t empty-reads empty-narrow empty-plain l
+-- a reset of any tables of the right lengths, with a cutoff in its range
+pub reset-holds : (cutoff : Float) → cutoffFits cutoff ≡ true → (t : Sparse) → Lengths t → Holds (empty cutoff) (resetOf cutoff t .tables)
+unfolding resetOf
+reset-holds cutoff fits t l = rw fits (written-holds (empty cutoff) t (empty-reads cutoff fits) (empty-narrow cutoff) (empty-plain cutoff) l)

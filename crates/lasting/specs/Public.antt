@@ -36,7 +36,7 @@ use Rattle.lasting.specs.Promises.{Holds, call-holds, fetch-holds, reset
 -- a call of a run over tables, with its working room: what its contract says that it answers and leaves. A fetch is no changing call: it leaves what its contract
 -- says, and counts as accepted here, with the stored mark, as in `make`; what it lists is `tables-fetch`.
 unfoldable pub makeOn : Call → Sparse → Sparse → Called
-makeOn resets work t = resetOf t
+makeOn (resets cutoff) work t = resetOf cutoff t
 makeOn fetches work t = called (record { number = 0; pivots = 0; whole = read t .whole }) (fetchOf t .tables)
 makeOn (adds n terms constant relation budget) work t = callOf (add n terms constant relation budget) work t
 makeOn (removes n budget) work t = callOf (remove n budget) work t
@@ -96,7 +96,7 @@ unfitNumber (addsText n line budget) = lineNumber (readLine line)
 
 -- what the types of the call's numbers say: a constraint's and a variable's number is a u32
 abbrev pub TypedCall : Call → Type 0
-TypedCall resets = Unit {0}
+TypedCall (resets cutoff) = Unit {0}
 TypedCall fetches = Unit {0}
 TypedCall (adds n terms constant relation budget) = Typed (changing.adds n terms constant relation budget)
 TypedCall (removes n budget) = Unit {0}
@@ -124,9 +124,14 @@ Steps k s t r (some c) = (r .answer ≡ make c s .answer) × Holds (make c s .st
 Steps k s t r none = (r .answer .number ≡ k) × (r .tables ≡ t) × (r .answer .whole ≡ true → read t .whole ≡ true)
 
 module _ (s : State) (w t : Sparse) (h : Holds s t) where
+  -- a reset with a cutoff outside its range is refused by 24: the tables stay, and the stored mark is answered
+  reset-is : (cutoff : Float) (b : Bool) → cutoffFits cutoff ≡ b → (resetOf cutoff t .answer ≡ reset cutoff s .answer) × Holds (reset cutoff s .state) (resetOf cutoff t .tables)
+  reset-is cutoff true e = rw (reset-taken cutoff s e) (ap (λ (r : Called). r .answer) (reset-accepts cutoff t e), reset-holds cutoff e t (h .lengths))
+  reset-is cutoff false e = rw (reset-refused cutoff s e, reset-refuses cutoff t e) (rw (h .reads, h .state, asked) refl, h)
+
   made-is : (c : Call) → TypedCall c → Steps 18 s t (makeOn c w t) (some c)
   unfolding makeOn make
-  made-is resets typed = unfold resetOf callIn reset in (refl, reset-holds t (h .lengths))
+  made-is (resets cutoff) typed = reset-is cutoff (cutoffFits cutoff) refl
   made-is fetches typed = (rw (h .state) refl, fetch-holds s t h)
   made-is (adds n ts k r b) typed = call-holds (changing.adds n ts k r b) s w t typed h
   made-is (removes n b) typed = call-holds (changing.removes n b) s w t typed h

@@ -35,7 +35,7 @@ turnSaid c t = said (replyText (turn c (read t) .reply)) (write (turn c (read t)
 
 -- every call but the steps' three aids for tests
 unfoldable pub ofDocument : Call → Bool
-ofDocument resets = true
+ofDocument (resets x) = true
 ofDocument (adds n ts k r b) = true
 ofDocument (removes n b) = true
 ofDocument (addsEdit v x b) = true
@@ -87,7 +87,7 @@ module _ (t : Sparse) (ok : reads t ≡ true) where
 
   pub reply-turn : (c : Call) → ofDocument c ≡ true → replyOf (some c) t ≡ turnSaid c t
   unfolding replyOf turnSaid turn answered replyText saidBy resetOf callOf callIn asked fetchSaid fetchOf fetchIn ofDocument
-  reply-turn resets e = refl
+  reply-turn (resets x) e = reset-turn x
   reply-turn (adds n ts k r b) e = rw ok refl
   reply-turn (removes n b) e = rw ok refl
   reply-turn (addsEdit v x b) e = rw ok refl
