@@ -25,7 +25,7 @@ fn main() {
         &mut bytes,
         &mut reals,
         &mut values,
-        rows::number::USUAL_CUTOFF,
+        text::calls::USUAL_CUTOFF,
     );
     let mut p = stream::begin();
     let mut turns = u64::MAX;

@@ -11,6 +11,9 @@ use changes::Change;
 use tags::Relation;
 use terms::Pack;
 
+// 1E-8: what `reset` alone takes.
+pub const USUAL_CUTOFF: f64 = 0.00000001;
+
 pub enum Related {
     By(Relation),
     NoRelation,

@@ -22,7 +22,7 @@ fn read_one(s: &[u8]) -> Call
 {
     let name = words::word_at(s, 0);
     if digits::same(name, b"reset") {
-        return Call::Reset(rows::number::USUAL_CUTOFF);
+        return Call::Reset(calls::USUAL_CUTOFF);
     }
     if digits::same(name, b"fetch") {
         return Call::Fetch;
