@@ -9,12 +9,12 @@ use lib.ListN.{length}
 use lib.Ieee.{Float}
 use borrow.Author.Tests.{le-leb}
 use Rattle.steps.specs.State.{State}
-use Rattle.steps.specs.Calls.{add, remove, addEdit, removeEdit, suggest, reset}
+use Rattle.steps.specs.Calls.{add, remove, addEdit, removeEdit, suggest}
 use Rattle.steps.specs.Changing as changing
 use Rattle.sparse.specs.Sparse.{Sparse, read}
 use Rattle.sparse_test.specs.Asked.{asked}
 use Rattle.sparse_test.specs.Reads.{greatestU32}
-use Rattle.lending.specs.Lending.{Called, called, callIn, callOf}
+use Rattle.lending.specs.Lending.{Called, called, callOf}
 use Rattle.lending.specs.Reset.{resetOf}
 use Rattle.fetches.specs.Fetch.{fetchOf}
 use Rattle.terms.specs.declared.Term.{Term}
@@ -31,7 +31,7 @@ use Rattle.run.specs.Demand.{Call, resets, fetches, adds, removes, addsEdit, re
 use Rattle.lasting.specs.Numbers.{isU32}
 use Rattle.lasting.specs.Narrow.{Typed}
 use Rattle.lasting.specs.NearAdd.{TermNamed}
-use Rattle.lasting.specs.Promises.{Holds, call-holds, fetch-holds, reset-holds}
+use Rattle.lasting.specs.Promises.{Holds, call-holds, fetch-holds, reset-made}
 
 -- a call of a run over tables, with its working room: what its contract says that it answers and leaves. A fetch is no changing call: it leaves what its contract
 -- says, and counts as accepted here, with the stored mark, as in `make`; what it lists is `tables-fetch`.
@@ -124,14 +124,9 @@ Steps k s t r (some c) = (r .answer ≡ make c s .answer) × Holds (make c s .st
 Steps k s t r none = (r .answer .number ≡ k) × (r .tables ≡ t) × (r .answer .whole ≡ true → read t .whole ≡ true)
 
 module _ (s : State) (w t : Sparse) (h : Holds s t) where
-  -- a reset with a cutoff outside its range is refused by 24: the tables stay, and the stored mark is answered
-  reset-is : (cutoff : Float) (b : Bool) → cutoffFits cutoff ≡ b → (resetOf cutoff t .answer ≡ reset cutoff s .answer) × Holds (reset cutoff s .state) (resetOf cutoff t .tables)
-  reset-is cutoff true e = rw (reset-taken cutoff s e) (ap (λ (r : Called). r .answer) (reset-accepts cutoff t e), reset-holds cutoff e t (h .lengths))
-  reset-is cutoff false e = rw (reset-refused cutoff s e, reset-refuses cutoff t e) (rw (h .reads, h .state, asked) refl, h)
-
   made-is : (c : Call) → TypedCall c → Steps 18 s t (makeOn c w t) (some c)
   unfolding makeOn make
-  made-is (resets cutoff) typed = reset-is cutoff (cutoffFits cutoff) refl
+  made-is (resets cutoff) typed = reset-made cutoff s t h
   made-is fetches typed = (rw (h .state) refl, fetch-holds s t h)
   made-is (adds n ts k r b) typed = call-holds (changing.adds n ts k r b) s w t typed h
   made-is (removes n b) typed = call-holds (changing.removes n b) s w t typed h
