@@ -22,9 +22,8 @@ use Rattle.choose.specs.declared.Found.{Found}
 use Rattle.choose.specs.declared.Found.the-variants.{At, Nothing}
 use Rattle.choose.specs.Better.{within}
 use Rattle.choose.specs.Choose.{Within, onFound}
-use Rattle.sparse.specs.Places.{cutoffAt}
 use Rattle.sparse.specs.Sparse.{Sparse, symbolCount, symbolAt, read}
-use Rattle.waist.specs.Working.{workOf}
+use Rattle.waist.specs.Working.{workOf, cutoffOf}
 use Rattle.waist.specs.declared.ending.Ended.{Ended}
 use Rattle.waist.specs.Ending.{outcomeOf, Goes, ended, is-refused}
 use Rattle.waist.specs.FreePlaces.{free-times}
@@ -71,12 +70,12 @@ module _ (past : Wrote) (t : Sparse) (row : List Float) where
 
     -- ---- all cells are dummies
 
-    pub dummies-enter : {b : Bool} → b ≡ nearZero (getD (t .reals) cutoffAt nan) (getD row 0 nan) → b ≡ true → (r : Ended) (z : Sparse) → outcomeOf false r z ≡ addWithSubject (symbolAt t marker) c
+    pub dummies-enter : {b : Bool} → b ≡ nearZero (cutoffOf t) (getD row 0 nan) → b ≡ true → (r : Ended) (z : Sparse) → outcomeOf false r z ≡ addWithSubject (symbolAt t marker) c
         → outcomeOf false r z ≡ dummiesOf (symbolAt t marker) c
     unfolding dense.rowOf workOf read
     dummies-enter k on r z o = o ∙ ap (dummies (symbolAt t marker) c) (sym on ∙ k)
 
-    pub dummies-refused : {b : Bool} → b ≡ nearZero (getD (t .reals) cutoffAt nan) (getD row 0 nan) → b ≡ false → (outcomeOf false (ended 12 0 past) t ≡ dummiesOf (symbolAt t marker) c) × Goes false (ended 12 0 past) t
+    pub dummies-refused : {b : Bool} → b ≡ nearZero (cutoffOf t) (getD row 0 nan) → b ≡ false → (outcomeOf false (ended 12 0 past) t ≡ dummiesOf (symbolAt t marker) c) × Goes false (ended 12 0 past) t
     unfolding dense.rowOf refuse workOf read
     dummies-refused k off = (is-refused false (ended 12 0 past) t refl ∙ ap (dummies (symbolAt t marker) c) (sym off ∙ k), tt)
 

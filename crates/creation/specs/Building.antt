@@ -22,15 +22,11 @@ use Rattle.rows.specs.Reading as dense
 use Rattle.cells.specs.Names.{rowRoom}
 use Rattle.cells.specs.Cells.{rowOf, loaded}
 use Rattle.cells.specs.Load.{loaded-reads}
-use Rattle.sparse.specs.Places.{constantsAt, cutoffAt}
+use Rattle.sparse.specs.Places.{constantsAt}
 use Rattle.sparse.specs.Sparse.{Sparse, symbolCount, cellCount, symbolAt, basicOf, symbolsOf, read}
 use Rattle.sparse.specs.Widths.{symbols-read}
-use Rattle.waist.specs.Working.{workOf, dense-cells, Sound, live-place}
+use Rattle.waist.specs.Working.{workOf, cutoffOf, dense-cells, Sound, live-place}
 use Rattle.waist.specs.Standing.{Standing}
-
--- the cutoff that reset left in the tables
-abbrev pub cutoffOf : Sparse → Float
-cutoffOf t = getD (t .reals) cutoffAt nan
 
 unfoldable pub buildingOf : Mark → Sparse → List Float → Building
 buildingOf a t row = record { work = workOf false a 0 t; row = dense.rowOf (symbolCount t) row }

@@ -33,12 +33,12 @@ use Rattle.cells.specs.Names.{rowRoom}
 use Rattle.sparse.specs.Sparse.{Sparse, symbolCount, rowCount, variableCount, symbolAt, variableOf, symbolsOf, basicsOf, read}
 use Rattle.substituting.specs.Loose.{SettledRow}
 use Rattle.variables.specs.Found.{variables-are}
-use Rattle.waist.specs.Working.{workOf, artificialOf, dense-cells}
+use Rattle.waist.specs.Working.{cutoffOf, workOf, artificialOf, dense-cells}
 use Rattle.waist.specs.Standing.{Standing}
 use Rattle.waist.specs.Growing.{nextId}
 use Rattle.waist.specs.Tags.{tagAt}
 use Rattle.creation.specs.declared.tag.Tagged.{Tagged}
-use Rattle.creation.specs.Building.{cutoffOf, buildingOf, Builds}
+use Rattle.creation.specs.Building.{buildingOf, Builds}
 use Rattle.creation.specs.Tags.{createdOf, OwnTag, Tags}
 use Rattle.creation.specs.Steps.{Used}
 use Rattle.creation.specs.Going.{newIn, Ready}

@@ -20,9 +20,10 @@ use Rattle.layout.specs.Copy.{most16}
 use Rattle.sparse.specs.Sparse.{Sparse, symbolCount, rowCount, variableCount, read}
 use Rattle.terms.specs.declared.Pack.{Pack}
 use Rattle.terms.specs.Terms.{termOf, termIn, termsOf}
+use Rattle.waist.specs.Working.{cutoffOf}
 use Rattle.waist.specs.Standing.{Standing}
 use Rattle.waist.specs.Growing.{nextId}
-use Rattle.creation.specs.Building.{cutoffOf, buildingOf, Builds}
+use Rattle.creation.specs.Building.{buildingOf, Builds}
 use Rattle.creation.specs.Steps.{Used, mostSpare, Room, Steps, steps-none, steps-then, changes-of, find-of, count-of}
 use Rattle.creation.specs.Terms.{keptBy}
 

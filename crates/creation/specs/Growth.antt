@@ -23,11 +23,11 @@ use Rattle.rows.specs.Reading as dense
 use Rattle.cells.specs.Names.{rowRoom, lastPlace}
 use Rattle.sparse.specs.Places.{variableCountAt}
 use Rattle.sparse.specs.Sparse.{Sparse, symbolCount, rowCount, variableCount, symbolAt, read}
-use Rattle.waist.specs.Working.{sparse, workOf, dense-cells}
+use Rattle.waist.specs.Working.{cutoffOf, sparse, workOf, dense-cells}
 use Rattle.waist.specs.Dropping.{Free}
 use Rattle.waist.specs.Standing.{Standing, Makes, Unowned}
 use Rattle.waist.specs.Growing.{nextId, Grown}
-use Rattle.creation.specs.Building.{cutoffOf, buildingOf, Builds, builds-mark, joined-is, symbol-builds}
+use Rattle.creation.specs.Building.{buildingOf, Builds, builds-mark, joined-is, symbol-builds}
 
 -- what a new symbol leaves as it was, and what it is
 pub record Grows (kind : ℕ) (t u : Sparse) : Type 0 where

@@ -29,9 +29,9 @@ use Rattle.sparse.specs.Sparse.{Sparse, symbolCount, variableCount, symbolAt, v
 use Rattle.variables.specs.Variables.{foundIn, usedWords}
 use Rattle.variables.specs.Found.{found-at}
 use Rattle.variables.specs.Uses.{unused, usedIn, used-word, used-here, use-makes}
-use Rattle.waist.specs.Working.{sparse, workOf}
+use Rattle.waist.specs.Working.{cutoffOf, sparse, workOf}
 use Rattle.waist.specs.Standing.{Standing, Makes}
-use Rattle.creation.specs.Building.{cutoffOf, buildingOf, Builds, builds-mark, joined-is, symbol-builds, row-builds}
+use Rattle.creation.specs.Building.{buildingOf, Builds, builds-mark, joined-is, symbol-builds, row-builds}
 use Rattle.creation.specs.Steps.{Used, Steps, found-same, changes-of, find-of}
 use Rattle.creation.specs.Known.{knownBy, Knows}
 

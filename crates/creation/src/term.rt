@@ -13,10 +13,10 @@ ghost use Rattle.sparse.specs.Places.{mostVariables, symbolCountAt, rowCountAt}
 ghost use Rattle.sparse.specs.Sparse.{symbolCount, rowCount, variableCount, symbolAt, basicOf};
 ghost use Rattle.terms.specs.Terms.{termsOf};
 ghost use Rattle.variables.specs.Variables.{foundIn};
-ghost use Rattle.waist.specs.Working.{lent, Sound};
+ghost use Rattle.waist.specs.Working.{lent, cutoffOf, Sound};
 ghost use Rattle.waist.specs.Standing.{Owners, Standing};
 ghost use Rattle.waist.specs.Growing.{nextId};
-ghost use Rattle.creation.specs.Building.{cutoffOf, Builds};
+ghost use Rattle.creation.specs.Building.{Builds};
 ghost use Rattle.creation.specs.Steps.{Used, mostSpare, Room, Steps};
 ghost use Rattle.creation.specs.Known.{Knows};
 ghost use Rattle.creation.specs.Terms.{usedBy, termOf, keptBy};
