@@ -109,6 +109,7 @@ shift-frame tag delta w =
       next = refl;
       variables = clear-all (notedOf (shiftRows (shiftOf tag delta w) (w .tableau .rows))) (w .changes);
       plain = λ e. e;
+      cutoff = refl;
     }
 
 shift-count : (tag : Tag) (delta : Float) (w : Work) → length (shiftConstants tag delta w .tableau .rows) ≡ length (w .tableau .rows)
@@ -254,6 +255,7 @@ fetch-kept s r =
       constraint-kinds = r .constraint-kinds;
       edits-finite = r .edits-finite;
       edit-kinds = r .edit-kinds;
+      cutoff = r .cutoff;
     }
   where
     bs : List Basic

@@ -3,26 +3,27 @@ use Prim.Native.Nat.{ℕ, _≤_}
 use native.Mathlib.Omega.{arith}
 use mathlib.Core.Path.{_≡_, refl, sym, ap, _∙_, subst}
 use mathlib.Core.Logic.{_⊎_, inl, inr, _≢_}
-use mathlib.Core.Bool.{Bool, true, false, not, true≢false}
+use mathlib.Core.Bool.{Bool, true, false, not, true≢false, _&&_}
 use mathlib.Core.List.{List, [], _∷_, map}
 use mathlib.Core.Option.{Option, none, some}
 use lib.Dec.{lit<, T, eqb, eqb→eq, eqb-refl, ltb, nltb→le}
 use lib.ListN.{length}
 use lib.Ieee.{Float}
 use Rattle.simplex.specs.Choose.{All}
-use Rattle.steps.specs.Number.{wholeIf, belowZero, allWhole, saysWhole}
+use Rattle.steps.specs.Number.{wholeIf, belowZero, allWhole, saysWhole, isWhole, constantBound}
 use Rattle.steps.specs.State.{Term, Relation, strengthOf, Constraint, State}
 use Rattle.steps.specs.CreateRow.{Created}
 use Rattle.steps.specs.Work.{marking, Work, Outcome, refused, going, _>>=_}
 use Rattle.bridge.specs.Runs.{markOf}
+use Rattle.run.specs.Words.{kept-whole, and-left}
 use Rattle.run.specs.Build.{newHeld}
-use Rattle.steps.specs.Add.{wholeInputs, Added, addSteps}
+use Rattle.steps.specs.Add.{wholeInputs, Added, addSteps, wholeTerms, wholeWithin}
 use Rattle.steps.specs.Tests.{findConstraint, keepConstraint, findEdit, hasConstraint, Test, firstRefusal, idsUsed, addTests, keptTerms}
 use Rattle.steps.specs.Calls.{Result, begin, finish, refusedBy, acceptedAs, concludeAdd, add}
 use Rattle.steps.proofs.After.{says-whole}
 use Rattle.keeps.specs.Keys.{findConstraint-is, keepConstraint-is}
 use Rattle.run.specs.Demand.{ofConstraint, ofEdit, sameKey, Demand, Call, adds, make, accepted, Moment, next, None}
-use Rattle.run.specs.Inv.{columns, conOf, Held, findHeld, ConstraintAt, EditAt, Inv}
+use Rattle.run.specs.Inv.{nonZeroTerms, columns, conOf, Held, findHeld, ConstraintAt, EditAt, Inv}
 use Rattle.run.specs.Lookup.{find-keep-same, find-keep-other}
 use Rattle.run.specs.Perm.{found-hit, found-miss}
 use Rattle.run.specs.Suggest.{unchanged, changed}
@@ -154,7 +155,7 @@ module _ (art : ArtificialEnds) (m : Moment) (n : ℕ) (ts : List Term) (k : Flo
   d = record { key = ofConstraint n; terms = ts; constant = k; relation = r }
 
   abbrev stored : Added → Constraint
-  stored a = record { number = n; strength = strengthOf r; terms = keptTerms ts; tag = a .tag }
+  stored a = record { number = n; strength = strengthOf r; terms = keptTerms (m .state .tableau .cutoff) ts; tag = a .tag }
 
   abbrev after : Added → State
   after a = finish (a .work) (keepConstraint (stored a) (m .state .constraints)) (m .state .edits)
@@ -166,10 +167,19 @@ module _ (art : ArtificialEnds) (m : Moment) (n : ℕ) (ts : List Term) (k : Flo
       go none q a = q
       go (some h) q a = absurd a
 
+  counts : wholeInputs ts k r ≡ true → wholeTerms ts ≡ true
+  unfolding wholeInputs
+  counts e = and-left (wholeTerms ts) (wholeWithin constantBound k) (and-left (wholeTerms ts && wholeWithin constantBound k) (isWhole (strengthOf r)) e)
+
+  -- the terms that count are stored
+  counted : wholeTerms ts ≡ true → keptTerms (m .state .tableau .cutoff) ts ≡ nonZeroTerms ts
+  unfolding begin
+  counted e = kept-whole (m .state .tableau .cutoff) (I .reads .cutoff) ts e
+
   -- what is stored of it, and of the others
-  constraints-after : findConstraint n (m .state .constraints) ≡ none → (a : Added) (j : ℕ) → ConstraintAt (findConstraint j (keepConstraint (stored a) (m .state .constraints))) (findHeld (ofConstraint j) (record { demand = d; tag = a .tag } ∷ I .held))
+  constraints-after : wholeTerms ts ≡ true → findConstraint n (m .state .constraints) ≡ none → (a : Added) (j : ℕ) → ConstraintAt (findConstraint j (keepConstraint (stored a) (m .state .constraints))) (findHeld (ofConstraint j) (record { demand = d; tag = a .tag } ∷ I .held))
   unfolding sameKey
-  constraints-after new a j = go (eqb j n) refl
+  constraints-after whole-ts new a j = go (eqb j n) refl
     where
       kept : findConstraint j (keepConstraint (stored a) (m .state .constraints)) ≡ Rattle.keeps.specs.Keys.findBy (λ (c : Constraint). c .number) j (Rattle.keeps.specs.Keys.keepBy (λ (c : Constraint). c .number) (stored a) (m .state .constraints))
       kept = ap (findConstraint j) (keepConstraint-is (stored a) (m .state .constraints)) ∙ findConstraint-is j (Rattle.keeps.specs.Keys.keepBy (λ (c : Constraint). c .number) (stored a) (m .state .constraints))
@@ -179,7 +189,7 @@ module _ (art : ArtificialEnds) (m : Moment) (n : ℕ) (ts : List Term) (k : Flo
           let q : j ≡ n = eqb→eq j n (subst T (sym e) tt) in
           subst (λ (t : Option Constraint). ConstraintAt t (findHeld (ofConstraint j) (record { demand = d; tag = a .tag } ∷ I .held)))
           (sym (kept ∙ find-keep-same (λ (c : Constraint). c .number) j (stored a) (m .state .constraints) q (ap (Rattle.keeps.specs.Keys.findBy (λ (c : Constraint). c .number) j) refl ∙ sym (findConstraint-is j (m .state .constraints)) ∙ ap (λ (i : ℕ). findConstraint i (m .state .constraints)) q ∙ new)))
-          (subst (ConstraintAt (some (stored a))) (sym (found-hit (ofConstraint j) (record { demand = d; tag = a .tag }) (I .held) e)) (record { strength = refl; terms = refl; tag = refl }))
+          (subst (ConstraintAt (some (stored a))) (sym (found-hit (ofConstraint j) (record { demand = d; tag = a .tag }) (I .held) e)) (record { strength = refl; terms = counted whole-ts; tag = refl }))
       go false e =
           let q : j ≢ n = λ p. subst T e (subst (λ (y : ℕ). T (eqb j y)) p (eqb-refl j)) in
           subst (λ (t : Option Constraint). ConstraintAt t (findHeld (ofConstraint j) (record { demand = d; tag = a .tag } ∷ I .held)))
@@ -212,7 +222,7 @@ module _ (art : ArtificialEnds) (m : Moment) (n : ℕ) (ts : List Term) (k : Flo
           kept-inv art m I d b (P .strength) (P .few) (P .low) (adds n ts k r b) after (is-add e) whole
           (λ x F mark. after-add art m I d b (P .strength) (P .few) (P .low) S k refl (W art m I d b (P .strength) (P .few) (P .low) S .inputs) x F mark (not-held (P .new))
           (keepConstraint (stored (record { work = x; tag = createdOf ts k r (begin (m .state)) .tag })) (m .state .constraints)) (m .state .edits)
-          (constraints-after (P .new) (record { work = x; tag = createdOf ts k r (begin (m .state)) .tag })) (edits-after (record { work = x; tag = createdOf ts k r (begin (m .state)) .tag })))
+          (constraints-after (counts (W art m I d b (P .strength) (P .few) (P .low) S .inputs)) (P .new) (record { work = x; tag = createdOf ts k r (begin (m .state)) .tag })) (edits-after (record { work = x; tag = createdOf ts k r (begin (m .state)) .tag })))
 
   -- A REFUSAL 12 IS RIGHT
   pub add-12 : make (adds n ts k r b) (m .state) .answer .number ≡ 12 → None (d ∷ m .live)

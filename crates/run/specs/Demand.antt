@@ -1,5 +1,5 @@
 -- Demand 2 in document 01's words, for a reader who knows Cassowary and not antt. A run is a list of calls, made one after the other from a reset
--- on. What is live is read off the calls alone: each accepted add or add edit puts one demand in front, each accepted removal takes it away, each
+-- with some cutoff on. What is live is read off the calls alone: each accepted add or add edit puts one demand in front, each accepted removal takes it away, each
 -- accepted suggestion moves the aim of its edit. A number that a caller hands in is a whole number z when its f64 is worth z. An assignment by
 -- fractions gives each variable v the fraction x v / d with one whole denominator d above 0; sums, errors and tests below are taken times d, so
 -- that they are whole numbers and nothing is ever divided. Nothing here speaks of rows, symbols or pivots.
@@ -55,7 +55,9 @@ moved v suggestion c =
 -- ---- calls and runs
 
 pub data Call : Type 0 where
-  resets fetches : Call
+  -- cutoff
+  resets : Float → Call
+  fetches : Call
   -- number, terms, constant, relation, budget
   adds : ℕ → List Term → Float → Relation → ℕ → Call
   -- number, budget
@@ -69,7 +71,7 @@ pub data Call : Type 0 where
 
 -- what a call answers and leaves; a fetch is no changing call: it answers its list, which counts as accepted here, with the stored mark
 unfoldable pub make : Call → State → Result
-make resets s = reset s
+make (resets z) s = reset z s
 make fetches s = record { answer = record { number = 0; pivots = 0; whole = s .whole }; state = fetchChanges s .state }
 make (adds n ts k r b) s = add n ts k r b s
 make (removes n b) s = remove n b s
@@ -79,7 +81,7 @@ make (suggests v x b) s = suggest v x b s
 
 -- what is live after an accepted call
 unfoldable pub accepted : Call → List Demand → List Demand
-accepted resets cs = []
+accepted (resets z) cs = []
 accepted fetches cs = cs
 accepted (adds n ts k r b) cs = record { key = ofConstraint n; terms = ts; constant = k; relation = r } ∷ cs
 accepted (removes n b) cs = without (ofConstraint n) cs
@@ -98,18 +100,19 @@ pub record Moment : Type 0 where
 unfoldable pub next : Call → Moment → Moment
 next c m = record { state = make c (m .state) .state; live = liveAfter c (make c (m .state) .answer) (m .live) }
 
-unfoldable pub start : Moment
-start = record { state = empty; live = [] }
+-- "from a reset with this cutoff"
+unfoldable pub start : Float → Moment
+start cutoff = record { state = empty cutoff; live = [] }
 
 -- "A "run" starts at a reset and goes on by these calls." The last call stands first in the list.
-unfoldable pub after : List Call → Moment
-after [] = start
-after (c ∷ cs) = next c (after cs)
+unfoldable pub after : Float → List Call → Moment
+after cutoff [] = start cutoff
+after cutoff (c ∷ cs) = next c (after cutoff cs)
 
 -- "A run is whole while every changing call, refused ones too, answers yes."
-abbrev pub Whole : List Call → Type 0
-Whole [] = Unit
-Whole (c ∷ cs) = Whole cs × (make c (after cs .state) .answer .whole ≡ true)
+abbrev pub Whole : Float → List Call → Type 0
+Whole cutoff [] = Unit
+Whole cutoff (c ∷ cs) = Whole cutoff cs × (make c (after cutoff cs .state) .answer .whole ≡ true)
 
 -- ---- the problem
 

@@ -52,3 +52,10 @@ pub mod AddInv
 pub mod Add
 pub mod AddEdit
 pub mod Run
+pub mod RecutRows
+pub mod Recut
+pub mod RecutAdd
+pub mod RecutPlace
+pub mod RecutRemove
+pub mod RecutCalls
+pub mod Unseen

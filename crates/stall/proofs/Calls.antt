@@ -60,7 +60,7 @@ unfolding passesOf make add
 add-answers n ts k r b s = go (firstRefusal (addTests n ts k r s)) refl
   where
     next : Added → State
-    next a = finish (a .work) (keepConstraint (record { number = n; strength = Rattle.steps.specs.State.strengthOf r; terms = keptTerms ts; tag = a .tag }) (s .constraints)) (s .edits)
+    next a = finish (a .work) (keepConstraint (record { number = n; strength = Rattle.steps.specs.State.strengthOf r; terms = keptTerms (s .tableau .cutoff) ts; tag = a .tag }) (s .constraints)) (s .edits)
 
     go : (o : Option ℕ) → firstRefusal (addTests n ts k r s) ≡ o
         → Answers b (elim o [ some x ↦ [] | none ↦ addPasses b ts k r (begin s) ]) (elim o [ some x ↦ refusedBy x 0 (s .whole) s | none ↦ concludeAdd s (addSteps b ts k r (begin s)) next ])
@@ -122,7 +122,7 @@ suggest-answers v x b s = go (isFinite x) (findEdit v (s .edits))
 
 answers : (b : ℕ) (c : Call) (s : State) → budgetOf c ≡ some b → Answers b (passesOf c s) (make c s)
 unfolding budgetOf
-answers b resets s e = absurd (none≢some e)
+answers b (resets z) s e = absurd (none≢some e)
 answers b fetches s e = absurd (none≢some e)
 answers b (adds n ts k r x) s e = subst (λ (y : ℕ). Answers y (passesOf (adds n ts k r x) s) (make (adds n ts k r x) s)) (some-injective e) (add-answers n ts k r x s)
 answers b (removes n x) s e = subst (λ (y : ℕ). Answers y (passesOf (removes n x) s) (make (removes n x) s)) (some-injective e) (remove-answers n x s)

@@ -7,7 +7,7 @@ use mathlib.Core.Option.{Option, none, some}
 use lib.ListN.{length}
 use lib.Ieee.{Float}
 use Rattle.simplex.specs.Choose.{All}
-use Rattle.steps.specs.Number.{zero64, belowZero, allWhole}
+use Rattle.steps.specs.Number.{zero64, cutoffFits, belowZero, allWhole}
 use Rattle.steps.specs.Strength.{clip}
 use Rattle.steps.specs.State.{Term, Relation, equal, strengthOf, State}
 use Rattle.steps.specs.Add.{Added, addSteps}
@@ -52,7 +52,7 @@ unfolding passesOf make add
 adds-start m I n ts k r b = go (firstRefusal (addTests n ts k r (m .state))) refl
   where
     next : Added → State
-    next a = finish (a .work) (keepConstraint (record { number = n; strength = strengthOf r; terms = keptTerms ts; tag = a .tag }) (m .state .constraints)) (m .state .edits)
+    next a = finish (a .work) (keepConstraint (record { number = n; strength = strengthOf r; terms = keptTerms (m .state .tableau .cutoff) ts; tag = a .tag }) (m .state .constraints)) (m .state .edits)
 
     go : (o : Option ℕ) → firstRefusal (addTests n ts k r (m .state)) ≡ o
         → (elim o as (λ x. Result) [ some x ↦ refusedBy x 0 (m .state .whole) (m .state) | none ↦ concludeAdd (m .state) (addSteps b ts k r (begin (m .state))) next ]) .answer .whole ≡ true
@@ -91,20 +91,21 @@ edit-start m I v k b = go (firstRefusal (addEditTests v (clip k) (m .state))) re
         (clip-up k (whole-strength (editTerms v) zero64 (clip k) (whole-steps b (editTerms v) zero64 (equal (clip k)) (begin (m .state)) q .inputs))) (one-term v) (edit-low v (clip k) (m .state) e) q
 
 -- ---- every call's passes start well, if its answer says yes
-starts : (cs : List Call) (c : Call) (b : ℕ) → budgetOf c ≡ some b → make c (after cs .state) .answer .whole ≡ true → All Starts (passesOf c (after cs .state))
-unfolding budgetOf make
-starts cs resets b e w = absurd (none≢some e)
-starts cs fetches b e w = absurd (none≢some e)
-starts cs (adds n ts k r x) b e w = adds-start (after cs) (inv-before (changing.adds n ts k r x) cs w) n ts k r x w
-starts cs (removes n x) b e w = remove-starts (after cs) (inv-before (changing.removes n x) cs w) n x (unmarred b (removes n x) (after cs .state) e w)
-starts cs (addsEdit v k x) b e w = edit-start (after cs) (inv-before (changing.addsEdit v k x) cs w) v k x w
-starts cs (removesEdit v x) b e w = removeEdit-starts (after cs) (inv-before (changing.removesEdit v x) cs w) v x (unmarred b (removesEdit v x) (after cs .state) e w)
-starts cs (suggests v k x) b e w = suggest-starts (after cs) (inv-before (changing.suggests v k x) cs w) v k x (unmarred b (suggests v k x) (after cs .state) e w)
+module _ (cut : Float) (fits : cutoffFits cut ≡ true) where
+  starts : (cs : List Call) (c : Call) (b : ℕ) → budgetOf c ≡ some b → make c (after cut cs .state) .answer .whole ≡ true → All Starts (passesOf c (after cut cs .state))
+  unfolding budgetOf make
+  starts cs (resets z) b e w = absurd (none≢some e)
+  starts cs fetches b e w = absurd (none≢some e)
+  starts cs (adds n ts k r x) b e w = adds-start (after cut cs) (inv-before cut fits (changing.adds n ts k r x) cs w) n ts k r x w
+  starts cs (removes n x) b e w = remove-starts (after cut cs) (inv-before cut fits (changing.removes n x) cs w) n x (unmarred b (removes n x) (after cut cs .state) e w)
+  starts cs (addsEdit v k x) b e w = edit-start (after cut cs) (inv-before cut fits (changing.addsEdit v k x) cs w) v k x w
+  starts cs (removesEdit v x) b e w = removeEdit-starts (after cut cs) (inv-before cut fits (changing.removesEdit v x) cs w) v x (unmarred b (removesEdit v x) (after cut cs .state) e w)
+  starts cs (suggests v k x) b e w = suggest-starts (after cut cs) (inv-before cut fits (changing.suggests v k x) cs w) v k x (unmarred b (suggests v k x) (after cut cs .state) e w)
 
--- the mark of the call's own answer is enough
-pub marked-never-stalls : (cs : List Call) (c : Call) (b : ℕ) → budgetOf c ≡ some b → make c (after cs .state) .answer .whole ≡ true → Demand3 b c (after cs .state)
-marked-never-stalls cs c b e w = demand-3 b c (after cs .state) e w (starts cs c b e w) (marked-numbers c cs w .1 .1 .0)
+  -- the mark of the call's own answer is enough
+  pub marked-never-stalls : (cs : List Call) (c : Call) (b : ℕ) → budgetOf c ≡ some b → make c (after cut cs .state) .answer .whole ≡ true → Demand3 b c (after cut cs .state)
+  marked-never-stalls cs c b e w = demand-3 b c (after cut cs .state) e w (starts cs c b e w) (marked-numbers cut fits c cs w .1 .1 .0)
 
 -- DEMAND 3
 pub never-stalls : NeverStalls
-never-stalls cs c b e w = marked-never-stalls cs c b e (w .1)
+never-stalls cut fits cs c b e w = marked-never-stalls cut fits cs c b e (w .1)

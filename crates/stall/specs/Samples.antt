@@ -4,6 +4,7 @@ use mathlib.Core.List.{List, [], _∷_, map}
 use lib.Dec.{T}
 use lib.Ieee.{Float}
 use Rattle.simplex.specs.Choose.{choose}
+use Rattle.steps.specs.Number.{usualCutoff}
 use Rattle.steps.specs.Strength.{required}
 use Rattle.steps.specs.State.{Relation, atMost, equal, atLeast}
 use Rattle.steps.specs.Readable.{concat}
@@ -16,9 +17,9 @@ use Rattle.stall.specs.Stall.{PassStart, chosen, goesOn, turn, pivotsFro
 unfoldable pub figures : PassStart → List ℕ
 figures p = restrictedSymbols (p .work .tableau .symbols) ∷ restrictedRows (p .work .tableau .rows) ∷ ways p ∷ pivotsOf p ∷ []
 
--- those of the passes of a call after others, the last of them first
+-- those of the passes of a call after others, the last of them first, from a reset with the usual cutoff
 unfoldable pub figuresOf : List Call → Call → List ℕ
-figuresOf before c = concat (map figures (passesOf c (after before .state)))
+figuresOf before c = concat (map figures (passesOf c (after usualCutoff before .state)))
 
 -- constraint c: x related to n
 unfoldable pub xIs : ℕ → (Float → Relation) → ℕ → Float → Call

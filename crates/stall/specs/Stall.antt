@@ -14,7 +14,7 @@ use mathlib.Core.List.{List, [], _∷_, _++_}
 use mathlib.Core.Option.{Option, none, some}
 use lib.Ieee.{Float}
 use Rattle.simplex.specs.Choose.{choose, All}
-use Rattle.steps.specs.Number.{zero64, _-₆₄_, constantBound, isFinite, wholeIf}
+use Rattle.steps.specs.Number.{zero64, cutoffFits, _-₆₄_, constantBound, isFinite, wholeIf}
 use Rattle.steps.specs.Strength.{clip}
 use Rattle.steps.specs.Symbol.{Slack, Symbol, isRestricted}
 use Rattle.steps.specs.State.{Term, Relation, equal, Tag, Basic, Edit, State}
@@ -157,7 +157,7 @@ suggestPasses budget e new w =
 
 -- the passes of a call on a state: none where its tests refuse it
 unfoldable pub passesOf : Call → State → List PassStart
-passesOf resets s = []
+passesOf (resets z) s = []
 passesOf fetches s = []
 passesOf (adds n ts k r b) s = elim (firstRefusal (addTests n ts k r s)) [ some x ↦ [] | none ↦ addPasses b ts k r (begin s) ]
 passesOf (removes n b) s = elim (findConstraint n (s .constraints)) [ none ↦ [] | some c ↦ removePasses b (c .tag) (c .strength) (begin s) ]
@@ -169,7 +169,7 @@ passesOf (suggests v x b) s =
 
 -- an add or a removal, of a constraint or an edit, or a suggestion, with its budget
 unfoldable pub budgetOf : Call → Option ℕ
-budgetOf resets = none
+budgetOf (resets z) = none
 budgetOf fetches = none
 budgetOf (adds n ts k r b) = some b
 budgetOf (removes n b) = some b
@@ -211,9 +211,11 @@ pub record Demand3 (b : ℕ) (c : Call) (s : State) : Type 0 where
   pub enough : Enough b c s
   pub some-way : SomeWay c s
 
--- "In a whole run": every call before answered yes, and so does this one
+-- "In a whole run", "from a reset with this cutoff": every call before answered yes, and so does this one
 abbrev pub NeverStalls : Type 0
-NeverStalls = (cs : List Call) (c : Call) (b : ℕ) → budgetOf c ≡ some b → Whole (c ∷ cs) → Demand3 b c (after cs .state)
+NeverStalls =
+    (cutoff : Float) → cutoffFits cutoff ≡ true
+    → (cs : List Call) (c : Call) (b : ℕ) → budgetOf c ≡ some b → Whole cutoff (c ∷ cs) → Demand3 b c (after cutoff cs .state)
 
 -- ---- these are the call's passes: said of every call, whole or not
 

@@ -20,7 +20,7 @@ use Rattle.steps.proofs.Steps.{addSteps-ends, removeSteps-ends, suggest
 
 -- what its steps are held to
 abbrev pub bounds : Changing → State → Bounds
-bounds c s = record { budget = budgetOf c; stored = s .whole; numbers = stepNumbers c }
+bounds c s = record { budget = budgetOf c; stored = s .whole; cutoff = s .tableau .cutoff; numbers = stepNumbers c }
 
 -- how a changing call comes to its answer
 pub data Answered (c : Changing) (s : State) : Result → Type 0 where
@@ -36,7 +36,7 @@ pub data Answered (c : Changing) (s : State) : Result → Type 0 where
 -- the steps begin with no pivot, and with the stored mark
 begins : (c : Changing) (s : State) → Within (bounds c s) (begin s)
 unfolding begin saysWhole
-begins c s = record { spent = omega arith; mark = go (s .whole) }
+begins c s = record { spent = omega arith; mark = go (s .whole); cutoff = refl }
   where
     go : (b : Bool) → cond b allWhole notWhole ≡ allWhole → b ≡ true
     go true e = refl

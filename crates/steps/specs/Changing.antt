@@ -67,7 +67,7 @@ stepNumbers (suggests n new budget) = 13 ∷ 14 ∷ 16 ∷ []
 -- the constraints and edits that it stores if it is accepted: added in their place with the tag that the steps gave, dropped, or with the new suggestion
 abbrev pub Stores : Changing → State → List Constraint → List Edit → Type 0
 Stores (adds n terms constant relation budget) s cs es =
-    (tag : Tag) × (cs ≡ keepConstraint (record { number = n; strength = strengthOf relation; terms = keptTerms terms; tag = tag }) (s .constraints)) × (es ≡ s .edits)
+    (tag : Tag) × (cs ≡ keepConstraint (record { number = n; strength = strengthOf relation; terms = keptTerms (s .tableau .cutoff) terms; tag = tag }) (s .constraints)) × (es ≡ s .edits)
 Stores (removes n budget) s cs es = (cs ≡ dropConstraint n (s .constraints)) × (es ≡ s .edits)
 Stores (addsEdit n strength budget) s cs es =
     (tag : Tag) × (cs ≡ s .constraints) × (es ≡ keepEdit (record { variable = n; strength = clip strength; tag = tag; suggestion = zero64 }) (s .edits))
