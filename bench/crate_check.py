@@ -38,6 +38,8 @@ def bare(line, answer):
 
 
 def cause(line, crate, ours, seen):
+    if line.startswith('reset '):
+        return 'a reset with another cutoff than 1E-8, which the crate does not take (21)'
     if ours in ('1', '2', '3', '9', '10', '11', '13') and line.split(' ')[0] in CHANGING:
         return 'refused for its numbers or sizes by ours alone (3, 4, 13, 15)'
     if 'refusal' in seen:

@@ -178,6 +178,8 @@ class Run:
     def accepted(self, w):
         if w[0] == 'add':
             self.constraints[w[1]] = self.new(w)
+        elif w[0] == 'reset':
+            self.__init__()
         elif w[0] == 'remove':
             del self.constraints[w[1]]
         elif w[0] == 'addedit':
@@ -240,15 +242,17 @@ class Check:
             self.wrong(session, i, 'error %s, the least is %s / %s' % (total, numerator, denominator))
 
     def session(self, session, ask):
-        run, checked = Run(), False
+        run, whole, checked = Run(), True, False
         answers = ask(session)
         for i, line in enumerate(session):
             w = line.split()
             if w[0] not in CHANGING:
                 continue
             refusal, _, mark = answers[i][0].split()
-            if mark != '1':
-                break
+            # a run starts at a reset that is accepted, whatever its cutoff
+            whole = mark == '1' and (whole or (w[0] == 'reset' and refusal == '0'))
+            if not whole:
+                continue
             checked = True
             if refusal == '12':
                 self.refusals12 += 1
@@ -289,7 +293,7 @@ def main():
     glpk = int(sys.argv[sys.argv.index('--glpk') + 1]) if '--glpk' in sys.argv else 0
     sessions = []
     for line in open(sys.argv[1]):
-        if line.strip() == 'reset':
+        if line.strip() == 'reset':    # one that names a cutoff is a call of its session
             sessions.append([])
         sessions[-1].append(line.strip())
     check, ask = Check(glpk), asker(os.path.abspath(sys.argv[2]))

@@ -9,7 +9,8 @@ pub enum Relation {
 
 #[allow(dead_code)] // the untouched crate has no budget
 pub enum Call {
-    Reset,
+    /// by this cutoff
+    Reset(f64),
     Add { number: u32, budget: u16, relation: Relation, strength: f64, constant: f64, terms: Vec<(u32, f64)> },
     Remove { number: u32, budget: u16 },
     AddEdit { variable: u32, strength: f64, budget: u16 },
@@ -29,6 +30,8 @@ pub enum Call {
     SetCell(u32, u32, f64),
 }
 
+/// `reset` without one takes this
+pub const USUAL_CUTOFF: f64 = 1e-8;
 const LARGEST_WHOLE: u64 = 9_007_199_254_740_992;
 const LONGEST_LINE: usize = 4096;
 
@@ -87,6 +90,10 @@ impl Words<'_> {
     fn f64(&mut self) -> Option<f64> {
         number(self.words.next()?, self.decimals)
     }
+    /// None named: the usual one.
+    fn cutoff(&mut self) -> Option<f64> {
+        if self.words.len() == 0 { Some(USUAL_CUTOFF) } else { self.f64() }
+    }
     fn relation(&mut self) -> Option<Relation> {
         match self.word()? {
             "le" => Some(Relation::AtMost),
@@ -114,7 +121,7 @@ pub fn read(line: &str, decimals: bool) -> Option<Call> {
     let words: Vec<&str> = line.split(' ').collect();
     let mut w = Words { words: words.into_iter(), decimals };
     let call = match w.word()? {
-        "reset" => Call::Reset,
+        "reset" => Call::Reset(w.cutoff()?),
         "add" => add(&mut w)?,
         "remove" => Call::Remove { number: w.u32()?, budget: w.u16()? },
         "addedit" => Call::AddEdit { variable: w.u32()?, strength: w.f64()?, budget: w.u16()? },

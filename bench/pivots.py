@@ -11,7 +11,7 @@ def main():
     live, edits = set(), set()
     for line, a in zip(lines, answers):
         w = line.split()
-        if w[0] == 'reset':
+        if w[0] == 'reset' and a.split()[0] == '0':
             live, edits = set(), set()
         if w[0] not in ('add', 'remove', 'addedit', 'removeedit', 'suggest') or a.split()[0] != '0':
             continue

@@ -4,7 +4,7 @@ session by the definitions and compares it with the program's answer.
 
 usage: spec_check.py SCRIPT PROGRAM ARGUMENT ...
 
-A session starts at each `reset` line and is one theorem, so the checker's step limit (a declaration's) holds for a
+A session starts at each `reset` line without a cutoff and is one theorem, so the checker's step limit (a declaration's) holds for a
 session. Of a session that differs, a second run has a theorem for each prefix and says at which call it first differs.
 BATCH is how many sessions stand in one file (40), SHOW how many differing ones are narrowed down (10).
 """
@@ -29,6 +29,7 @@ use Rattle.steps.specs.Changes.{Change}
 use Rattle.steps.specs.Session.{resets, adds, removes, addsEdit, removesEdit, suggests, valueOf, fetches, hasConstraints, hasEdits, creates, clips, reads, dumps, setsNext, answer, is, list, says, numbers, Expected, _gives_, firstBad, openSession}
 """
 RELATION = {'le': 'atMost', 'eq': 'equal', 'ge': 'atLeast'}
+USUAL_CUTOFF = '1e-8'
 KIND = {'x': '1', 's': '2', 'e': '3', 'd': '4'}
 
 
@@ -55,12 +56,13 @@ def call(w):
         return 'adds %s %s %s (%s %s) %s' % (w[1], listed(terms), number(w[5]), RELATION[w[3]], number(w[4]), w[2])
     if op in ('addedit', 'suggest'):
         return '%s %s %s %s' % ({'addedit': 'addsEdit', 'suggest': 'suggests'}[op], w[1], number(w[2]), w[3])
-    if op in ('create', 'clip'):
-        return ' '.join([{'create': 'creates', 'clip': 'clips'}[op]] + [number(x) for x in w[1:]])
+    if op in ('reset', 'create', 'clip'):
+        w = w if len(w) > 1 else w + [USUAL_CUTOFF]
+        return ' '.join([{'reset': 'resets', 'create': 'creates', 'clip': 'clips'}[op]] + [number(x) for x in w[1:]])
     return ' '.join([PLAIN[op]] + w[1:])
 
 
-PLAIN = {'reset': 'resets', 'remove': 'removes', 'removeedit': 'removesEdit', 'value': 'valueOf', 'fetch': 'fetches',
+PLAIN = {'remove': 'removes', 'removeedit': 'removesEdit', 'value': 'valueOf', 'fetch': 'fetches',
          'hascon': 'hasConstraints', 'hasedit': 'hasEdits', 'check': 'reads', 'dump': 'dumps', 'setnext': 'setsNext'}
 
 

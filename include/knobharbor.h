@@ -31,9 +31,9 @@ extern "C" {
 
 /* of this header and the archive that was built with it; a state kept by one version is not promised to read in another */
 #define KNOBHARBOR_VERSION_MAJOR 0
-#define KNOBHARBOR_VERSION_MINOR 2
+#define KNOBHARBOR_VERSION_MINOR 3
 #define KNOBHARBOR_VERSION_PATCH 0
-#define KNOBHARBOR_VERSION "0.2.0"
+#define KNOBHARBOR_VERSION "0.3.0"
 
 /* ---- sizes */
 
@@ -67,6 +67,10 @@ extern "C" {
 /* the largest budget */
 #define KNOBHARBOR_LARGEST_BUDGET 65535
 
+/* the cutoff of near zero that a reset is usually given, and the largest that it takes; any above 0 will do */
+#define KNOBHARBOR_USUAL_CUTOFF 1e-8
+#define KNOBHARBOR_LARGEST_CUTOFF 1e-6
+
 /* ---- tables */
 
 /* Five tables of the right lengths, 78,224 bytes: one to keep, and one as working room. Both may start with any content: reset
@@ -79,12 +83,12 @@ typedef struct knobharbor_tables {
     uint8_t bytes[KNOBHARBOR_BYTES];
 } knobharbor_tables;
 
-/* the arguments that lend all five: knobharbor_reset(KNOBHARBOR_LEND(&tables), answer) */
+/* the arguments that lend all five: knobharbor_reset(KNOBHARBOR_LEND(&tables), KNOBHARBOR_USUAL_CUTOFF, answer) */
 #define KNOBHARBOR_LEND(t) (t)->words, (t)->keys, (t)->bytes, (t)->reals, (t)->values
 
 /* ---- answers */
 
-/* "given exactly if"; in the order of the document, which is not the order of the tests */
+/* "given exactly if"; in the order of the documents, which is not the order of the tests. 19 to 23, 32 and 33 are a line's, below. */
 typedef enum knobharbor_number {
     KNOBHARBOR_ACCEPTED = 0,
     KNOBHARBOR_NOT_FINITE = 1,        /* a coefficient, the constant, an added constraint's strength, or a suggestion is not finite */
@@ -104,7 +108,8 @@ typedef enum knobharbor_number {
     KNOBHARBOR_NO_LEAVING = 15,       /* an optimise pass finds no leaving row */
     KNOBHARBOR_NO_ENTERING = 16,      /* a dual pass finds no entering symbol */
     KNOBHARBOR_NO_ROW = 17,           /* a removal finds no leaving row */
-    KNOBHARBOR_NOT_A_STATE = 18       /* a lent table doesn't read as a state (in C a table has the length of its type) */
+    KNOBHARBOR_NOT_A_STATE = 18,      /* a lent table doesn't read as a state (in C a table has the length of its type) */
+    KNOBHARBOR_BAD_CUTOFF = 24        /* a reset's cutoff is not above 0 and at most 1E-6 */
 } knobharbor_number;
 
 /* What a changing call answers, in the three places that it is lent: here as the functions at the end hand them on. A refusal answers the stored mark, or no on 18 or if the steps taken weren't all whole. */
@@ -158,10 +163,13 @@ typedef enum knobharbor_kind {
    working room is all zero after every call, refused or not. The answer is the number, the pivots made, and the mark as 0 or 1.
    The tests come in the order that is given with each call. A call makes at most `budget` pivots, 0 to 65,535. */
 
-/* No variable, constraint or edit is left; the mark is yes. Any content will do, so it is accepted. */
+/* No variable, constraint or edit is left; the mark is yes. From here on a number is near zero if its size is strictly below the
+   cutoff: such a coefficient counts as absent, and such a remainder as met. No other call changes the cutoff; in runs whose mark is
+   yes, no answer depends on it. Any content will do, so it is accepted, but for a cutoff outside the range: 24, which changes no table
+   and answers the stored mark, or no if the tables don't read as a state. */
 void knobharbor_reset(
     uint64_t words[KNOBHARBOR_WORDS], uint16_t keys[KNOBHARBOR_CELLS], uint8_t bytes[KNOBHARBOR_BYTES],
-    double reals[KNOBHARBOR_REALS], double values[KNOBHARBOR_CELLS], uint32_t answer[KNOBHARBOR_ANSWER]);
+    double reals[KNOBHARBOR_REALS], double values[KNOBHARBOR_CELLS], double cutoff, uint32_t answer[KNOBHARBOR_ANSWER]);
 
 /* Adds the constraint of this number: the sum of the terms, plus the constant, is at most, equal to or at least zero, with this
    strength. Tests 18, 1, 2, 3, 4, 10, 9, 11; steps 12 to 15. A kind that is none of the three is answered 18 too. */
@@ -298,10 +306,18 @@ static inline knobharbor_answer kh_answered(const uint32_t answer[KNOBHARBOR_ANS
     return a;
 }
 
+/* with the usual cutoff, which is always accepted */
 static inline knobharbor_answer kh_reset(knobharbor_tables *t)
 {
     uint32_t answer[KNOBHARBOR_ANSWER];
-    knobharbor_reset(KNOBHARBOR_LEND(t), answer);
+    knobharbor_reset(KNOBHARBOR_LEND(t), KNOBHARBOR_USUAL_CUTOFF, answer);
+    return kh_answered(answer);
+}
+
+static inline knobharbor_answer kh_reset_with_cutoff(knobharbor_tables *t, double cutoff)
+{
+    uint32_t answer[KNOBHARBOR_ANSWER];
+    knobharbor_reset(KNOBHARBOR_LEND(t), cutoff, answer);
     return kh_answered(answer);
 }
 
@@ -483,6 +499,7 @@ static inline const char *kh_words(uint32_t number)
         "the line has more than 16 levels of brackets",
         "the line has a number above 1,048,576, or a variable above 4,294,967,295",
         "the line has more than 16 variables",
+        "the cutoff is not above 0 and at most 1E-6",
     };
     if (number == KNOBHARBOR_LINE_OVER)
         return "the line has more than 200 bytes";

@@ -53,7 +53,7 @@ changing! {
 }
 
 extern "C" {
-    fn knobharbor_reset(words: &mut Words, keys: &mut Keys, bytes: &mut Bytes, reals: &mut Reals, values: &mut Values, answer: &mut [u32; ANSWER]);
+    fn knobharbor_reset(words: &mut Words, keys: &mut Keys, bytes: &mut Bytes, reals: &mut Reals, values: &mut Values, cutoff: f64, answer: &mut [u32; ANSWER]);
     fn knobharbor_fetch(words: &mut Words, keys: &Keys, bytes: &mut Bytes, reals: &mut Reals, values: &Values, answer: &mut [u32; FETCHED],
         numbers: &mut [u64; CHANGES], moved: &mut [f64; CHANGES]);
     fn knobharbor_value(words: &Words, keys: &Keys, bytes: &Bytes, reals: &Reals, values: &Values, variable: u32) -> f64;
@@ -76,7 +76,7 @@ pub struct Lent<'a> {
 
 #[derive(Clone, Debug)]
 pub enum Call {
-    Reset,
+    Reset { cutoff: f64 },
     Add { number: u32, vars: Vec<u32>, coefs: Vec<f64>, constant: f64, kind: u32, strength: f64, budget: u16 },
     Remove { number: u32, budget: u16 },
     AddEdit { variable: u32, strength: f64, budget: u16 },
@@ -103,7 +103,7 @@ impl Call {
         }
         unsafe {
             match *self {
-                Call::Reset => knobharbor_reset(t.words, t.keys, t.bytes, t.reals, t.values, answer),
+                Call::Reset { cutoff } => knobharbor_reset(t.words, t.keys, t.bytes, t.reals, t.values, cutoff, answer),
                 Call::Add { number, constant, kind, strength, budget, .. } => match records {
                     Some(terms) if number % 2 == 0 => lend!(knobharbor_add, number, terms.as_ptr(), terms.len() as u64, constant, kind, strength, budget),
                     _ => lend!(knobharbor_add_lists, number, vars.as_ptr(), vars.len() as u64, coefs.as_ptr(), coefs.len() as u64, constant, kind, strength, budget),

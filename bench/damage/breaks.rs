@@ -84,7 +84,7 @@ const COUNTS_AND_ORDER: &[Break] = &[
         Some(())
     },
     |g, w| Some(w.next = last_id(w).checked_sub(g.word() % 2)?.max(1)).filter(|_| !w.symbols.is_empty()),
-    |_, w| Some(*w = Words::default()),
+    |_, w| Some(*w = Words { cutoff: w.cutoff, ..Words::default() }),
     |_, w| {
         let tags = w.constraints.len() + w.edits.len();
         let free = w.symbols.iter().copied().find(|s| w.rows.iter().all(|r| r.symbol != *s))?;
@@ -205,6 +205,8 @@ const NUMBERS: &[Break] = &[
         Some(())
     },
     |_, w| Some(w.constraints.last_mut()?.number += LARGEST + 1),
+    |g, w| Some(w.cutoff = g.bad_cutoff()),
+    |g, w| Some(w.cutoff = g.bad_cutoff()),
     |g, w| Some(w.clear = 2 + g.word() % 9),
     |g, w| Some(w.whole = 2 + g.word() % 9),
     |g, w| Some(some(g, &mut w.variables)?.changed = 2 + g.word() % 9),

@@ -4,7 +4,7 @@ use crate::archive::{self, Answer, Call, Fetched, Term, ANSWER, FETCHED};
 use crate::layout::{Held, Tables, CHANGES};
 use crate::memory::{Lists, Set};
 use crate::model;
-use crate::reading::{self, CLAUSES};
+use crate::reading::{self, cutoff_fits, CLAUSES};
 use crate::state::Words;
 
 /// What a call is asked for beside tables that read. (Lengths of tables cannot be said through C.)
@@ -81,7 +81,7 @@ impl Checker {
         if lists.0 != vars || !lists.1.iter().map(|x| x.to_bits()).eq(coefs.iter().map(|x| x.to_bits())) {
             return differ("an add's lists changed", call);
         }
-        let lends_room = !matches!(call, Call::Reset);
+        let lends_room = !matches!(call, Call::Reset { .. });
         if lends_room && room_after.bits().any(|b| b != 0) || !lends_room && !room_after.same(room, false) {
             return differ("the room is not all zero, or was not lent and changed", call);
         }
@@ -92,7 +92,7 @@ impl Checker {
     fn judge(&self, call: &Call, t: &Tables, answer: Answer, after: &Tables) -> Result<(), Difference> {
         let h = Held::of(t);
         let taken = match call {
-            Call::Reset => true,
+            Call::Reset { .. } => true,
             _ => self.reads(&h) && self.fits(call),
         };
         if taken != (answer.number != 18) {
@@ -103,7 +103,7 @@ impl Checker {
             return if right { Ok(()) } else { differ("18 has no pivots and no mark, and changes no table", &(call, answer)) };
         }
         let (expected, tables) = match call {
-            Call::Reset => (Answer { number: 0, pivots: 0, whole: 1 }, emptied(t)),
+            Call::Reset { cutoff } => self.reset(*cutoff, &h, t),
             _ => model::call(&Words::of(&h), t, call),
         };
         if answer != expected {
@@ -113,6 +113,15 @@ impl Checker {
             return differ("the tables are not the model's after", &(call, answer));
         }
         Ok(())
+    }
+
+    /// "above 0 and at most 1E-6": else 24, with the stored mark if there is one, and no table changes. Any content will do.
+    fn reset(&self, cutoff: f64, h: &Held, t: &Tables) -> (Answer, Tables) {
+        if cutoff_fits(cutoff) {
+            return (Answer { number: 0, pivots: 0, whole: 1 }, emptied(cutoff, t));
+        }
+        let whole = if self.reads(h) { h.whole as u32 } else { 0 };
+        (Answer { number: 24, pivots: 0, whole }, t.clone())
     }
 
     pub fn fetch(&mut self, t: &Tables, numbers: &[u64; CHANGES], values: &[f64; CHANGES], last: bool) -> Result<(Fetched, Tables), Difference> {
@@ -156,9 +165,9 @@ impl Checker {
     }
 }
 
-/// "Reset": the counts and flags alone are written.
-fn emptied(t: &Tables) -> Tables {
+/// "Reset": the counts, the flags and the cutoff alone are written.
+fn emptied(cutoff: f64, t: &Tables) -> Tables {
     let mut out = t.clone();
-    Held { next: 1, whole: 1, ..Held::default() }.lay(&mut out);
+    Held::empty(cutoff).lay(&mut out);
     out
 }

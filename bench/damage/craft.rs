@@ -129,7 +129,7 @@ fn tableau(g: &mut Random, w: &mut Words, wild: bool) {
 /// A state that reads.
 pub fn state(g: &mut Random) -> Words {
     let (wild, sizes) = (g.one_in(3), sizes(g));
-    let mut w = Words { clear: g.word() % 2, whole: g.word() % 2, ..Words::default() };
+    let mut w = Words { cutoff: g.good_cutoff(), clear: g.word() % 2, whole: g.word() % 2, ..Words::default() };
     owners(g, &mut w, wild, sizes);
     terms(g, &mut w, wild);
     tableau(g, &mut w, wild);

@@ -46,6 +46,7 @@ const TERMS: usize = 544;
 const CONSTANTS: usize = 1;
 const OLD: usize = 56;
 const OBJECTIVE: usize = 88;
+const CUTOFF: usize = 219;
 const STRENGTHS: usize = 220;
 const EDIT_STRENGTHS: usize = 268;
 const SUGGESTIONS: usize = 316;
@@ -177,6 +178,7 @@ impl Tables {
             (reals + CONSTANTS, r),
             (reals + OLD, v),
             (reals + OBJECTIVE, k),
+            (reals + CUTOFF, 1),
             (reals + STRENGTHS, c),
             (reals + EDIT_STRENGTHS, e),
             (reals + SUGGESTIONS, e),
@@ -231,6 +233,7 @@ pub struct HeldEdit {
 /// The counts as they stand, which may be above the room; the lists hold no more than the room does.
 #[derive(Clone, Debug, Default)]
 pub struct Held {
+    pub cutoff: f64,
     pub next: u64,
     pub clear: u64,
     pub whole: u64,
@@ -258,9 +261,15 @@ fn held(count: u64, room: usize) -> usize {
 }
 
 impl Held {
+    /// What a reset with this cutoff leaves.
+    pub fn empty(cutoff: f64) -> Held {
+        Held { cutoff, next: 1, whole: 1, ..Held::default() }
+    }
+
     pub fn of(t: &Tables) -> Held {
         let (w, b, f) = (&t.words, &t.bytes, &t.reals);
         let mut h = Held {
+            cutoff: f[CUTOFF],
             next: w[NEXT],
             clear: w[CLEAR],
             whole: w[WHOLE],
@@ -328,6 +337,7 @@ impl Held {
             self.whole,
         ];
         t.words[..HEADING].copy_from_slice(&heading);
+        t.reals[CUTOFF] = self.cutoff;
         for (i, &(id, kind)) in self.symbols.iter().enumerate() {
             (t.words[IDS + i], t.bytes[KINDS + i]) = (id, kind);
         }

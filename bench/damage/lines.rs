@@ -83,7 +83,7 @@ impl Program {
                 })
             }
             format::Call::SetCell(row, cell, value) => return self.change(|s| s.set_cell(row as usize, cell as usize, value)),
-            format::Call::Reset => Call::Reset,
+            format::Call::Reset(cutoff) => Call::Reset { cutoff },
             format::Call::Add { number, budget, relation, strength, constant, terms } => {
                 let (vars, coefs) = terms.into_iter().unzip();
                 Call::Add { number, vars, coefs, constant, kind: kind(relation), strength, budget }
@@ -100,6 +100,6 @@ impl Program {
 fn main() {
     let tables = Tables::filled(|| 7, || 7.0);
     let mut program = Program { tables, lent: Set::new(), room: Set::new(), changes: Lists::new() };
-    program.make(Call::Reset);
+    program.make(Call::Reset { cutoff: format::USUAL_CUTOFF });
     format::serve(|call| program.answer(call));
 }

@@ -15,12 +15,12 @@ use archive::Call;
 use check::{clause_names, Checker, Difference};
 use layout::{Held, Tables, Word, CHANGES};
 use memory::TRIAL;
-use random::Random;
+use random::{Random, USUAL_CUTOFF};
 use std::sync::atomic::Ordering;
 
 #[derive(Default)]
 struct Counts {
-    answers: [u64; 19],
+    answers: [u64; 25],
     fetches: [u64; 2],
     kinds: [[u64; 2]; KINDS.len()],
 }
@@ -136,7 +136,8 @@ impl Run {
     fn trial(&mut self) -> Result<(), Difference> {
         if self.g.one_in(80) {
             let (t, room) = (any_tables(&mut self.g), any_tables(&mut self.g));
-            self.live = self.checker.call(&Call::Reset, &t, &room, true)?.1;
+            let reset = Call::Reset { cutoff: self.g.good_cutoff() };
+            self.live = self.checker.call(&reset, &t, &room, true)?.1;
         }
         let live = self.live.clone();
         self.live = self.some_call(0, &live)?;
@@ -149,7 +150,7 @@ impl Run {
 fn run(trials: u64, seed: u64, left_out: Option<usize>) -> (Run, Result<(), (u64, Difference)>) {
     let mut g = Random(seed);
     let mut live = any_tables(&mut g);
-    Held { next: 1, whole: 1, ..Held::default() }.lay(&mut live);
+    Held::empty(USUAL_CUTOFF).lay(&mut live);
     let mut run = Run { g, checker: Checker::new(left_out), counts: Counts::default(), live };
     for trial in 0..trials {
         TRIAL.store(trial, Ordering::SeqCst);

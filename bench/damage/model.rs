@@ -40,6 +40,7 @@ fn present(symbols: &[u64], cells: &[f64]) -> Vec<(Symbol, f64)> {
 /// Of words that read.
 pub fn state(w: &Words) -> State {
     State {
+        cutoff: w.cutoff,
         next: w.next as usize,
         clear: w.clear == 1,
         whole: w.whole == 1,
@@ -72,6 +73,7 @@ pub fn words(s: &State) -> Words {
         terms: c.terms.iter().map(|&(v, k)| (v.into(), k)).collect(),
     };
     Words {
+        cutoff: s.cutoff,
         next: s.next as u64,
         clear: s.clear.into(),
         whole: s.whole.into(),
@@ -96,7 +98,7 @@ fn relation(kind: u32) -> RelationalOperator {
 
 fn made(solver: &mut Solver, call: &Call) -> Answer {
     let a = match call {
-        Call::Reset => solver.reset(),
+        Call::Reset { cutoff } => solver.reset(*cutoff),
         Call::Add { number, vars, coefs, constant, kind, strength, budget } => {
             let terms = vars.iter().zip(coefs).map(|(v, k)| Term::new(Variable(*v), *k)).collect();
             solver.add_constraint(Constraint::new(Name::Number(*number), Expression::new(terms, *constant), relation(*kind), *strength), *budget)

@@ -3,6 +3,9 @@ use crate::archive::Call;
 
 pub struct Random(pub u64);
 
+pub const USUAL_CUTOFF: f64 = 1e-8;
+const GREATEST_CUTOFF: f64 = 1e-6;
+
 impl Random {
     // splitmix64
     pub fn word(&mut self) -> u64 {
@@ -73,6 +76,23 @@ impl Random {
         }
     }
 
+    /// From the least above 0 to 1E-6.
+    pub fn good_cutoff(&mut self) -> f64 {
+        match self.below(4) {
+            0 => self.pick(&[5e-324, f64::MIN_POSITIVE, 1e-300, 1e-12, 9.999999999999999e-7, GREATEST_CUTOFF]),
+            1 => f64::from_bits(1 + self.word() % GREATEST_CUTOFF.to_bits()),
+            _ => USUAL_CUTOFF,
+        }
+    }
+
+    pub fn bad_cutoff(&mut self) -> f64 {
+        match self.below(3) {
+            0 => self.pick(&[0.0, -0.0, -5e-324, -USUAL_CUTOFF, -GREATEST_CUTOFF, -1.0]),
+            1 => self.pick(&[f64::from_bits(GREATEST_CUTOFF.to_bits() + 1), 1e-5, 1.0, f64::MAX]),
+            _ => self.not_finite(),
+        }
+    }
+
     // ---- calls
 
     fn budget(&mut self) -> u16 {
@@ -124,7 +144,8 @@ impl Random {
             7..=9 => Call::Remove { number: self.one_of(constraints), budget },
             10..=12 => Call::AddEdit { variable: self.one_of(variables), strength: self.strength(), budget },
             13 => Call::RemoveEdit { variable: self.one_of(edits), budget },
-            14 if self.one_in(4) => Call::Reset,
+            14 if self.one_in(6) => Call::Reset { cutoff: self.good_cutoff() },
+            14 if self.one_in(3) => Call::Reset { cutoff: self.bad_cutoff() },
             _ => Call::Suggest { variable: self.one_of(edits), suggestion: self.real(), budget },
         }
     }

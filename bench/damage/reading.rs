@@ -9,6 +9,7 @@ const MOST_CONSTRAINTS: u64 = 48;
 const MOST_TERMS: u8 = 16;
 const LARGEST: u64 = u32::MAX as u64;
 const REQUIRED: f64 = 1_001_001_000.0;
+const GREATEST_CUTOFF: f64 = 1e-6;
 
 pub type Clause = (&'static str, fn(&Held) -> bool);
 
@@ -61,6 +62,10 @@ pub const CLAUSES: &[Clause] = &[
     ("variables' symbols are External", |h| h.variables.iter().all(|v| kind(h, v.place) == EXTERNAL)),
     ("constraints' kinds are those Add gives", |h| h.constraints.iter().all(|c| given(h, &c.tag))),
     ("edits' kinds are those Add gives", |h| h.edits.iter().all(|e| kind(h, e.tag.marker) == ERROR && given(h, &e.tag))),
+    // "the cutoff is one that reset takes": so it is finite too
+    ("the cutoff is above 0", |h| !(h.cutoff <= 0.0)),
+    ("the cutoff is at most 1E-6", |h| !(h.cutoff > GREATEST_CUTOFF)),
+    ("the cutoff is a number", |h| !h.cutoff.is_nan()),
     // numbers fit their types
     ("the next id is a u32", |h| h.next <= LARGEST),
     ("variable numbers are u32", |h| h.variables.iter().all(|v| v.number <= LARGEST)),
@@ -73,6 +78,11 @@ pub const CLAUSES: &[Clause] = &[
 /// All clauses but the one that is left out.
 pub fn reads(h: &Held, left_out: Option<usize>) -> bool {
     CLAUSES.iter().enumerate().all(|(i, (_, holds))| left_out == Some(i) || holds(h))
+}
+
+/// What reset takes.
+pub fn cutoff_fits(cutoff: f64) -> bool {
+    0.0 < cutoff && cutoff <= GREATEST_CUTOFF
 }
 
 fn ascend(numbers: impl Iterator<Item = u64>) -> bool {

@@ -38,6 +38,7 @@ pub struct RowWords {
 
 #[derive(Clone, Debug, Default)]
 pub struct Words {
+    pub cutoff: f64,
     pub next: u64,
     pub clear: u64,
     pub whole: u64,
@@ -63,6 +64,7 @@ impl Words {
         };
         let mut terms = h.terms.iter().map(|&(place, k)| (number(place), k));
         Words {
+            cutoff: h.cutoff,
             next: h.next,
             clear: h.clear,
             whole: h.whole,
@@ -108,6 +110,7 @@ impl Words {
         let tag = |marker: u64, o: u64, strength: f64| HeldTag { marker: live(marker), other: other(o), strength };
         let key = |i: usize, p: usize| ((i + 1) * SPAN + p + 1) as u16;
         Held {
+            cutoff: self.cutoff,
             next: self.next,
             clear: self.clear,
             whole: self.whole,

@@ -2,17 +2,20 @@
 //!
 //! usage: generator KINDS SESSIONS CALLS SEED [plain]
 //!
-//! KINDS is `all` or names joined by commas, taken in turn. `plain` leaves out the bench's own calls (dump, check,
+//! KINDS is `all` or names joined by commas, taken in turn. With `all` the kinds of document 02's calls come after SESSIONS of the
+//! others, as many of each as of any other. `plain` leaves out the bench's own calls (dump, check,
 //! setnext) and the kind that needs one, so that any program of the format can be given the sessions.
 mod mixed;
 mod random;
 mod special;
 
-use mixed::{mixed, KINDS};
+use mixed::{cutoffs, mixed, KINDS};
 use random::Random;
 use special::{ids, layouts, limits, malformed, redundant, refusals, trolley};
 
 const OTHERS: &[&str] = &["redundant", "refusals", "limits", "trolley", "ids", "malformed", "layouts"];
+/// Of document 02's calls. With `all` they come after the others, which stay as they were without them.
+const LATER: &[&str] = &["cutoffs"];
 
 fn session(name: &str, calls: u64, r: &mut Random) -> Vec<String> {
     match name {
@@ -23,6 +26,7 @@ fn session(name: &str, calls: u64, r: &mut Random) -> Vec<String> {
         "ids" => ids(calls, r),
         "layouts" => layouts(calls, r),
         "malformed" => malformed(calls, r),
+        "cutoffs" => cutoffs(calls, r),
         _ => match KINDS.iter().find(|k| k.name == name) {
             Some(kind) => mixed(kind, calls, r),
             None => usage(),
@@ -31,7 +35,7 @@ fn session(name: &str, calls: u64, r: &mut Random) -> Vec<String> {
 }
 
 fn usage() -> ! {
-    let names: Vec<&str> = KINDS.iter().map(|k| k.name).chain(OTHERS.iter().cloned()).collect();
+    let names: Vec<&str> = KINDS.iter().map(|k| k.name).chain(OTHERS.iter().cloned()).chain(LATER.iter().cloned()).collect();
     eprintln!("usage: generator KINDS SESSIONS CALLS SEED [plain]\nkinds: all, {}", names.join(", "));
     std::process::exit(2)
 }
@@ -54,10 +58,17 @@ fn main() {
         }
         names => names.split(',').collect(),
     };
+    let mut places: Vec<(u64, &str)> = (0..sessions).map(|i| (i, kinds[(i % kinds.len() as u64) as usize])).collect();
+    if args[0] == "all" {
+        let each = (sessions + kinds.len() as u64 - 1) / kinds.len() as u64;
+        for (k, kind) in LATER.iter().enumerate() {
+            let first = (k as u64 + 1) << 32;
+            places.extend((first..first + each).map(|i| (i, *kind)));
+        }
+    }
     let mut out = String::new();
-    for i in 0..sessions {
+    for (i, kind) in places {
         let mut r = Random::new(seed, i);
-        let kind = kinds[(i % kinds.len() as u64) as usize];
         out.push_str("reset\n");
         for line in session(kind, calls, &mut r) {
             out.push_str(&line);

@@ -43,6 +43,9 @@ pub const KINDS: &[Kind] = &[
     Kind { name: "required", variables: 4, constraints: 12, most_terms: 3, coefficient: random::small_coefficient, constant: random::small_constant, strength: random::mostly_required, suggestion: random::small_constant, budget: random::ample, relations: &["le", "ge", "le", "ge", "eq"], weights: [55, 8, 6, 2, 12, 8, 6, 2, 1] },
 ];
 
+// numbers around the session's cutoff, which resets name
+const AROUND: Kind = Kind { name: "cutoffs", variables: 4, constraints: 9, most_terms: 3, coefficient: random::around, constant: random::around, strength: random::strength_around, suggestion: random::around, budget: random::ample, relations: ALL_RELATIONS, weights: MIXED };
+
 struct Session<'a> {
     random: &'a mut Random,
     kind: &'a Kind,
@@ -99,6 +102,16 @@ impl Session<'_> {
         format!("add {} {} {} {} {} {}{}", c, budget, relation, number(strength), number(constant), count, terms)
     }
 
+    /// A reset that is refused changes nothing.
+    fn reset(&mut self, cutoff: f64) -> String {
+        if random::cutoff_fits(cutoff) {
+            self.random.cutoff = cutoff;
+            self.added.clear();
+            self.edited.clear();
+        }
+        format!("reset {}", number(cutoff))
+    }
+
     fn call(&mut self) -> String {
         let kind = self.kind;
         let budget = (kind.budget)(self.random);
@@ -141,6 +154,25 @@ pub fn mixed(kind: &Kind, calls: u64, random: &mut Random) -> Vec<String> {
     let mut s = Session { random, kind, lines: Vec::new(), added: Vec::new(), edited: Vec::new() };
     for _ in 0..calls {
         let line = s.call();
+        s.lines.push(line);
+    }
+    s.lines
+}
+
+/// Resets that name a cutoff, also one that is refused, among calls whose numbers lie around it, or are whole.
+pub fn cutoffs(calls: u64, random: &mut Random) -> Vec<String> {
+    let kind = if random.one_in(4) { &KINDS[0] } else { &AROUND };
+    let mut s = Session { random, kind, lines: Vec::new(), added: Vec::new(), edited: Vec::new() };
+    for i in 0..calls {
+        let line = if i == 0 || s.random.one_in(25) {
+            let cutoff = random::good_cutoff(s.random);
+            s.reset(cutoff)
+        } else if s.random.one_in(15) {
+            let cutoff = random::bad_cutoff(s.random);
+            s.reset(cutoff)
+        } else {
+            s.call()
+        };
         s.lines.push(line);
     }
     s.lines

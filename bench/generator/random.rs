@@ -2,12 +2,16 @@
 
 pub struct Random {
     state: u64,
+    /// of the session's last reset
+    pub cutoff: f64,
 }
+
+const GREATEST_CUTOFF: f64 = 1e-6;
 
 impl Random {
     /// The session's own numbers, whatever other sessions took.
     pub fn new(seed: u64, session: u64) -> Random {
-        let mut r = Random { state: seed };
+        let mut r = Random { state: seed, cutoff: 1e-8 };
         r.state = r.next() ^ session.wrapping_mul(0xd1b5_4a32_d192_ed03);
         r
     }
@@ -128,6 +132,19 @@ pub fn tiny(r: &mut Random) -> f64 {
     }
 }
 
+/// On both sides of the session's cutoff, and numbers whose sums and products come there.
+pub fn around(r: &mut Random) -> f64 {
+    let c = r.cutoff;
+    let sign = sign(r);
+    match r.below(6) {
+        0 | 1 => small_coefficient(r),
+        2 => sign * r.choice(&[c, f64::from_bits(c.to_bits() - 1), f64::from_bits(c.to_bits() + 1)]),
+        3 => sign * r.choice(&[c * 0.5, c * 2.0, c * 0.9, c * 1.1, c.sqrt(), c.sqrt() * 0.9, c.sqrt() * 1.1]),
+        4 => sign * r.choice(&[1.0 + c, 1.0 - c, 1.0 + c * 3.0, 1.0 - c * 0.7]),
+        _ => general(r),
+    }
+}
+
 pub fn huge(r: &mut Random) -> f64 {
     match r.below(6) {
         0 | 1 => small_coefficient(r),
@@ -168,6 +185,10 @@ pub fn tiny_strength(r: &mut Random) -> f64 {
     if r.one_in(3) { tiny(r).abs() } else { usual_strength(r) }
 }
 
+pub fn strength_around(r: &mut Random) -> f64 {
+    if r.one_in(3) { around(r).abs() } else { usual_strength(r) }
+}
+
 pub fn extreme_strength(r: &mut Random) -> f64 {
     if r.one_in(3) { extreme(r).abs() } else { usual_strength(r) }
 }
@@ -193,6 +214,30 @@ pub fn part(r: &mut Random) -> f64 {
         1 => extreme(r),
         2 => general(r),
         _ => r.below(1100) as f64,
+    }
+}
+
+// ---- cutoffs
+
+pub fn cutoff_fits(x: f64) -> bool {
+    0.0 < x && x <= GREATEST_CUTOFF
+}
+
+/// From the least above 0 to 1E-6, of all sizes.
+pub fn good_cutoff(r: &mut Random) -> f64 {
+    match r.below(4) {
+        0 => r.choice(&[5e-324, f64::MIN_POSITIVE, 1e-300, 1e-100, 1e-12, 1e-8, 1e-7, 5e-7, 9.999999999999999e-7, GREATEST_CUTOFF]),
+        1 => f64::from_bits(1 + r.below(GREATEST_CUTOFF.to_bits())),
+        _ => r.between_powers(-40, -21).abs(),
+    }
+}
+
+pub fn bad_cutoff(r: &mut Random) -> f64 {
+    match r.below(4) {
+        0 => r.choice(&[0.0, -0.0, -5e-324, -1e-8, -GREATEST_CUTOFF, -1.0]),
+        1 => r.choice(&[f64::from_bits(GREATEST_CUTOFF.to_bits() + 1), 1e-5, 1.0, f64::MAX]),
+        2 => r.choice(&[f64::NAN, f64::INFINITY, f64::NEG_INFINITY]),
+        _ => signalling(r),
     }
 }
 

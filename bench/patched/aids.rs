@@ -92,6 +92,7 @@ impl Solver {
         let row_reads = |row: &Row| row.constant.is_finite()
             && row.cells.iter().all(|(s, v)| v.is_finite() && live.contains(&s.0) && !self.rows.contains_key(s));
         all_fresh
+            && 0.0 < self.cutoff && self.cutoff <= ::GREATEST_CUTOFF // EDIT 22
             && live.iter().all(|id| 1 <= *id && *id < self.id_tick)
             && self.var_data.len() <= 32
             && self.cns.len() <= 48

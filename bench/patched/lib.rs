@@ -27,6 +27,8 @@
 //! 19. "Left out: operators, `Display`, the variable counter, `add_constraints`."
 //! 20. Aids of the bench, no part of document 01: dump, reads_as_one, set_next, and the state as plain numbers.
 //! 21. "use counts are those of the stored terms": skipped terms are not stored.
+//! 22. "Let reset take the near-zero cutoff, above 0 and at most 1E-6", "24 cutoff outside the range" (document 02, T-02). A row has
+//!     the cutoff of its solver, so that the row functions keep the crate's signatures.
 use std::collections::BTreeMap; // EDIT 1: was HashMap
 use std::collections::btree_map::{Entry};
 
@@ -159,10 +161,10 @@ impl Constraint {
     pub fn strength(&self) -> f64 {
         self.strength
     }
-    // EDIT 21: as it is stored
-    fn kept(&self) -> Constraint {
+    // EDIT 21, 22: as it is stored
+    fn kept(&self, cutoff: f64) -> Constraint {
         let mut out = self.clone();
-        out.expression.terms.retain(|t| !near_zero(t.coefficient));
+        out.expression.terms.retain(|t| !near_zero(t.coefficient, cutoff));
         out
     }
 }
@@ -197,32 +199,40 @@ enum RowType {
 struct Row {
     cells: BTreeMap<Symbol, f64>, // EDIT 1: was HashMap
     constant: f64,
-    type_: RowType // EDIT 7, 10
+    type_: RowType, // EDIT 7, 10
+    cutoff: f64 // EDIT 22
 }
 
-fn near_zero(value: f64) -> bool {
-    const EPS: f64 = 1E-8;
+/// EDIT 22: "1E-8 stays usual"
+pub const USUAL_CUTOFF: f64 = 1E-8;
+// EDIT 22: "above 0 and at most 1E-6"
+const GREATEST_CUTOFF: f64 = 1E-6;
+
+// EDIT 22: was by 1E-8
+fn near_zero(value: f64, cutoff: f64) -> bool {
     if value < 0.0 {
-        -value < EPS
+        -value < cutoff
     } else {
-        value < EPS
+        value < cutoff
     }
 }
 
 impl Row {
-    fn new(constant: f64) -> Row {
+    fn new(constant: f64, cutoff: f64) -> Row { // EDIT 22
         Row {
             cells: BTreeMap::new(),
             constant: constant,
-            type_: RowType::InTable
+            type_: RowType::InTable,
+            cutoff: cutoff
         }
     }
     // EDIT 10: "The objective's constant isn't kept."
-    fn objective() -> Row {
+    fn objective(cutoff: f64) -> Row { // EDIT 22
         Row {
             cells: BTreeMap::new(),
             constant: 0.0,
-            type_: RowType::Objective
+            type_: RowType::Objective,
+            cutoff: cutoff
         }
     }
     fn add(&mut self, v: f64) -> f64 {
@@ -232,14 +242,14 @@ impl Row {
     }
     fn insert_symbol(&mut self, s: Symbol, coefficient: f64) {
         match self.cells.entry(s) {
-            Entry::Vacant(entry) => if !near_zero(coefficient) {
+            Entry::Vacant(entry) => if !near_zero(coefficient, self.cutoff) { // EDIT 22
                 watch::cell(self.type_, coefficient); // EDIT 6, 7
                 entry.insert(coefficient);
             },
             Entry::Occupied(mut entry) => {
                 *entry.get_mut() += coefficient;
                 watch::cell(self.type_, *entry.get()); // EDIT 6, 7
-                if near_zero(*entry.get_mut()) {
+                if near_zero(*entry.get_mut(), self.cutoff) { // EDIT 22
                     entry.remove();
                 }
             }

@@ -29,7 +29,7 @@ fn fetched(changes: &[(Variable, f64)]) -> String {
 fn main() {
     let mut solver = Solver::new();
     format::serve(|call| match call {
-        Call::Reset => line(solver.reset()),
+        Call::Reset(cutoff) => line(solver.reset(cutoff)),
         Call::Add { number, budget, relation, strength, constant, terms } => {
             line(add(&mut solver, number, relation, strength, constant, &terms, budget))
         }

@@ -43,6 +43,7 @@ pub struct RowState {
 
 #[derive(Clone, Debug)]
 pub struct State {
+    pub cutoff: f64,
     pub next: usize,
     pub clear: bool,
     pub whole: bool,
@@ -112,6 +113,7 @@ impl Solver {
             Name::EditOf(_) => None
         }).collect();
         State {
+            cutoff: self.cutoff,
             next: self.id_tick,
             clear: self.should_clear_changes,
             whole: self.whole,
@@ -125,6 +127,7 @@ impl Solver {
 
     pub fn from_state(s: &State) -> Solver {
         let mut out = Solver::new();
+        out.reset(s.cutoff);
         out.id_tick = s.next;
         out.should_clear_changes = s.clear;
         out.whole = s.whole;
@@ -146,7 +149,7 @@ impl Solver {
             out.edits.insert(Variable(e.variable), EditInfo { tag: tag, constraint: c, constant: e.suggestion });
         }
         for r in &s.rows {
-            let mut row = Row::new(r.constant);
+            let mut row = Row::new(r.constant, s.cutoff);
             row.cells = r.cells.iter().cloned().collect::<BTreeMap<_, _>>();
             out.rows.insert(r.symbol, Box::new(row));
         }

@@ -12,6 +12,8 @@ use {
     Answer,
     RelationalOperator,
     near_zero,
+    GREATEST_CUTOFF,
+    USUAL_CUTOFF,
     watch
 };
 
@@ -53,6 +55,7 @@ pub struct Solver {
     pub(crate) objective: Rc<RefCell<Row>>,
     artificial: Option<Rc<RefCell<Row>>>,
     pub(crate) id_tick: usize,
+    pub(crate) cutoff: f64, // EDIT 22: the one that reset was given
     pub(crate) whole: bool, // EDIT 7: the stored mark
     budget: u32, // EDIT 8: of the call that runs, with the pivots it has made
     pivots: u32
@@ -72,9 +75,10 @@ impl Solver {
             should_clear_changes: false,
             rows: BTreeMap::new(),
             edits: BTreeMap::new(),
-            objective: Rc::new(RefCell::new(Row::objective())), // EDIT 10
+            objective: Rc::new(RefCell::new(Row::objective(USUAL_CUTOFF))), // EDIT 10, 22
             artificial: None,
             id_tick: 1,
+            cutoff: USUAL_CUTOFF, // EDIT 22
             whole: true,
             budget: 0,
             pivots: 0
@@ -95,6 +99,7 @@ impl Solver {
             objective: Rc::new(RefCell::new(self.objective.borrow().clone())),
             artificial: None,
             id_tick: self.id_tick,
+            cutoff: self.cutoff,
             whole: self.whole,
             budget: 0,
             pivots: 0
@@ -141,7 +146,7 @@ impl Solver {
     // EDIT 4: 9, "live variables plus the new ones in terms not near zero exceed 32"
     fn too_many_variables(&self, terms: &[Term]) -> bool {
         let mut live: BTreeSet<Variable> = self.var_data.keys().cloned().collect();
-        live.extend(terms.iter().filter(|t| !near_zero(t.coefficient)).map(|t| t.variable));
+        live.extend(terms.iter().filter(|t| !near_zero(t.coefficient, self.cutoff)).map(|t| t.variable)); // EDIT 22
         live.len() > MOST_VARIABLES
     }
 
@@ -196,7 +201,7 @@ impl Solver {
         // marker can enter the basis. If the constant is non-zero,
         // then it represents an unsatisfiable constraint.
         if subject.type_() == SymbolType::Invalid && Solver::all_dummies(&row) {
-            if !near_zero(row.constant) {
+            if !near_zero(row.constant, self.cutoff) { // EDIT 22
                 return Err(Refusal(12)); // EDIT 3
             } else {
                 subject = tag.marker;
@@ -221,7 +226,7 @@ impl Solver {
             try!(Solver::check_finite()); // EDIT 6
         }
 
-        self.cns.insert(constraint.name, (constraint.kept(), tag)); // EDIT 2, 21
+        self.cns.insert(constraint.name, (constraint.kept(self.cutoff), tag)); // EDIT 2, 21, 22
 
         // Optimizing after each constraint is added performs less
         // aggregate work due to a smaller average system size. It
@@ -464,7 +469,12 @@ impl Solver {
     /// This can be faster than deleting the solver and creating a new one
     /// when the entire system must change, since it can avoid unnecessary
     /// heap (de)allocations.
-    pub fn reset(&mut self) -> Answer {
+    pub fn reset(&mut self, cutoff: f64) -> Answer {
+        // EDIT 22: "24 cutoff outside the range, after 18"; NaN is outside too. A refusal changes nothing
+        if !(cutoff > 0.0 && cutoff <= GREATEST_CUTOFF) {
+            return self.refused(24);
+        }
+        self.cutoff = cutoff; // EDIT 22
         self.rows.clear();
         self.cns.clear();
         self.var_data.clear();
@@ -472,7 +482,7 @@ impl Solver {
         self.changed.clear();
         self.should_clear_changes = false;
         self.edits.clear();
-        *self.objective.borrow_mut() = Row::objective(); // EDIT 10
+        *self.objective.borrow_mut() = Row::objective(cutoff); // EDIT 10, 22
         self.artificial = None;
         self.id_tick = 1;
         self.whole = true; // EDIT 7: "The mark is yes after reset"
@@ -512,10 +522,10 @@ impl Solver {
     /// for tracking the movement of the constraint in the tableau.
     fn create_row(&mut self, constraint: &Constraint) -> (Box<Row>, Tag) {
         let expr = constraint.expr();
-        let mut row = Row::new(expr.constant);
+        let mut row = Row::new(expr.constant, self.cutoff); // EDIT 22
         // Substitute the current basic variables into the row.
         for term in &expr.terms {
-            if !near_zero(term.coefficient) {
+            if !near_zero(term.coefficient, self.cutoff) { // EDIT 22
                 let symbol = self.get_var_symbol(term.variable);
                 if let Some(other_row) = self.rows.get(&symbol) {
                     row.insert_row(other_row, term.coefficient);
@@ -633,7 +643,7 @@ impl Solver {
         // only if the artificial objective is optimized to zero.
         let artificial = self.artificial.as_ref().unwrap().clone();
         try!(self.optimise(&artificial));
-        let success = near_zero(artificial.borrow().constant);
+        let success = near_zero(artificial.borrow().constant, self.cutoff); // EDIT 22
         self.artificial = None;
         // EDIT 16: "Its constant not near zero: refuse 12." before the pivot below, which could meet 13 first
         if !success {

@@ -64,9 +64,10 @@ impl Driver {
 
     fn answer(&mut self, call: Call) -> String {
         match call {
-            Call::Reset => {
+            Call::Reset(cutoff) => {
                 self.solver.reset();
-                line(0)
+                // the crate has no other
+                if cutoff == format::USUAL_CUTOFF { line(0) } else { "?".to_string() }
             }
             Call::Add { number, relation, strength, constant, terms, .. } => {
                 let c = self.constraint(number, relation, strength, constant, &terms);

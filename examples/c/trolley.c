@@ -143,6 +143,12 @@ int main(void)
     screen.words[2] += 1;
     a = drag(3, 340, 20);
     expect(a.number == KNOBHARBOR_NOT_A_STATE, "a damaged table is refused");
+    before = screen;
+    a = kh_reset_with_cutoff(&screen, 0.0);
+    expect(a.number == KNOBHARBOR_BAD_CUTOFF && !a.whole, "a cutoff of 0 is refused");
+    expect(memcmp(&screen, &before, sizeof screen) == 0, "and the tables are as they were");
+    a = kh_reset_with_cutoff(&screen, 1e-12);
+    expect(a.number == KNOBHARBOR_ACCEPTED && a.whole && !kh_has_constraint(&screen, 1), "a reset makes a state of any tables");
     printf("all as expected\n");
     return 0;
 }

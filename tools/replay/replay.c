@@ -103,7 +103,7 @@ static void change(void)
     knobharbor_answer a;
     paint();
     if (strcmp(word[0], "reset") == 0)
-        a = kh_reset(&screen), note(1, depth());
+        a = words == 1 ? kh_reset(&screen) : kh_reset_with_cutoff(&screen, number(word[1])), note(1, depth());
     else if (strcmp(word[0], "remove") == 0)
         a = kh_remove(&screen, &room, whole(1), budget(2)), note(2, depth());
     else if (strcmp(word[0], "addedit") == 0)

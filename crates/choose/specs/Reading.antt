@@ -5,6 +5,7 @@ use mathlib.Core.Path.{_≡_, refl}
 use mathlib.Core.List.{List, []}
 use lib.ListN.{getD}
 use lib.Ieee.{Float, nan}
+use Rattle.steps.specs.Number.{usualCutoff}
 use Rattle.steps.specs.Symbol.{Symbol}
 use Rattle.steps.specs.Row.{Row}
 use Rattle.steps.specs.State.{Basic, Tableau}
@@ -24,10 +25,10 @@ rowIn h row = record { constant = getD row 0 nan; cells = cellsOf (getD h 1 0) r
 abbrev pub namedRow : List ℕ → List (List Float) → ℕ → Basic
 namedRow h w i = record { symbol = symbolOf (getD h (145 + i) 0); row = rowIn h (getD w i []) }
 
-unfoldable pub tableauIn : List ℕ → List (List Float) → Tableau
-tableauIn h w =
-    record { symbols = symbolsIn h; nextId = getD h 0 0; rows = basicsIn h w; objective = cellsOf (getD h 1 0) (getD w 0 []) }
+unfoldable pub tableauIn : Float → List ℕ → List (List Float) → Tableau
+tableauIn cutoff h w =
+    record { cutoff = cutoff; symbols = symbolsIn h; nextId = getD h 0 0; rows = basicsIn h w; objective = cellsOf (getD h 1 0) (getD w 0 []) }
 
-pub tableau-read : (t : Tables) → read t .tableau ≡ tableauIn (t .head) (t .rows)
+pub tableau-read : (t : Tables) → read t .tableau ≡ tableauIn usualCutoff (t .head) (t .rows)
 unfolding read symbolsOf basicsOf tableauIn symbolsIn basicsIn
 tableau-read t = refl

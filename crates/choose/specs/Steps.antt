@@ -31,7 +31,7 @@ module _ {A B : Type 0} where
 
 -- ---- a Work whose tableau the tables read as
 
-module _ (h : List ℕ) (w : List (List Float)) (v : Work) (reads : v .tableau ≡ tableauIn h w) where
+module _ (cutoff : Float) (h : List ℕ) (w : List (List Float)) (v : Work) (reads : v .tableau ≡ tableauIn cutoff h w) where
   symbols-are : v .tableau .symbols ≡ symbolsIn h
   unfolding tableauIn
   symbols-are = ap (λ (t : Tableau). t .symbols) reads

@@ -110,7 +110,7 @@ module _ (h : List ℕ) (w : List (List Float)) where
   unfoldable pub dualChoiceOf : Choice
   dualChoiceOf = onFound (λ i. onFound (λ p. pivotOn (basicAt h i) (symbolAt h p)) stuck (dualEnteringOf h (getD w i []) (getD w 0 []))) ended (dualLeavingOf h w)
 
-  module _ (v : Work) (reads : v .tableau ≡ tableauIn h w) where
+  module _ (cutoff : Float) (v : Work) (reads : v .tableau ≡ tableauIn cutoff h w) where
     abbrev leavingFor : Symbol → Choice
     leavingFor e = picked (λ (l : Symbol). pivotOn l e) stuck (getLeavingRow e v)
 
@@ -126,7 +126,7 @@ module _ (h : List ℕ) (w : List (List Float)) where
             → onFound (λ p. leavingFor (symbolAt h p)) ended f ≡ onFound (λ p. onFound (λ i. pivotOn (basicAt h i) (symbolAt h p)) stuck (leavingOf p h w)) ended f
         by Nothing r = refl
         by (At p) r =
-            ap (λ (o : Option Symbol). picked (λ (l : Symbol). pivotOn l (symbolAt h p)) stuck o) (leaving-is h w v reads (symbolAt h p) p (own-place 15 (getD h 1 0) h up p (r .0) (r .1)))
+            ap (λ (o : Option Symbol). picked (λ (l : Symbol). pivotOn l (symbolAt h p)) stuck o) (leaving-is cutoff h w v reads (symbolAt h p) p (own-place 15 (getD h 1 0) h up p (r .0) (r .1)))
             ∙ on-some (λ (l : Symbol). pivotOn l (symbolAt h p)) stuck (λ i. basicAt h i) (leavingOf p h w)
 
     abbrev enteringFor : Basic → Choice
@@ -135,7 +135,7 @@ module _ (h : List ℕ) (w : List (List Float)) where
     pub dual-choice-is : chooseDualPivot v ≡ dualChoiceOf
     unfolding chooseDualPivot dualChoiceOf
     dual-choice-is =
-        ap (λ (o : Option Basic). picked enteringFor ended o) (dual-leaving-is h w v reads)
+        ap (λ (o : Option Basic). picked enteringFor ended o) (dual-leaving-is cutoff h w v reads)
         ∙ on-some enteringFor ended (λ i. namedRow h w i) (dualLeavingOf h w)
         ∙ by (dualLeavingOf h w)
       where
@@ -143,5 +143,5 @@ module _ (h : List ℕ) (w : List (List Float)) where
             → onFound (λ i. enteringFor (namedRow h w i)) ended f ≡ onFound (λ i. onFound (λ p. pivotOn (basicAt h i) (symbolAt h p)) stuck (dualEnteringOf h (getD w i []) (getD w 0 []))) ended f
         by Nothing = refl
         by (At i) =
-            ap (λ (o : Option Symbol). picked (λ (e : Symbol). pivotOn (basicAt h i) e) stuck o) (dual-entering-is h w v reads (getD w i []))
+            ap (λ (o : Option Symbol). picked (λ (e : Symbol). pivotOn (basicAt h i) e) stuck o) (dual-entering-is cutoff h w v reads (getD w i []))
             ∙ on-some (λ (e : Symbol). pivotOn (basicAt h i) e) stuck (λ p. symbolAt h p) (dualEnteringOf h (getD w i []) (getD w 0 []))

@@ -62,7 +62,7 @@ cut s y x = record { symbol = x .symbol; row = record { constant = x .row .const
 
 abbrev pub cutTableau : ℕ → Tableau → Tableau
 cutTableau s t =
-    record { symbols = deleteSymbol s (t .symbols); nextId = t .nextId; rows = map (cut s (t .symbols)) (t .rows); objective = deleteCell s (t .symbols) (t .objective) }
+    record { cutoff = t .cutoff; symbols = deleteSymbol s (t .symbols); nextId = t .nextId; rows = map (cut s (t .symbols)) (t .rows); objective = deleteCell s (t .symbols) (t .objective) }
 
 -- ---- a new column, at the end
 
@@ -125,9 +125,9 @@ module _ (b : Board) (len : length (b .head) ≡ 196) (size : length (b .rows) �
         rw (appended-same b len kind fit (146 + j) (omega arith) (λ z. omega arith), cleared (1 + j) (omega arith), append-constant (getD w (1 + j) []) k, append-cells (getD w (1 + j) []) k (wide (1 + j) (omega arith)) fit) refl)
 
     -- a new symbol: every row and the objective get its place at the end
-    pub appended-tableau : Wide w (1 + r) → (v : Work) → v .tableau ≡ tableauIn h w → tableauIn h₁ w₁ ≡ appendSymbol (symbolOf (getD h 0 0 * 4 + kind)) v .tableau
+    pub appended-tableau : (cutoff : Float) → Wide w (1 + r) → (v : Work) → v .tableau ≡ tableauIn cutoff h w → tableauIn cutoff h₁ w₁ ≡ appendSymbol (symbolOf (getD h 0 0 * 4 + kind)) v .tableau
     unfolding tableauIn appendSymbol withTableau
-    appended-tableau wide v reads =
+    appended-tableau cutoff wide v reads =
         let s : getD h 0 0 + 1 ≡ suc (getD h 0 0) = omega arith in
         rw (
           reads,
@@ -217,9 +217,9 @@ module _ (b : Board) (len : length (b .head) ≡ 196) (size : length (b .rows) �
             rw (column-same b len p fit low high 2 (λ z. omega arith) (omega arith), column-symbols b len p fit low high, map-tab) (tab-ext _ _ 0 r λ j a c.
             rw (column-past b len p fit low high (146 + j) (omega arith), shut (1 + j) (omega arith), closed-constant (getD w (1 + j) []) (wide (1 + j) (omega arith)), closed-cells (getD w (1 + j) []) (wide (1 + j) (omega arith))) refl)
 
-        closed-tableau : tableauIn h₂ w₂ ≡ cutTableau s (tableauIn h w)
+        closed-tableau : (cutoff : Float) → tableauIn cutoff h₂ w₂ ≡ cutTableau s (tableauIn cutoff h w)
         unfolding tableauIn
-        closed-tableau =
+        closed-tableau cutoff =
             rw (
               closed-symbols,
               closed-basics,
@@ -244,18 +244,18 @@ module _ (b : Board) (len : length (b .head) ≡ 196) (size : length (b .rows) �
       unfolding basicsIn listOf basicOf
       absent-basics = rw map-tab (tab-ext _ _ 0 r λ j a c. rw (absent-cells (getD w (1 + j) [])) refl)
 
-      absent-tableau : tableauIn h w ≡ cutTableau s (tableauIn h w)
+      absent-tableau : (cutoff : Float) → tableauIn cutoff h w ≡ cutTableau s (tableauIn cutoff h w)
       unfolding tableauIn
-      absent-tableau = rw (absent-symbols, absent-basics, absent-cells (getD w 0 [])) refl
+      absent-tableau cutoff = rw (absent-symbols, absent-basics, absent-cells (getD w 0 [])) refl
 
     place-within : Within k (placeOf s h)
     unfolding idAt
     place-within = first-within _ k
 
-    pub column-of-tableau : k ≤ 129 → r ≤ 49 → Wide w (1 + r) → tableauIn (closeColumnOf s b .head) (closeColumnOf s b .rows) ≡ cutTableau s (tableauIn h w)
+    pub column-of-tableau : (cutoff : Float) → k ≤ 129 → r ≤ 49 → Wide w (1 + r) → tableauIn cutoff (closeColumnOf s b .head) (closeColumnOf s b .rows) ≡ cutTableau s (tableauIn cutoff h w)
     unfolding closeColumnOf
-    column-of-tableau fit rows-fit wide = by (placeOf s h) refl place-within
+    column-of-tableau cutoff fit rows-fit wide = by (placeOf s h) refl place-within
       where
-        by : (f : Found) → placeOf s h ≡ f → Within k f → tableauIn (onFound (λ p. closedColumn p b) b f .head) (onFound (λ p. closedColumn p b) b f .rows) ≡ cutTableau s (tableauIn h w)
-        by (At p) e a = closed-tableau p e fit (a .0) (a .1) rows-fit wide
-        by Nothing e a = absent-tableau e
+        by : (f : Found) → placeOf s h ≡ f → Within k f → tableauIn cutoff (onFound (λ p. closedColumn p b) b f .head) (onFound (λ p. closedColumn p b) b f .rows) ≡ cutTableau s (tableauIn cutoff h w)
+        by (At p) e a = closed-tableau p e fit (a .0) (a .1) rows-fit wide cutoff
+        by Nothing e a = absent-tableau e cutoff

@@ -7,6 +7,7 @@ use mathlib.Core.List.{[]}
 use borrow.Author.Tests.{ltb-true, ltb-false}
 use native.Mathlib.Omega.{arith}
 use lib.Dec.{ltb}
+use lib.Ieee.{Float}
 use lib.ListN.{length, getD}
 use Rattle.steps.specs.Work.{Work, dropRow, withTableau, purge}
 use Rattle.choose.specs.Reading.{basicsIn, tableauIn}
@@ -35,9 +36,9 @@ module _ (b : Board) (len : length (b .head) ≡ 196) (size : length (b .rows) �
   unfolding droppedRow
   row-inside i j a c high fit = closed-inside [] i r (b .rows) high (omega arith) [] j a c
 
-  read-purged : (id : ℕ) (v : Work) → v .tableau ≡ tableauIn (b .head) (b .rows) → cutTableau id (withRowsIn (dropRow id (basicsIn (b .head) (b .rows))) (tableauIn (b .head) (b .rows))) ≡ purge id v .tableau
+  read-purged : (cutoff : Float) (id : ℕ) (v : Work) → v .tableau ≡ tableauIn cutoff (b .head) (b .rows) → cutTableau id (withRowsIn (dropRow id (basicsIn (b .head) (b .rows))) (tableauIn cutoff (b .head) (b .rows))) ≡ purge id v .tableau
   unfolding purge withTableau tableauIn
-  read-purged id v reads = rw reads refl
+  read-purged cutoff id v reads = rw reads refl
 
   dropped-wide : (i : ℕ) → 1 ≤ i → i ≤ r → r ≤ 49 → Wide (b .rows) (1 + r) → Wide (droppedRow i b .rows) (1 + getD (droppedRow i b .head) 2 0)
   dropped-wide i low high fit wide j a = side (ltb j i) refl (rw (dropped-rows b len i fit low high) at a)
@@ -54,10 +55,10 @@ module _ (b : Board) (len : length (b .head) ≡ 196) (size : length (b .rows) �
     drop-of-wide wide = row-by b len id fit (λ x. Wide (x .rows) (1 + getD (x .head) 2 0)) wide λ i low high. dropped-wide i low high fit wide
 
     -- "a gone symbol's row, place and cells go"
-    pub purged-tableau : k ≤ 129 → Wide (b .rows) (1 + r) → (v : Work) → v .tableau ≡ tableauIn (b .head) (b .rows) → tableauIn (purgeOf id b .head) (purgeOf id b .rows) ≡ purge id v .tableau
+    pub purged-tableau : (cutoff : Float) → k ≤ 129 → Wide (b .rows) (1 + r) → (v : Work) → v .tableau ≡ tableauIn cutoff (b .head) (b .rows) → tableauIn cutoff (purgeOf id b .head) (purgeOf id b .rows) ≡ purge id v .tableau
     unfolding purgeOf
-    purged-tableau symbols wide v reads =
+    purged-tableau cutoff symbols wide v reads =
         let f = drop-of-fits b len id fit in
-        column-of-tableau (dropRowOf id b) (drop-of-length b len id fit) drop-of-size id (omega arith) (omega arith) (drop-of-wide wide)
-        ∙ ap (cutTableau id) (drop-of-tableau b len size id fit symbols)
-        ∙ read-purged id v reads
+        column-of-tableau (dropRowOf id b) (drop-of-length b len id fit) drop-of-size id cutoff (omega arith) (omega arith) (drop-of-wide wide)
+        ∙ ap (cutTableau id) (drop-of-tableau b len size cutoff id fit symbols)
+        ∙ read-purged cutoff id v reads

@@ -32,7 +32,7 @@ symbols-same h h′ k q = rw k (tab-ext _ _ 0 (getD h 1 0) λ j a b. ap symbolOf
 
 -- a tableau with other rows
 abbrev pub withRowsIn : List Basic → Tableau → Tableau
-withRowsIn rs t = record { symbols = t .symbols; nextId = t .nextId; rows = rs; objective = t .objective }
+withRowsIn rs t = record { cutoff = t .cutoff; symbols = t .symbols; nextId = t .nextId; rows = rs; objective = t .objective }
 
 abbrev pub basicIn : List ℕ → List (List Float) → ℕ → Basic
 basicIn h w j = basicOf (getD h 1 0) (getD h (146 + j) 0) (getD w (1 + j) [])
@@ -114,9 +114,9 @@ module _ (b : Board) (len : length (b .head) ≡ 196) (size : length (b .rows) �
         rw (u, v, kept-code-inside (146 + j) (omega arith) (omega arith), kept-row-inside (1 + j) a (omega arith)) refl)))
 
     -- "keep the row"
-    pub kept-tableau : getD h 1 0 ≤ 129 → tableauIn h₁ w₁ ≡ withRowsIn (keepRow (basicOf (getD h 1 0) code row) (basicsIn h w)) (tableauIn h w)
+    pub kept-tableau : (cutoff : Float) → getD h 1 0 ≤ 129 → tableauIn cutoff h₁ w₁ ≡ withRowsIn (keepRow (basicOf (getD h 1 0) code row) (basicsIn h w)) (tableauIn cutoff h w)
     unfolding tableauIn
-    kept-tableau k =
+    kept-tableau cutoff k =
         let e = row-place-between b len (code / 4) in
         let same : (m : ℕ) → (m ≡ 2 → ⊥) → m < 146 → getD h₁ m 0 ≡ getD h m 0 = λ m n a. kept-same b len code row fit m n (omega arith) in
         let one : getD h₁ 1 0 ≡ getD h 1 0 = same 1 (λ z. omega arith) (omega arith) in
@@ -172,9 +172,9 @@ module _ (b : Board) (len : length (b .head) ≡ 196) (size : length (b .rows) �
         rw (u, v, dropped-code-inside (146 + j) (omega arith) (omega arith), dropped-row-inside (1 + j) a (omega arith)) refl) in
         rw (dropped-rows b len i fit low high, k) (sym (ap (λ (n : ℕ). look 0 n) (sym s) ∙ gone))
 
-    pub dropped-tableau : (id : ℕ) → rowOf id h ≡ At i → getD h 1 0 ≤ 129 → tableauIn h₂ w₂ ≡ withRowsIn (dropRow id (basicsIn h w)) (tableauIn h w)
+    pub dropped-tableau : (cutoff : Float) (id : ℕ) → rowOf id h ≡ At i → getD h 1 0 ≤ 129 → tableauIn cutoff h₂ w₂ ≡ withRowsIn (dropRow id (basicsIn h w)) (tableauIn cutoff h w)
     unfolding tableauIn
-    dropped-tableau id found k =
+    dropped-tableau cutoff id found k =
         let same : (m : ℕ) → (m ≡ 2 → ⊥) → m < 146 → getD h₂ m 0 ≡ getD h m 0 = λ m n a. dropped-same b len i fit low high m n (omega arith) in
         let one : getD h₂ 1 0 ≡ getD h 1 0 = same 1 (λ z. omega arith) (omega arith) in
         rw (
@@ -202,16 +202,16 @@ module _ (b : Board) (len : length (b .head) ≡ 196) (size : length (b .rows) �
   unfolding idAt
   row-within id = first-within _ r
 
-  absent-tableau : (id : ℕ) → rowOf id h ≡ Nothing → tableauIn h w ≡ withRowsIn (dropRow id (basicsIn h w)) (tableauIn h w)
+  absent-tableau : (cutoff : Float) (id : ℕ) → rowOf id h ≡ Nothing → tableauIn cutoff h w ≡ withRowsIn (dropRow id (basicsIn h w)) (tableauIn cutoff h w)
   unfolding tableauIn
-  absent-tableau id none = rw (absent-row id none) refl
+  absent-tableau cutoff id none = rw (absent-row id none) refl
 
   -- the steps' `dropRow`, basic or not
-  pub drop-of-tableau : (id : ℕ) → r ≤ 49 → getD h 1 0 ≤ 129 → tableauIn (dropRowOf id b .head) (dropRowOf id b .rows) ≡ withRowsIn (dropRow id (basicsIn h w)) (tableauIn h w)
+  pub drop-of-tableau : (cutoff : Float) (id : ℕ) → r ≤ 49 → getD h 1 0 ≤ 129 → tableauIn cutoff (dropRowOf id b .head) (dropRowOf id b .rows) ≡ withRowsIn (dropRow id (basicsIn h w)) (tableauIn cutoff h w)
   unfolding dropRowOf
-  drop-of-tableau id fit k = by (rowOf id h) refl (row-within id)
+  drop-of-tableau cutoff id fit k = by (rowOf id h) refl (row-within id)
     where
       by : (f : Found) → rowOf id h ≡ f → Within r f
-          → tableauIn (onFound (λ i. droppedRow i b) b f .head) (onFound (λ i. droppedRow i b) b f .rows) ≡ withRowsIn (dropRow id (basicsIn h w)) (tableauIn h w)
-      by (At i) e a = dropped-tableau i fit (a .0) (a .1) id e k
-      by Nothing e a = absent-tableau id e
+          → tableauIn cutoff (onFound (λ i. droppedRow i b) b f .head) (onFound (λ i. droppedRow i b) b f .rows) ≡ withRowsIn (dropRow id (basicsIn h w)) (tableauIn cutoff h w)
+      by (At i) e a = dropped-tableau i fit (a .0) (a .1) cutoff id e k
+      by Nothing e a = absent-tableau cutoff id e

@@ -115,6 +115,7 @@ extern "C" {
         bytes: &mut [u8; BYTES],
         reals: &mut [f64; REALS],
         values: &mut [f64; CELLS],
+        cutoff: f64,
         answer: &mut Places,
     );
     fn knobharbor_fetch(
@@ -168,10 +169,10 @@ macro_rules! ask {
     };
 }
 
-pub fn reset(t: &mut Tables) -> Answer {
+pub fn reset(t: &mut Tables, cutoff: f64) -> Answer {
     let mut answer: Places = [0; 3];
     // The references are to whole arrays.
-    unsafe { knobharbor_reset(&mut t.words, &mut t.keys, &mut t.bytes, &mut t.reals, &mut t.values, &mut answer) };
+    unsafe { knobharbor_reset(&mut t.words, &mut t.keys, &mut t.bytes, &mut t.reals, &mut t.values, cutoff, &mut answer) };
     Answer::of(answer)
 }
 

@@ -1,6 +1,6 @@
 //! The calls over tables that the caller lends: fixed sizes, no heap.
 use crate::archive::{self, Added, Answer, Tables, PLACES};
-use crate::{Refusal, RelationalOperator, Term, Variable, LARGEST_BUDGET};
+use crate::{Refusal, RelationalOperator, Term, Variable, LARGEST_BUDGET, USUAL_CUTOFF};
 use core::ops::Deref;
 
 /// A solver over lent tables. Constraints have numbers, which the caller chooses. Every call ends within the pivot budget, and a
@@ -28,20 +28,31 @@ pub struct LentSolver<'a> {
     tables: &'a mut Tables,
     room: &'a mut Tables,
     budget: u16,
+    cutoff: f64,
     last: Answer,
 }
 
 impl<'a> LentSolver<'a> {
     /// An empty solver over these tables, whatever they held, with a room to work in.
     pub fn new(tables: &'a mut Tables, room: &'a mut Tables) -> LentSolver<'a> {
-        let last = archive::reset(tables);
-        LentSolver { tables, room, budget: LARGEST_BUDGET, last }
+        let last = archive::reset(tables, USUAL_CUTOFF);
+        LentSolver { tables, room, budget: LARGEST_BUDGET, cutoff: USUAL_CUTOFF, last }
     }
 
-    /// The solver that these tables hold, as an earlier one left them. If they hold none, every changing call but `reset` is refused
-    /// with `Refusal::TablesDoNotRead`. Until the first changing call, `is_whole` says no.
+    /// The same with another cutoff of near zero: see `Solver::with_cutoff`. If it is refused, the tables are as they were.
+    pub fn with_cutoff(tables: &'a mut Tables, room: &'a mut Tables, cutoff: f64) -> Result<LentSolver<'a>, Refusal> {
+        let last = archive::reset(tables, cutoff);
+        match Refusal::of(last.number) {
+            None => Ok(LentSolver { tables, room, budget: LARGEST_BUDGET, cutoff, last }),
+            Some(refusal) => Err(refusal),
+        }
+    }
+
+    /// The solver that these tables hold, as an earlier one left them, with its cutoff. If they hold none, every changing call but a
+    /// reset is refused with `Refusal::TablesDoNotRead`. Until the first changing call, `is_whole` says no. (What the cutoff is, the
+    /// tables do not tell: a `reset` after this takes the usual one.)
     pub fn resume(tables: &'a mut Tables, room: &'a mut Tables) -> LentSolver<'a> {
-        LentSolver { tables, room, budget: LARGEST_BUDGET, last: Answer { number: 0, pivots: 0, whole: false } }
+        LentSolver { tables, room, budget: LARGEST_BUDGET, cutoff: USUAL_CUTOFF, last: Answer { number: 0, pivots: 0, whole: false } }
     }
 
     /// A call that needs more pivots than this is refused with `Refusal::BudgetUsedUp`, and changes nothing.
@@ -69,9 +80,17 @@ impl<'a> LentSolver<'a> {
         Refusal::of(answer.number).map_or(Ok(()), Err)
     }
 
-    /// Empties the solver; the budget stays.
+    /// Empties the solver; the budget stays, and the cutoff that it was made or last reset with.
     pub fn reset(&mut self) {
-        self.last = archive::reset(self.tables);
+        self.last = archive::reset(self.tables, self.cutoff);
+    }
+
+    /// Empties the solver, with another cutoff from here on. If that is refused, nothing changes.
+    pub fn reset_with_cutoff(&mut self, cutoff: f64) -> Result<(), Refusal> {
+        let answer = archive::reset(self.tables, cutoff);
+        self.concluded(answer)?;
+        self.cutoff = cutoff;
+        Ok(())
     }
 
     /// Adds the constraint of this number: the terms plus the constant are `op` zero, at this strength.

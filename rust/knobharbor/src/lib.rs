@@ -83,3 +83,9 @@ pub use variable::{RelationalOperator, Term, Variable, WeightedRelation};
 
 /// The largest budget, and the one that a new solver has.
 pub const LARGEST_BUDGET: u16 = u16::MAX;
+
+/// The cutoff of near zero that a new solver has unless another is named.
+pub const USUAL_CUTOFF: f64 = 1e-8;
+
+/// The largest cutoff that a solver takes; it takes any that is above 0 up to this one.
+pub const LARGEST_CUTOFF: f64 = 1e-6;

@@ -1,4 +1,4 @@
-//! Why a call was refused: document 01's numbers, and document 02's of a line of text.
+//! Why a call was refused: document 01's numbers, and document 02's.
 use core::fmt;
 
 macro_rules! refusals {
@@ -77,6 +77,8 @@ refusals! {
     LineTooLarge = 22, "the line has a number above 1,048,576, or a variable above 4,294,967,295";
     /// A line has at most 16 variables.
     LineTooManyVariables = 23, "the line has more than 16 variables";
+    /// A cutoff is above 0 and at most `LARGEST_CUTOFF`.
+    CutoffOutOfRange = 24, "the cutoff is not above 0 and at most 1E-6";
     /// Over the service cable a line has at most 200 bytes.
     CableLineTooLong = 32, "the line has more than 200 bytes";
     /// The service cable was closed inside a line.

@@ -3,7 +3,7 @@ use crate::archive::{self, Added, Answer, Tables};
 use crate::lent::Changes;
 use crate::{
     AddConstraintError, AddEditVariableError, Constraint, Refusal, Refused, RemoveConstraintError, RemoveEditVariableError,
-    SuggestValueError, Variable, LARGEST_BUDGET,
+    SuggestValueError, Variable, LARGEST_BUDGET, USUAL_CUTOFF,
 };
 use alloc::alloc::{alloc_zeroed, handle_alloc_error, Layout};
 use alloc::boxed::Box;
@@ -36,6 +36,7 @@ impl Held {
 pub struct Solver {
     held: Box<Held>,
     budget: u16,
+    cutoff: f64,
     constraints: Vec<(Constraint, u32)>,
     next: u32,
     changes: Vec<(Variable, f64)>,
@@ -44,11 +45,27 @@ pub struct Solver {
 }
 
 impl Solver {
-    /// An empty solver, with the largest budget.
+    /// An empty solver, with the largest budget and the usual cutoff.
     pub fn new() -> Solver {
         let mut held = Held::zero();
-        let last = archive::reset(&mut held.tables);
-        Solver { held, budget: LARGEST_BUDGET, constraints: Vec::new(), next: 0, changes: Vec::new(), last, refused: None }
+        let last = archive::reset(&mut held.tables, USUAL_CUTOFF);
+        Solver::over(held, USUAL_CUTOFF, last)
+    }
+
+    /// An empty solver with another cutoff: a number is near zero, so that a coefficient counts as absent and a remainder as met, if
+    /// its size is strictly below it. It is above 0 and at most `LARGEST_CUTOFF`, else `Refusal::CutoffOutOfRange`. While `is_whole`
+    /// says yes, no answer depends on it.
+    pub fn with_cutoff(cutoff: f64) -> Result<Solver, Refusal> {
+        let mut held = Held::zero();
+        let last = archive::reset(&mut held.tables, cutoff);
+        match Refusal::of(last.number) {
+            None => Ok(Solver::over(held, cutoff, last)),
+            Some(refusal) => Err(refusal),
+        }
+    }
+
+    fn over(held: Box<Held>, cutoff: f64, last: Answer) -> Solver {
+        Solver { held, budget: LARGEST_BUDGET, cutoff, constraints: Vec::new(), next: 0, changes: Vec::new(), last, refused: None }
     }
 
     /// A call that needs more pivots than this is refused with `Refusal::BudgetUsedUp`, and changes nothing.
@@ -59,6 +76,11 @@ impl Solver {
     /// The pivots that a call may make.
     pub fn budget(&self) -> u16 {
         self.budget
+    }
+
+    /// The cutoff of near zero.
+    pub fn cutoff(&self) -> f64 {
+        self.cutoff
     }
 
     /// The pivots that the last changing call made, refused ones too.
@@ -175,12 +197,22 @@ impl Solver {
         archive::value(&self.held.tables, v.number())
     }
 
-    /// Empties the solver; the budget stays.
+    /// Empties the solver; the budget and the cutoff stay.
     pub fn reset(&mut self) {
         self.constraints.clear();
         self.changes.clear();
         self.refused = None;
-        self.last = archive::reset(&mut self.held.tables);
+        self.last = archive::reset(&mut self.held.tables, self.cutoff);
+    }
+
+    /// Empties the solver, with another cutoff from here on. If that is refused, nothing changes.
+    pub fn reset_with_cutoff(&mut self, cutoff: f64) -> Result<(), Refusal> {
+        let answer = archive::reset(&mut self.held.tables, cutoff);
+        self.concluded(answer, None)?;
+        self.cutoff = cutoff;
+        self.constraints.clear();
+        self.changes.clear();
+        Ok(())
     }
 }
 
@@ -198,6 +230,7 @@ impl Clone for Solver {
         Solver {
             held,
             budget: self.budget,
+            cutoff: self.cutoff,
             constraints: self.constraints.clone(),
             next: self.next,
             changes: self.changes.clone(),

@@ -1,5 +1,5 @@
 //! The crate's sizes and words are those of include/knobharbor.h.
-use knobharbor::{CableReader, Refusal, Tables, LARGEST_BUDGET};
+use knobharbor::{CableReader, Refusal, Tables, LARGEST_BUDGET, LARGEST_CUTOFF, USUAL_CUTOFF};
 use std::mem::size_of;
 
 const HEADER: &str = include_str!("../../../include/knobharbor.h");
@@ -16,6 +16,13 @@ fn tables_are_as_large() {
     assert_eq!(size_of::<Tables>(), bytes.next_multiple_of(8));
     assert_eq!(usize::from(LARGEST_BUDGET), size("LARGEST_BUDGET"));
     assert_eq!(size_of::<CableReader>(), size("CABLE"));
+}
+
+#[test]
+fn cutoffs_are_the_same() {
+    for (name, cutoff) in [("USUAL", USUAL_CUTOFF), ("LARGEST", LARGEST_CUTOFF)] {
+        assert!(HEADER.contains(&format!("#define KNOBHARBOR_{name}_CUTOFF {cutoff:e}\n")));
+    }
 }
 
 #[test]
@@ -51,6 +58,7 @@ fn refusals_have_the_same_words() {
         Refusal::LineTooDeep,
         Refusal::LineTooLarge,
         Refusal::LineTooManyVariables,
+        Refusal::CutoffOutOfRange,
     ];
     assert_eq!(words.len(), all.len() + 1);
     for (i, refusal) in all.into_iter().enumerate() {
