@@ -1,7 +1,7 @@
 -- The live part of tables copied over others: the copy reads as the same state, and fits as well.
 -- Assumes nothing.
 use Prim.Native.Nat.{ℕ, zero, suc, _+_, _≤_, _<_}
-use mathlib.Core.Path.{_≡_, sym, ap, _∙_}
+use mathlib.Core.Path.{_≡_, refl, sym, ap, _∙_}
 use mathlib.Core.Bool.{Bool, true, false}
 use mathlib.Core.List.{[]}
 use native.Mathlib.Nat.{zero-add, suc-ne-zero}
@@ -54,6 +54,7 @@ module _ (t : Tables) (q : Coded t) where
   unfolding read symbolsOf basicsOf variablesOf constraintsOf editsOf cellsOf
   read-fits c =
       record {
+        usual = refl;
         symbols = rw (length-listOf _ _) (c .0);
         rows = rw (length-listOf _ _) (c .1);
         variables = rw (length-listOf _ _) (c .2);

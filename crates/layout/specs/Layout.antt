@@ -7,6 +7,7 @@ use mathlib.Core.Option.{Option, none, some}
 use lib.Dec.{eqb}
 use lib.ListN.{length, getD}
 use lib.Ieee.{Float, nan}
+use Rattle.steps.specs.Number.{usualCutoff}
 use Rattle.steps.specs.Symbol.{Kind, External, Slack, Error, Dummy, Symbol}
 use Rattle.steps.specs.State.{Term, Basic, Tag, Variable, Constraint, Edit, State}
 use Rattle.steps.specs.Readable.{code}
@@ -192,6 +193,8 @@ read t =
     record {
       tableau =
           record {
+            -- these tables are older than the choice of a cutoff and have no place for it
+            cutoff = usualCutoff;
             symbols = symbolsOf t;
             nextId = nextIdOf (t .head);
             rows = basicsOf t;

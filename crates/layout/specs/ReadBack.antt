@@ -195,4 +195,5 @@ module _ (s : State) (t : Tables) (fits : Fits s) (l : Lengths t) (w : Wide t) w
         record-back s (t .head) (l .0) 4 (omega arith),
         bit-back (s .changes .shouldClear),
         bit-back (s .whole),
+        ← fits .usual,
       ) refl

@@ -8,7 +8,7 @@ use native.Mathlib.Omega.{arith}
 use lib.Ieee.{Float, nan}
 use lib.ListN.{length, getD}
 use Rattle.laws.specs.Lists.{tab, getD-tab, length-tab}
-use Rattle.sparse.specs.Places.{nextIdAt, idsAt, variableNumbersAt, variableUsesAt, constraintNumbersAt, kindsAt, rowPlacesAt, variablePlacesAt, changedAt, constraintMarkersAt, constraintOthersAt, termCountsAt, editVariablesAt, editMarkersAt, editOthersAt, termsAt, constantsAt, oldValuesAt, objectiveAt, constraintStrengthsAt, editStrengthsAt, suggestionsAt, coefficientsAt, wordsSize, bytesSize, realsSize}
+use Rattle.sparse.specs.Places.{nextIdAt, idsAt, variableNumbersAt, variableUsesAt, constraintNumbersAt, kindsAt, rowPlacesAt, variablePlacesAt, changedAt, constraintMarkersAt, constraintOthersAt, termCountsAt, editVariablesAt, editMarkersAt, editOthersAt, termsAt, constantsAt, oldValuesAt, objectiveAt, cutoffAt, constraintStrengthsAt, editStrengthsAt, suggestionsAt, coefficientsAt, wordsSize, bytesSize, realsSize}
 use Rattle.sparse.specs.Sparse.{Sparse, symbolCount, rowCount, cellCount, variableCount, constraintCount, editCount, termsFrom, read}
 use Rattle.sparse.specs.Stretches.{Stretch, Within, lay, lay-in, length-lay, copied-at, length-copied}
 use Rattle.sparse.specs.Fits.{Lengths}
@@ -51,7 +51,7 @@ module _ (t w : Sparse) (c : Counts t) (len : Lengths w) where
       let e = c .edits in
       let r = c .rows in
       let q = c .terms in
-      (omega (arith, l coefficientsAt (termsFrom t (constraintCount t)), q), (omega (arith, l suggestionsAt (editCount t), e), (omega (arith, l editStrengthsAt (editCount t), e), (omega (arith, l constraintStrengthsAt (constraintCount t), m), (omega (arith, l (objectiveAt + 1) (symbolCount t), k), (omega (arith, l oldValuesAt (variableCount t), v), (omega (arith, l (constantsAt + 1) (rowCount t), r), tt)))))))
+      (omega (arith, l coefficientsAt (termsFrom t (constraintCount t)), q), (omega (arith, l suggestionsAt (editCount t), e), (omega (arith, l editStrengthsAt (editCount t), e), (omega (arith, l constraintStrengthsAt (constraintCount t), m), (omega (arith, l cutoffAt 1), (omega (arith, l (objectiveAt + 1) (symbolCount t), k), (omega (arith, l oldValuesAt (variableCount t), v), (omega (arith, l (constantsAt + 1) (rowCount t), r), tt))))))))
 
   -- ---- a place of the i-th stretch, if it begins at a and has n places
 
@@ -72,7 +72,7 @@ module _ (t w : Sparse) (c : Counts t) (len : Lengths w) where
       let x = lay-in bytesSize (liveBytes t) (w .bytes) within-bytes (omega (arith, len .2)) i j 0 (unfold liveBytes in h) (rw (q, length-tab g a n) k) in
       (rw q at x) ∙ getD-tab g a n j 0 k
 
-  real : (i a n j : ℕ) → i < 7 → getD (liveReals t) i none ≡ (record { at = a; list = tab (λ j. getD (t .reals) j nan) a n }) → j < n → getD (u .reals) (a + j) nan ≡ getD (t .reals) (a + j) nan
+  real : (i a n j : ℕ) → i < 8 → getD (liveReals t) i none ≡ (record { at = a; list = tab (λ j. getD (t .reals) j nan) a n }) → j < n → getD (u .reals) (a + j) nan ≡ getD (t .reals) (a + j) nan
   unfolding putOver
   real i a n j h q k =
       let g : ℕ → Float = λ j. getD (t .reals) j nan in
@@ -105,9 +105,10 @@ module _ (t w : Sparse) (c : Counts t) (len : Lengths w) where
         pluses = λ j h. byte 2 editMarkersAt (editCount t) j (omega arith) refl h;
         minuses = λ j h. byte 1 editOthersAt (editCount t) j (omega arith) refl h;
         terms = λ j h. byte 0 termsAt (termsFrom t (constraintCount t)) j (omega arith) refl h;
-        constants = λ p a b. from-one (u .reals) (t .reals) nan constantsAt p a (real 6 (constantsAt + 1) (rowCount t) (p - 1) (omega arith) refl (omega (arith, a, b)));
-        olds = λ j h. real 5 oldValuesAt (variableCount t) j (omega arith) refl h;
-        objective = λ p a b. from-one (u .reals) (t .reals) nan objectiveAt p a (real 4 (objectiveAt + 1) (symbolCount t) (p - 1) (omega arith) refl (omega (arith, a, b)));
+        constants = λ p a b. from-one (u .reals) (t .reals) nan constantsAt p a (real 7 (constantsAt + 1) (rowCount t) (p - 1) (omega arith) refl (omega (arith, a, b)));
+        olds = λ j h. real 6 oldValuesAt (variableCount t) j (omega arith) refl h;
+        objective = λ p a b. from-one (u .reals) (t .reals) nan objectiveAt p a (real 5 (objectiveAt + 1) (symbolCount t) (p - 1) (omega arith) refl (omega (arith, a, b)));
+        cutoff = real 4 cutoffAt 1 0 (omega arith) refl (omega arith);
         strengths = λ j h. real 3 constraintStrengthsAt (constraintCount t) j (omega arith) refl h;
         editStrengths = λ j h. real 2 editStrengthsAt (editCount t) j (omega arith) refl h;
         suggestions = λ j h. real 1 suggestionsAt (editCount t) j (omega arith) refl h;

@@ -96,7 +96,7 @@ termsAt = 544
 abbrev pub bytesSize : ℕ
 bytesSize = 1312
 
--- ---- reals: the rows' constants, the variables' old values, the objective along the places; the constraints' strengths, the edits' strengths and suggestions; the terms' coefficients
+-- ---- reals: the rows' constants, the variables' old values, the objective along the places, the cutoff of near zero; the constraints' strengths, the edits' strengths and suggestions; the terms' coefficients
 abbrev pub constantsAt : ℕ
 constantsAt = 0
 
@@ -105,6 +105,9 @@ oldValuesAt = 56
 
 abbrev pub objectiveAt : ℕ
 objectiveAt = 87
+
+abbrev pub cutoffAt : ℕ
+cutoffAt = 219
 
 abbrev pub constraintStrengthsAt : ℕ
 constraintStrengthsAt = 220

@@ -75,12 +75,14 @@ pub const TERMS: usize = 544;
 
 pub const BYTES_SIZE: usize = 1312;
 
-// ---- reals: the rows' constants, the variables' old values, the objective along the places; the constraints' strengths, the edits' strengths and suggestions; the terms' coefficients
+// ---- reals: the rows' constants, the variables' old values, the objective along the places, the cutoff of near zero; the constraints' strengths, the edits' strengths and suggestions; the terms' coefficients
 pub const CONSTANTS: usize = 0;
 
 pub const OLD_VALUES: usize = 56;
 
 pub const OBJECTIVE: usize = 87;
+
+pub const CUTOFF: usize = 219;
 
 pub const CONSTRAINT_STRENGTHS: usize = 220;
 

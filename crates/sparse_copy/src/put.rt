@@ -130,6 +130,7 @@ pub fn put_reals(
     reals_part(to, from, sparse::CONSTANTS + 1, r);
     reals_part(to, from, sparse::OLD_VALUES, v);
     reals_part(to, from, sparse::OBJECTIVE + 1, k);
+    reals_part(to, from, sparse::CUTOFF, 1);
     reals_part(to, from, sparse::CONSTRAINT_STRENGTHS, c);
     reals_part(to, from, sparse::EDIT_STRENGTHS, e);
     reals_part(to, from, sparse::SUGGESTIONS, e);
