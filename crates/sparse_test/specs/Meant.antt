@@ -6,13 +6,13 @@ use mathlib.Core.Bool.{Bool, true, _&&_, _||_, cond}
 use mathlib.Core.List.{List, map}
 use native.Mathlib.Omega.{arith}
 use lib.Dec.{leb, ltb}
-use lib.Ieee.{isNan}
+use lib.Ieee.{nan, isNan}
 use lib.ListN.{length, getD}
 use borrow.Author.Tests.{leb-true, le-leb, ltb-true, lt-ltb}
 use Rattle.laws.specs.Lists.{listOf, allIn, length-tab}
 use Rattle.layout.specs.Rooms.{both}
 use Rattle.layout.specs.Copied.{length-listOf}
-use Rattle.steps.specs.Number.{isFinite}
+use Rattle.steps.specs.Number.{isFinite, cutoffFits}
 use Rattle.steps.specs.Symbol.{isExternal}
 use Rattle.steps.specs.State.{Variable, Constraint, Edit}
 use Rattle.steps.specs.Readable as steps
@@ -21,7 +21,7 @@ use Rattle.keeps.specs.Clauses.{and3, and4, Clauses, clauses-in, clauses-out}
 use Rattle.places.specs.Finding.{at-all, Apart}
 use Rattle.places.specs.Listed.{join, same, ascend-list}
 use Rattle.places.specs.Shares.{finiteIn}
-use Rattle.sparse.specs.Places.{nextIdAt, idsAt, variableNumbersAt, constraintNumbersAt, kindsAt, rowPlacesAt, variablePlacesAt, changedAt, constraintMarkersAt, constraintOthersAt, termCountsAt, editVariablesAt, editMarkersAt, editOthersAt, termsAt, constantsAt, objectiveAt, constraintStrengthsAt, editStrengthsAt, suggestionsAt, coefficientsAt}
+use Rattle.sparse.specs.Places.{nextIdAt, idsAt, variableNumbersAt, constraintNumbersAt, kindsAt, rowPlacesAt, variablePlacesAt, changedAt, constraintMarkersAt, constraintOthersAt, termCountsAt, editVariablesAt, editMarkersAt, editOthersAt, termsAt, constantsAt, objectiveAt, cutoffAt, constraintStrengthsAt, editStrengthsAt, suggestionsAt, coefficientsAt}
 use Rattle.sparse.specs.Lookup.{Ascends}
 use Rattle.sparse.specs.Sparse.{Sparse, symbolCount, rowCount, cellCount, variableCount, constraintCount, editCount, numberAt, termsFrom, basicOf, basicsOf, variableOf, read}
 use Rattle.sparse.specs.Form.{indexAt, index-named, At}
@@ -100,6 +100,10 @@ module _ (t : Sparse) where
 
   places-apart : steps.distinct (owners t) ≡ true → Apart (λ j. byte (variablePlacesAt + j)) (variableCount t)
   places-apart h = distinct-apart (λ j. byte (variablePlacesAt + j)) (variableCount t) _ h
+
+  cutoff-is : steps.cutoffInRange (read t) ≡ cutoffFits (getD (t .reals) cutoffAt nan)
+  unfolding steps.cutoffInRange read
+  cutoff-is = refl
 
   -- ---- the code's test gives the state's
 
@@ -194,6 +198,7 @@ module _ (t : Sparse) where
           uses = used .0;
           finite = finite-clause;
           kinds = kinds-clause;
+          cutoff = cutoff-is ∙ p .cutoff;
         }))
 
   -- ---- and the state's gives the code's
@@ -310,6 +315,7 @@ module _ (t : Sparse) where
           editStrengths = ef .0;
           suggestions = ef .1;
           coefficients = cf .1;
+          cutoff = sym cutoff-is ∙ c .cutoff;
           edits = sym edits-up ∙ u .2;
           uses = counted-uses t (numbers-rise numbers) apart (f .counts .variables) named-of (c .uses);
           costs = form-costs t (f .cells) clear;

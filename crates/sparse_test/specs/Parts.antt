@@ -3,11 +3,13 @@
 use Prim.Native.Nat.{_+_}
 use mathlib.Core.Path.{_≡_}
 use mathlib.Core.Bool.{true}
+use lib.Ieee.{nan}
 use lib.ListN.{getD}
 use Rattle.layout.specs.Rooms.{both}
+use Rattle.steps.specs.Number.{cutoffFits}
 use Rattle.places.specs.Listed.{join}
 use Rattle.places.specs.Shares.{finiteIn}
-use Rattle.sparse.specs.Places.{nextIdAt, idsAt, variableNumbersAt, constraintNumbersAt, kindsAt, rowPlacesAt, changedAt, constraintMarkersAt, constraintOthersAt, termCountsAt, editMarkersAt, editOthersAt, constantsAt, objectiveAt, constraintStrengthsAt, editStrengthsAt, suggestionsAt, coefficientsAt}
+use Rattle.sparse.specs.Places.{nextIdAt, idsAt, variableNumbersAt, constraintNumbersAt, kindsAt, rowPlacesAt, changedAt, constraintMarkersAt, constraintOthersAt, termCountsAt, editMarkersAt, editOthersAt, constantsAt, objectiveAt, cutoffAt, constraintStrengthsAt, editStrengthsAt, suggestionsAt, coefficientsAt}
 use Rattle.sparse.specs.Sparse.{Sparse, symbolCount, rowCount, cellCount, variableCount, constraintCount, editCount, termsFrom}
 use Rattle.sparse_test.specs.Stretch.{ascendIn, betweenIn, mostIn}
 use Rattle.sparse_test.specs.Reads.{greatestU32}
@@ -39,6 +41,7 @@ pub record Parts (t : Sparse) : Type 0 where
   pub editStrengths : finiteIn (t .reals) editStrengthsAt (editCount t) ≡ true
   pub suggestions : finiteIn (t .reals) suggestionsAt (editCount t) ≡ true
   pub coefficients : finiteIn (t .reals) coefficientsAt (termsFrom t (constraintCount t)) ≡ true
+  pub cutoff : cutoffFits (getD (t .reals) cutoffAt nan) ≡ true
   pub edits : editsUp (t .words) (t .bytes) (variableCount t) (editCount t) ≡ true
   pub uses : usesFit (t .words) (t .bytes) (variableCount t) (editCount t) (termCount (t .bytes) (constraintCount t)) ≡ true
   pub costs : costsFit (t .reals) (t .bytes) (rowCount t) ≡ true
@@ -76,6 +79,7 @@ parts t q =
     let r₄ = both _ _ (r₃ .0) in
     let r₅ = both _ _ (r₄ .0) in
     let r₆ = both _ _ (r₅ .0) in
+    let r₇ = both _ _ (r₆ .0) in
     record {
       counts = counted t (a .0);
       idsUp = w₅ .0;
@@ -94,13 +98,14 @@ parts t q =
       tags = k₃ .1;
       errors = k₂ .1;
       editTags = k₁ .1;
-      constants = r₆ .0;
-      olds = r₆ .1;
-      objective = r₅ .1;
-      strengths = r₄ .1;
-      editStrengths = r₃ .1;
-      suggestions = r₂ .1;
-      coefficients = r₁ .1;
+      constants = r₇ .0;
+      olds = r₇ .1;
+      objective = r₆ .1;
+      strengths = r₅ .1;
+      editStrengths = r₄ .1;
+      suggestions = r₃ .1;
+      coefficients = r₂ .1;
+      cutoff = r₁ .1;
       edits = c₅ .1;
       uses = c₄ .1;
       costs = c₃ .1;
@@ -116,5 +121,5 @@ joined t p =
     (join (join (join (join (join (p .kinds) (p .changed)) (p .termCounts)) (p .rowsUp)) (p .rows))
     (join (join (join (join (join (join (join (p .owned)
     (join (join (join (p .externals) (p .tags)) (p .errors)) (p .editTags)))
-    (join (join (join (join (join (join (p .constants) (p .olds)) (p .objective)) (p .strengths)) (p .editStrengths)) (p .suggestions)) (p .coefficients)))
+    (join (join (join (join (join (join (join (p .constants) (p .olds)) (p .objective)) (p .strengths)) (p .editStrengths)) (p .suggestions)) (p .coefficients)) (p .cutoff)))
     (p .edits)) (p .uses)) (p .costs)) (p .keys)) (p .values))))
