@@ -15,7 +15,7 @@ use Rattle.layout.specs.Layout.{bitOf, over}
 use Rattle.layout.specs.Relaid.{put-set}
 use Rattle.layout.specs.Copied.{length-listOf}
 use Rattle.cells.specs.Seek.{first-within}
-use Rattle.sparse.specs.Places.{mostVariables, nextIdAt, shouldClearAt, idsAt, variableNumbersAt, variableUsesAt, constraintNumbersAt, kindsAt, rowPlacesAt, variablePlacesAt, changedAt, constraintMarkersAt, constraintOthersAt, termCountsAt, editVariablesAt, editMarkersAt, editOthersAt, termsAt, constantsAt, oldValuesAt, objectiveAt, constraintStrengthsAt, editStrengthsAt, suggestionsAt, coefficientsAt}
+use Rattle.sparse.specs.Places.{mostVariables, nextIdAt, shouldClearAt, idsAt, variableNumbersAt, variableUsesAt, constraintNumbersAt, kindsAt, rowPlacesAt, variablePlacesAt, changedAt, constraintMarkersAt, constraintOthersAt, termCountsAt, editVariablesAt, editMarkersAt, editOthersAt, termsAt, constantsAt, oldValuesAt, objectiveAt, cutoffAt, constraintStrengthsAt, editStrengthsAt, suggestionsAt, coefficientsAt}
 use Rattle.sparse.specs.Sparse.{Sparse, read}
 use Rattle.sparse.specs.Stretches.{Stretch, from, lay}
 use Rattle.sparse.specs.Write.{noVariable, placeOf, otherPlace, indexOf, numberPlace, allTerms, laidOf, headingOf, wordsOf, bytesOf, realsOf, write}
@@ -114,6 +114,7 @@ module _ (t : Sparse) (form : Form t) where
       ∷ from suggestionsAt (map (λ (e : Edit). e .suggestion) (s .edits))
       ∷ from editStrengthsAt (map (λ (e : Edit). e .strength) (s .edits))
       ∷ from constraintStrengthsAt (map (λ (c : Constraint). c .strength) (s .constraints))
+      ∷ from cutoffAt (s .tableau .cutoff ∷ [])
       ∷ from (objectiveAt + 1) (s .tableau .objective)
       ∷ []
 
@@ -126,7 +127,7 @@ module _ (t : Sparse) (form : Form t) where
   above-olds : Above (oldValuesAt + length (map old vs)) realsAbove
   above-olds =
       let l : oldValuesAt + length (map old vs) ≤ oldValuesAt + mostVariables = omega (arith, length-map vs old, few) in
-      (omega (arith, l), (omega (arith, l), (omega (arith, l), (omega (arith, l), (omega (arith, l), tt)))))
+      (omega (arith, l), (omega (arith, l), (omega (arith, l), (omega (arith, l), (omega (arith, l), (omega (arith, l), tt))))))
 
   reals-written : lay realsAbove (over oldValuesAt (map old vs) (lay realsBelow (t .reals))) ≡ t .reals
   unfolding write realsOf lay

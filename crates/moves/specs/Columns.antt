@@ -9,4 +9,4 @@ cut s y x = record { symbol = x .symbol; row = record { constant = x .row .const
 
 abbrev pub cutTableau : ℕ → Tableau → Tableau
 cutTableau s t =
-    record { symbols = deleteSymbol s (t .symbols); nextId = t .nextId; rows = map (cut s (t .symbols)) (t .rows); objective = deleteCell s (t .symbols) (t .objective) }
+    record { cutoff = t .cutoff; symbols = deleteSymbol s (t .symbols); nextId = t .nextId; rows = map (cut s (t .symbols)) (t .rows); objective = deleteCell s (t .symbols) (t .objective) }

@@ -16,19 +16,19 @@ low : (b : Bool) (k y : ℕ) → k ≤ 18 → y ≤ 18 → cond b k y ≤ 18
 low true k y h q = h
 low false k y h q = q
 
-room-low : (w : List ℕ) (p : Pack) → roomRefusal w p ≤ 18
+room-low : (u : Float) (w : List ℕ) (p : Pack) → roomRefusal u w p ≤ 18
 unfolding roomRefusal
-room-low w p = low (constraintsFullIn w) 10 _ (omega arith) (low (variablesFullIn w p) 9 _ (omega arith) (low (idsUsedIn w) 11 0 (omega arith) (omega arith)))
+room-low u w p = low (constraintsFullIn w) 10 _ (omega arith) (low (variablesFullIn u w p) 9 _ (omega arith) (low (idsUsedIn w) 11 0 (omega arith) (omega arith)))
 
-pub add-low : (x : ℕ) (p : Pack) (constant strength : Float) (w : List ℕ) → addRefusal x p constant strength w ≤ 18
+pub add-low : (u : Float) (x : ℕ) (p : Pack) (constant strength : Float) (w : List ℕ) → addRefusal u x p constant strength w ≤ 18
 unfolding addRefusal inputRefusal
-add-low x p constant strength w =
+add-low u x p constant strength w =
     low (not (p .finite && isFinite constant && isFinite strength)) 1 _ (omega arith)
-    (low (belowZero strength) 2 _ (omega arith) (low (eqb (p .count) 17) 3 _ (omega arith) (low (liveIn w constraintNumbersAt (constraintsIn w) x) 4 _ (omega arith) (room-low w p))))
+    (low (belowZero strength) 2 _ (omega arith) (low (eqb (p .count) 17) 3 _ (omega arith) (low (liveIn w constraintNumbersAt (constraintsIn w) x) 4 _ (omega arith) (room-low u w p))))
 
-pub add-edit-low : (x : ℕ) (strength : Float) (w b : List ℕ) → addEditRefusal x strength w b ≤ 18
+pub add-edit-low : (u : Float) (x : ℕ) (strength : Float) (w b : List ℕ) → addEditRefusal u x strength w b ≤ 18
 unfolding addEditRefusal
-add-edit-low x strength w b = low (editedIn w b x) 6 _ (omega arith) (low (eq strength required) 7 _ (omega arith) (room-low w (editPack x)))
+add-edit-low u x strength w b = low (editedIn w b x) 6 _ (omega arith) (low (eq strength required) 7 _ (omega arith) (room-low u w (editPack x)))
 
 pub suggest-low : (x : ℕ) (new : Float) (w b : List ℕ) → suggestRefusal x new w b ≤ 18
 unfolding suggestRefusal

@@ -165,16 +165,16 @@ finished : (w : Work) (cs : List Constraint) (es : List Edit) → PlainWork w �
 unfolding finish
 finished w cs es h = h .rows
 
-pub empty-plain : PlainState empty
+pub empty-plain : (cutoff : Float) → PlainState (empty cutoff)
 unfolding empty
-empty-plain = tt
+empty-plain cutoff = tt
 
 pub add-plain : (n : ℕ) (ts : List Term) (k : Float) (r : Relation) (b : ℕ) (s : State) → PlainState s → PlainState (add n ts k r b s .state)
 unfolding add
 add-plain n ts k r b s h = go (firstRefusal (addTests n ts k r s))
   where
     next : Added → State
-    next a = finish (a .work) (keepConstraint (record { number = n; strength = strengthOf r; terms = keptTerms ts; tag = a .tag }) (s .constraints)) (s .edits)
+    next a = finish (a .work) (keepConstraint (record { number = n; strength = strengthOf r; terms = keptTerms (s .tableau .cutoff) ts; tag = a .tag }) (s .constraints)) (s .edits)
 
     go : (o : Option ℕ) → PlainState (elim o as (λ _. Result) [ some q ↦ refusedBy q 0 (s .whole) s | none ↦ concludeAdd s (addSteps b ts k r (begin s)) next ] .state)
     go (some q) = unfold refusedBy in h
