@@ -78,9 +78,9 @@ roomRefusal u w p = cond (constraintsFullIn w) 10 (cond (variablesFullIn u w p) 
 unfoldable pub inputRefusal : Pack → Float → Float → ℕ → ℕ
 inputRefusal p constant strength rest = cond (not (p .finite && isFinite constant && isFinite strength)) 1 (cond (belowZero strength) 2 (cond (eqb (p .count) 17) 3 rest))
 
--- "Add: 18, 1, 2, 3, 4, 10, 9, 11."
-unfoldable pub addRefusal : Float → ℕ → Pack → Float → Float → List ℕ → ℕ
-addRefusal u x p constant strength w = inputRefusal p constant strength (cond (liveIn w constraintNumbersAt (constraintsIn w) x) 4 (roomRefusal u w p))
+-- "Add: 18, 26, 1, 2, 3, 4, 10, 9, 11."
+unfoldable pub addRefusal : Float → ℕ → ℕ → Pack → Float → Float → List ℕ → ℕ
+addRefusal u g x p constant strength w = cond (eqb g 0) 26 (inputRefusal p constant strength (cond (liveIn w constraintNumbersAt (constraintsIn w) x) 4 (roomRefusal u w p)))
 
 -- the one term of an edit, the variable times 1
 unfoldable pub editPack : ℕ → Pack

@@ -135,10 +135,11 @@ fn input_tests(p: terms::Pack, constant: f64, strength: f64, rest: u64) -> u64
     refusal(!finite, 1, below)
 }
 
-// "Add: 18, 1, 2, 3, 4, 10, 9, 11." The cutoff is the one that the tables hold.
+// "Add: 18, 26, 1, 2, 3, 4, 10, 9, 11." The cutoff is the one that the tables hold.
 pub fn add_tests(
     words: &Words,
     cutoff: f64,
+    g: u16,
     n: u32,
     p: terms::Pack,
     constant: f64,
@@ -149,7 +150,7 @@ pub fn add_tests(
     requires { ⌜ editsIn (now words) ≤ mostConstraints ⌝ }
     requires { ⌜ Ascends (now words) variableNumbersAt (variablesIn (now words)) ⌝ }
     requires { ⌜ Ascends (now words) constraintNumbersAt (constraintsIn (now words)) ⌝ }
-    ensures { λ r. ⌜ r ≡ addRefusal cutoff n p constant strength (now (words .entry)) ⌝ }
+    ensures { λ r. ⌜ r ≡ addRefusal cutoff g n p constant strength (now (words .entry)) ⌝ }
 {
     let room = room_tests(words, cutoff, p);
     let c = words[sparse::CONSTRAINT_COUNT] as usize;
@@ -158,7 +159,8 @@ pub fn add_tests(
         4,
         room,
     );
-    input_tests(p, constant, strength, live)
+    let inputs = input_tests(p, constant, strength, live);
+    refusal(g == 0, 26, inputs)
 }
 
 // The variable times 1, as a pack.
