@@ -25,9 +25,9 @@ use Rattle.sparse_test.specs.Meaning.{reads-form, reads-readable}
 use Rattle.lending.specs.Lending.{Called, called, refused18, callIn, callOf}
 use Rattle.lending.specs.Reset.{refused24, resetOf, reset-read}
 use Rattle.fetches.specs.Fetch.{fetchOf, fetchIn}
-use Rattle.lasting.specs.Narrow.{Narrow, Typed, made-narrow, fetch-narrow, empty-narrow}
-use Rattle.lasting.specs.Tabled.{narrow-of, plain-of}
-use Rattle.lasting.specs.Written.{written-read, written-state, written-lengths}
+use Rattle.narrow.specs.Narrow.{Narrow, Typed, made-narrow, fetch-narrow, empty-narrow}
+use Rattle.narrow.specs.Tabled.{narrow-of, plain-of}
+use Rattle.narrow.specs.Written.{written-read, written-state, written-lengths}
 
 -- two answers that the contract permits are one
 pub one-answer : (f : State → Result) (w t : Sparse) {x y : Called} → x ≡ callOf f w t → y ≡ callOf f w t → x ≡ y

@@ -28,9 +28,9 @@ use Rattle.keeps.specs.Lists.{All}
 use Rattle.typed.specs.Typed.{typedTerm, typedTerms, wholeOf, requiredBy}
 use Rattle.typed.specs.Adding.{markIn, addRead, textOf}
 use Rattle.run.specs.Demand.{Call, resets, fetches, adds, removes, addsEdit, removesEdit, suggests, make}
-use Rattle.lasting.specs.Numbers.{isU32}
-use Rattle.lasting.specs.Narrow.{Typed}
-use Rattle.lasting.specs.NearAdd.{TermNamed}
+use Rattle.narrow.specs.Numbers.{isU32}
+use Rattle.narrow.specs.Narrow.{Typed}
+use Rattle.narrow.specs.NearAdd.{TermNamed}
 use Rattle.lasting.specs.Promises.{Holds, call-holds, fetch-holds, reset-made}
 
 -- a call of a run over tables, with its working room: what its contract says that it answers and leaves. A fetch is no changing call: it leaves what its contract

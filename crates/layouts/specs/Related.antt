@@ -26,8 +26,8 @@ use Rattle.sparse_test.specs.Asked.{asked}
 use Rattle.lending.specs.Lending.{callOf, callIn}
 use Rattle.lending.specs.Reset.{resetOf}
 use Rattle.fetches.specs.Fetch.{Fetch, fetchOf, fetchIn, fetch18}
-use Rattle.lasting.specs.Narrow.{Narrow, Typed, made-narrow, fetch-narrow, empty-narrow}
-use Rattle.lasting.specs.Tabled.{narrow-of}
+use Rattle.narrow.specs.Narrow.{Narrow, Typed, made-narrow, fetch-narrow, empty-narrow}
+use Rattle.narrow.specs.Tabled.{narrow-of}
 use Rattle.lasting.specs.Promises.{Holds, made-reads, call-holds, fetch-holds, reset-holds}
 use Rattle.layouts.specs.Dense as dense
 use Rattle.layouts.specs.Written.{written-reads, written-read, write-wide}

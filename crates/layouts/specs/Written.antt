@@ -24,8 +24,8 @@ use Rattle.layout.specs.ReadBack.{noVariable, noConstraint, read-write}
 use Rattle.layout.specs.Copied.{length-listOf, getD-listOf, write-counts, write-coded, write-lengths}
 use Rattle.places.specs.Finding.{at-all}
 use Rattle.zeros.specs.Fitting.{few-symbols}
-use Rattle.lasting.specs.Numbers.{isU32}
-use Rattle.lasting.specs.Narrow.{Narrow}
+use Rattle.narrow.specs.Numbers.{isU32}
+use Rattle.narrow.specs.Narrow.{Narrow}
 use Rattle.layouts.specs.Dense.{codesFit, reads}
 
 -- ---- an element of a list

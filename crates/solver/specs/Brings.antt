@@ -106,6 +106,15 @@ module _ (t u : Sparse) (come : Comes t u) where
   room-terms h p l = (omega (arith, h), few-terms (omega (arith, h)) (p .count) l)
 
   module _ (uw ub : List ℕ) (ur : List Float) (m : ℕ) where
+    -- all of them, as they are
+    pub records-come : readable (brought (read t .constraints) (read t .edits) u) ≡ true
+        → Moved (allOf (constraintCount t)) (allOf (editCount t)) 0 (t .words) (t .bytes) (t .reals) (u .words) (u .bytes) (u .reals) uw ub ur m
+        → Ends u (read t .constraints) (read t .edits) (roomOf u uw ub ur)
+    records-come q raw =
+        let cs : List Constraint = read t .constraints in
+        let es : List Edit = read t .edits in
+        ends-of u (roomOf u uw ub ur) cs es (records-kept t u ready uw ub ur m raw (hold-constraints u cs es q) (hold-edits u cs es q))
+
     pub constraint-behind : (j : ℕ) → j < constraintCount t → readable (brought (dropConstraint (constraintOf t j .number) (read t .constraints)) (read t .edits) u) ≡ true
         → Moved (without j (constraintCount t)) (allOf (editCount t)) 0 (t .words) (t .bytes) (t .reals) (u .words) (u .bytes) (u .reals) uw ub ur m
         → Ends u (dropConstraint (constraintOf t j .number) (read t .constraints)) (read t .edits) (roomOf u uw ub ur)

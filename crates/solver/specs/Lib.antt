@@ -16,3 +16,4 @@ pub mod Adding
 pub mod EditAdding
 pub mod Change
 pub mod Listed
+pub mod Again

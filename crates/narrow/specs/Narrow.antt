@@ -24,9 +24,9 @@ use Rattle.keeps.specs.Keys.{keep-all, drop-all, keepConstraint-is, dropConstra
 use Rattle.keeps.specs.Fits.{all-map}
 use Rattle.keeps.specs.Passes.{Ends}
 use Rattle.keeps.specs.Addition.{passed}
-use Rattle.lasting.specs.Numbers.{isU32}
-use Rattle.lasting.specs.Near.{Near, suggest-near, remove-near}
-use Rattle.lasting.specs.NearAdd.{TermNamed, add-near}
+use Rattle.narrow.specs.Numbers.{isU32}
+use Rattle.narrow.specs.Near.{Near, suggest-near, remove-near}
+use Rattle.narrow.specs.NearAdd.{TermNamed, add-near}
 
 pub record Narrow (s : State) : Type 0 where
   pub next : isU32 (s .tableau .nextId) ≡ true

@@ -21,11 +21,12 @@ use Rattle.cells.specs.Names.{rowSpan}
 use Rattle.cells.specs.Cells.{cellIn, cellAt, rowOf}
 use Rattle.sparse.specs.Places.{nextIdAt, variableNumbersAt, constraintNumbersAt}
 use Rattle.sparse.specs.Sparse.{Sparse, read, symbolCount, rowCount, cellCount, basicOf, basicsOf, variableCount, variableOf, constraintCount, constraintOf}
+use Rattle.sparse.specs.Form.{Form}
 use Rattle.sparse_test.specs.Stretch.{most}
 use Rattle.sparse_test.specs.Reads.{greatestU32, reads}
 use Rattle.sparse_test.specs.Meaning.{reads-form, reads-parts}
-use Rattle.lasting.specs.Numbers.{isU32}
-use Rattle.lasting.specs.Narrow.{Narrow}
+use Rattle.narrow.specs.Numbers.{isU32}
+use Rattle.narrow.specs.Narrow.{Narrow}
 
 all-tab : {A : Type 0} (P : A → Type 0) (g : ℕ → A) (i n : ℕ) → ((j : ℕ) → i ≤ j → j < i + n → P (g j)) → All P (tab g i n)
 unfolding tab
@@ -68,6 +69,9 @@ module _ (keys : List ℕ) (vals : List Float) (n : ℕ) (present : (j : ℕ) �
   unfolding rowOf
   row-plain k i = all-tab (λ (x : Float). Plain x) (λ p. cellAt keys vals n (i * rowSpan + p)) 1 k (λ p a b. cell-plain (i * rowSpan + p))
 
-pub plain-of : (t : Sparse) → reads t ≡ true → PlainState (read t)
+pub form-plain : (t : Sparse) → Form t → PlainState (read t)
 unfolding read basicsOf basicOf
-plain-of t h = all-tab (λ (b : Basic). PlainRow (b .row)) (basicOf t) 1 (rowCount t) (λ i a b. row-plain (t .keys) (t .values) (cellCount t) (reads-form t h .cells .present) (symbolCount t) i)
+form-plain t f = all-tab (λ (b : Basic). PlainRow (b .row)) (basicOf t) 1 (rowCount t) (λ i a b. row-plain (t .keys) (t .values) (cellCount t) (f .cells .present) (symbolCount t) i)
+
+pub plain-of : (t : Sparse) → reads t ≡ true → PlainState (read t)
+plain-of t h = form-plain t (reads-form t h)

@@ -1,6 +1,6 @@
 -- A state that reads, with numbers that a u32 holds and no cell -0.0, has its place in the tables, and the tables that it is written into read as it. Assumes nothing.
 use Prim.Native.Nat.{ℕ, zero, suc, _≤_, _<_}
-use mathlib.Core.Path.{_≡_, ap, _∙_, subst}
+use mathlib.Core.Path.{_≡_, sym, ap, _∙_, subst}
 use mathlib.Core.Bool.{true}
 use mathlib.Core.List.{List, [], _∷_}
 use native.Mathlib.Nat.{not-suc-le-zero, le-of-suc-le-suc}
@@ -16,14 +16,15 @@ use Rattle.sparse.specs.Write.{noVariable, noConstraint, write}
 use Rattle.sparse.specs.Fits.{Lengths, Fits}
 use Rattle.sparse.specs.Form.{Form}
 use Rattle.sparse.specs.ReadBack.{read-write}
-use Rattle.sparse.specs.Written.{written-is}
+use Rattle.sparse.specs.Written.{written-is, write-read}
 use Rattle.sparse.specs.Copied.{copy-lengths}
 use Rattle.sparse_test.specs.Reads.{greatestU32, reads}
 use Rattle.sparse_test.specs.Meaning.{reads-form}
 use Rattle.sparse_test.specs.WrittenReads as written
 use Rattle.zeros.specs.Fitting.{fits-of}
-use Rattle.lasting.specs.Numbers.{isU32}
-use Rattle.lasting.specs.Narrow.{Narrow}
+use Rattle.narrow.specs.Numbers.{isU32}
+use Rattle.narrow.specs.Narrow.{Narrow}
+use Rattle.narrow.specs.Tabled.{form-plain}
 
 all-place : {A : Type 0} (P : A → Type 0) (xs : List A) (d : A) (j : ℕ) → j < length xs → All P xs → P (getD xs j d)
 all-place P [] d j k h = absurd (not-suc-le-zero k)
@@ -57,3 +58,7 @@ module _ (s : State) (t : Sparse) (r : readable s ≡ true) (n : Narrow s) (plai
   written-lengths =
       let form : Form (write s t) = reads-form (write s t) written-read in
       subst Lengths (written-is (write s t) form t ∙ ap (λ (x : State). write x t) written-state) (copy-lengths (write s t) t (form .counts) len)
+
+-- tables of the form whose state reads are those that it is written into, so they read as it
+pub form-reads : (t : Sparse) → Form t → Lengths t → readable (read t) ≡ true → Narrow (read t) → reads t ≡ true
+form-reads t f len r n = ap reads (sym (write-read t f)) ∙ written-read (read t) t r n (form-plain t f) len

@@ -24,7 +24,7 @@ use Rattle.keeps.specs.Keys.{keep-all, keepVariable-is}
 use Rattle.keeps.specs.Fits.{all-map}
 use Rattle.keeps.specs.Frame.{enter-frame, mark-frame, pivot-frame}
 use Rattle.keeps.specs.Passes.{Ends, ends-bind, ends-to, check-ends}
-use Rattle.lasting.specs.Near.{Near, near-same, near-refl, near-then, near-on, near-frame, optimise-near, purged}
+use Rattle.narrow.specs.Near.{Near, near-same, near-refl, near-then, near-on, near-frame, optimise-near, purged}
 
 module _ (p : ℕ → Bool) where
   -- a term of a number that passes p
