@@ -3,7 +3,7 @@
 use Prim.Native.Nat.{ℕ, zero, suc, _+_}
 use mathlib.Core.Path.{_≡_, refl, ap, _∙_}
 use mathlib.Core.Bool.{Bool, true, false, not, cond}
-use mathlib.Core.List.{List}
+use mathlib.Core.List.{List, _∷_}
 use mathlib.Core.Option.{none, some}
 use native.Mathlib.Nat.{sub-zero}
 use native.Mathlib.Omega.{arith}
@@ -25,6 +25,9 @@ use Rattle.refusals.specs.Passed.{passed}
 -- 27: "no constraint in the group"
 abbrev empty : ℕ → List Constraint → Bool
 empty g cs = eqb (length (groupOf g cs)) 0
+
+abbrev numberBy : Bool → Bool → ℕ
+numberBy a b = cond a 26 (cond b 27 0)
 
 -- along a list that is read place by place
 module _ (g : ℕ) (f : ℕ → Constraint) (k : ℕ) where
@@ -64,8 +67,8 @@ module _ (t : Sparse) (g : ℕ) where
   unfolding dropRefusal firstRefusal dropTests
   drop-refused budget h = go (eqb g 0) refl (not (groupIn (t .words) (constraintCount t) g)) no-group h
     where
-      go : (a : Bool) → eqb g 0 ≡ a → (b : Bool) → empty g (read t .constraints) ≡ b → (cond a 26 (cond b 27 0) ≡ 0 → ⊥)
-          → dropGroup g budget (read t) ≡ refusedBy (cond a 26 (cond b 27 0)) 0 (read t .whole) (read t)
+      go : (a : Bool) → eqb g 0 ≡ a → (b : Bool) → empty g (read t .constraints) ≡ b → (numberBy a b ≡ 0 → ⊥)
+          → dropGroup g budget (read t) ≡ refusedBy (numberBy a b) 0 (read t .whole) (read t)
       go true e b f k = unfold dropGroup in rw (e, dropGroup) refl
       go false e true f k = unfold dropGroup in rw (e, f, dropGroup) refl
       go false e false f k = absurd (k refl)
