@@ -64,7 +64,7 @@ module _ (a : Mark) (t : Sparse) (s : Standing false a t) (row : List Float) (wi
   unfolding buildingOf insertInto written marking workOf read
   symbol-reads j x h =
       let e : dense.writtenOf (dense.rowOf k (insertSymbolAt z (1 + j) x row)) false (insertSymbolMark z (1 + j) x cellBound row) ≡ insertSymbolInRow z (symbolAt t (1 + j) .id) x (symbolsOf t) (dense.rowOf k row) =
-      dense.insert-symbol-read z (symbolAt t (1 + j) .id) (symbolsOf t) j k row (live-place t (s .sound .named) j h) (symbols-read t) x fit in
+      dense.insert-symbol-read (symbolAt t (1 + j) .id) (symbolsOf t) j k row (live-place t (s .sound .named) j h) (symbols-read t) z x fit in
       rw (← e) refl
 
   pub symbol-builds : (p : ℕ) (x : Float) → 1 ≤ p → p ≤ k → Builds a (worse a (insertSymbolMark z p x cellBound row)) (insertInto (symbolAt t p .id) x) t t row (insertSymbolAt z p x row)

@@ -135,9 +135,9 @@ module _ (e : ℕ) (vars : List ℕ) (coefs : List Float) (a₀ : Mark) (t₀ : 
           steps = steps-then (g .steps) s;
         }
 
-    -- by the number as the code has it
-    pub going-turn : {m : ℕ} (c : Mark) (u : Sparse) (row₁ : List Float) → m ≡ n → Builds a c (keptBy (cutoffOf t₀) m k) t u row row₁ → Steps 1 1 t u → Going e vars coefs a₀ t₀ row₀ (j + 1) c u row₁
-    going-turn c u row₁ q b s = let b' : Builds a c (keptBy (cutoffOf t₀) n k) t u row row₁ = rw q at b in going-next c u row₁ b' s
+    -- by the number and the cutoff as the code has them
+    pub going-turn : {m : ℕ} {z : Float} (c : Mark) (u : Sparse) (row₁ : List Float) → m ≡ n → z ≡ cutoffOf t₀ → Builds a c (keptBy z m k) t u row row₁ → Steps 1 1 t u → Going e vars coefs a₀ t₀ row₀ (j + 1) c u row₁
+    going-turn c u row₁ q y b s = let b' : Builds a c (keptBy (cutoffOf t₀) n k) t u row row₁ = rw (q, y) at b in going-next c u row₁ b' s
 
     module _ (few : e ≤ 16) (r : Ready a₀ (termsFrom e vars coefs) t₀) where
       abbrev whole : ℕ
@@ -163,8 +163,8 @@ module _ (e : ℕ) (vars : List ℕ) (coefs : List Float) (a₀ : Mark) (t₀ : 
           (omega (arith, i, x, few, more), omega (arith, z, new, more₁, now, final, w, y), omega (arith, new, more₁, now, final, w, v))
 
       -- a new variable has room
-      pub going-room-by : {m : ℕ} → m ≡ n → nearZero (cutoffOf t₀) k ≡ false → Room m t
-      going-room-by q near = rw q (going-room near)
+      pub going-room-by : {m : ℕ} {z : Float} → m ≡ n → z ≡ cutoffOf t₀ → nearZero z k ≡ false → Room m t
+      going-room-by q y near = rw q (going-room (rw y at near))
 
       pub going-spare : Used mostSpare t
       going-spare v h =
