@@ -47,16 +47,16 @@ unfolding numberOr0
 some-is none h = absurd (h refl)
 some-is (some n) h = refl
 
-module _ (t : Sparse) (good : reads t ≡ true) (x : ℕ) (ts : List Term) (constant : Float) (relation : steps.Relation) where
+module _ (t : Sparse) (good : reads t ≡ true) (g x : ℕ) (ts : List Term) (constant : Float) (relation : steps.Relation) where
   abbrev refuses : ℕ
-  refuses = addRefusal (cutoffIn (t .reals)) x (packOf ts) constant (steps.strengthOf relation) (t .words)
+  refuses = addRefusal (cutoffIn (t .reals)) g x (packOf ts) constant (steps.strengthOf relation) (t .words)
 
-  pub add-refused : (refuses ≡ 0 → ⊥) → firstRefusal (addTests x (termsIn ts) constant relation (read t)) ≡ some refuses
-  add-refused h = let e = add-refusal t good x ts constant relation in some-is _ (λ q. h (sym e ∙ q)) ∙ ap some e
+  pub add-refused : (refuses ≡ 0 → ⊥) → firstRefusal (addTests g x (termsIn ts) constant relation (read t)) ≡ some refuses
+  add-refused h = let e = add-refusal t good g x ts constant relation in some-is _ (λ q. h (sym e ∙ q)) ∙ ap some e
 
-  pub add-passes : refuses ≡ 0 → firstRefusal (addTests x (termsIn ts) constant relation (read t)) ≡ none
+  pub add-passes : refuses ≡ 0 → firstRefusal (addTests g x (termsIn ts) constant relation (read t)) ≡ none
   unfolding addTests numbered
-  add-passes h = first-none (addTests x (termsIn ts) constant relation (read t)) refl (add-refusal t good x ts constant relation ∙ h)
+  add-passes h = first-none (addTests g x (termsIn ts) constant relation (read t)) refl (add-refusal t good g x ts constant relation ∙ h)
 
 module _ (t : Sparse) (good : reads t ≡ true) (x : ℕ) (strength : Float) where
   abbrev edit-refuses : ℕ
