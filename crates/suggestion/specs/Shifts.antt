@@ -27,7 +27,7 @@ use Rattle.cells.specs.Names.{lastPlace}
 use Rattle.substituting.specs.Notes.{noted}
 use Rattle.substituting.specs.Named.{NotesKept, named-kept}
 use Rattle.substituting.specs.NotesRead.{noteIn, symbol-kept}
-use Rattle.waist.specs.Working.{sparse, artificialOf, workOf, cutoffOf, work-parts, lines-same, Sound, basic-symbol}
+use Rattle.waist.specs.Working.{sparse, artificialOf, workOf, work-parts, lines-same, Sound, basic-symbol}
 use Rattle.waist.specs.Dropping.{basic-by}
 use Rattle.waist.specs.Owning.{Kept, owners-by}
 use Rattle.waist.specs.Tags.{tagAt}
@@ -136,7 +136,7 @@ module _ (art : Bool) (d : Drag) (t : Sparse) (so : Sound art t) (a : Mark) wher
   unfolding objectiveOf
   objective-is = let f = so .few in rw symbol-count (tab-ext _ (λ p. getD (t .reals) (objectiveAt + p) nan) 1 (symbolCount t) λ p b c. real (objectiveAt + p) (omega (arith, f)))
 
-  cutoff-is : cutoffOf u ≡ cutoffOf t
+  cutoff-is : getD (u .reals) cutoffAt nan ≡ getD (t .reals) cutoffAt nan
   cutoff-is = let f = so .few in real cutoffAt (omega (arith, f))
 
   artificial-is : artificialOf art u ≡ artificialOf art t
