@@ -40,7 +40,7 @@ module _ (g : ℕ) (f : ℕ → Constraint) (k : ℕ) where
   none-from (suc n) i e = go (eqb g (f i .group)) (none-from n (suc i) (omega arith))
     where
       go : (b : Bool) → empty g (tab f (suc i) n) ≡ not (ltb (sought n (suc i)) k)
-          → eqb (length (elim b as (λ _. List Constraint) [ true ↦ f i ∷ groupOf g (tab f (suc i) n) | false ↦ groupOf g (tab f (suc i) n) ])) 0 ≡ not (ltb (cond b i (sought n (suc i))) k)
+          → eqb (length {A = Constraint} (elim b as (λ _. List Constraint) [ true ↦ f i ∷ groupOf g (tab f (suc i) n) | false ↦ groupOf g (tab f (suc i) n) ])) 0 ≡ not (ltb (cond b i (sought n (suc i))) k)
       go true ih = rw (lt-ltb i k (omega (arith, e)), eqb·suc-zero (length (groupOf g (tab f (suc i) n)))) refl
       go false ih = ih
 
