@@ -5,7 +5,7 @@ use Rattle.text.proofs.calls.add_call.Statement.{statement}
 use Rattle.text.proofs.calls.add_call.Tie as tie
 
 returns : tie.Need-returns
-returns c = simp (c .before .constant .given .1, c .before .before .before .before .relation .given .1, c .before .before .before .before .before .before .before .budget .given .1, c .before .before .before .before .before .before .before .before .before .before .c .given .1)
+returns c = simp (c .before .constant .given .1, c .before .before .before .before .relation .given .1, c .before .before .before .before .before .before .before .budget .given .1, c .before .before .before .before .before .before .before .before .before .before .c .given .1, c .before .before .before .before .before .before .before .before .before .before .before .before .before .group .given .1)
 
 pub add-call-spec : {M : Type 1} → statement M
-add-call-spec = tie.close (tie.spec (λ c. search needs) (λ c. search needs) (λ c. search needs) (λ c. search needs) (λ c. search needs) (λ c. search needs) (λ c. search needs) (λ c. search needs) returns (λ c. search needs) (λ c. search needs) (λ c. search needs) (λ c. search needs))
+add-call-spec = tie.close (tie.spec (λ c. search needs) (λ c. search needs) (λ c. search needs) (λ c. search needs) (λ c. search needs) (λ c. search needs) (λ c. search needs) (λ c. search needs) (λ c. search needs) (λ c. search needs) returns (λ c. search needs) (λ c. search needs) (λ c. search needs) (λ c. search needs) (λ c. search needs))
