@@ -22,8 +22,8 @@ use Rattle.choose.specs.declared.Found.{Found}
 use Rattle.choose.specs.declared.Found.the-variants.{At, Nothing}
 use Rattle.choose.specs.Better.{within}
 use Rattle.choose.specs.Choose.{Within, onFound}
-use Rattle.sparse.specs.Sparse.{Sparse, symbolCount, symbolAt}
-use Rattle.waist.specs.Working.{workOf}
+use Rattle.sparse.specs.Sparse.{Sparse, symbolCount, symbolAt, read}
+use Rattle.waist.specs.Working.{workOf, cutoffOf}
 use Rattle.waist.specs.declared.ending.Ended.{Ended}
 use Rattle.waist.specs.Ending.{outcomeOf, Goes, ended, is-refused}
 use Rattle.waist.specs.FreePlaces.{free-times}
@@ -38,7 +38,7 @@ abbrev dummies : Symbol → Created → Bool → Outcome Work
 dummies s c b = elim b [ false ↦ refuse 12 (c .work) | true ↦ addWithSubject s c ]
 
 abbrev pub dummiesOf : Symbol → Created → Outcome Work
-dummiesOf s c = dummies s c (nearZero (c .row .constant))
+dummiesOf s c = dummies s c (nearZero (c .work .tableau .cutoff) (c .row .constant))
 
 abbrev unchosen : ℕ → Created → Bool → Outcome Work
 unchosen budget c b = elim b [ false ↦ addWithArtificialVariable budget c | true ↦ dummiesOf (c .tag .marker) c ]
@@ -70,13 +70,13 @@ module _ (past : Wrote) (t : Sparse) (row : List Float) where
 
     -- ---- all cells are dummies
 
-    pub dummies-enter : {b : Bool} → b ≡ nearZero (getD row 0 nan) → b ≡ true → (r : Ended) (z : Sparse) → outcomeOf false r z ≡ addWithSubject (symbolAt t marker) c
+    pub dummies-enter : {b : Bool} → b ≡ nearZero (cutoffOf t) (getD row 0 nan) → b ≡ true → (r : Ended) (z : Sparse) → outcomeOf false r z ≡ addWithSubject (symbolAt t marker) c
         → outcomeOf false r z ≡ dummiesOf (symbolAt t marker) c
-    unfolding dense.rowOf
+    unfolding dense.rowOf workOf read
     dummies-enter k on r z o = o ∙ ap (dummies (symbolAt t marker) c) (sym on ∙ k)
 
-    pub dummies-refused : {b : Bool} → b ≡ nearZero (getD row 0 nan) → b ≡ false → (outcomeOf false (ended 12 0 past) t ≡ dummiesOf (symbolAt t marker) c) × Goes false (ended 12 0 past) t
-    unfolding dense.rowOf refuse workOf
+    pub dummies-refused : {b : Bool} → b ≡ nearZero (cutoffOf t) (getD row 0 nan) → b ≡ false → (outcomeOf false (ended 12 0 past) t ≡ dummiesOf (symbolAt t marker) c) × Goes false (ended 12 0 past) t
+    unfolding dense.rowOf refuse workOf read
     dummies-refused k off = (is-refused false (ended 12 0 past) t refl ∙ ap (dummies (symbolAt t marker) c) (sym off ∙ k), tt)
 
     -- ---- no subject

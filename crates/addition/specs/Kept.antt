@@ -132,9 +132,9 @@ module _ (c : Created) (under : All (λ (x : Symbol). x .id < c .work .tableau .
       by true true = subject-kept (c .tag .marker)
 
       go : (o : Option Symbol)
-          → Ends (Kept (c .work)) (elim o [ some s ↦ addWithSubject s c | none ↦ elim (allDummies c) [ false ↦ addWithArtificialVariable budget c | true ↦ elim (nearZero (c .row .constant)) [ false ↦ refuse 12 (c .work) | true ↦ addWithSubject (c .tag .marker) c ] ] ])
+          → Ends (Kept (c .work)) (elim o [ some s ↦ addWithSubject s c | none ↦ elim (allDummies c) [ false ↦ addWithArtificialVariable budget c | true ↦ elim (nearZero (c .work .tableau .cutoff) (c .row .constant)) [ false ↦ refuse 12 (c .work) | true ↦ addWithSubject (c .tag .marker) c ] ] ])
       go (some s) = subject-kept s
-      go none = by (allDummies c) (nearZero (c .row .constant))
+      go none = by (allDummies c) (nearZero (c .work .tableau .cutoff) (c .row .constant))
 
   pub row-kept : (budget : ℕ) → Ends (Kept (c .work)) (checkFinite (c .work) >>= (λ _. addCreated budget c) >>= (λ v. optimise (budget - v .pivots) theObjective v))
   row-kept budget =

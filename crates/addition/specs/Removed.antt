@@ -19,8 +19,8 @@ use Rattle.choose.specs.declared.Found.{Found}
 use Rattle.choose.specs.declared.Found.the-variants.{At, Nothing}
 use Rattle.choose.specs.Choose.{onFound}
 use Rattle.sparse.specs.Places.{rowPlacesAt, constantsAt}
-use Rattle.sparse.specs.Sparse.{Sparse, symbolCount, rowCount, symbolAt, basicOf, basicsOf}
-use Rattle.waist.specs.Working.{workOf, artificialOf, Sound, basic-symbol}
+use Rattle.sparse.specs.Sparse.{Sparse, symbolCount, rowCount, symbolAt, basicOf, basicsOf, read}
+use Rattle.waist.specs.Working.{workOf, cutoffOf, artificialOf, Sound, basic-symbol}
 use Rattle.waist.specs.Standing.{Makes, rowSymbol, Chooses}
 use Rattle.waist.specs.Rows.{rowFor, row-at, row-found}
 use Rattle.waist.specs.declared.ending.Ended.{Ended}
@@ -144,13 +144,13 @@ closing s w b = elim b [ false ↦ refuse 12 w | true ↦ removeTemporary s (wit
 abbrev pub closingOf : Symbol → Work → Outcome Work
 closingOf s w = closing s w (artificialConstantNearZero w)
 
-module _ (past : Wrote) (pivots : ℕ) (t : Sparse) (s : Symbol) {x : Float} {b : Bool} (y : x ≡ getD (t .reals) (constantsAt + (1 + rowCount t)) nan) (e : b ≡ nearZero x) where
+module _ (past : Wrote) (pivots : ℕ) (t : Sparse) (s : Symbol) {x : Float} {b : Bool} (y : x ≡ getD (t .reals) (constantsAt + (1 + rowCount t)) nan) (e : b ≡ nearZero (cutoffOf t) x) where
   abbrev stood : Work
   stood = workOf true (markOf past) pivots t
 
   near-is : b ≡ artificialConstantNearZero stood
-  unfolding artificialConstantNearZero workOf artificialOf basicOf
-  near-is = e ∙ ap nearZero y
+  unfolding artificialConstantNearZero workOf artificialOf basicOf read
+  near-is = e ∙ ap (nearZero (cutoffOf t)) y
 
   twelve-stood : _≡_ {A = Outcome Work} (refused 12 pivots (markOf past)) (refuse 12 stood)
   unfolding refuse workOf

@@ -99,10 +99,10 @@ module _ (first : Wrote) (terms : List Term) (constant : Float) (relation : Rela
       before = workOf false (markOf first) 0 t
 
       U : ℕ → ℕ
-      U m = usesIn m (keptTerms terms) + o .U m
+      U m = usesIn m (keptTerms (before .tableau .cutoff) terms) + o .U m
 
       L : ℕ
-      L = length (before .changes .variables) + length (newVariables (before .changes .variables) [] (keptTerms terms))
+      L = length (before .changes .variables) + length (newVariables (before .changes .variables) [] (keptTerms (before .tableau .cutoff) terms))
 
       tagged : Tagged (o .K) U (length (before .tableau .rows)) L (createdBy (markOf (r .wrote)) (r .marker) (r .other) t₁ row)
       tagged =

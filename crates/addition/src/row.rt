@@ -17,6 +17,7 @@ use optimising::optimise;
 use rows::number::Wrote;
 use rows::number::near_zero;
 use sparse::Bytes;
+use sparse::CUTOFF;
 use sparse::Keys;
 use sparse::Reals;
 use sparse::Values;
@@ -43,7 +44,7 @@ fn add_dummies(
     ensures { λ r. ⌜ outcomeOf false r (lent (words .exit) (keys .exit) (bytes .exit) (reals .exit) (values .exit)) ≡ dummiesOf (symbolAt (lent (words .entry) (keys .entry) (bytes .entry) (reals .entry) (values .entry)) marker) (createdBy (markOf before) marker other (lent (words .entry) (keys .entry) (bytes .entry) (reals .entry) (values .entry)) (now (row .entry))) ⌝ }
     ensures { λ r. ⌜ Goes false r (lent (words .exit) (keys .exit) (bytes .exit) (reals .exit) (values .exit)) ⌝ }
 {
-    if near_zero(row[0]) {
+    if near_zero(reals[CUTOFF], row[0]) {
         return add_with_subject(words, keys, bytes, reals, values, row, marker, before);
     }
     Ended {

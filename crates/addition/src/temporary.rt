@@ -19,6 +19,7 @@ use optimising::optimise;
 use rows::number::Wrote;
 use rows::number::near_zero;
 use sparse::Bytes;
+use sparse::CUTOFF;
 use sparse::Keys;
 use sparse::Reals;
 use sparse::Values;
@@ -138,7 +139,7 @@ fn close_temporary(
     ensures { λ r. ⌜ Goes false r (lent (words .exit) (keys .exit) (bytes .exit) (reals .exit) (values .exit)) ⌝ }
 {
     let x = artificial_constant(words, reals);
-    if near_zero(x) {
+    if near_zero(reals[CUTOFF], x) {
         close_artificial(words, keys, bytes, reals, values);
         return remove_temporary(words, keys, bytes, reals, values, p, pivots, before);
     }

@@ -128,16 +128,16 @@ listed xs B R i (b ∷ bs) u h = (head (sym? (b .symbol .id) (b .symbol)), liste
 abbrev pub Known : (ℕ → KindZ) → List Symbol → Mask → (ℕ → Vec) → Basic → Type 0
 Known kind xs B R b = Live kind xs (b .symbol) × ((B (b .symbol .id) ≡ true) × ReadsRow xs (b .row) (R (b .symbol .id)))
 
-pub known : (kind : ℕ → KindZ) (xs : List Symbol) (bs : List Basic) (cs : List Float) (art : Option Row) (B : Mask) (R : ℕ → Vec) (o a : Vec) → ReadsTable kind xs bs cs art B R o a → All (Known kind xs B R) bs
-known kind xs bs cs art B R o a H =
+pub known : (kind : ℕ → KindZ) (cut : Float) (xs : List Symbol) (bs : List Basic) (cs : List Float) (art : Option Row) (B : Mask) (R : ℕ → Vec) (o a : Vec) → ReadsTable kind cut xs bs cs art B R o a → All (Known kind xs B R) bs
+known kind cut xs bs cs art B R o a H =
     all-zip (λ (b : Basic). Live kind xs (b .symbol)) (λ (b : Basic). (B (b .symbol .id) ≡ true) × ReadsRow xs (b .row) (R (b .symbol .id))) (Known kind xs B R) (λ b x y. (x, y)) bs (H .rows-live)
     (listed xs B R 0 bs (H .rows-up) (λ j _. H .rows j))
 
 -- a fact of each restricted row, by column
-pub by-column : (kind : ℕ → KindZ) (xs : List Symbol) (bs : List Basic) (cs : List Float) (art : Option Row) (B : Mask) (R : ℕ → Vec) (o a : Vec) → ReadsTable kind xs bs cs art B R o a
+pub by-column : (kind : ℕ → KindZ) (cut : Float) (xs : List Symbol) (bs : List Basic) (cs : List Float) (art : Option Row) (B : Mask) (R : ℕ → Vec) (o a : Vec) → ReadsTable kind cut xs bs cs art B R o a
     → (Q : ℕ → Type 0) → All (λ (b : Basic). isRestricted (b .symbol) ≡ true → Q (b .symbol .id)) bs → (j : ℕ) → B j ≡ true → kind j ≡ slack → Q j
-by-column kind xs bs cs art B R o a H Q A =
-    of-basic kind xs bs cs art B R o a H (λ j. kind j ≡ slack → Q j)
+by-column kind cut xs bs cs art B R o a H Q A =
+    of-basic kind cut xs bs cs art B R o a H (λ j. kind j ≡ slack → Q j)
     (all-zip (λ (b : Basic). Live kind xs (b .symbol)) (λ (b : Basic). isRestricted (b .symbol) ≡ true → Q (b .symbol .id)) (λ (b : Basic). kind (b .symbol .id) ≡ slack → Q (b .symbol .id))
     (λ b x f k. f (slack-restricted (b .symbol) (sym (x .1) ∙ k))) bs (H .rows-live) A)
 
@@ -246,7 +246,7 @@ all-mem Q (c ∷ cs) w a (inl e) = subst Q (sym e) (a .0)
 all-mem Q (c ∷ cs) w a (inr m) = all-mem Q cs w (a .1) m
 
 -- ---- what the walk over the rows found
-module _ (kind : ℕ → KindZ) (xs : List Symbol) (bs : List Basic) (cs : List Float) (art : Option Row) (B : Mask) (R : ℕ → Vec) (o a : Vec) (H : ReadsTable kind xs bs cs art B R o a) (e : ℕ) (e≢0 : e ≢ 0) where
+module _ (kind : ℕ → KindZ) (cut : Float) (xs : List Symbol) (bs : List Basic) (cs : List Float) (art : Option Row) (B : Mask) (R : ℕ → Vec) (o a : Vec) (H : ReadsTable kind cut xs bs cs art B R o a) (e : ℕ) (e≢0 : e ≢ 0) where
   pub record Before (l j : ℕ) : Type 0 where
     pub least : R l 0 *ℤ negℤ (R j e) ≼ R j 0 *ℤ negℤ (R l e)
     pub ties : R l 0 *ℤ negℤ (R j e) ≡ R j 0 *ℤ negℤ (R l e) → l ≤ j
@@ -266,7 +266,7 @@ module _ (kind : ℕ → KindZ) (xs : List Symbol) (bs : List Basic) (cs : List 
   leaving-is = go (smallestRatio (negativeRatios e xs bs)) (smallest-is (negativeRatios e xs bs) ranked (from-rising kind xs B R e e≢0 0 bs (H .rows-up) .1))
     where
       froms : All (From kind xs B R e e≢0) (negativeRatios e xs bs)
-      froms = from-all kind xs B R e e≢0 bs (known kind xs bs cs art B R o a H)
+      froms = from-all kind xs B R e e≢0 bs (known kind cut xs bs cs art B R o a H)
 
       ranked : All Ranked (negativeRatios e xs bs)
       ranked = all-map (From kind xs B R e e≢0) Ranked (λ c f. record { rank = f .quotient .rank; over = f .quotient .over }) (negativeRatios e xs bs) froms
@@ -275,7 +275,7 @@ module _ (kind : ℕ → KindZ) (xs : List Symbol) (bs : List Basic) (cs : List 
       none-left q = subst (All (λ (c : Candidate). ⊥)) (sym q) tt
 
       won : (w : Candidate) → From kind xs B R e e≢0 w → All (Beats w) (negativeRatios e xs bs) → Leaves (w .symbol)
-      won w F A = record { live = F .live; restricted = F .restricted; basic = F .basic; cell = F .cell; before = λ u. by-column kind xs bs cs art B R o a H (λ j. R j e ≺ 0ℤ → Before (w .symbol .id) j) (beaten u) }
+      won w F A = record { live = F .live; restricted = F .restricted; basic = F .basic; cell = F .cell; before = λ u. by-column kind cut xs bs cs art B R o a H (λ j. R j e ≺ 0ℤ → Before (w .symbol .id) j) (beaten u) }
         where
           l : ℕ
           l = w .symbol .id
@@ -294,8 +294,8 @@ module _ (kind : ℕ → KindZ) (xs : List Symbol) (bs : List Basic) (cs : List 
               all-zip (λ (b : Basic). isRestricted (b .symbol) ≡ true → R (b .symbol .id) e ≺ 0ℤ → From kind xs B R e e≢0 (cand kind xs B R e e≢0 b))
               (λ (b : Basic). isRestricted (b .symbol) ≡ true → R (b .symbol .id) e ≺ 0ℤ → Beats w (cand kind xs B R e e≢0 b))
               (λ (b : Basic). isRestricted (b .symbol) ≡ true → R (b .symbol .id) e ≺ 0ℤ → Before (w .symbol .id) (b .symbol .id))
-              (λ b f g r c. beats u b (f r c) (g r c)) bs (to-rows kind xs B R e e≢0 (From kind xs B R e e≢0) bs (known kind xs bs cs art B R o a H) froms) (to-rows kind xs B R e e≢0 (Beats w) bs (known kind xs bs cs art B R o a H) A)
+              (λ b f g r c. beats u b (f r c) (g r c)) bs (to-rows kind xs B R e e≢0 (From kind xs B R e e≢0) bs (known kind cut xs bs cs art B R o a H) froms) (to-rows kind xs B R e e≢0 (Beats w) bs (known kind cut xs bs cs art B R o a H) A)
 
       go : (t : Option Symbol) → Smallest (negativeRatios e xs bs) t → Leaving t
-      go t (Smallest.nobody q) = by-column kind xs bs cs art B R o a H (λ j. R j e ≺ 0ℤ → ⊥) (to-rows kind xs B R e e≢0 (λ c. ⊥) bs (known kind xs bs cs art B R o a H) (none-left q))
+      go t (Smallest.nobody q) = by-column kind cut xs bs cs art B R o a H (λ j. R j e ≺ 0ℤ → ⊥) (to-rows kind xs B R e e≢0 (λ c. ⊥) bs (known kind cut xs bs cs art B R o a H) (none-left q))
       go t (Smallest.winner w m r A) = won w (all-mem (From kind xs B R e e≢0) (negativeRatios e xs bs) w froms m) A

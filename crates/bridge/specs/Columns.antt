@@ -17,7 +17,7 @@ use Rattle.simplex.specs.Choose.{All}
 use Rattle.simplex.specs.Change.{killed}
 use Rattle.simplex.specs.Basis.{Mask}
 use Rattle.simplex.specs.Opt.{Kind as KindZ, const, external}
-use Rattle.steps.specs.Number.{objectiveBound, allWhole}
+use Rattle.steps.specs.Number.{objectiveBound, cutoffFits, allWhole}
 use Rattle.steps.specs.Symbol.{Symbol, isSymbol, deleteCell, deleteSymbol}
 use Rattle.steps.specs.Row.{Row, cellMarks, insertSymbol}
 use Rattle.steps.specs.State.{Basic}
@@ -33,7 +33,7 @@ pub objective-z : (kind : ℕ → KindZ) (w : Work) (B : Mask) (R : ℕ → Vec)
     → insertInObjective s k w .mark ≡ allWhole → (w .mark ≡ allWhole) × ReadsWork kind (insertInObjective s k w) B R (plus o q (δ s)) a
 unfolding insertInObjective marking withObjective withTableau
 objective-z kind w B R o a H s i {k} {q} K l m = (
-  worse-l (w .mark) (cellMarks objectiveBound (insertSymbol s k (w .tableau .symbols) (w .tableau .objective))) m,
+  worse-l (w .mark) (cellMarks objectiveBound (insertSymbol (w .tableau .cutoff) s k (w .tableau .symbols) (w .tableau .objective))) m,
   record {
     up = H .up;
     kinds = H .kinds;
@@ -41,17 +41,18 @@ objective-z kind w B R o a H s i {k} {q} K l m = (
     rows-up = H .rows-up;
     rows-live = H .rows-live;
     rows = H .rows;
-    objective = written (2 ^ 40) objectiveBound objectiveBound-z (w .tableau .symbols) (insertSymbol s k (w .tableau .symbols) (w .tableau .objective)) (plus o q (δ s))
-        (insertSymbol-z (2 ^ 40) s K (omega arith) (w .tableau .symbols) (w .tableau .objective) o (H .objective))
-        (worse-r (w .mark) (cellMarks objectiveBound (insertSymbol s k (w .tableau .symbols) (w .tableau .objective))) m);
+    objective = written (2 ^ 40) objectiveBound objectiveBound-z (w .tableau .symbols) (insertSymbol (w .tableau .cutoff) s k (w .tableau .symbols) (w .tableau .objective)) (plus o q (δ s))
+        (insertSymbol-z (w .tableau .cutoff) (H .cutoff) (2 ^ 40) s K (omega arith) (w .tableau .symbols) (w .tableau .objective) o (H .objective))
+        (worse-r (w .mark) (cellMarks objectiveBound (insertSymbol (w .tableau .cutoff) s k (w .tableau .symbols) (w .tableau .objective))) m);
     beyond = λ j n x. ap₂ (λ (y z : ℤ). y +ℤ q *ℤ z) (H .beyond j n x) (δ-other (in-notIn j s (w .tableau .symbols) i x)) ∙ ring (q ∷ []) (κ 0ℤ ⊞ v 0 ⊠ κ 0ℤ) (κ 0ℤ) tt;
     artificial = H .artificial;
+    cutoff = H .cutoff;
   },
 )
 
 -- ---- after a reset: no symbol, no row
-pub reset-z : (next : ℕ) (a : Vec) → ReadsTable (at 0 const (λ _. external)) [] [] [] none (λ _. false) δ (λ _. 0ℤ) a
-reset-z next a = record {
+pub reset-z : (cut : Float) → cutoffFits cut ≡ true → (next : ℕ) (a : Vec) → ReadsTable (at 0 const (λ _. external)) cut [] [] [] none (λ _. false) δ (λ _. 0ℤ) a
+reset-z cut fits next a = record {
   up = tt;
   kinds = tt;
   unknown = λ i n m. at-there 0 const (λ _. external) i n;
@@ -61,6 +62,7 @@ reset-z next a = record {
   objective = tt;
   beyond = λ i n m. refl;
   artificial = tt;
+  cutoff = fits;
 }
 
 -- ---- a symbol goes
@@ -220,4 +222,5 @@ module _ (kind : ℕ → KindZ) (w : Work) (B : Mask) (R : ℕ → Vec) (o a : V
     objective = delete-reads (2 ^ 40) s 0 xs (w .tableau .objective) o (H .up) (H .objective);
     beyond = cut-outside o (H .beyond);
     artificial = none-reads (w .artificial) no-art;
+    cutoff = H .cutoff;
   }

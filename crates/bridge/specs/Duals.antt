@@ -209,7 +209,7 @@ module _ (n : ℕ) (kind : ℕ → KindZ) (w : Work) (S : State) (G : Good n kin
 
   pub dual-is : Dual (chooseDualPivot w)
   unfolding chooseDualPivot getDualEnteringSymbol
-  dual-is = go (getDualLeavingRow bs) (lowest-is kind xs (S .B) (S .R) 0 bs (H .rows-up) (known kind xs bs (w .tableau .objective) (w .artificial) (S .B) (S .R) (S .o) z H))
+  dual-is = go (getDualLeavingRow bs) (lowest-is kind xs (S .B) (S .R) 0 bs (H .rows-up) (known kind (w .tableau .cutoff) xs bs (w .tableau .objective) (w .artificial) (S .B) (S .R) (S .o) z H))
     where
       xs : List Symbol
       xs = w .tableau .symbols
@@ -218,7 +218,7 @@ module _ (n : ℕ) (kind : ℕ → KindZ) (w : Work) (S : State) (G : Good n kin
       bs = w .tableau .rows
 
       columns : (Q : ℕ → Type 0) → All (λ (b : Basic). Q (b .symbol .id)) bs → (j : ℕ) → S .B j ≡ true → Q j
-      columns = of-basic kind xs bs (w .tableau .objective) (w .artificial) (S .B) (S .R) (S .o) z H
+      columns = of-basic kind (w .tableau .cutoff) xs bs (w .tableau .objective) (w .artificial) (S .B) (S .R) (S .o) z H
 
       by-symbol : (b : Basic) → Leaves b → (t : Option Symbol) → Entering (S .R (b .symbol .id)) (S .o) xs t → Dual (elim t [ none ↦ stuck | some e ↦ pivotOn (b .symbol) e ])
       by-symbol b L none f = no-way b L f

@@ -30,7 +30,7 @@ use Rattle.bridge.specs.Finds.{UpRows, find-hit, find-miss, find-none, f
 use Rattle.bridge.specs.Table.{kindOf, RowAt, ArtAt, Live, ReadsTable, ReadsWork, in-above, in-nonzero, art-mark, Parts, enter-parts, clash-bool, moved}
 
 -- ---- a row enters: s reads as "the equation r, solved for e"
-module _ (kind : ℕ → KindZ) (xs : List Symbol) (bs : List Basic) (cs : List Float) (art : Option Row) (B : Mask) (R : ℕ → Vec) (o a : Vec) (H : ReadsTable kind xs bs cs art B R o a)
+module _ (kind : ℕ → KindZ) (cut : Float) (xs : List Symbol) (bs : List Basic) (cs : List Float) (art : Option Row) (B : Mask) (R : ℕ → Vec) (o a : Vec) (H : ReadsTable kind cut xs bs cs art B R o a)
     (e : Symbol) (he : B (e .id) ≡ false) (live : Live kind xs e) (unit : (i : ℕ) → R (e .id) i ≡ δ (e .id) i) (s : Row) (r : Vec) (c : ℤ) (nothing : Outside xs r)
     (reads : ReadsRow xs s (out (e .id) c r (δ (e .id)))) where
   e≢0 : e .id ≢ 0
@@ -43,57 +43,58 @@ module _ (kind : ℕ → KindZ) (xs : List Symbol) (bs : List Basic) (cs : List 
       go none q = q
       go (some r) q = clash-bool ((subst (λ (t : Option Row). RowAt xs t (B (e .id)) (R (e .id))) q (H .rows (e .id))) .0) he
 
-  sub-row : (mine : Row) (f : Vec) → ReadsRow xs mine f → substituteInRow (e .id) xs s mine .mark ≡ allWhole → ReadsRow xs (substituteInRow (e .id) xs s mine .row) (out (e .id) c r f)
+  sub-row : (mine : Row) (f : Vec) → ReadsRow xs mine f → substituteInRow cut (e .id) xs s mine .mark ≡ allWhole → ReadsRow xs (substituteInRow cut (e .id) xs s mine .row) (out (e .id) c r f)
   sub-row mine f h m =
-      row-to xs (substituteInRow (e .id) xs s mine .row) (plus (cleared (e .id) f) (f (e .id)) (out (e .id) c r (δ (e .id)))) (out (e .id) c r f)
-      (substituted-row (e .id) c r f) (substituteInRow-z (e .id) xs s mine (out (e .id) c r (δ (e .id))) f e≢0 (H .up) reads h m)
+      row-to xs (substituteInRow cut (e .id) xs s mine .row) (plus (cleared (e .id) f) (f (e .id)) (out (e .id) c r (δ (e .id)))) (out (e .id) c r f)
+      (substituted-row (e .id) c r f) (substituteInRow-z cut (H .cutoff) (e .id) xs s mine (out (e .id) c r (δ (e .id))) f e≢0 (H .up) reads h m)
 
-  module _ (m-rows : marksOf (substituteInRows (e .id) xs s bs) ≡ allWhole) where
-    gone-e : findRow (e .id) (rowsOf (substituteInRows (e .id) xs s bs)) ≡ none
+  module _ (m-rows : marksOf (substituteInRows cut (e .id) xs s bs) ≡ allWhole) where
+    gone-e : findRow (e .id) (rowsOf (substituteInRows cut (e .id) xs s bs)) ≡ none
     unfolding after-sub
-    gone-e = find-sub (e .id) xs s (e .id) bs ∙ ap (after-sub (e .id) xs s) no-e
+    gone-e = find-sub cut (e .id) xs s (e .id) bs ∙ ap (after-sub cut (e .id) xs s) no-e
 
-    other-rows : (j : ℕ) → RowAt xs (after-sub (e .id) xs s (findRow j bs)) (B j) (out (e .id) c r (R j))
+    other-rows : (j : ℕ) → RowAt xs (after-sub cut (e .id) xs s (findRow j bs)) (B j) (out (e .id) c r (R j))
     unfolding after-sub
     other-rows j = go (findRow j bs) refl (H .rows j)
       where
-        go : (t : Option Row) → findRow j bs ≡ t → RowAt xs t (B j) (R j) → RowAt xs (after-sub (e .id) xs s t) (B j) (out (e .id) c r (R j))
+        go : (t : Option Row) → findRow j bs ≡ t → RowAt xs t (B j) (R j) → RowAt xs (after-sub cut (e .id) xs s t) (B j) (out (e .id) c r (R j))
         go none q h = h
-        go (some y) q h = (h .0, sub-row y (R j) (h .1) (find-mark (e .id) xs s j bs y m-rows q))
+        go (some y) q h = (h .0, sub-row y (R j) (h .1) (find-mark cut (e .id) xs s j bs y m-rows q))
 
-    all-rows : (j : ℕ) → RowAt xs (findRow j (keepRow (record { symbol = e; row = s }) (rowsOf (substituteInRows (e .id) xs s bs)))) (at (e .id) true B j) (out (e .id) c r (R j))
+    all-rows : (j : ℕ) → RowAt xs (findRow j (keepRow (record { symbol = e; row = s }) (rowsOf (substituteInRows cut (e .id) xs s bs)))) (at (e .id) true B j) (out (e .id) c r (R j))
     all-rows j = go (at? (e .id) true B j)
       where
-        go : At (e .id) true B j → RowAt xs (findRow j (keepRow (record { symbol = e; row = s }) (rowsOf (substituteInRows (e .id) xs s bs)))) (at (e .id) true B j) (out (e .id) c r (R j))
+        go : At (e .id) true B j → RowAt xs (findRow j (keepRow (record { symbol = e; row = s }) (rowsOf (substituteInRows cut (e .id) xs s bs)))) (at (e .id) true B j) (out (e .id) c r (R j))
         go (here p q) =
             subst (λ (t : Option Row). RowAt xs t (at (e .id) true B j) (out (e .id) c r (R j)))
-            (sym (find-keep-same j (record { symbol = e; row = s }) (rowsOf (substituteInRows (e .id) xs s bs)) p (ap (λ (i : ℕ). findRow i (rowsOf (substituteInRows (e .id) xs s bs))) p ∙ gone-e)))
+            (sym (find-keep-same j (record { symbol = e; row = s }) (rowsOf (substituteInRows cut (e .id) xs s bs)) p (ap (λ (i : ℕ). findRow i (rowsOf (substituteInRows cut (e .id) xs s bs))) p ∙ gone-e)))
             (q, row-to xs s (out (e .id) c r (δ (e .id))) (out (e .id) c r (R j)) (λ i. ap₂ (λ (x y : ℤ). x +ℤ negℤ (y *ℤ c) *ℤ r i) (sym (ap (λ (t : ℕ). R t i) p ∙ unit i)) (sym (ap (λ (t : ℕ). R t (e .id)) p ∙ unit (e .id)))) reads)
         go (there p q) =
             subst (λ (t : Option Row). RowAt xs t (at (e .id) true B j) (out (e .id) c r (R j)))
-            (sym (find-keep-other j (record { symbol = e; row = s }) (rowsOf (substituteInRows (e .id) xs s bs)) p ∙ find-sub (e .id) xs s j bs))
-            (subst (λ (t : Bool). RowAt xs (after-sub (e .id) xs s (findRow j bs)) t (out (e .id) c r (R j))) (sym q) (other-rows j))
+            (sym (find-keep-other j (record { symbol = e; row = s }) (rowsOf (substituteInRows cut (e .id) xs s bs)) p ∙ find-sub cut (e .id) xs s j bs))
+            (subst (λ (t : Bool). RowAt xs (after-sub cut (e .id) xs s (findRow j bs)) t (out (e .id) c r (R j))) (sym q) (other-rows j))
 
-    art-sub : (t : Option Row) → ArtAt xs t a → art-mark (e .id) xs s t ≡ allWhole → ArtAt xs (after-sub (e .id) xs s t) (out (e .id) c r a)
+    art-sub : (t : Option Row) → ArtAt xs t a → art-mark cut (e .id) xs s t ≡ allWhole → ArtAt xs (after-sub cut (e .id) xs s t) (out (e .id) c r a)
     unfolding after-sub art-mark
     art-sub none h m = tt
     art-sub (some y) h m = sub-row y a h m
 
-    pub enter-table : cellMarks objectiveBound (substituteInCells (e .id) xs (s .cells) cs) ≡ allWhole → art-mark (e .id) xs s art ≡ allWhole
-        → ReadsTable kind xs (keepRow (record { symbol = e; row = s }) (rowsOf (substituteInRows (e .id) xs s bs))) (cellValues (substituteInCells (e .id) xs (s .cells) cs)) (after-sub (e .id) xs s art)
+    pub enter-table : cellMarks objectiveBound (substituteInCells cut (e .id) xs (s .cells) cs) ≡ allWhole → art-mark cut (e .id) xs s art ≡ allWhole
+        → ReadsTable kind cut xs (keepRow (record { symbol = e; row = s }) (rowsOf (substituteInRows cut (e .id) xs s bs))) (cellValues (substituteInCells cut (e .id) xs (s .cells) cs)) (after-sub cut (e .id) xs s art)
         (at (e .id) true B) (λ j. out (e .id) c r (R j)) (out (e .id) c r o) (out (e .id) c r a)
     enter-table m-cells m-art = record {
       up = H .up;
       kinds = H .kinds;
       unknown = H .unknown;
-      rows-up = keep-up 0 (record { symbol = e; row = s }) (rowsOf (substituteInRows (e .id) xs s bs)) (in-above 0 (e .id) xs (H .up) (live .0)) gone-e (sub-up (e .id) xs s 0 bs (H .rows-up));
-      rows-live = keep-all (Live kind xs) (record { symbol = e; row = s }) (rowsOf (substituteInRows (e .id) xs s bs)) live (sub-all (e .id) xs s (Live kind xs) bs (H .rows-live));
+      rows-up = keep-up 0 (record { symbol = e; row = s }) (rowsOf (substituteInRows cut (e .id) xs s bs)) (in-above 0 (e .id) xs (H .up) (live .0)) gone-e (sub-up cut (e .id) xs s 0 bs (H .rows-up));
+      rows-live = keep-all (Live kind xs) (record { symbol = e; row = s }) (rowsOf (substituteInRows cut (e .id) xs s bs)) live (sub-all cut (e .id) xs s (Live kind xs) bs (H .rows-live));
       rows = all-rows;
-      objective = reads-to (2 ^ 40) xs (cellValues (substituteInCells (e .id) xs (s .cells) cs)) (plus (cleared (e .id) o) (o (e .id)) (out (e .id) c r (δ (e .id)))) (out (e .id) c r o)
+      objective = reads-to (2 ^ 40) xs (cellValues (substituteInCells cut (e .id) xs (s .cells) cs)) (plus (cleared (e .id) o) (o (e .id)) (out (e .id) c r (δ (e .id)))) (out (e .id) c r o)
           (λ x _. substituted-row (e .id) c r o (x .id))
-          (substituteInCells-z (e .id) xs (s .cells) cs (out (e .id) c r (δ (e .id))) o e≢0 (H .up) (reads .cells) (H .objective) (H .beyond) m-cells);
+          (substituteInCells-z cut (H .cutoff) (e .id) xs (s .cells) cs (out (e .id) c r (δ (e .id))) o e≢0 (H .up) (reads .cells) (H .objective) (H .beyond) m-cells);
       beyond = λ i n m. ap₂ (λ (x y : ℤ). x +ℤ negℤ (o (e .id) *ℤ c) *ℤ y) (H .beyond i n m) (nothing i n m) ∙ ring (o (e .id) ∷ c ∷ []) (κ 0ℤ ⊞ (⊟ (v 0 ⊠ v 1)) ⊠ κ 0ℤ) (κ 0ℤ) tt;
       artificial = art-sub art (H .artificial) m-art;
+      cutoff = H .cutoff;
     }
 
 -- STEP 5: the row r is solved for e and enters: e's cell is 1 or -1, and every row loses e by the equation "r is 0"
@@ -110,17 +111,17 @@ module _ (kind : ℕ → KindZ) (w : Work) (B : Mask) (R : ℕ → Vec) (o a : V
       let cs : List Float = w .tableau .objective in
       let solved : Written = solveForSymbol (e .id) xs row in
       let m1 : Mark = worse (w .mark) (solved .mark) in
-      let m2 : Mark = marksOf (substituteInRows (e .id) xs (solved .row) bs) in
-      let m3 : Mark = cellMarks objectiveBound (substituteInCells (e .id) xs (solved .row .cells) cs) in
-      let m4 : Mark = art-mark (e .id) xs (solved .row) (w .artificial) in
+      let m2 : Mark = marksOf (substituteInRows (w .tableau .cutoff) (e .id) xs (solved .row) bs) in
+      let m3 : Mark = cellMarks objectiveBound (substituteInCells (w .tableau .cutoff) (e .id) xs (solved .row .cells) cs) in
+      let m4 : Mark = art-mark (w .tableau .cutoff) (e .id) xs (solved .row) (w .artificial) in
       let all : worse m1 (worse m2 (worse m3 m4)) ≡ allWhole = sym (p .mark) ∙ m in
       let late : worse m2 (worse m3 m4) ≡ allWhole = worse-r m1 (worse m2 (worse m3 m4)) all in
       let last : worse m3 m4 ≡ allWhole = worse-r m2 (worse m3 m4) late in
       let early : worse (w .mark) (solved .mark) ≡ allWhole = worse-l m1 (worse m2 (worse m3 m4)) all in
       let S = solveForSymbol-z (e .id) xs row r (in-nonzero (e .id) xs (H .up) (live .0)) (H .up) reads (worse-r (w .mark) (solved .mark) early) in
       let solved-z = row-to xs (solved .row) (λ j. negℤ (r (e .id)) *ℤ cleared (e .id) r j) (out (e .id) (r (e .id)) r (δ (e .id))) (λ j. solved-row (e .id) (r (e .id)) r j refl (S .unit)) (S .row) in
-      let table = enter-table kind xs bs cs (w .artificial) B R o a H e he live unit (solved .row) r (r (e .id)) (reads .outside) solved-z (worse-l m2 (worse m3 m4) late) (worse-l m3 m4 last) (worse-r m3 m4 last) in
-      (S .unit, moved (p .symbols) (p .rows) (p .objective) (p .artificial) table)
+      let table = enter-table kind (w .tableau .cutoff) xs bs cs (w .artificial) B R o a H e he live unit (solved .row) r (r (e .id)) (reads .outside) solved-z (worse-l m2 (worse m3 m4) late) (worse-l m3 m4 last) (worse-r m3 m4 last) in
+      (S .unit, moved (p .cutoff) (p .symbols) (p .rows) (p .objective) (p .artificial) table)
 
   pub enter-z : (enterBasis e (solveForSymbol (e .id) xs row .row) (marking (solveForSymbol (e .id) xs row .mark) w)) .mark ≡ allWhole
       → (r (e .id) *ℤ r (e .id) ≡ 1ℤ)
@@ -225,6 +226,7 @@ module _ (kind : ℕ → KindZ) (w : Work) (B : Mask) (R : ℕ → Vec) (o a : V
     objective = append-reads (2 ^ 40) (w .tableau .symbols) (w .tableau .objective) o s (H .beyond (s .id) s≢0 (fresh (w .tableau .symbols) s last)) (H .objective);
     beyond = λ i n m. H .beyond i n (append-notIn i (w .tableau .symbols) s m .0);
     artificial = none-reads (w .artificial) no-art;
+    cutoff = H .cutoff;
   }
     where
       above : (k : ℕ) → k ≢ 0 → 0 < k
@@ -234,14 +236,14 @@ module _ (kind : ℕ → KindZ) (w : Work) (B : Mask) (R : ℕ → Vec) (o a : V
 -- ---- a term: its row if basic, else its symbol, is inserted: `plus f q (R s)` in both cases
 pub term-z : (kind : ℕ → KindZ) (w : Work) (B : Mask) (R : ℕ → Vec) (o a : Vec) → ReadsWork kind w B R o a → ((j : ℕ) → B j ≡ false → (i : ℕ) → R j i ≡ δ j i)
     → (s : ℕ) → In s (w .tableau .symbols) → {k : Float} {q : ℤ} → Zb 1024 k q → (row : Row) (f : Vec) → ReadsRow (w .tableau .symbols) row f
-    → Whole (w .tableau .symbols) (plus f q (R s)) (elim (findRow s (w .tableau .rows)) [ none ↦ insertSymbolInRow s k (w .tableau .symbols) row | some r ↦ insertRow r k row ])
+    → Whole (w .tableau .symbols) (plus f q (R s)) (elim (findRow s (w .tableau .rows)) [ none ↦ insertSymbolInRow (w .tableau .cutoff) s k (w .tableau .symbols) row | some r ↦ insertRow (w .tableau .cutoff) r k row ])
 term-z kind w B R o a H unit s i {k} {q} K row f h = go (findRow s (w .tableau .rows)) (H .rows s)
   where
-    go : (t : Option Row) → RowAt (w .tableau .symbols) t (B s) (R s) → Whole (w .tableau .symbols) (plus f q (R s)) (elim t [ none ↦ insertSymbolInRow s k (w .tableau .symbols) row | some r ↦ insertRow r k row ])
+    go : (t : Option Row) → RowAt (w .tableau .symbols) t (B s) (R s) → Whole (w .tableau .symbols) (plus f q (R s)) (elim t [ none ↦ insertSymbolInRow (w .tableau .cutoff) s k (w .tableau .symbols) row | some r ↦ insertRow (w .tableau .cutoff) r k row ])
     go none b = λ m.
-        row-to (w .tableau .symbols) (insertSymbolInRow s k (w .tableau .symbols) row .row) (plus f q (δ s)) (plus f q (R s)) (λ j. ap (λ (z : ℤ). f j +ℤ q *ℤ z) (sym (unit s b j)))
-        (insertSymbolInRow-z s (w .tableau .symbols) row f (in-nonzero s (w .tableau .symbols) (H .up) i) i (K .isz) (K .small) h m)
-    go (some r) b = λ m. insertRow-z (w .tableau .symbols) r row (R s) f K (b .1) h m
+        row-to (w .tableau .symbols) (insertSymbolInRow (w .tableau .cutoff) s k (w .tableau .symbols) row .row) (plus f q (δ s)) (plus f q (R s)) (λ j. ap (λ (z : ℤ). f j +ℤ q *ℤ z) (sym (unit s b j)))
+        (insertSymbolInRow-z (w .tableau .cutoff) (H .cutoff) s (w .tableau .symbols) row f (in-nonzero s (w .tableau .symbols) (H .up) i) i (K .isz) (K .small) h m)
+    go (some r) b = λ m. insertRow-z (w .tableau .cutoff) (H .cutoff) (w .tableau .symbols) r row (R s) f K (b .1) h m
 
 -- ---- all signs reversed
 pub reverse-z : (xs : List Symbol) (r : Row) (f : Vec) → ReadsRow xs r f → ReadsRow xs (reverseSign r) (λ j. negℤ (f j))

@@ -9,6 +9,7 @@ use mathlib.Core.Bool.{Bool, true, false, not}
 use lib.Dec.{T, ltb, ltb→lt, nltb→le}
 use Rattle.simplex.specs.Choose.{All}
 use Rattle.steps.specs.Number.{allWhole}
+use lib.Ieee.{Float}
 use Rattle.steps.specs.Symbol.{Symbol, isSymbol}
 use Rattle.steps.specs.Row.{Row}
 use Rattle.steps.specs.State.{Basic}
@@ -111,36 +112,36 @@ find-keep-other j r (b ∷ bs) n = go (ltb (r .symbol .id) (b .symbol .id)) (sym
     go false (isnt e p d) (isnt e′ p′ d′) ih = find-miss j b (keepRow r bs) e′ ∙ ih ∙ sym (find-miss j b bs e′)
 
 -- ---- substituted rows
-module _ (s : ℕ) (xs : List Symbol) (other : Row) where
+module _ (cut : Float) (s : ℕ) (xs : List Symbol) (other : Row) where
   unfoldable pub after-sub : Option Row → Option Row
   after-sub none = none
-  after-sub (some r) = some (substituteInRow s xs other r .row)
+  after-sub (some r) = some (substituteInRow cut s xs other r .row)
 
-  pub find-sub : (j : ℕ) (bs : List Basic) → findRow j (rowsOf (substituteInRows s xs other bs)) ≡ after-sub (findRow j bs)
+  pub find-sub : (j : ℕ) (bs : List Basic) → findRow j (rowsOf (substituteInRows cut s xs other bs)) ≡ after-sub (findRow j bs)
   unfolding findRow rowsOf substituteInRows after-sub
   find-sub j [] = refl
   find-sub j (b ∷ bs) = go (isSymbol j (b .symbol)) (find-sub j bs)
     where
-      go : (t : Bool) → findRow j (rowsOf (substituteInRows s xs other bs)) ≡ after-sub (findRow j bs)
-          → elim t [ true ↦ some (substituteInRow s xs other (b .row) .row) | false ↦ findRow j (rowsOf (substituteInRows s xs other bs)) ] ≡ after-sub (elim t [ true ↦ some (b .row) | false ↦ findRow j bs ])
+      go : (t : Bool) → findRow j (rowsOf (substituteInRows cut s xs other bs)) ≡ after-sub (findRow j bs)
+          → elim t [ true ↦ some (substituteInRow cut s xs other (b .row) .row) | false ↦ findRow j (rowsOf (substituteInRows cut s xs other bs)) ] ≡ after-sub (elim t [ true ↦ some (b .row) | false ↦ findRow j bs ])
       go true ih = refl
       go false ih = ih
 
-  pub find-mark : (j : ℕ) (bs : List Basic) (r : Row) → marksOf (substituteInRows s xs other bs) ≡ allWhole → findRow j bs ≡ some r → substituteInRow s xs other r .mark ≡ allWhole
+  pub find-mark : (j : ℕ) (bs : List Basic) (r : Row) → marksOf (substituteInRows cut s xs other bs) ≡ allWhole → findRow j bs ≡ some r → substituteInRow cut s xs other r .mark ≡ allWhole
   unfolding findRow marksOf substituteInRows
   find-mark j [] r m f = absurd (none≢some f)
-  find-mark j (b ∷ bs) r m f = go (isSymbol j (b .symbol)) f (find-mark j bs r (worse-r (substituteInRow s xs other (b .row) .mark) (marksOf (substituteInRows s xs other bs)) m))
+  find-mark j (b ∷ bs) r m f = go (isSymbol j (b .symbol)) f (find-mark j bs r (worse-r (substituteInRow cut s xs other (b .row) .mark) (marksOf (substituteInRows cut s xs other bs)) m))
     where
-      go : (t : Bool) → elim t [ true ↦ some (b .row) | false ↦ findRow j bs ] ≡ some r → (findRow j bs ≡ some r → substituteInRow s xs other r .mark ≡ allWhole) → substituteInRow s xs other r .mark ≡ allWhole
-      go true f ih = ap (λ (r : Row). substituteInRow s xs other r .mark) (sym (some-injective f)) ∙ worse-l (substituteInRow s xs other (b .row) .mark) (marksOf (substituteInRows s xs other bs)) m
+      go : (t : Bool) → elim t [ true ↦ some (b .row) | false ↦ findRow j bs ] ≡ some r → (findRow j bs ≡ some r → substituteInRow cut s xs other r .mark ≡ allWhole) → substituteInRow cut s xs other r .mark ≡ allWhole
+      go true f ih = ap (λ (r : Row). substituteInRow cut s xs other r .mark) (sym (some-injective f)) ∙ worse-l (substituteInRow cut s xs other (b .row) .mark) (marksOf (substituteInRows cut s xs other bs)) m
       go false f ih = ih f
 
-  pub sub-up : (i : ℕ) (bs : List Basic) → UpRows i bs → UpRows i (rowsOf (substituteInRows s xs other bs))
+  pub sub-up : (i : ℕ) (bs : List Basic) → UpRows i bs → UpRows i (rowsOf (substituteInRows cut s xs other bs))
   unfolding rowsOf substituteInRows
   sub-up i [] u = tt
   sub-up i (b ∷ bs) u = (u .0, sub-up (b .symbol .id) bs (u .1))
 
-  pub sub-all : (Q : Symbol → Type 0) (bs : List Basic) → All (λ (b : Basic). Q (b .symbol)) bs → All (λ (b : Basic). Q (b .symbol)) (rowsOf (substituteInRows s xs other bs))
+  pub sub-all : (Q : Symbol → Type 0) (bs : List Basic) → All (λ (b : Basic). Q (b .symbol)) bs → All (λ (b : Basic). Q (b .symbol)) (rowsOf (substituteInRows cut s xs other bs))
   unfolding rowsOf substituteInRows
   sub-all Q [] a = tt
   sub-all Q (b ∷ bs) a = (a .0, sub-all Q bs (a .1))

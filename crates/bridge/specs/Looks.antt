@@ -98,14 +98,14 @@ module _ (n : ℕ) (kind : ℕ → KindZ) (w : Work) (B : Mask) (R : ℕ → Vec
     at-end : ((j : ℕ) → kind j ≡ slack → 0ℤ ≼ q j) → Choose ended
     row-less : (e : Symbol) → Enters e → ((j : ℕ) → B j ≡ true → kind j ≡ slack → R j (e .id) ≺ 0ℤ → ⊥) → Choose stuck
     pivots : (l e : Symbol) (E : Enters e)
-        → Leaves kind (w .tableau .symbols) (w .tableau .rows) (w .tableau .objective) (w .artificial) B R o a H (e .id) (in-nonzero (e .id) (w .tableau .symbols) (H .up) (E .live .0)) l → Choose (pivotOn l e)
+        → Leaves kind (w .tableau .cutoff) (w .tableau .symbols) (w .tableau .rows) (w .tableau .objective) (w .artificial) B R o a H (e .id) (in-nonzero (e .id) (w .tableau .symbols) (H .up) (E .live .0)) l → Choose (pivotOn l e)
 
   pub choose-is : (b : ℕ) (g : Goal) → Reads b xs (goalCells g w) q → Choose (choosePivot g w)
   unfolding choosePivot getEnteringSymbol getLeavingRow
   choose-is b g h = by-first (getEnteringSymbol g w) (first-z b 0 q xs (goalCells g w) (H .up) h)
     where
       by-row : (e : Symbol) (E : Enters e) (t : Option Symbol)
-          → Leaving kind (w .tableau .symbols) (w .tableau .rows) (w .tableau .objective) (w .artificial) B R o a H (e .id) (in-nonzero (e .id) (w .tableau .symbols) (H .up) (E .live .0)) t
+          → Leaving kind (w .tableau .cutoff) (w .tableau .symbols) (w .tableau .rows) (w .tableau .objective) (w .artificial) B R o a H (e .id) (in-nonzero (e .id) (w .tableau .symbols) (H .up) (E .live .0)) t
           → Choose (elim t [ none ↦ stuck | some l ↦ pivotOn l e ])
       by-row e E none f = row-less e E f
       by-row e E (some l) L = pivots l e E L
@@ -117,11 +117,11 @@ module _ (n : ℕ) (kind : ℕ → KindZ) (w : Work) (B : Mask) (R : ℕ → Vec
           (λ x k f s. f (slack-not-dummy x (sym k ∙ s))) xs (H .kinds) A) (slack-in kind xs (G .zero) (H .unknown) j s) s)
       by-first t (First.winner e m d l A) =
           let E = enters e m d l A in
-          by-row e E (getLeavingRow e w) (leaving-is kind (w .tableau .symbols) (w .tableau .rows) (w .tableau .objective) (w .artificial) B R o a H (e .id) (in-nonzero (e .id) (w .tableau .symbols) (H .up) (E .live .0)))
+          by-row e E (getLeavingRow e w) (leaving-is kind (w .tableau .cutoff) (w .tableau .symbols) (w .tableau .rows) (w .tableau .objective) (w .artificial) B R o a H (e .id) (in-nonzero (e .id) (w .tableau .symbols) (H .up) (E .live .0)))
 
   -- on -1 it is Bland's choice
   pub choice-is : ((j : ℕ) → kind j ≡ slack → j < n) → (l e : Symbol) (E : Enters e)
-      → Leaves kind (w .tableau .symbols) (w .tableau .rows) (w .tableau .objective) (w .artificial) B R o a H (e .id) (in-nonzero (e .id) (w .tableau .symbols) (H .up) (E .live .0)) l
+      → Leaves kind (w .tableau .cutoff) (w .tableau .symbols) (w .tableau .rows) (w .tableau .objective) (w .artificial) B R o a H (e .id) (in-nonzero (e .id) (w .tableau .symbols) (H .up) (E .live .0)) l
       → R (l .id) (e .id) ≡ negsuc 0 → Choice n kind (record { B = B; R = R; o = q }) (l .id) (e .id)
   choice-is inside l e E L u = record {
     in-n = inside (e .id) (E .is-slack);

@@ -3,7 +3,7 @@ use mathlib.Core.Path.{_≡_, refl, sym, ap, _∙_, subst}
 use Prim.Native.Nat.{ℕ, zero, suc, _*_, _^_, _≤_, _<_}
 use native.Mathlib.Omega.{arith}
 use mathlib.Core.Bool.{Bool, true, false, cond, true≢false}
-use lib.Dec.{T, leb→le, ltb→lt, lt→ltb, lit<, leb·suc-zero}
+use lib.Dec.{T, leb→le, ltb→lt, lt→ltb, leb·suc-zero}
 use lib.IntN.{ℤ, pos, negsuc, negℤ, natAbs, _*ℤ_}
 use lib.Signed.{ltZ}
 use lib.Ieee.{Float, nan, inf, fin, binary64, neg, div, lt, le, eq, ofBits}
@@ -11,8 +11,9 @@ use Rattle.laws.specs.Z.{eqZb, eqZb→, ≡→eqZb}
 use Rattle.exact.specs.Whole.{IsZ, val, int, lit-z, neg-z, isz-to, minus-one-over}
 use Rattle.exact.specs.Compare.{lt-z, le-z, eq-z, bool-ext}
 use Rattle.exact.specs.Near.{lt-small}
-use Rattle.steps.specs.Number.{zero64, one64, minusOne64, cutoff, cellBound, constantBound, objectiveBound, magnitude, nearZero, belowZero, isFinite, within, Mark, allWhole, notWhole, notFinite, worse, wholeIf, saysWhole, markWrite}
+use Rattle.steps.specs.Number.{zero64, one64, minusOne64, cellBound, constantBound, objectiveBound, magnitude, nearZero, cutoffFits, belowZero, isFinite, within, Mark, allWhole, notWhole, notFinite, worse, wholeIf, saysWhole, markWrite}
 use Rattle.steps.specs.Symbol.{absent}
+use Rattle.steps.proofs.Cutoff.{Between, cutoff-between}
 use Rattle.steps.specs.Row.{stored, goesIfNearZero, factorMark}
 
 -- ---- the constants
@@ -40,10 +41,6 @@ pub objectiveBound-z : IsZ objectiveBound (pos (2 ^ 40))
 unfolding objectiveBound ofBits int val
 objectiveBound-z = lit-z tt tt
 
-cutoff-is : cutoff ≡ fin false 3022314549036573 (negsuc 77)
-unfolding cutoff ofBits
-cutoff-is = refl
-
 -- ---- the tests
 pub belowZero-z : {x : Float} {z : ℤ} → IsZ x z → belowZero x ≡ ltZ z (pos 0)
 unfolding belowZero
@@ -67,10 +64,14 @@ magnitude-z {x} {z} h = rw (lt-z h zero64-z) (go z h)
     go (pos k) h = subst (λ (o : Bool). IsZ (cond o (neg x) x) (pos k)) (sym (leb·suc-zero k)) h
     go (negsuc k) h = neg-z h
 
-pub nearZero-z : {x : Float} {z : ℤ} → IsZ x z → nearZero x ≡ eqZb z (pos 0)
+-- whatever the cutoff that reset was given, a whole number is near zero only if it is 0
+pub nearZero-z : (cut : Float) {x : Float} {z : ℤ} → cutoffFits cut ≡ true → IsZ x z → nearZero cut x ≡ eqZb z (pos 0)
 unfolding nearZero
-nearZero-z {x} {z} h = ap (lt (magnitude x)) cutoff-is ∙ lt-small 3022314549036573 (negsuc 77) (lit< tt) (lit< tt) (magnitude-z h) ∙ small z
+nearZero-z cut {x} {z} fits h = below (cutoff-between cut fits) ∙ small z
   where
+    below : Between cut → lt (magnitude x) cut ≡ ltZ (pos (natAbs z)) (pos 1)
+    below b = ap (lt (magnitude x)) (b .is) ∙ lt-small (b .m) (b .e) (b .above) (b .under) (magnitude-z h)
+
     small : (z : ℤ) → ltZ (pos (natAbs z)) (pos 1) ≡ eqZb z (pos 0)
     small z = bool-ext (ltZ (pos (natAbs z)) (pos 1)) (eqZb z (pos 0)) (λ t. ≡→eqZb (to z (ltb→lt (natAbs z) 1 t))) (λ t. lt→ltb (natAbs z) 1 (from (ap natAbs (eqZb→ z (pos 0) t))))
       where
@@ -81,6 +82,10 @@ nearZero-z {x} {z} h = ap (lt (magnitude x)) cutoff-is ∙ lt-small 302231454903
 
         from : natAbs z ≡ 0 → natAbs z < 1
         from e = omega arith
+
+-- so near zero says of whole numbers what "holds no such symbol" says
+pub nearZero-absent : (cut : Float) {x : Float} {z : ℤ} → cutoffFits cut ≡ true → IsZ x z → nearZero cut x ≡ absent x
+nearZero-absent cut fits h = nearZero-z cut fits h ∙ sym (absent-z h)
 
 -- ---- the marks
 pub finite≢ : notFinite ≡ allWhole → ⊥
@@ -125,20 +130,20 @@ stored-z {x} {z} h = go (absent x) refl
     go true e = subst (λ (o : Bool). IsZ (cond o zero64 x) z) (sym e) (isz-to zero64-z (sym (eqZb→ z (pos 0) (subst T (sym (sym (absent-z h) ∙ e)) tt))))
     go false e = subst (λ (o : Bool). IsZ (cond o zero64 x) z) (sym e) h
 
-pub goes-z : {x : Float} {z : ℤ} → IsZ x z → IsZ (goesIfNearZero x) z
+pub goes-z : (cut : Float) {x : Float} {z : ℤ} → cutoffFits cut ≡ true → IsZ x z → IsZ (goesIfNearZero cut x) z
 unfolding goesIfNearZero
-goes-z {x} {z} h = go (nearZero x) refl
+goes-z cut {x} {z} fits h = go (nearZero cut x) refl
   where
-    go : (o : Bool) → nearZero x ≡ o → IsZ (cond (nearZero x) zero64 x) z
-    go true e = subst (λ (o : Bool). IsZ (cond o zero64 x) z) (sym e) (isz-to zero64-z (sym (eqZb→ z (pos 0) (subst T (sym (sym (nearZero-z h) ∙ e)) tt))))
+    go : (o : Bool) → nearZero cut x ≡ o → IsZ (cond (nearZero cut x) zero64 x) z
+    go true e = subst (λ (o : Bool). IsZ (cond o zero64 x) z) (sym e) (isz-to zero64-z (sym (eqZb→ z (pos 0) (subst T (sym (sym (nearZero-z cut fits h) ∙ e)) tt))))
     go false e = subst (λ (o : Bool). IsZ (cond o zero64 x) z) (sym e) h
 
 -- what a test that passed or failed says
 pub absent-yes : {x : Float} {z : ℤ} → IsZ x z → absent x ≡ true → z ≡ pos 0
 absent-yes {x} {z} h e = eqZb→ z (pos 0) (subst T (sym (sym (absent-z h) ∙ e)) tt)
 
-pub nearZero-yes : {x : Float} {z : ℤ} → IsZ x z → nearZero x ≡ true → z ≡ pos 0
-nearZero-yes {x} {z} h e = eqZb→ z (pos 0) (subst T (sym (sym (nearZero-z h) ∙ e)) tt)
+pub nearZero-yes : (cut : Float) {x : Float} {z : ℤ} → cutoffFits cut ≡ true → IsZ x z → nearZero cut x ≡ true → z ≡ pos 0
+nearZero-yes cut {z = z} fits h e = eqZb→ z (pos 0) (subst T (sym (sym (nearZero-z cut fits h) ∙ e)) tt)
 
 -- ---- the factor: a solve that keeps the mark is on 1 or -1, and the factor is its negative
 pub unit-cell : (f : Float) {x : Float} {c : ℤ} → IsZ x c → factorMark x f ≡ allWhole → c *ℤ c ≡ pos 1

@@ -55,6 +55,7 @@ drop-z kind w B R o a H p = record {
   rows = λ j. go j (at? p false B j);
   objective = H .objective;
   beyond = H .beyond;
+  cutoff = H .cutoff;
   artificial = H .artificial;
 }
   where
@@ -93,7 +94,7 @@ subject-z kind c B R o a H s free live unit r reads = go (x .mark) refl
     go notFinite e = λ m. absurd (finite≢ (sym e ∙ m))
 
 -- ---- "restricted with positive cell, smallest constant/cell"
-module _ (kind : ℕ → KindZ) (xs : List Symbol) (bs : List Basic) (cs : List Float) (art : Option Row) (B : Mask) (R : ℕ → Vec) (o a : Vec) (H : ReadsTable kind xs bs cs art B R o a) (e : ℕ) (e≢0 : e ≢ 0) where
+module _ (kind : ℕ → KindZ) (cut : Float) (xs : List Symbol) (bs : List Basic) (cs : List Float) (art : Option Row) (B : Mask) (R : ℕ → Vec) (o a : Vec) (H : ReadsTable kind cut xs bs cs art B R o a) (e : ℕ) (e≢0 : e ≢ 0) where
   record From (c : Candidate) : Type 0 where
     live : Live kind xs (c .symbol)
     restricted : isRestricted (c .symbol) ≡ true
@@ -171,7 +172,7 @@ module _ (kind : ℕ → KindZ) (xs : List Symbol) (bs : List Basic) (cs : List 
   positive-is = go (smallestRatio (positiveRatios e xs bs)) (smallest-is (positiveRatios e xs bs) ranked (from-rising 0 bs (H .rows-up) .1))
     where
       froms : All From (positiveRatios e xs bs)
-      froms = from-all bs (known kind xs bs cs art B R o a H)
+      froms = from-all bs (known kind cut xs bs cs art B R o a H)
 
       ranked : All Ranked (positiveRatios e xs bs)
       ranked = all-map From Ranked (λ c f. record { rank = f .quotient .rank; over = f .quotient .over }) (positiveRatios e xs bs) froms
@@ -182,8 +183,8 @@ module _ (kind : ℕ → KindZ) (xs : List Symbol) (bs : List Basic) (cs : List 
         restricted = F .restricted;
         basic = F .basic;
         cell = F .cell;
-        least = λ u. by-column kind xs bs cs art B R o a H (λ j. 0ℤ ≺ R j e → R (w .symbol .id) 0 *ℤ R j e ≼ R j 0 *ℤ R (w .symbol .id) e)
-            (to-rows (λ j. R (w .symbol .id) 0 *ℤ R j e ≼ R j 0 *ℤ R (w .symbol .id) e) bs (known kind xs bs cs art B R o a H)
+        least = λ u. by-column kind cut xs bs cs art B R o a H (λ j. 0ℤ ≺ R j e → R (w .symbol .id) 0 *ℤ R j e ≼ R j 0 *ℤ R (w .symbol .id) e)
+            (to-rows (λ j. R (w .symbol .id) 0 *ℤ R j e ≼ R j 0 *ℤ R (w .symbol .id) e) bs (known kind cut xs bs cs art B R o a H)
             (all-zip From (Beats w) (λ (c : Candidate). R (w .symbol .id) 0 *ℤ R (c .symbol .id) e ≼ R (c .symbol .id) 0 *ℤ R (w .symbol .id) e) (beats u) (positiveRatios e xs bs) froms A));
       }
         where
@@ -193,5 +194,5 @@ module _ (kind : ℕ → KindZ) (xs : List Symbol) (bs : List Basic) (cs : List 
               (≼-of-eq (sym (ap (λ (z : ℤ). R (c .symbol .id) 0 *ℤ z) u ∙ ring (R (c .symbol .id) 0 ∷ []) (v 0 ⊠ κ 1ℤ) (v 0) tt)))
 
       go : (t : Option Symbol) → Smallest (positiveRatios e xs bs) t → Leaving t
-      go t (Smallest.nobody q) = by-column kind xs bs cs art B R o a H (λ j. 0ℤ ≺ R j e → ⊥) (to-rows (λ j. ⊥) bs (known kind xs bs cs art B R o a H) (subst (All (λ (c : Candidate). ⊥)) (sym q) tt))
+      go t (Smallest.nobody q) = by-column kind cut xs bs cs art B R o a H (λ j. 0ℤ ≺ R j e → ⊥) (to-rows (λ j. ⊥) bs (known kind cut xs bs cs art B R o a H) (subst (All (λ (c : Candidate). ⊥)) (sym q) tt))
       go t (Smallest.winner w m r A) = won w (all-mem From (positiveRatios e xs bs) w froms m) A

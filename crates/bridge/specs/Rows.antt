@@ -16,7 +16,7 @@ use Rattle.simplex.specs.Ord.{0ℤ, 1ℤ}
 use Rattle.simplex.specs.Lin.{Vec, δ, Same?, same, other as differs, same?, δ-other, plus}
 use Rattle.simplex.specs.Tab.{out}
 use Rattle.simplex.specs.Cells.{solved-row}
-use Rattle.steps.specs.Number.{zero64, minusOne64, cellBound, constantBound, objectiveBound, _+₆₄_, _*₆₄_, _/₆₄_, nearZero, Mark, allWhole, worse, markWrite}
+use Rattle.steps.specs.Number.{cutoffFits, zero64, minusOne64, cellBound, constantBound, objectiveBound, _+₆₄_, _*₆₄_, _/₆₄_, nearZero, Mark, allWhole, worse, markWrite}
 use Rattle.steps.specs.Symbol.{Symbol, isSymbol, absent, coefficientFor, clearCell}
 use Rattle.steps.specs.Row.{Row, Cell, kept, wrote, cellValue, cellValues, cellMark, cellMarks, goesIfNearZero, insertCell, insertSymbol, insertTimes, insertCells, Written, untouched, insertSymbolInRow, insertRow, scaleCell, scaleCells, factorMark, solveForSymbol, solveForSymbols}
 use Rattle.steps.specs.Substitute.{substituteInRow, substituteInCells}
@@ -101,19 +101,19 @@ written b bound B (x ∷ xs) (c ∷ cs) f h e = (
 cell-to : (b : ℕ) (c : Cell) (z w : ℤ) → z ≡ w → CellZ b c z → CellZ b c w
 cell-to b c z w e h = subst (CellZ b c) e h
 
-insertCell-z : (b : ℕ) {c k : Float} {z q : ℤ} → Zb b c z → IsZ k q → natAbs (z +ℤ q) ≤ 2 ^ 53 → CellZ b (insertCell c k) (z +ℤ q)
+insertCell-z : (cut : Float) → cutoffFits cut ≡ true → (b : ℕ) {c k : Float} {z q : ℤ} → Zb b c z → IsZ k q → natAbs (z +ℤ q) ≤ 2 ^ 53 → CellZ b (insertCell cut c k) (z +ℤ q)
 unfolding insertCell
-insertCell-z b {c} {k} {z} {q} h g l = go (absent c) refl (nearZero k) refl
+insertCell-z cut fits b {c} {k} {z} {q} h g l = go (absent c) refl (nearZero cut k) refl
   where
-    go : (o : Bool) → absent c ≡ o → (r : Bool) → nearZero k ≡ r
-        → CellZ b (elim (absent c) [ true ↦ elim (nearZero k) [ true ↦ kept c | false ↦ wrote k ] | false ↦ wrote (goesIfNearZero (c +₆₄ k)) ]) (z +ℤ q)
-    go true e true t = rw (e, t) (zb-to h (ring (z ∷ []) (v 0) (v 0 ⊞ κ 0ℤ) tt ∙ ap (λ (y : ℤ). z +ℤ y) (sym (nearZero-yes g t))))
+    go : (o : Bool) → absent c ≡ o → (r : Bool) → nearZero cut k ≡ r
+        → CellZ b (elim (absent c) [ true ↦ elim (nearZero cut k) [ true ↦ kept c | false ↦ wrote k ] | false ↦ wrote (goesIfNearZero cut (c +₆₄ k)) ]) (z +ℤ q)
+    go true e true t = rw (e, t) (zb-to h (ring (z ∷ []) (v 0) (v 0 ⊞ κ 0ℤ) tt ∙ ap (λ (y : ℤ). z +ℤ y) (sym (nearZero-yes cut fits g t))))
     go true e false t = rw (e, t) (isz-to g (ring (q ∷ []) (v 0) (κ 0ℤ ⊞ v 0) tt ∙ ap (λ (y : ℤ). y +ℤ q) (sym (absent-yes (h .isz) e))))
-    go false e r t = rw e (goes-z (add-z (h .isz) g l))
+    go false e r t = rw e (goes-z cut fits (add-z (h .isz) g l))
 
-insertTimes-z : (b d w : ℕ) {c o k : Float} {z g q : ℤ} → Zb b c z → Zb d o g → Zb w k q → b + d * w ≤ 2 ^ 53 → CellZ b (insertTimes k o c) (z +ℤ q *ℤ g)
+insertTimes-z : (cut : Float) → cutoffFits cut ≡ true → (b d w : ℕ) {c o k : Float} {z g q : ℤ} → Zb b c z → Zb d o g → Zb w k q → b + d * w ≤ 2 ^ 53 → CellZ b (insertTimes cut k o c) (z +ℤ q *ℤ g)
 unfolding insertTimes
-insertTimes-z b d w {c} {o} {k} {z} {g} {q} h G K l = go (absent o) refl
+insertTimes-z cut fits b d w {c} {o} {k} {z} {g} {q} h G K l = go (absent o) refl
   where
     small : natAbs (g *ℤ q) ≤ d * w
     small = omega (arith, abs-mul g q, mul-le-mul (G .small) (K .small))
@@ -121,11 +121,11 @@ insertTimes-z b d w {c} {o} {k} {z} {g} {q} h G K l = go (absent o) refl
     turn : z +ℤ g *ℤ q ≡ z +ℤ q *ℤ g
     turn = ring (z ∷ g ∷ q ∷ []) (v 0 ⊞ v 1 ⊠ v 2) (v 0 ⊞ v 2 ⊠ v 1) tt
 
-    go : (t : Bool) → absent o ≡ t → CellZ b (elim (absent o) [ true ↦ kept c | false ↦ insertCell c (o *₆₄ k) ]) (z +ℤ q *ℤ g)
+    go : (t : Bool) → absent o ≡ t → CellZ b (elim (absent o) [ true ↦ kept c | false ↦ insertCell cut c (o *₆₄ k) ]) (z +ℤ q *ℤ g)
     go true e = rw e (zb-to h (ring (z ∷ q ∷ []) (v 0) (v 0 ⊞ v 1 ⊠ κ 0ℤ) tt ∙ ap (λ (y : ℤ). z +ℤ q *ℤ y) (sym (absent-yes (G .isz) e))))
     go false e =
-        rw e (cell-to b (insertCell c (o *₆₄ k)) (z +ℤ g *ℤ q) (z +ℤ q *ℤ g) turn
-        (insertCell-z b h (mul-z (G .isz) (K .isz) (omega (arith, small))) (omega (arith, small, abs-add z (g *ℤ q), h .small))))
+        rw e (cell-to b (insertCell cut c (o *₆₄ k)) (z +ℤ g *ℤ q) (z +ℤ q *ℤ g) turn
+        (insertCell-z cut fits b h (mul-z (G .isz) (K .isz) (omega (arith, small))) (omega (arith, small, abs-add z (g *ℤ q), h .small))))
 
 scaleCell-z : (b : ℕ) {c k : Float} {z q : ℤ} → b ≤ 2 ^ 53 → Zb b c z → IsZ k q → natAbs q ≤ 1 → CellZ b (scaleCell k c) (q *ℤ z)
 unfolding scaleCell
@@ -136,29 +136,29 @@ scaleCell-z b {c} {k} {z} {q} l h g u = go (absent c) refl
     go false e = rw e (isz-to (mul-z (h .isz) g (omega (arith, abs-mul z q, mul-le-mul (h .small) u))) (ring (z ∷ q ∷ []) (v 0 ⊠ v 1) (v 1 ⊠ v 0) tt))
 
 -- ---- along the symbols
-pub insertCells-z : (b d w : ℕ) {k : Float} {q : ℤ} → Zb w k q → b + d * w ≤ 2 ^ 53 → (xs : List Symbol) (os cs : List Float) (g f : Vec)
-    → Reads d xs os g → Reads b xs cs f → CellsZ b xs (insertCells k os cs) (plus f q g)
+pub insertCells-z : (cut : Float) → cutoffFits cut ≡ true → (b d w : ℕ) {k : Float} {q : ℤ} → Zb w k q → b + d * w ≤ 2 ^ 53 → (xs : List Symbol) (os cs : List Float) (g f : Vec)
+    → Reads d xs os g → Reads b xs cs f → CellsZ b xs (insertCells cut k os cs) (plus f q g)
 unfolding insertCells
-insertCells-z b d w K l [] [] [] g f G h = tt
-insertCells-z b d w K l [] [] (c ∷ cs) g f G h = absurd h
-insertCells-z b d w K l [] (o ∷ os) cs g f G h = absurd G
-insertCells-z b d w K l (x ∷ xs) [] cs g f G h = absurd G
-insertCells-z b d w K l (x ∷ xs) (o ∷ os) [] g f G h = absurd h
-insertCells-z b d w K l (x ∷ xs) (o ∷ os) (c ∷ cs) g f G h = (insertTimes-z b d w (h .0) (G .0) K l, insertCells-z b d w K l xs os cs g f (G .1) (h .1))
+insertCells-z cut fits b d w K l [] [] [] g f G h = tt
+insertCells-z cut fits b d w K l [] [] (c ∷ cs) g f G h = absurd h
+insertCells-z cut fits b d w K l [] (o ∷ os) cs g f G h = absurd G
+insertCells-z cut fits b d w K l (x ∷ xs) [] cs g f G h = absurd G
+insertCells-z cut fits b d w K l (x ∷ xs) (o ∷ os) [] g f G h = absurd h
+insertCells-z cut fits b d w K l (x ∷ xs) (o ∷ os) (c ∷ cs) g f G h = (insertTimes-z cut fits b d w (h .0) (G .0) K l, insertCells-z cut fits b d w K l xs os cs g f (G .1) (h .1))
 
-pub insertSymbol-z : (b s : ℕ) {k : Float} {q : ℤ} → IsZ k q → b + natAbs q ≤ 2 ^ 53 → (xs : List Symbol) (cs : List Float) (f : Vec)
-    → Reads b xs cs f → CellsZ b xs (insertSymbol s k xs cs) (plus f q (δ s))
+pub insertSymbol-z : (cut : Float) → cutoffFits cut ≡ true → (b s : ℕ) {k : Float} {q : ℤ} → IsZ k q → b + natAbs q ≤ 2 ^ 53 → (xs : List Symbol) (cs : List Float) (f : Vec)
+    → Reads b xs cs f → CellsZ b xs (insertSymbol cut s k xs cs) (plus f q (δ s))
 unfolding insertSymbol
-insertSymbol-z b s K l [] [] f h = tt
-insertSymbol-z b s K l [] (c ∷ cs) f h = absurd h
-insertSymbol-z b s K l (x ∷ xs) [] f h = absurd h
-insertSymbol-z b s {k} {q} K l (x ∷ xs) (c ∷ cs) f h = (go (sym? s x), insertSymbol-z b s K l xs cs f (h .1))
+insertSymbol-z cut fits b s K l [] [] f h = tt
+insertSymbol-z cut fits b s K l [] (c ∷ cs) f h = absurd h
+insertSymbol-z cut fits b s K l (x ∷ xs) [] f h = absurd h
+insertSymbol-z cut fits b s {k} {q} K l (x ∷ xs) (c ∷ cs) f h = (go (sym? s x), insertSymbol-z cut fits b s K l xs cs f (h .1))
   where
-    go : Sym? s x → CellZ b (elim (isSymbol s x) [ true ↦ insertCell c k | false ↦ kept c ]) (f (x .id) +ℤ q *ℤ δ s (x .id))
+    go : Sym? s x → CellZ b (elim (isSymbol s x) [ true ↦ insertCell cut c k | false ↦ kept c ]) (f (x .id) +ℤ q *ℤ δ s (x .id))
     go (is e p u) =
-        rw e (cell-to b (insertCell c k) (f (x .id) +ℤ q) (f (x .id) +ℤ q *ℤ δ s (x .id))
+        rw e (cell-to b (insertCell cut c k) (f (x .id) +ℤ q) (f (x .id) +ℤ q *ℤ δ s (x .id))
         (ring (f (x .id) ∷ q ∷ []) (v 0 ⊞ v 1) (v 0 ⊞ v 1 ⊠ κ 1ℤ) tt ∙ ap (λ (z : ℤ). f (x .id) +ℤ q *ℤ z) (sym u))
-        (insertCell-z b (h .0) K (omega (arith, abs-add (f (x .id)) q, h .0 .small))))
+        (insertCell-z cut fits b (h .0) K (omega (arith, abs-add (f (x .id)) q, h .0 .small))))
     go (isnt e p u) = rw e (zb-to (h .0) (ring (f (x .id) ∷ q ∷ []) (v 0) (v 0 ⊞ v 1 ⊠ κ 0ℤ) tt ∙ ap (λ (z : ℤ). f (x .id) +ℤ q *ℤ z) (sym u)))
 
 pub scaleCells-z : (b : ℕ) {k : Float} {q : ℤ} → b ≤ 2 ^ 53 → IsZ k q → natAbs q ≤ 1 → (xs : List Symbol) (cs : List Float) (f : Vec)
@@ -245,14 +245,14 @@ pub row-cell : (s : ℕ) (xs : List Symbol) (r : Row) (f : Vec) → s ≢ 0 → 
 row-cell s xs r f n h = coefficient-z 1024 s xs (r .cells) f (h .outside s n) (h .cells)
 
 -- insert a row times k
-pub insertRow-z : (xs : List Symbol) (other mine : Row) (g f : Vec) {k : Float} {q : ℤ} → Zb 1024 k q → ReadsRow xs other g → ReadsRow xs mine f
-    → insertRow other k mine .mark ≡ allWhole → ReadsRow xs (insertRow other k mine .row) (plus f q g)
+pub insertRow-z : (cut : Float) → cutoffFits cut ≡ true → (xs : List Symbol) (other mine : Row) (g f : Vec) {k : Float} {q : ℤ} → Zb 1024 k q → ReadsRow xs other g → ReadsRow xs mine f
+    → insertRow cut other k mine .mark ≡ allWhole → ReadsRow xs (insertRow cut other k mine .row) (plus f q g)
 unfolding insertRow
-insertRow-z xs other mine g f {k} {q} K G h e = record {
-  constant = record { isz = sum; small = write-small constantBound-z sum (worse-l (markWrite constantBound (mine .constant +₆₄ other .constant *₆₄ k)) (cellMarks cellBound (insertCells k (other .cells) (mine .cells))) e) };
-  cells = written 1024 cellBound cellBound-z xs (insertCells k (other .cells) (mine .cells)) (plus f q g)
-      (insertCells-z 1024 1024 1024 K (lit≤ tt) xs (other .cells) (mine .cells) g f (G .cells) (h .cells))
-      (worse-r (markWrite constantBound (mine .constant +₆₄ other .constant *₆₄ k)) (cellMarks cellBound (insertCells k (other .cells) (mine .cells))) e);
+insertRow-z cut fits xs other mine g f {k} {q} K G h e = record {
+  constant = record { isz = sum; small = write-small constantBound-z sum (worse-l (markWrite constantBound (mine .constant +₆₄ other .constant *₆₄ k)) (cellMarks cellBound (insertCells cut k (other .cells) (mine .cells))) e) };
+  cells = written 1024 cellBound cellBound-z xs (insertCells cut k (other .cells) (mine .cells)) (plus f q g)
+      (insertCells-z cut fits 1024 1024 1024 K (lit≤ tt) xs (other .cells) (mine .cells) g f (G .cells) (h .cells))
+      (worse-r (markWrite constantBound (mine .constant +₆₄ other .constant *₆₄ k)) (cellMarks cellBound (insertCells cut k (other .cells) (mine .cells))) e);
   outside = λ i n m. ap₂ (λ (y z : ℤ). y +ℤ q *ℤ z) (h .outside i n m) (G .outside i n m) ∙ ring (q ∷ []) (κ 0ℤ ⊞ v 0 ⊠ κ 0ℤ) (κ 0ℤ) tt;
 }
   where
@@ -269,10 +269,10 @@ abbrev pub Whole : List Symbol → Vec → Written → Type 0
 Whole xs f w = w .mark ≡ allWhole → ReadsRow xs (w .row) f
 
 -- substitute s by the row that reads g
-pub substituteInRow-z : (s : ℕ) (xs : List Symbol) (other mine : Row) (g f : Vec) → s ≢ 0 → Up 0 xs → ReadsRow xs other g → ReadsRow xs mine f
-    → Whole xs (plus (cleared s f) (f s) g) (substituteInRow s xs other mine)
+pub substituteInRow-z : (cut : Float) → cutoffFits cut ≡ true → (s : ℕ) (xs : List Symbol) (other mine : Row) (g f : Vec) → s ≢ 0 → Up 0 xs → ReadsRow xs other g → ReadsRow xs mine f
+    → Whole xs (plus (cleared s f) (f s) g) (substituteInRow cut s xs other mine)
 unfolding substituteInRow untouched
-substituteInRow-z s xs other mine g f n u G h = go (absent (coefficientFor s xs (mine .cells))) refl
+substituteInRow-z cut fits s xs other mine g f n u G h = go (absent (coefficientFor s xs (mine .cells))) refl
   where
     mine′ : Row
     mine′ = record { constant = mine .constant; cells = clearCell s xs (mine .cells) }
@@ -284,15 +284,15 @@ substituteInRow-z s xs other mine g f n u G h = go (absent (coefficientFor s xs 
     nothing z j = ring (f j ∷ δ s j ∷ g j ∷ []) (v 0) (v 0 ⊟⊟ κ 0ℤ ⊠ v 1 ⊞ κ 0ℤ ⊠ v 2) tt ∙ ap (λ (y : ℤ). f j -ℤ y *ℤ δ s j +ℤ y *ℤ g j) (sym z)
 
     go : (t : Bool) → absent (coefficientFor s xs (mine .cells)) ≡ t
-        → Whole xs (plus (cleared s f) (f s) g) (elim (absent (coefficientFor s xs (mine .cells))) [ true ↦ untouched mine | false ↦ insertRow other (coefficientFor s xs (mine .cells)) (record { constant = mine .constant; cells = clearCell s xs (mine .cells) }) ])
+        → Whole xs (plus (cleared s f) (f s) g) (elim (absent (coefficientFor s xs (mine .cells))) [ true ↦ untouched mine | false ↦ insertRow cut other (coefficientFor s xs (mine .cells)) (record { constant = mine .constant; cells = clearCell s xs (mine .cells) }) ])
     go true e = rw e (λ _. row-to xs mine f (plus (cleared s f) (f s) g) (nothing (absent-yes (cell .isz) e)) h)
-    go false e = rw e (λ m. insertRow-z xs other mine′ g (cleared s f) cell G (cleared-row s xs mine f n u h) m)
+    go false e = rw e (λ m. insertRow-z cut fits xs other mine′ g (cleared s f) cell G (cleared-row s xs mine f n u h) m)
 
 -- ---- the objective's cells
-pub substituteInCells-z : (s : ℕ) (xs : List Symbol) (other mine : List Float) (g f : Vec) → s ≢ 0 → Up 0 xs → Reads 1024 xs other g → Reads (2 ^ 40) xs mine f → Outside xs f
-    → cellMarks objectiveBound (substituteInCells s xs other mine) ≡ allWhole → Reads (2 ^ 40) xs (cellValues (substituteInCells s xs other mine)) (plus (cleared s f) (f s) g)
+pub substituteInCells-z : (cut : Float) → cutoffFits cut ≡ true → (s : ℕ) (xs : List Symbol) (other mine : List Float) (g f : Vec) → s ≢ 0 → Up 0 xs → Reads 1024 xs other g → Reads (2 ^ 40) xs mine f → Outside xs f
+    → cellMarks objectiveBound (substituteInCells cut s xs other mine) ≡ allWhole → Reads (2 ^ 40) xs (cellValues (substituteInCells cut s xs other mine)) (plus (cleared s f) (f s) g)
 unfolding substituteInCells
-substituteInCells-z s xs other mine g f n u G h o m = written (2 ^ 40) objectiveBound objectiveBound-z xs (substituteInCells s xs other mine) (plus (cleared s f) (f s) g) (go (absent (coefficientFor s xs mine)) refl) m
+substituteInCells-z cut fits s xs other mine g f n u G h o m = written (2 ^ 40) objectiveBound objectiveBound-z xs (substituteInCells cut s xs other mine) (plus (cleared s f) (f s) g) (go (absent (coefficientFor s xs mine)) refl) m
   where
     cell : Zb (2 ^ 40) (coefficientFor s xs mine) (f s)
     cell = coefficient-z (2 ^ 40) s xs mine f (o s n) h
@@ -307,17 +307,17 @@ substituteInCells-z s xs other mine g f n u G h o m = written (2 ^ 40) objective
     nothing z j = ring (f j ∷ δ s j ∷ g j ∷ []) (v 0) (v 0 ⊟⊟ κ 0ℤ ⊠ v 1 ⊞ κ 0ℤ ⊠ v 2) tt ∙ ap (λ (y : ℤ). f j -ℤ y *ℤ δ s j +ℤ y *ℤ g j) (sym z)
 
     go : (t : Bool) → absent (coefficientFor s xs mine) ≡ t
-        → CellsZ (2 ^ 40) xs (elim (absent (coefficientFor s xs mine)) [ true ↦ map kept mine | false ↦ insertCells (coefficientFor s xs mine) other (clearCell s xs mine) ]) (plus (cleared s f) (f s) g)
+        → CellsZ (2 ^ 40) xs (elim (absent (coefficientFor s xs mine)) [ true ↦ map kept mine | false ↦ insertCells cut (coefficientFor s xs mine) other (clearCell s xs mine) ]) (plus (cleared s f) (f s) g)
     go true e = rw e (all-kept xs mine (plus (cleared s f) (f s) g) (reads-to (2 ^ 40) xs mine f (plus (cleared s f) (f s) g) (λ x _. nothing (absent-yes (cell .isz) e) (x .id)) h))
-    go false e = rw e (insertCells-z (2 ^ 40) 1024 (2 ^ 40) cell (lit≤ tt) xs other (clearCell s xs mine) g (cleared s f) G (clearCell-z (2 ^ 40) s 0 xs mine f u h))
+    go false e = rw e (insertCells-z cut fits (2 ^ 40) 1024 (2 ^ 40) cell (lit≤ tt) xs other (clearCell s xs mine) g (cleared s f) G (clearCell-z (2 ^ 40) s 0 xs mine f u h))
 
 -- ---- insert a symbol; solve
-pub insertSymbolInRow-z : (s : ℕ) (xs : List Symbol) (mine : Row) (f : Vec) {k : Float} {q : ℤ} → s ≢ 0 → In s xs → IsZ k q → natAbs q ≤ 1024 → ReadsRow xs mine f
-    → Whole xs (plus f q (δ s)) (insertSymbolInRow s k xs mine)
+pub insertSymbolInRow-z : (cut : Float) → cutoffFits cut ≡ true → (s : ℕ) (xs : List Symbol) (mine : Row) (f : Vec) {k : Float} {q : ℤ} → s ≢ 0 → In s xs → IsZ k q → natAbs q ≤ 1024 → ReadsRow xs mine f
+    → Whole xs (plus f q (δ s)) (insertSymbolInRow cut s k xs mine)
 unfolding insertSymbolInRow
-insertSymbolInRow-z s xs mine f {k} {q} n i K l h e = record {
+insertSymbolInRow-z cut fits s xs mine f {k} {q} n i K l h e = record {
   constant = zb-to (h .constant) (ring (f 0 ∷ q ∷ []) (v 0) (v 0 ⊞ v 1 ⊠ κ 0ℤ) tt ∙ ap (λ (z : ℤ). f 0 +ℤ q *ℤ z) (sym (δ-other n)));
-  cells = written 1024 cellBound cellBound-z xs (insertSymbol s k xs (mine .cells)) (plus f q (δ s)) (insertSymbol-z 1024 s K (omega arith) xs (mine .cells) f (h .cells)) e;
+  cells = written 1024 cellBound cellBound-z xs (insertSymbol cut s k xs (mine .cells)) (plus f q (δ s)) (insertSymbol-z cut fits 1024 s K (omega arith) xs (mine .cells) f (h .cells)) e;
   outside = λ j nj m. ap₂ (λ (y z : ℤ). y +ℤ q *ℤ z) (h .outside j nj m) (δ-other (away xs i j m)) ∙ ring (q ∷ []) (κ 0ℤ ⊞ v 0 ⊠ κ 0ℤ) (κ 0ℤ) tt;
 }
   where
@@ -373,21 +373,21 @@ module _ (s : ℕ) (xs : List Symbol) (mine : Row) (f : Vec) (n : s ≢ 0) (u : 
       record { unit = one; row = solved-by one (worse-r (factorMark (coefficientFor s xs (mine .cells)) factor) rest e) }
 
 -- "insert its old symbol with -1, solve for entering": the theory's row of the entering column
-module _ (l e : ℕ) (xs : List Symbol) (mine : Row) (f : Vec) (nl : l ≢ 0) (ne : e ≢ 0) (le : l ≢ e) (i : In l xs) (u : Up 0 xs) (h : ReadsRow xs mine f) where
+module _ (cut : Float) (fits : cutoffFits cut ≡ true) (l e : ℕ) (xs : List Symbol) (mine : Row) (f : Vec) (nl : l ≢ 0) (ne : e ≢ 0) (le : l ≢ e) (i : In l xs) (u : Up 0 xs) (h : ReadsRow xs mine f) where
   abbrev lessOwn : Vec
   lessOwn = plus f (negsuc 0) (δ l)
 
   at-e : lessOwn e ≡ f e
   at-e = ap (λ (z : ℤ). f e +ℤ negsuc 0 *ℤ z) (δ-other le) ∙ ring (f e ∷ []) (v 0 ⊞ κ (negsuc 0) ⊠ κ 0ℤ) (v 0) tt
 
-  pub solveForSymbols-z : solveForSymbols l e xs mine .mark ≡ allWhole
-      → (f e *ℤ f e ≡ 1ℤ) × ReadsRow xs (solveForSymbols l e xs mine .row) (out e (f e) (plus f (negsuc 0) (δ l)) (δ e))
+  pub solveForSymbols-z : solveForSymbols cut l e xs mine .mark ≡ allWhole
+      → (f e *ℤ f e ≡ 1ℤ) × ReadsRow xs (solveForSymbols cut l e xs mine .row) (out e (f e) (plus f (negsuc 0) (δ l)) (δ e))
   unfolding solveForSymbols
   solveForSymbols-z m =
-      let row′ : Row = insertSymbolInRow l minusOne64 xs mine .row in
-      let m1 : Mark = insertSymbolInRow l minusOne64 xs mine .mark in
-      let m2 : Mark = solveForSymbol e xs (insertSymbolInRow l minusOne64 xs mine .row) .mark in
-      let inserted = insertSymbolInRow-z l xs mine f nl i minusOne64-z (lit≤ tt) h (worse-l m1 m2 m) in
+      let row′ : Row = insertSymbolInRow cut l minusOne64 xs mine .row in
+      let m1 : Mark = insertSymbolInRow cut l minusOne64 xs mine .mark in
+      let m2 : Mark = solveForSymbol e xs (insertSymbolInRow cut l minusOne64 xs mine .row) .mark in
+      let inserted = insertSymbolInRow-z cut fits l xs mine f nl i minusOne64-z (lit≤ tt) h (worse-l m1 m2 m) in
       let solved = solveForSymbol-z e xs row′ lessOwn ne u inserted (worse-r m1 m2 m) in
       let one : f e *ℤ f e ≡ 1ℤ = ap (λ (z : ℤ). z *ℤ z) (sym at-e) ∙ solved .unit in (
         one,

@@ -6,7 +6,7 @@ use Prim.Native.Nat.{ℕ, zero, suc, _+_, _^_, _≤_, _<_}
 use native.Mathlib.Omega.{arith}
 use mathlib.Core.Bool.{Bool, true, false, _&&_, cond}
 use lib.IntN.{negsuc, _*ℤ_}
-use lib.Ieee.{ne}
+use lib.Ieee.{Float, ne}
 use Rattle.laws.specs.Z.{_≼_, _≺_}
 use Rattle.simplex.specs.Ord.{0ℤ, 1ℤ}
 use Rattle.simplex.specs.Lin.{Vec}
@@ -38,12 +38,12 @@ markOf (going w) = w .mark
 
 -- a pivot: nothing where the row is missing, else the row is solved and enters
 pub pivot-cases : (l : ℕ) (e : Symbol) (w : Work) (Q : Work → Type 0) → Q w
-    → ((row : Row) → Q (enterBasis e (solveForSymbols l (e .id) (w .tableau .symbols) row .row) (marking (solveForSymbols l (e .id) (w .tableau .symbols) row .mark) (withRows (dropRow l (w .tableau .rows)) w))))
+    → ((row : Row) → Q (enterBasis e (solveForSymbols (w .tableau .cutoff) l (e .id) (w .tableau .symbols) row .row) (marking (solveForSymbols (w .tableau .cutoff) l (e .id) (w .tableau .symbols) row .mark) (withRows (dropRow l (w .tableau .rows)) w))))
     → Q (pivot l e w)
 unfolding pivot
 pivot-cases l e w Q f g = go (findRow l (w .tableau .rows))
   where
-    go : (t : Option Row) → Q (elim t [ none ↦ w | some row ↦ enterBasis e (solveForSymbols l (e .id) (w .tableau .symbols) row .row) (marking (solveForSymbols l (e .id) (w .tableau .symbols) row .mark) (withRows (dropRow l (w .tableau .rows)) w)) ])
+    go : (t : Option Row) → Q (elim t [ none ↦ w | some row ↦ enterBasis e (solveForSymbols (w .tableau .cutoff) l (e .id) (w .tableau .symbols) row .row) (marking (solveForSymbols (w .tableau .cutoff) l (e .id) (w .tableau .symbols) row .mark) (withRows (dropRow l (w .tableau .rows)) w)) ])
     go none = f
     go (some row) = g row
 
@@ -51,9 +51,9 @@ pub pivot-mark : (l : ℕ) (e : Symbol) (w : Work) → pivot l e w .mark ≡ all
 unfolding marking withRows withTableau
 pivot-mark l e w = pivot-cases l e w (λ (x : Work). x .mark ≡ allWhole → w .mark ≡ allWhole) (λ m. m) entered
   where
-    entered : (row : Row) → (enterBasis e (solveForSymbols l (e .id) (w .tableau .symbols) row .row) (marking (solveForSymbols l (e .id) (w .tableau .symbols) row .mark) (withRows (dropRow l (w .tableau .rows)) w))) .mark ≡ allWhole → w .mark ≡ allWhole
+    entered : (row : Row) → (enterBasis e (solveForSymbols (w .tableau .cutoff) l (e .id) (w .tableau .symbols) row .row) (marking (solveForSymbols (w .tableau .cutoff) l (e .id) (w .tableau .symbols) row .mark) (withRows (dropRow l (w .tableau .rows)) w))) .mark ≡ allWhole → w .mark ≡ allWhole
     entered row m =
-        let s : Written = solveForSymbols l (e .id) (w .tableau .symbols) row in
+        let s : Written = solveForSymbols (w .tableau .cutoff) l (e .id) (w .tableau .symbols) row in
         let p = enter-parts e (s .row) (marking (s .mark) (withRows (dropRow l (w .tableau .rows)) w)) in
         worse-l (w .mark) (s .mark) (worse-l (worse (w .mark) (s .mark)) _ (sym (p .mark) ∙ m))
 
@@ -66,20 +66,20 @@ pivot-standing : (l : ℕ) (e : Symbol) (w : Work) → Standing (w .artificial) 
 unfolding marking withRows withTableau
 pivot-standing l e w h = pivot-cases l e w (λ (x : Work). Standing (x .artificial)) h entered
   where
-    still : (s : ℕ) (xs : List Symbol) (r : Row) (t : Option Row) → Standing t → Standing (after-sub s xs r t)
-    still s xs r none h = absurd h
-    still s xs r (some t) h = unfold after-sub in tt
+    still : (cut : Float) (s : ℕ) (xs : List Symbol) (r : Row) (t : Option Row) → Standing t → Standing (after-sub cut s xs r t)
+    still cut s xs r none h = absurd h
+    still cut s xs r (some t) h = unfold after-sub in tt
 
-    entered : (row : Row) → Standing ((enterBasis e (solveForSymbols l (e .id) (w .tableau .symbols) row .row) (marking (solveForSymbols l (e .id) (w .tableau .symbols) row .mark) (withRows (dropRow l (w .tableau .rows)) w))) .artificial)
+    entered : (row : Row) → Standing ((enterBasis e (solveForSymbols (w .tableau .cutoff) l (e .id) (w .tableau .symbols) row .row) (marking (solveForSymbols (w .tableau .cutoff) l (e .id) (w .tableau .symbols) row .mark) (withRows (dropRow l (w .tableau .rows)) w))) .artificial)
     entered row =
-        let s : Written = solveForSymbols l (e .id) (w .tableau .symbols) row in
+        let s : Written = solveForSymbols (w .tableau .cutoff) l (e .id) (w .tableau .symbols) row in
         let p = enter-parts e (s .row) (marking (s .mark) (withRows (dropRow l (w .tableau .rows)) w)) in
-        subst Standing (sym (p .artificial)) (still (e .id) (w .tableau .symbols) (s .row) (w .artificial) h)
+        subst Standing (sym (p .artificial)) (still (w .tableau .cutoff) (e .id) (w .tableau .symbols) (s .row) (w .artificial) h)
 
 -- a pivot counts no pivot, and counting it does no more
 pub pivot-pivots : (l : ℕ) (e : Symbol) (w : Work) → pivot l e w .pivots ≡ w .pivots
 unfolding enterBasis substitute note withTableau withChanges withArtificial marking withRows withObjective
-pivot-pivots l e w = pivot-cases l e w (λ (x : Work). x .pivots ≡ w .pivots) refl (λ row. entered (isExternal e && ne (solveForSymbols l (e .id) (w .tableau .symbols) row .row .constant) zero64) (solveForSymbols l (e .id) (w .tableau .symbols) row))
+pivot-pivots l e w = pivot-cases l e w (λ (x : Work). x .pivots ≡ w .pivots) refl (λ row. entered (isExternal e && ne (solveForSymbols (w .tableau .cutoff) l (e .id) (w .tableau .symbols) row .row .constant) zero64) (solveForSymbols (w .tableau .cutoff) l (e .id) (w .tableau .symbols) row))
   where
     entered : (b : Bool) (s : Written) → (withRows (keepRow (record { symbol = e; row = s .row }) ((cond b (note (e .id) (substitute (e .id) (s .row) (marking (s .mark) (withRows (dropRow l (w .tableau .rows)) w)))) (substitute (e .id) (s .row) (marking (s .mark) (withRows (dropRow l (w .tableau .rows)) w)))) .tableau .rows)) (cond b (note (e .id) (substitute (e .id) (s .row) (marking (s .mark) (withRows (dropRow l (w .tableau .rows)) w)))) (substitute (e .id) (s .row) (marking (s .mark) (withRows (dropRow l (w .tableau .rows)) w))))) .pivots ≡ w .pivots
     entered true s = refl
@@ -202,7 +202,7 @@ module _ (n : ℕ) (kind : ℕ → KindZ) (ids : List ℕ) (asc : Asc ids) (cove
 
   -- ---- one pivot
   module _ (w : Work) (S : State) (G : Good n kind S) (o a : Vec) (H : ReadsWork kind w (S .B) (S .R) o a) (l e : Symbol) (E : Enters n kind w (S .B) (S .R) o a H (S .o) G e)
-      (L : Leaves kind (w .tableau .symbols) (w .tableau .rows) (w .tableau .objective) (w .artificial) (S .B) (S .R) o a H (e .id) (in-nonzero (e .id) (w .tableau .symbols) (H .up) (E .live .0)) l)
+      (L : Leaves kind (w .tableau .cutoff) (w .tableau .symbols) (w .tableau .rows) (w .tableau .objective) (w .artificial) (S .B) (S .R) o a H (e .id) (in-nonzero (e .id) (w .tableau .symbols) (H .up) (E .live .0)) l)
       (m : pivot (l .id) e w .mark ≡ allWhole) where
     pub turn-is : (w .mark ≡ allWhole) × (S .R (l .id) (e .id) *ℤ S .R (l .id) (e .id) ≡ 1ℤ)
         × ReadsWork kind (pivot (l .id) e w) (swap (l .id) (e .id) (S .B)) (Rattle.simplex.specs.Tab.pivot (l .id) (e .id) (S .R)) (pivoted (l .id) (e .id) (S .R) o) (pivoted (l .id) (e .id) (S .R) a)

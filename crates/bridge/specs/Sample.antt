@@ -19,8 +19,9 @@ use Rattle.simplex.specs.Opt.{Kind as KindZ, const, external, slack, dummy, sla
 use Rattle.simplex.specs.Pass.{Good}
 use Rattle.simplex.specs.Bound.{Mem}
 use Rattle.simplex.specs.Search.{Asc}
-use Rattle.steps.specs.Number.{zero64, minusOne64, allWhole}
+use Rattle.steps.specs.Number.{usualCutoff, zero64, minusOne64, allWhole}
 use Rattle.steps.specs.Symbol.{Symbol, Slack}
+use Rattle.steps.specs.Cutoffs.{usual-fits}
 use Rattle.steps.specs.Row.{Row}
 use Rattle.steps.specs.Work.{Work, findRow}
 use Rattle.steps.specs.Optimise.{theObjective, optimise, openOptimise}
@@ -48,7 +49,7 @@ row2 = record { constant = three; cells = minusOne64 ∷ zero64 ∷ [] }
 
 abbrev work : Work
 work = record {
-  tableau = record { symbols = s1 ∷ s2 ∷ []; nextId = 3; rows = record { symbol = s2; row = row2 } ∷ []; objective = minusOne64 ∷ zero64 ∷ [] };
+  tableau = record { cutoff = usualCutoff; symbols = s1 ∷ s2 ∷ []; nextId = 3; rows = record { symbol = s2; row = row2 } ∷ []; objective = minusOne64 ∷ zero64 ∷ [] };
   changes = record { variables = []; shouldClear = false };
   artificial = none;
   mark = allWhole;
@@ -250,6 +251,7 @@ reads = record {
   objective = (record { isz = minusOne64-z; small = lit≤ tt }, (record { isz = zero64-z; small = lit≤ tt }, tt));
   beyond = λ i n m. goal-far i (omega (arith, beyond i n m));
   artificial = tt;
+  cutoff = usual-fits;
 }
   where
     row-reads : ReadsRow (s1 ∷ s2 ∷ []) row2 ρ

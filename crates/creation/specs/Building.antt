@@ -25,7 +25,7 @@ use Rattle.cells.specs.Load.{loaded-reads}
 use Rattle.sparse.specs.Places.{constantsAt}
 use Rattle.sparse.specs.Sparse.{Sparse, symbolCount, cellCount, symbolAt, basicOf, symbolsOf, read}
 use Rattle.sparse.specs.Widths.{symbols-read}
-use Rattle.waist.specs.Working.{workOf, dense-cells, Sound, live-place}
+use Rattle.waist.specs.Working.{workOf, cutoffOf, dense-cells, Sound, live-place}
 use Rattle.waist.specs.Standing.{Standing}
 
 unfoldable pub buildingOf : Mark → Sparse → List Float → Building
@@ -51,36 +51,39 @@ module _ (a : Mark) (t : Sparse) (s : Standing false a t) (row : List Float) (wi
   abbrev k : ℕ
   k = symbolCount t
 
+  abbrev z : Float
+  z = cutoffOf t
+
   fit : k < length row
   fit = let f = s .sound .named .few-symbols in omega (arith, f, wide)
 
   -- ---- a symbol
 
   symbol-reads : (j : ℕ) (x : Float) → j < k
-      → buildingOf (worse a (insertSymbolMark (1 + j) x cellBound row)) t (insertSymbolAt (1 + j) x row) ≡ insertInto (symbolAt t (1 + j) .id) x (buildingOf a t row)
+      → buildingOf (worse a (insertSymbolMark z (1 + j) x cellBound row)) t (insertSymbolAt z (1 + j) x row) ≡ insertInto (symbolAt t (1 + j) .id) x (buildingOf a t row)
   unfolding buildingOf insertInto written marking workOf read
   symbol-reads j x h =
-      let e : dense.writtenOf (dense.rowOf k (insertSymbolAt (1 + j) x row)) false (insertSymbolMark (1 + j) x cellBound row) ≡ insertSymbolInRow (symbolAt t (1 + j) .id) x (symbolsOf t) (dense.rowOf k row) =
-      dense.insert-symbol-read (symbolAt t (1 + j) .id) (symbolsOf t) j k row (live-place t (s .sound .named) j h) (symbols-read t) x fit in
+      let e : dense.writtenOf (dense.rowOf k (insertSymbolAt z (1 + j) x row)) false (insertSymbolMark z (1 + j) x cellBound row) ≡ insertSymbolInRow z (symbolAt t (1 + j) .id) x (symbolsOf t) (dense.rowOf k row) =
+      dense.insert-symbol-read (symbolAt t (1 + j) .id) (symbolsOf t) j k row (live-place t (s .sound .named) j h) (symbols-read t) z x fit in
       rw (← e) refl
 
-  pub symbol-builds : (p : ℕ) (x : Float) → 1 ≤ p → p ≤ k → Builds a (worse a (insertSymbolMark p x cellBound row)) (insertInto (symbolAt t p .id) x) t t row (insertSymbolAt p x row)
+  pub symbol-builds : (p : ℕ) (x : Float) → 1 ≤ p → p ≤ k → Builds a (worse a (insertSymbolMark z p x cellBound row)) (insertInto (symbolAt t p .id) x) t t row (insertSymbolAt z p x row)
   symbol-builds p x low high =
       let o : 1 + (p - 1) ≡ p = omega (arith, low) in
-      let r : buildingOf (worse a (insertSymbolMark p x cellBound row)) t (insertSymbolAt p x row) ≡ insertInto (symbolAt t p .id) x (buildingOf a t row) = subst (λ (q : ℕ). buildingOf (worse a (insertSymbolMark q x cellBound row)) t (insertSymbolAt q x row) ≡ insertInto (symbolAt t q .id) x (buildingOf a t row)) o (symbol-reads (p - 1) x (omega (arith, low, high))) in
-      record { reads = r; stands = stands-worse false a (insertSymbolMark p x cellBound row) t s }
+      let r : buildingOf (worse a (insertSymbolMark z p x cellBound row)) t (insertSymbolAt z p x row) ≡ insertInto (symbolAt t p .id) x (buildingOf a t row) = subst (λ (q : ℕ). buildingOf (worse a (insertSymbolMark z q x cellBound row)) t (insertSymbolAt z q x row) ≡ insertInto (symbolAt t q .id) x (buildingOf a t row)) o (symbol-reads (p - 1) x (omega (arith, low, high))) in
+      record { reads = r; stands = stands-worse false a (insertSymbolMark z p x cellBound row) t s }
 
   -- ---- a row
 
   module _ (i : ℕ) (other : List Float) (other-wide : length other ≡ rowRoom) (is-row : dense.rowOf k other ≡ basicOf t i .row) where
-    row-reads : (x : Float) → buildingOf (worse a (insertRowMark x k other row)) t (insertRowIn x k other row) ≡ written (insertRow (basicOf t i .row) x (buildingOf a t row .row)) (buildingOf a t row .work)
-    unfolding buildingOf written marking workOf
+    row-reads : (x : Float) → buildingOf (worse a (insertRowMark z x k other row)) t (insertRowIn z x k other row) ≡ written (insertRow (buildingOf a t row .work .tableau .cutoff) (basicOf t i .row) x (buildingOf a t row .row)) (buildingOf a t row .work)
+    unfolding buildingOf written marking workOf read
     row-reads x =
         let f = fit in
-        rw (← is-row, ← dense.insert-row-read x k other row f (omega (arith, f, wide, other-wide))) refl
+        rw (← is-row, ← dense.insert-row-read z x k other row f (omega (arith, f, wide, other-wide))) refl
 
-    pub row-builds : (x : Float) → Builds a (worse a (insertRowMark x k other row)) (λ b. written (insertRow (basicOf t i .row) x (b .row)) (b .work)) t t row (insertRowIn x k other row)
-    row-builds x = record { reads = row-reads x; stands = stands-worse false a (insertRowMark x k other row) t s }
+    pub row-builds : (x : Float) → Builds a (worse a (insertRowMark z x k other row)) (λ b. written (insertRow (b .work .tableau .cutoff) (basicOf t i .row) x (b .row)) (b .work)) t t row (insertRowIn z x k other row)
+    row-builds x = record { reads = row-reads x; stands = stands-worse false a (insertRowMark z x k other row) t s }
 
 -- ---- row i as it is loaded
 

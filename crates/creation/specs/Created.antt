@@ -33,7 +33,7 @@ use Rattle.cells.specs.Names.{rowRoom}
 use Rattle.sparse.specs.Sparse.{Sparse, symbolCount, rowCount, variableCount, symbolAt, variableOf, symbolsOf, basicsOf, read}
 use Rattle.substituting.specs.Loose.{SettledRow}
 use Rattle.variables.specs.Found.{variables-are}
-use Rattle.waist.specs.Working.{workOf, artificialOf, dense-cells}
+use Rattle.waist.specs.Working.{cutoffOf, workOf, artificialOf, dense-cells}
 use Rattle.waist.specs.Standing.{Standing}
 use Rattle.waist.specs.Growing.{nextId}
 use Rattle.waist.specs.Tags.{tagAt}
@@ -177,13 +177,13 @@ pub record Creates (terms : List Term) (constant : Float) (relation : Relation) 
   pub row-ok : RowOk (IsBasic (basicsOf u)) (Fine (markOf (r .wrote))) (symbolsOf u) (dense.rowOf (symbolCount u) row)
 
 module _ (terms : List Term) (constant : Float) (relation : Relation) (a b : Mark) (t u v : Sparse) (row₀ row row₁ row₂ : List Float) (r : Tagged) (o : Opening a terms constant t) (wide : length row₀ ≡ rowRoom)
-    (e : row ≡ startedRow constant (symbolCount t) row₀) (h : Builds a b (insertTerms terms) t u row row₁) (few : (symbolCount u ≤ 126) × (rowCount u ≡ rowCount t) × (nextId u ≤ 4294900016))
+    (e : row ≡ startedRow constant (symbolCount t) row₀) (h : Builds a b (insertTerms (cutoffOf t) terms) t u row row₁) (few : (symbolCount u ≤ 126) × (rowCount u ≡ rowCount t) × (nextId u ≤ 4294900016))
     (g : Tags (λ b. reversedBy (addTag relation b)) b u v row₁ row₂ r) where
   created : createdOf r v row₂ ≡ createRow terms constant relation (workOf false a 0 t)
-  unfolding createRow reversedBy
+  unfolding createRow reversedBy workOf read
   created =
       let s : buildingOf a t row ≡ record { work = workOf false a 0 t; row = bare constant (map (λ _. zero64) (workOf false a 0 t .tableau .symbols)) } = rw e (start-reads constant a t row₀ (o .standing) wide) in
-      g .reads ∙ ap (λ (x : Building). reversedBy (addTag relation x)) (h .reads ∙ ap (insertTerms terms) s)
+      g .reads ∙ ap (λ (x : Building). reversedBy (addTag relation x)) (h .reads ∙ ap (insertTerms (cutoffOf t) terms) s)
 
   plain : workOf false a 0 t .artificial ≡ none
   unfolding workOf artificialOf

@@ -20,6 +20,7 @@ use Rattle.layout.specs.Copy.{most16}
 use Rattle.sparse.specs.Sparse.{Sparse, symbolCount, rowCount, variableCount, read}
 use Rattle.terms.specs.declared.Pack.{Pack}
 use Rattle.terms.specs.Terms.{termOf, termIn, termsOf}
+use Rattle.waist.specs.Working.{cutoffOf}
 use Rattle.waist.specs.Standing.{Standing}
 use Rattle.waist.specs.Growing.{nextId}
 use Rattle.creation.specs.Building.{buildingOf, Builds}
@@ -30,21 +31,21 @@ abbrev count : Building → ℕ
 count b = length (b .work .changes .variables)
 
 -- a term of a new variable makes one more
-one-more : (term : Term) (b : Building) → nearZero (term .coefficient) ≡ false → findVariable (term .variable) (b .work .changes .variables) ≡ none → count (insertTerm term b) ≡ count b + 1
+one-more : (cutoff : Float) (term : Term) (b : Building) → nearZero cutoff (term .coefficient) ≡ false → findVariable (term .variable) (b .work .changes .variables) ≡ none → count (insertTerm term b) ≡ count b + 1
 unfolding insertTerms keptTerms newVariables member
-one-more term b near new =
+one-more cutoff term b near new =
     let vs : List Variable = b .work .changes .variables in
     let n : ℕ = term .variable in
     let by-near : Bool → Type 0 = λ x. count (elim x [ true ↦ b | false ↦ insertTerm term b ]) ≡ count b + length (newVariables vs [] (elim x [ true ↦ [] | false ↦ term ∷ [] ])) in
     let by-found : Option Variable → Type 0 = λ o. count (insertTerm term b) ≡ count b + length (cond (elim o [ none ↦ false | some v ↦ true ]) [] (n ∷ [])) in
-    subst by-found new (subst by-near near (insertTerms-length (term ∷ []) b))
+    subst by-found new (subst by-near near (insertTerms-length cutoff (term ∷ []) b))
 
 -- the variables that the terms bring
 abbrev pub newIn : List Term → Sparse → ℕ
-newIn terms t = length (newVariables (read t .changes .variables) [] (keptTerms terms))
+newIn terms t = length (newVariables (read t .changes .variables) [] (keptTerms (cutoffOf t) terms))
 
-whole-is : (terms : List Term) (a : Mark) (t : Sparse) (row : List Float) → count (insertTerms terms (buildingOf a t row)) ≡ variableCount t + newIn terms t
-whole-is terms a t row = insertTerms-length terms (buildingOf a t row) ∙ rw (count-of a t row, changes-of a t row) refl
+whole-is : (terms : List Term) (a : Mark) (t : Sparse) (row : List Float) → count (insertTerms (cutoffOf t) terms (buildingOf a t row)) ≡ variableCount t + newIn terms t
+whole-is terms a t row = insertTerms-length (cutoffOf t) terms (buildingOf a t row) ∙ rw (count-of a t row, changes-of a t row) refl
 
 -- e terms, by their variables and their coefficients
 abbrev pub termAt : List ℕ → List Float → ℕ → Term
@@ -68,13 +69,13 @@ pub record Ready (a : Mark) (terms : List Term) (t : Sparse) : Type 0 where
 pub ready-by : {a : Mark} {terms : List Term} (others : List Term) {t : Sparse} → terms ≡ others → Ready a terms t → Ready a others t
 ready-by others e r = rw e at r
 
-pub builds-by : {a b : Mark} {terms : List Term} (others : List Term) {t u : Sparse} {row row₁ : List Float} → terms ≡ others → Builds a b (insertTerms others) t u row row₁ → Builds a b (insertTerms terms) t u row row₁
+pub builds-by : {a b : Mark} {terms : List Term} (others : List Term) {t u : Sparse} {row row₁ : List Float} → terms ≡ others → Builds a b (insertTerms (cutoffOf t) others) t u row row₁ → Builds a b (insertTerms (cutoffOf t) terms) t u row row₁
 builds-by others e h = rw e h
 
 -- j terms are inserted: those that are left give the whole
 pub record Going (e : ℕ) (vars : List ℕ) (coefs : List Float) (a₀ : Mark) (t₀ : Sparse) (row₀ : List Float) (j : ℕ) (a : Mark) (t : Sparse) (row : List Float) : Type 0 where
   pub low : j ≤ e
-  pub reads : insertTerms (tab (termAt vars coefs) j (e - j)) (buildingOf a t row) ≡ insertTerms (termsFrom e vars coefs) (buildingOf a₀ t₀ row₀)
+  pub reads : insertTerms (cutoffOf t₀) (tab (termAt vars coefs) j (e - j)) (buildingOf a t row) ≡ insertTerms (cutoffOf t₀) (termsFrom e vars coefs) (buildingOf a₀ t₀ row₀)
   pub stands : Standing false a t
   pub steps : Steps j j t₀ t
 
@@ -85,7 +86,7 @@ going-start e vars coefs a t row s =
     record { low = omega arith; reads = rw q refl; stands = s; steps = steps-none 0 0 t }
 
 module _ (e : ℕ) (vars : List ℕ) (coefs : List Float) (a₀ : Mark) (t₀ : Sparse) (row₀ : List Float) (j : ℕ) (a : Mark) (t : Sparse) (row : List Float) (g : Going e vars coefs a₀ t₀ row₀ j a t row) where
-  pub going-end : e ≤ j → Builds a₀ a (insertTerms (termsFrom e vars coefs)) t₀ t row₀ row
+  pub going-end : e ≤ j → Builds a₀ a (insertTerms (cutoffOf t₀) (termsFrom e vars coefs)) t₀ t row₀ row
   unfolding insertTerms tab
   going-end h =
       let q : e - j ≡ 0 = omega (arith, h) in
@@ -95,7 +96,7 @@ module _ (e : ℕ) (vars : List ℕ) (coefs : List Float) (a₀ : Mark) (t₀ : 
   pub going-few : e ≤ j → e ≤ 16 → Ready a₀ (termsFrom e vars coefs) t₀ → (symbolCount t ≤ 126) × (rowCount t ≡ rowCount t₀) × (nextId t ≤ 4294900016)
   going-few h m r =
       let w = whole-is (termsFrom e vars coefs) a₀ t₀ row₀ in
-      let c : count (buildingOf a t row) ≡ count (insertTerms (termsFrom e vars coefs) (buildingOf a₀ t₀ row₀)) = ap count (going-end h .reads) in
+      let c : count (buildingOf a t row) ≡ count (insertTerms (cutoffOf t₀) (termsFrom e vars coefs) (buildingOf a₀ t₀ row₀)) = ap count (going-end h .reads) in
       let now = count-of a t row in
       let z = g .steps .grown in
       let y = r .few-symbols in
@@ -118,39 +119,39 @@ module _ (e : ℕ) (vars : List ℕ) (coefs : List Float) (a₀ : Mark) (t₀ : 
 
   module _ (more : j < e) where
     -- the term of this turn, and those after it
-    turned : insertTerms rest (keptBy n k (buildingOf a t row)) ≡ insertTerms (termsFrom e vars coefs) (buildingOf a₀ t₀ row₀)
+    turned : insertTerms (cutoffOf t₀) rest (keptBy (cutoffOf t₀) n k (buildingOf a t row)) ≡ insertTerms (cutoffOf t₀) (termsFrom e vars coefs) (buildingOf a₀ t₀ row₀)
     unfolding insertTerms tab keptBy
     turned =
         let q : e - j ≡ suc (e - (j + 1)) = omega (arith, more) in
         rw q at (g .reads)
 
-    going-next : (c : Mark) (u : Sparse) (row₁ : List Float) → Builds a c (keptBy n k) t u row row₁ → Steps 1 1 t u → Going e vars coefs a₀ t₀ row₀ (j + 1) c u row₁
+    going-next : (c : Mark) (u : Sparse) (row₁ : List Float) → Builds a c (keptBy (cutoffOf t₀) n k) t u row row₁ → Steps 1 1 t u → Going e vars coefs a₀ t₀ row₀ (j + 1) c u row₁
     going-next c u row₁ b s =
         let q : j + 1 ≡ suc j = add-one j in
         record {
           low = omega (arith, more);
-          reads = rw (b .reads) (subst (λ (x : ℕ). insertTerms (tab (termAt vars coefs) x (e - (j + 1))) (keptBy n k (buildingOf a t row)) ≡ insertTerms (termsFrom e vars coefs) (buildingOf a₀ t₀ row₀)) (sym q) turned);
+          reads = rw (b .reads) (subst (λ (x : ℕ). insertTerms (cutoffOf t₀) (tab (termAt vars coefs) x (e - (j + 1))) (keptBy (cutoffOf t₀) n k (buildingOf a t row)) ≡ insertTerms (cutoffOf t₀) (termsFrom e vars coefs) (buildingOf a₀ t₀ row₀)) (sym q) turned);
           stands = b .stands;
           steps = steps-then (g .steps) s;
         }
 
-    -- by the number as the code has it
-    pub going-turn : {m : ℕ} (c : Mark) (u : Sparse) (row₁ : List Float) → m ≡ n → Builds a c (keptBy m k) t u row row₁ → Steps 1 1 t u → Going e vars coefs a₀ t₀ row₀ (j + 1) c u row₁
-    going-turn c u row₁ q b s = let b' : Builds a c (keptBy n k) t u row row₁ = rw q at b in going-next c u row₁ b' s
+    -- by the number and the cutoff as the code has them
+    pub going-turn : {m : ℕ} {z : Float} (c : Mark) (u : Sparse) (row₁ : List Float) → m ≡ n → z ≡ cutoffOf t₀ → Builds a c (keptBy z m k) t u row row₁ → Steps 1 1 t u → Going e vars coefs a₀ t₀ row₀ (j + 1) c u row₁
+    going-turn c u row₁ q y b s = let b' : Builds a c (keptBy (cutoffOf t₀) n k) t u row row₁ = rw (q, y) at b in going-next c u row₁ b' s
 
     module _ (few : e ≤ 16) (r : Ready a₀ (termsFrom e vars coefs) t₀) where
       abbrev whole : ℕ
-      whole = count (insertTerms (termsFrom e vars coefs) (buildingOf a₀ t₀ row₀))
+      whole = count (insertTerms (cutoffOf t₀) (termsFrom e vars coefs) (buildingOf a₀ t₀ row₀))
 
-      left-over : nearZero k ≡ false → count (insertTerms rest (insertTerm term (buildingOf a t row))) ≡ whole
+      left-over : nearZero (cutoffOf t₀) k ≡ false → count (insertTerms (cutoffOf t₀) rest (insertTerm term (buildingOf a t row))) ≡ whole
       unfolding keptBy
-      left-over near = subst (λ (x : Bool). count (insertTerms rest (elim x [ true ↦ buildingOf a t row | false ↦ insertTerm term (buildingOf a t row) ])) ≡ whole) near (ap count turned)
+      left-over near = subst (λ (x : Bool). count (insertTerms (cutoffOf t₀) rest (elim x [ true ↦ buildingOf a t row | false ↦ insertTerm term (buildingOf a t row) ])) ≡ whole) near (ap count turned)
 
-      going-room : nearZero k ≡ false → Room n t
+      going-room : nearZero (cutoffOf t₀) k ≡ false → Room n t
       going-room near q =
           let f : findVariable n (buildingOf a t row .work .changes .variables) ≡ none = find-of a t row n ∙ rw q refl in
-          let new : count (insertTerm term (buildingOf a t row)) ≡ count (buildingOf a t row) + 1 = one-more term (buildingOf a t row) near f in
-          let more₁ = insertTerms-length rest (insertTerm term (buildingOf a t row)) in
+          let new : count (insertTerm term (buildingOf a t row)) ≡ count (buildingOf a t row) + 1 = one-more (cutoffOf t₀) term (buildingOf a t row) near f in
+          let more₁ = insertTerms-length (cutoffOf t₀) rest (insertTerm term (buildingOf a t row)) in
           let now = count-of a t row in
           let final = left-over near in
           let w = whole-is (termsFrom e vars coefs) a₀ t₀ row₀ in
@@ -162,8 +163,8 @@ module _ (e : ℕ) (vars : List ℕ) (coefs : List Float) (a₀ : Mark) (t₀ : 
           (omega (arith, i, x, few, more), omega (arith, z, new, more₁, now, final, w, y), omega (arith, new, more₁, now, final, w, v))
 
       -- a new variable has room
-      pub going-room-by : {m : ℕ} → m ≡ n → nearZero k ≡ false → Room m t
-      going-room-by q near = rw q (going-room near)
+      pub going-room-by : {m : ℕ} {z : Float} → m ≡ n → z ≡ cutoffOf t₀ → nearZero z k ≡ false → Room m t
+      going-room-by q y near = rw q (going-room (rw y at near))
 
       pub going-spare : Used mostSpare t
       going-spare v h =

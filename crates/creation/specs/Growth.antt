@@ -23,7 +23,7 @@ use Rattle.rows.specs.Reading as dense
 use Rattle.cells.specs.Names.{rowRoom, lastPlace}
 use Rattle.sparse.specs.Places.{variableCountAt}
 use Rattle.sparse.specs.Sparse.{Sparse, symbolCount, rowCount, variableCount, symbolAt, read}
-use Rattle.waist.specs.Working.{sparse, workOf, dense-cells}
+use Rattle.waist.specs.Working.{cutoffOf, sparse, workOf, dense-cells}
 use Rattle.waist.specs.Dropping.{Free}
 use Rattle.waist.specs.Standing.{Standing, Makes, Unowned}
 use Rattle.waist.specs.Growing.{nextId, Grown}
@@ -104,7 +104,7 @@ module _ (kind : ℕ) (a : Mark) (t u : Sparse) (s : Standing false a t) (fit : 
   append-builds = record { reads = append-reads; stands = m .stands }
 
   -- a new symbol in the row with x
-  pub add-builds : (x : Float) → Builds a (worse a (insertSymbolMark p x cellBound row₁)) (λ b. addSymbol (newSymbol (kindOf kind) (b .work)) x b) t u row (insertSymbolAt p x row₁)
+  pub add-builds : (x : Float) → Builds a (worse a (insertSymbolMark (cutoffOf u) p x cellBound row₁)) (λ b. addSymbol (newSymbol (kindOf kind) (b .work)) x b) t u row (insertSymbolAt (cutoffOf u) p x row₁)
   unfolding addSymbol
   add-builds x =
       let i = symbol-builds a u (m .stands) row₁ wide₁ p x (omega arith) (rw (g .symbols) (omega arith)) in
@@ -144,9 +144,9 @@ module _ (a c d : Mark) (t u v : Sparse) (row row₁ : List Float) (x strength :
 -- the code's calls put together
 pub symbol-calls : (kind : ℕ) (past w : Wrote) {r : Wrote} (x : Float) (t u : Sparse) (row : List Float) (q p : ℕ) {row₁ : List Float} → p ≡ q → q ≡ 1 + symbolCount t
     → Standing false (markOf past) t → symbolCount t < lastPlace → Grown kind t u → ((a : Mark) → Standing false a t → Makes false false a a (λ w. appendSymbol (newSymbol (kindOf kind) w) w) t u) → length row ≡ rowRoom
-    → markOf w ≡ insertSymbolMark p x cellBound (set row p zero64) → row₁ ≡ insertSymbolAt p x (set row p zero64) → r ≡ join past w
+    → markOf w ≡ insertSymbolMark (cutoffOf u) p x cellBound (set row p zero64) → row₁ ≡ insertSymbolAt (cutoffOf u) p x (set row p zero64) → r ≡ join past w
     → Builds (markOf past) (markOf r) (λ b. addSymbol (newSymbol (kindOf kind) (b .work)) x b) t u row row₁
 symbol-calls kind past w x t u row q p e f s fit g m wide em er ej =
     let o : p ≡ 1 + symbolCount t = e ∙ f in
-    let em' : markOf w ≡ insertSymbolMark (1 + symbolCount t) x cellBound (set row (1 + symbolCount t) zero64) = rw o at em in
+    let em' : markOf w ≡ insertSymbolMark (cutoffOf u) (1 + symbolCount t) x cellBound (set row (1 + symbolCount t) zero64) = rw o at em in
     rw (er, o) (builds-mark (joined-is past w ej em') (add-builds kind (markOf past) t u s fit (grows g) (m (markOf past) s) row wide x))

@@ -31,29 +31,29 @@ zero-plain = settled-absent zero64 zero-absent
 
 -- ---- rows
 
-symbol-plain : (s : ℕ) (k : Float) (xs : List Symbol) (cs : List Float) → Every Plain cs → Every Plain (cellValues (insertSymbol s k xs cs))
+symbol-plain : (cutoff : Float) (s : ℕ) (k : Float) (xs : List Symbol) (cs : List Float) → Every Plain cs → Every Plain (cellValues (insertSymbol cutoff s k xs cs))
 unfolding Every insertSymbol cellValues cellValue
-symbol-plain s k [] cs h = tt
-symbol-plain s k (x ∷ xs) [] h = tt
-symbol-plain s k (x ∷ xs) (c ∷ cs) h = (go (isSymbol s x), symbol-plain s k xs cs (h .1))
+symbol-plain cutoff s k [] cs h = tt
+symbol-plain cutoff s k (x ∷ xs) [] h = tt
+symbol-plain cutoff s k (x ∷ xs) (c ∷ cs) h = (go (isSymbol s x), symbol-plain cutoff s k xs cs (h .1))
   where
-    go : (b : Bool) → Plain (cellValue (elim b [ true ↦ insertCell c k | false ↦ kept c ]))
-    go true = settled-insert c k (h .0)
+    go : (b : Bool) → Plain (cellValue (elim b [ true ↦ insertCell cutoff c k | false ↦ kept c ]))
+    go true = settled-insert cutoff c k (h .0)
     go false = h .0
 
-times-plain : (k o c : Float) → Plain c → Plain (cellValue (insertTimes k o c))
+times-plain : (cutoff k o c : Float) → Plain c → Plain (cellValue (insertTimes cutoff k o c))
 unfolding cellValue
-times-plain k o c h = rw (insertTimes-is k o c) (go (absent o))
+times-plain cutoff k o c h = rw (insertTimes-is cutoff k o c) (go (absent o))
   where
-    go : (b : Bool) → Plain (cellValue (cond b (kept c) (insertCell c (o *₆₄ k))))
+    go : (b : Bool) → Plain (cellValue (cond b (kept c) (insertCell cutoff c (o *₆₄ k))))
     go true = h
-    go false = settled-insert c (o *₆₄ k) h
+    go false = settled-insert cutoff c (o *₆₄ k) h
 
-cells-plain : (k : Float) (os cs : List Float) → Every Plain cs → Every Plain (cellValues (insertCells k os cs))
+cells-plain : (cutoff k : Float) (os cs : List Float) → Every Plain cs → Every Plain (cellValues (insertCells cutoff k os cs))
 unfolding Every insertCells cellValues
-cells-plain k [] cs h = tt
-cells-plain k (o ∷ os) [] h = tt
-cells-plain k (o ∷ os) (c ∷ cs) h = (times-plain k o c (h .0), cells-plain k os cs (h .1))
+cells-plain cutoff k [] cs h = tt
+cells-plain cutoff k (o ∷ os) [] h = tt
+cells-plain cutoff k (o ∷ os) (c ∷ cs) h = (times-plain cutoff k o c (h .0), cells-plain cutoff k os cs (h .1))
 
 append-plain : (cs : List Float) → Every Plain cs → Every Plain (cs ++ (zero64 ∷ []))
 unfolding Every
@@ -74,11 +74,11 @@ bare-plain (x ∷ xs) = (zero-plain, bare-plain xs)
 
 into-plain : (s : ℕ) (k : Float) (b : Building) → PlainRow (b .row) → PlainRow (insertInto s k b .row)
 unfolding insertInto written insertSymbolInRow
-into-plain s k b h = symbol-plain s k (b .work .tableau .symbols) (b .row .cells) h
+into-plain s k b h = symbol-plain (b .work .tableau .cutoff) s k (b .work .tableau .symbols) (b .row .cells) h
 
-row-plain : (r : Row) (k : Float) (b : Building) → PlainRow (b .row) → PlainRow (written (insertRow r k (b .row)) (b .work) .row)
+row-plain : (r : Row) (k : Float) (b : Building) → PlainRow (b .row) → PlainRow (written (insertRow (b .work .tableau .cutoff) r k (b .row)) (b .work) .row)
 unfolding written insertRow
-row-plain r k b h = cells-plain k (r .cells) (b .row .cells) h
+row-plain r k b h = cells-plain (b .work .tableau .cutoff) k (r .cells) (b .row .cells) h
 
 to-plain : (s : Symbol) (b : Building) → PlainRow (b .row) → PlainRow (appendTo s b .row)
 unfolding appendTo appendCell
@@ -89,7 +89,7 @@ unfolding insertVariable
 variable-plain s k b h = go (findRow (s .id) (b .work .tableau .rows))
   where
     next : Option Row → Building
-    next o = elim o [ none ↦ insertInto (s .id) k b | some r ↦ written (insertRow r k (b .row)) (b .work) ]
+    next o = elim o [ none ↦ insertInto (s .id) k b | some r ↦ written (insertRow (b .work .tableau .cutoff) r k (b .row)) (b .work) ]
 
     go : (o : Option Row) → PlainRow (next o .row)
     go none = into-plain (s .id) k b h
@@ -119,10 +119,10 @@ term-plain t b h = last (countUse n (known (findVariable n (b .work .changes .va
     last : (x : Building) → PlainRow (x .row) → PlainRow (after x (findVariable n (x .work .changes .variables)) .row)
     last x p = by x p (findVariable n (x .work .changes .variables))
 
-terms-plain : (ts : List Term) (b : Building) → PlainRow (b .row) → PlainRow (insertTerms ts b .row)
+terms-plain : (cutoff : Float) (ts : List Term) (b : Building) → PlainRow (b .row) → PlainRow (insertTerms cutoff ts b .row)
 unfolding insertTerms
-terms-plain [] b h = h
-terms-plain (t ∷ ts) b h = terms-plain ts _ (go (nearZero (t .coefficient)))
+terms-plain cutoff [] b h = h
+terms-plain cutoff (t ∷ ts) b h = terms-plain cutoff ts _ (go (nearZero cutoff (t .coefficient)))
   where
     next : Bool → Building
     next z = elim z [ true ↦ b | false ↦ insertTerm t b ]
@@ -171,11 +171,11 @@ unfolding createRow reverseSign
 create-plain terms constant r w = go (belowZero (c .row .constant))
   where
     c : Created
-    c = addTag r (insertTerms terms (record { work = w; row = record { constant = constant; cells = map (λ _. zero64) (w .tableau .symbols) } }))
+    c = addTag r (insertTerms (w .tableau .cutoff) terms (record { work = w; row = record { constant = constant; cells = map (λ _. zero64) (w .tableau .symbols) } }))
 
     made : Bool → Created
     made z = elim z [ false ↦ c | true ↦ record { work = c .work; row = reverseSign (c .row); tag = c .tag } ]
 
     go : (z : Bool) → PlainRow (made z .row)
-    go false = tag-plain r _ (terms-plain terms _ (bare-plain (w .tableau .symbols)))
+    go false = tag-plain r _ (terms-plain (w .tableau .cutoff) terms _ (bare-plain (w .tableau .symbols)))
     go true = reverse-plain (c .row .cells)

@@ -29,7 +29,7 @@ use Rattle.sparse.specs.Sparse.{Sparse, symbolCount, variableCount, symbolAt, v
 use Rattle.variables.specs.Variables.{foundIn, usedWords}
 use Rattle.variables.specs.Found.{found-at}
 use Rattle.variables.specs.Uses.{unused, usedIn, used-word, used-here, use-makes}
-use Rattle.waist.specs.Working.{sparse, workOf}
+use Rattle.waist.specs.Working.{cutoffOf, sparse, workOf}
 use Rattle.waist.specs.Standing.{Standing, Makes}
 use Rattle.creation.specs.Building.{buildingOf, Builds, builds-mark, joined-is, symbol-builds, row-builds}
 use Rattle.creation.specs.Steps.{Used, Steps, found-same, changes-of, find-of}
@@ -54,7 +54,7 @@ module _ (a : Mark) (t : Sparse) (p : ℕ) (row : List Float) (k : Float) (f : F
       let q : findRow (symbolAt t p .id) (b .work .tableau .rows) ≡ none = found-row (rw e refl) in
       record { reads = h .reads ∙ rw (q, insertVariable) refl; stands = h .stands }
 
-  pub variable-row : {c : Mark} {row₁ : List Float} (i : ℕ) → f ≡ At i → Builds a c (λ b. written (insertRow (basicOf t i .row) k (b .row)) (b .work)) t t row row₁ → Builds a c (insertVariable (symbolAt t p) k) t t row row₁
+  pub variable-row : {c : Mark} {row₁ : List Float} (i : ℕ) → f ≡ At i → Builds a c (λ b. written (insertRow (b .work .tableau .cutoff) (basicOf t i .row) k (b .row)) (b .work)) t t row row₁ → Builds a c (insertVariable (symbolAt t p) k) t t row row₁
   unfolding insertVariable
   variable-row i e h =
       let q : findRow (symbolAt t p .id) (b .work .tableau .rows) ≡ some (basicOf t i .row) = found-row (rw e refl) in
@@ -62,14 +62,14 @@ module _ (a : Mark) (t : Sparse) (p : ℕ) (row : List Float) (k : Float) (f : F
 
 -- the code's calls put together
 pub symbol-inserted : (past w : Wrote) {r : Wrote} (t : Sparse) (row : List Float) (p q : ℕ) (x : Float) {row₁ : List Float} → Standing false (markOf past) t → length row ≡ rowRoom → 1 ≤ p → p ≤ symbolCount t → q ≡ p
-    → markOf w ≡ insertSymbolMark q x cellBound row → row₁ ≡ insertSymbolAt q x row → r ≡ join past w → Builds (markOf past) (markOf r) (insertInto (symbolAt t p .id) x) t t row row₁
+    → markOf w ≡ insertSymbolMark (cutoffOf t) q x cellBound row → row₁ ≡ insertSymbolAt (cutoffOf t) q x row → r ≡ join past w → Builds (markOf past) (markOf r) (insertInto (symbolAt t p .id) x) t t row row₁
 symbol-inserted past w t row p q x s wide low high e em er ej =
-    let em' : markOf w ≡ insertSymbolMark p x cellBound row = rw e at em in
+    let em' : markOf w ≡ insertSymbolMark (cutoffOf t) p x cellBound row = rw e at em in
     rw (er, e) (builds-mark (joined-is past w ej em') (symbol-builds (markOf past) t s row wide p x low high))
 
 pub row-inserted : (past w : Wrote) {r : Wrote} (t : Sparse) (row other : List Float) (i : ℕ) (x : Float) {row₁ : List Float} → Standing false (markOf past) t → length row ≡ rowRoom → length other ≡ rowRoom → dense.rowOf (symbolCount t) other ≡ basicOf t i .row
-    → markOf w ≡ insertRowMark x (symbolCount t) other row → row₁ ≡ insertRowIn x (symbolCount t) other row → r ≡ join past w
-    → Builds (markOf past) (markOf r) (λ b. written (insertRow (basicOf t i .row) x (b .row)) (b .work)) t t row row₁
+    → markOf w ≡ insertRowMark (cutoffOf t) x (symbolCount t) other row → row₁ ≡ insertRowIn (cutoffOf t) x (symbolCount t) other row → r ≡ join past w
+    → Builds (markOf past) (markOf r) (λ b. written (insertRow (b .work .tableau .cutoff) (basicOf t i .row) x (b .row)) (b .work)) t t row row₁
 row-inserted past w t row other i x s wide wide₁ e em er ej = rw er (builds-mark (joined-is past w ej em) (row-builds (markOf past) t s row wide i other wide₁ e x))
 
 -- ---- a use of the variable more, and its row or its symbol in the row
@@ -187,13 +187,13 @@ term-builds n k a c t u v row row₁ row₂ h g = record { reads = g .reads ∙ 
     is b = unfold usedBy knownBy insertTerm in refl
 
 -- "near-zero coefficients skipped"
-unfoldable pub keptBy : ℕ → Float → Building → Building
-keptBy n k b = elim (nearZero k) [ true ↦ b | false ↦ insertTerm (termOf n k) b ]
+unfoldable pub keptBy : Float → ℕ → Float → Building → Building
+keptBy cutoff n k b = elim (nearZero cutoff k) [ true ↦ b | false ↦ insertTerm (termOf n k) b ]
 
-pub kept-skips : (n : ℕ) (k : Float) (a : Mark) (t : Sparse) (row : List Float) → nearZero k ≡ true → Standing false a t → Builds a a (keptBy n k) t t row row
+pub kept-skips : (cutoff : Float) (n : ℕ) (k : Float) (a : Mark) (t : Sparse) (row : List Float) → nearZero cutoff k ≡ true → Standing false a t → Builds a a (keptBy cutoff n k) t t row row
 unfolding keptBy
-kept-skips n k a t row e s = record { reads = rw (e, keptBy) refl; stands = s }
+kept-skips cutoff n k a t row e s = record { reads = rw (e, keptBy) refl; stands = s }
 
-pub kept-inserts : (n : ℕ) (k : Float) {a c : Mark} {t u : Sparse} {row row₁ : List Float} → nearZero k ≡ false → Builds a c (insertTerm (termOf n k)) t u row row₁ → Builds a c (keptBy n k) t u row row₁
+pub kept-inserts : (cutoff : Float) (n : ℕ) (k : Float) {a c : Mark} {t u : Sparse} {row row₁ : List Float} → nearZero cutoff k ≡ false → Builds a c (insertTerm (termOf n k)) t u row row₁ → Builds a c (keptBy cutoff n k) t u row row₁
 unfolding keptBy
-kept-inserts n k e h = record { reads = h .reads ∙ rw (e, keptBy) refl; stands = h .stands }
+kept-inserts cutoff n k e h = record { reads = h .reads ∙ rw (e, keptBy) refl; stands = h .stands }

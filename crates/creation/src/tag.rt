@@ -24,6 +24,7 @@ use rows::row::insert_symbol;
 use rows::row::wide;
 use rows::strength::REQUIRED;
 use sparse::Bytes;
+use sparse::CUTOFF;
 use sparse::Keys;
 use sparse::Reals;
 use sparse::SYMBOL_COUNT;
@@ -69,7 +70,7 @@ fn add_symbol(
     wide(row);
     let p = index(append_symbol(words, keys, bytes, reals, values, kind));
     row[p] = 0.0;
-    let w = insert_symbol(row, p, k, CELL_BOUND);
+    let w = insert_symbol(reals[CUTOFF], row, p, k, CELL_BOUND);
     joined(past, w)
 }
 

@@ -13,7 +13,7 @@ ghost use Rattle.sparse.specs.Places.{mostVariables, symbolCountAt, rowCountAt}
 ghost use Rattle.sparse.specs.Sparse.{symbolCount, rowCount, variableCount, symbolAt, basicOf};
 ghost use Rattle.terms.specs.Terms.{termsOf};
 ghost use Rattle.variables.specs.Variables.{foundIn};
-ghost use Rattle.waist.specs.Working.{lent, Sound};
+ghost use Rattle.waist.specs.Working.{lent, cutoffOf, Sound};
 ghost use Rattle.waist.specs.Standing.{Owners, Standing};
 ghost use Rattle.waist.specs.Growing.{nextId};
 ghost use Rattle.creation.specs.Building.{Builds};
@@ -35,6 +35,7 @@ use rows::row::wide;
 use sparse::Bytes;
 use sparse::CELL_COUNT;
 use sparse::CONSTANTS;
+use sparse::CUTOFF;
 use sparse::Keys;
 use sparse::Reals;
 use sparse::SYMBOL_COUNT;
@@ -110,7 +111,7 @@ fn insert_loaded(
     requires { ⌜ Standing false (markOf past) (lent words keys bytes reals values) ⌝ }
     requires { ⌜ 1 ≤ i ⌝ }
     requires { ⌜ i ≤ getD (now words) rowCountAt 0 ⌝ }
-    ensures { λ r. ⌜ Builds (markOf past) (markOf r) (λ b. written (insertRow (basicOf (lent (words .entry) (keys .entry) (bytes .entry) (reals .entry) (values .entry)) i .row) k (b .row)) (b .work)) (lent (words .entry) (keys .entry) (bytes .entry) (reals .entry) (values .entry)) (lent (words .entry) (keys .entry) (bytes .entry) (reals .entry) (values .entry)) (now (row .entry)) (now (row .exit)) ⌝ }
+    ensures { λ r. ⌜ Builds (markOf past) (markOf r) (λ b. written (insertRow (b .work .tableau .cutoff) (basicOf (lent (words .entry) (keys .entry) (bytes .entry) (reals .entry) (values .entry)) i .row) k (b .row)) (b .work)) (lent (words .entry) (keys .entry) (bytes .entry) (reals .entry) (values .entry)) (lent (words .entry) (keys .entry) (bytes .entry) (reals .entry) (values .entry)) (now (row .entry)) (now (row .exit)) ⌝ }
 {
     wide(row);
     wide(other);
@@ -118,7 +119,7 @@ fn insert_loaded(
     load_row(keys, values, words[CELL_COUNT] as usize, i, width, other);
     other[0] = reals[CONSTANTS + index(i)];
     wide(other);
-    let w = insert_row(row, other, k, width);
+    let w = insert_row(reals[CUTOFF], row, other, k, width);
     joined(past, w.wrote)
 }
 
@@ -137,7 +138,7 @@ fn insert_basic(
     requires { ⌜ Standing false (markOf past) (lent words keys bytes reals values) ⌝ }
     requires { ⌜ 1 ≤ i ⌝ }
     requires { ⌜ i ≤ getD (now words) rowCountAt 0 ⌝ }
-    ensures { λ r. ⌜ Builds (markOf past) (markOf r) (λ b. written (insertRow (basicOf (lent (words .entry) (keys .entry) (bytes .entry) (reals .entry) (values .entry)) i .row) k (b .row)) (b .work)) (lent (words .entry) (keys .entry) (bytes .entry) (reals .entry) (values .entry)) (lent (words .entry) (keys .entry) (bytes .entry) (reals .entry) (values .entry)) (now (row .entry)) (now (row .exit)) ⌝ }
+    ensures { λ r. ⌜ Builds (markOf past) (markOf r) (λ b. written (insertRow (b .work .tableau .cutoff) (basicOf (lent (words .entry) (keys .entry) (bytes .entry) (reals .entry) (values .entry)) i .row) k (b .row)) (b .work)) (lent (words .entry) (keys .entry) (bytes .entry) (reals .entry) (values .entry)) (lent (words .entry) (keys .entry) (bytes .entry) (reals .entry) (values .entry)) (now (row .entry)) (now (row .exit)) ⌝ }
 {
     let mut other: [f64; ROW_ROOM] = [0.0; ROW_ROOM];
     insert_loaded(
@@ -174,7 +175,7 @@ fn insert_variable(
     wide(row);
     let f = row_of(words, bytes, p);
     let Found::At(i) = f else {
-        let w = insert_symbol(row, index(p), k, CELL_BOUND);
+        let w = insert_symbol(reals[CUTOFF], row, index(p), k, CELL_BOUND);
         return joined(past, w);
     };
     insert_basic(words, keys, bytes, reals, values, row, i as u8, k, past)
@@ -237,8 +238,9 @@ fn insert_term(
     insert_known(words, keys, bytes, reals, values, row, n, k, past)
 }
 
-// One term, a near-zero coefficient skipped.
+// One term, a coefficient that is near zero by the cutoff skipped.
 fn insert_kept(
+    cutoff: f64,
     words: &mut Words,
     keys: &Keys,
     bytes: &mut Bytes,
@@ -250,12 +252,12 @@ fn insert_kept(
     past: Wrote,
 ) -> Wrote
     requires { ⌜ Standing false (markOf past) (lent words keys bytes reals values) ⌝ }
-    requires { ⌜ (nearZero k ≡ false → Room n (lent words keys bytes reals values)) ⌝ }
+    requires { ⌜ (nearZero cutoff k ≡ false → Room n (lent words keys bytes reals values)) ⌝ }
     requires { ⌜ Used mostSpare (lent words keys bytes reals values) ⌝ }
-    ensures { λ r. ⌜ Builds (markOf past) (markOf r) (keptBy n k) (lent (words .entry) (keys .entry) (bytes .entry) (reals .entry) (values .entry)) (lent (words .exit) (keys .entry) (bytes .exit) (reals .exit) (values .entry)) (now (row .entry)) (now (row .exit)) ⌝ }
+    ensures { λ r. ⌜ Builds (markOf past) (markOf r) (keptBy cutoff n k) (lent (words .entry) (keys .entry) (bytes .entry) (reals .entry) (values .entry)) (lent (words .exit) (keys .entry) (bytes .exit) (reals .exit) (values .entry)) (now (row .entry)) (now (row .exit)) ⌝ }
     ensures { λ _. ⌜ Steps 1 1 (lent (words .entry) (keys .entry) (bytes .entry) (reals .entry) (values .entry)) (lent (words .exit) (keys .entry) (bytes .exit) (reals .exit) (values .entry)) ⌝ }
 {
-    if near_zero(k) {
+    if near_zero(cutoff, k) {
         return past;
     }
     insert_term(words, keys, bytes, reals, values, row, n, k, past)
@@ -280,16 +282,18 @@ pub fn insert_terms(
     past: Wrote,
 ) -> Wrote
     requires { ⌜ Ready (markOf past) (termsOf p) (lent words keys bytes reals values) ⌝ }
-    ensures { λ r. ⌜ Builds (markOf past) (markOf r) (insertTerms (termsOf p)) (lent (words .entry) (keys .entry) (bytes .entry) (reals .entry) (values .entry)) (lent (words .exit) (keys .entry) (bytes .exit) (reals .exit) (values .entry)) (now (row .entry)) (now (row .exit)) ⌝ }
+    ensures { λ r. ⌜ Builds (markOf past) (markOf r) (insertTerms (cutoffOf (lent (words .entry) (keys .entry) (bytes .entry) (reals .entry) (values .entry))) (termsOf p)) (lent (words .entry) (keys .entry) (bytes .entry) (reals .entry) (values .entry)) (lent (words .exit) (keys .entry) (bytes .exit) (reals .exit) (values .entry)) (now (row .entry)) (now (row .exit)) ⌝ }
     ensures { λ _. ⌜ (symbolCount (lent (words .exit) (keys .entry) (bytes .exit) (reals .exit) (values .entry)) ≤ 126) × (rowCount (lent (words .exit) (keys .entry) (bytes .exit) (reals .exit) (values .entry)) ≡ rowCount (lent (words .entry) (keys .entry) (bytes .entry) (reals .entry) (values .entry))) × (nextId (lent (words .exit) (keys .entry) (bytes .exit) (reals .exit) (values .entry)) ≤ 4294900016) ⌝ }
 {
     let e = shown(p);
     let vars = p.vars;
     let coefs = p.coefs;
+    let cutoff = reals[CUTOFF];
     let mut w = past;
     let mut j = 0;
     while j < e {
         w = insert_kept(
+            cutoff,
             words,
             keys,
             bytes,

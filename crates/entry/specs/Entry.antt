@@ -48,9 +48,9 @@ lentOnce l = tables (only (l .words)) (only (l .keys)) (only (l .bytes)) (only (
 unfoldable pub callOn : (State → Result) → Lists → Lists → Called
 callOn f work t = cond (onceEach t && onceEach work) (callOf f (lentOnce work) (lentOnce t)) (called refused18 (lentOnce t))
 
--- "Reset refuses only wrong lengths."
-unfoldable pub resetOn : Lists → Called
-resetOn t = cond (onceEach t) (resetOf (lentOnce t)) (called refused18 (lentOnce t))
+-- "Reset refuses wrong lengths (18) and a cutoff outside the range (24), in that order; nothing else."
+unfoldable pub resetOn : Float → Lists → Called
+resetOn cutoff t = cond (onceEach t) (resetOf cutoff (lentOnce t)) (called refused18 (lentOnce t))
 
 -- each all zero
 unfoldable pub each : {A : Type 0} → (A → A) → List A → List A
@@ -146,8 +146,8 @@ module _ (t : Lists) {a : Bool} (p : a ≡ onceEach t) where
   pub reset-unfit-by : not a ≡ true → onceEach t ≡ false
   reset-unfit-by z = sym p ∙ not-true a z
 
-module _ (t : Lists) where
-  pub unfit-reset : {a : Answer} → a ≡ refused18 → onceEach t ≡ false → called a (lentOnce t) ≡ resetOn t
+module _ (cutoff : Float) (t : Lists) where
+  pub unfit-reset : {a : Answer} → a ≡ refused18 → onceEach t ≡ false → called a (lentOnce t) ≡ resetOn cutoff t
   unfolding resetOn
   unfit-reset q h = rw (q, h) refl
 
@@ -160,7 +160,7 @@ module _ (t : Lists) where
   pub first-places : onceEach t ≡ true → (0 < length (t .words)) × (0 < length (t .keys)) × (0 < length (t .bytes)) × (0 < length (t .reals)) × (0 < length (t .values))
   first-places e = some-place t e
 
-  pub fit-reset : onceEach t ≡ true → {w₁ k₁ b₁ : List ℕ} {r₁ v₁ : List Float} {a : Answer} → called a (tables w₁ k₁ b₁ r₁ v₁) ≡ resetOf (firsts t) → called a (lentOnce (lists (set (t .words) 0 w₁) (set (t .keys) 0 k₁) (set (t .bytes) 0 b₁) (set (t .reals) 0 r₁) (set (t .values) 0 v₁))) ≡ resetOn t
+  pub fit-reset : onceEach t ≡ true → {w₁ k₁ b₁ : List ℕ} {r₁ v₁ : List Float} {a : Answer} → called a (tables w₁ k₁ b₁ r₁ v₁) ≡ resetOf cutoff (firsts t) → called a (lentOnce (lists (set (t .words) 0 w₁) (set (t .keys) 0 k₁) (set (t .bytes) 0 b₁) (set (t .reals) 0 r₁) (set (t .values) 0 v₁))) ≡ resetOn cutoff t
   unfolding resetOn
   fit-reset fit {w₁} {k₁} {b₁} {r₁} {v₁} e =
       let q = parts t fit in

@@ -179,15 +179,16 @@ pub fn change(
     )
 }
 
-// "Reset refuses only wrong lengths."
+// "Reset refuses wrong lengths (18) and a cutoff outside the range (24), in that order; nothing else."
 pub fn reset(
     words: &mut [Words],
     keys: &mut [Keys],
     bytes: &mut [Bytes],
     reals: &mut [Reals],
     values: &mut [Values],
+    cutoff: f64,
 ) -> Answer
-    ensures { λ r. ⌜ called (answerOf r) (lentOnce (lists (now (words .exit)) (now (keys .exit)) (now (bytes .exit)) (now (reals .exit)) (now (values .exit)))) ≡ resetOn (lists (now (words .entry)) (now (keys .entry)) (now (bytes .entry)) (now (reals .entry)) (now (values .entry))) ⌝ }
+    ensures { λ r. ⌜ called (answerOf r) (lentOnce (lists (now (words .exit)) (now (keys .exit)) (now (bytes .exit)) (now (reals .exit)) (now (values .exit)))) ≡ resetOn cutoff (lists (now (words .entry)) (now (keys .entry)) (now (bytes .entry)) (now (reals .entry)) (now (values .entry))) ⌝ }
     ensures { λ _. ⌜ Then (not (onceEach (lists (now (words .entry)) (now (keys .entry)) (now (bytes .entry)) (now (reals .entry)) (now (values .entry))))) (lists (now (words .exit)) (now (keys .exit)) (now (bytes .exit)) (now (reals .exit)) (now (values .exit)) ≡ lists (now (words .entry)) (now (keys .entry)) (now (bytes .entry)) (now (reals .entry)) (now (values .entry))) ⌝ }
 {
     let ok = once(words, keys, bytes, reals, values);
@@ -200,5 +201,6 @@ pub fn reset(
         &mut bytes[0],
         &mut reals[0],
         &mut values[0],
+        cutoff,
     )
 }

@@ -2,3 +2,4 @@
 pub mod Whole
 pub mod Compare
 pub mod Near
+pub mod Unbroken

@@ -224,6 +224,7 @@ module _ (K U : ℕ → ℕ) (N L : ℕ) (c : Created) (h : Tagged K U N L c) (f
         C = h .good .C;
         vars = h .good .vars;
         owns = λ n. omega (arith, codes-append n (c .work .tableau .symbols) temporary, h .good .owns n);
+        cutoff = h .good .cutoff;
       }
 
   standing-count : length (standing .tableau .rows) ≡ suc N
@@ -255,6 +256,7 @@ module _ (K U : ℕ → ℕ) (N L : ℕ) (c : Created) (h : Tagged K U N L c) (f
               C = g .C;
               vars = g .vars;
               owns = g .owns;
+              cutoff = g .cutoff;
             };
             fine = a .fine;
             plain = refl;
@@ -275,7 +277,7 @@ module _ (K U : ℕ → ℕ) (N L : ℕ) (c : Created) (h : Tagged K U N L c) (f
       rest =
           elim (allDummies c) [
             | false ↦ addWithArtificialVariable budget c
-            | true ↦ elim (nearZero (c .row .constant)) [ false ↦ refused 12 (c .work .pivots) (c .work .mark) | true ↦ addWithSubject (c .tag .marker) c ]
+            | true ↦ elim (nearZero (c .work .tableau .cutoff) (c .row .constant)) [ false ↦ refused 12 (c .work .pivots) (c .work .mark) | true ↦ addWithSubject (c .tag .marker) c ]
           ]
 
       by : (d z : Bool)
@@ -286,7 +288,7 @@ module _ (K U : ℕ → ℕ) (N L : ℕ) (c : Created) (h : Tagged K U N L c) (f
 
       go : (o : Option Symbol) → chooseSubject c ≡ o → Ends (Stands Tags U (suc N) L) (elim o [ some s ↦ addWithSubject s c | none ↦ rest ])
       go (some s) e = subject-ends K U N L c h s (subject-free K U N L c h s e)
-      go none e = by (allDummies c) (nearZero (c .row .constant))
+      go none e = by (allDummies c) (nearZero (c .work .tableau .cutoff) (c .row .constant))
 
 -- ---- Add's steps
 
@@ -296,8 +298,8 @@ pub record AddedOk (K U : ℕ → ℕ) (R L : ℕ) (c : Created) (a : Added) : T
   pub tag : a .tag ≡ c .tag
 
 pub add-ends : (budget : ℕ) (terms : List Term) (constant : Float) (r : Relation) (K U : ℕ → ℕ) (w : Work) → Good K U w → w .artificial ≡ none → isFinite constant ≡ true
-    → Ends (AddedOk K (λ m. usesIn m (keptTerms terms) + U m) (suc (length (w .tableau .rows)))
-    (length (w .changes .variables) + length (newVariables (w .changes .variables) [] (keptTerms terms)))
+    → Ends (AddedOk K (λ m. usesIn m (keptTerms (w .tableau .cutoff) terms) + U m) (suc (length (w .tableau .rows)))
+    (length (w .changes .variables) + length (newVariables (w .changes .variables) [] (keptTerms (w .tableau .cutoff) terms)))
     (createRow terms constant r (marking (wholeIf (wholeInputs terms constant r)) w)))
     (addSteps budget terms constant r w)
 unfolding addSteps
@@ -318,13 +320,13 @@ add-ends budget terms constant r K U w g plain fin =
     c = createRow terms constant r (marking mark w)
 
     W : ℕ → ℕ
-    W m = usesIn m (keptTerms terms) + U m
+    W m = usesIn m (keptTerms (w .tableau .cutoff) terms) + U m
 
     R : ℕ
     R = suc (length (w .tableau .rows))
 
     L : ℕ
-    L = length (w .changes .variables) + length (newVariables (w .changes .variables) [] (keptTerms terms))
+    L = length (w .changes .variables) + length (newVariables (w .changes .variables) [] (keptTerms (w .tableau .cutoff) terms))
 
     S : Work → Type 0
     S = Stands (λ n. tagCode n (c .tag) + K n) W R L

@@ -3,12 +3,12 @@ use mathlib.Core.Path.{_≡_, refl, sym, ap, _∙_, subst}
 use mathlib.Core.List.{List, [], _∷_, map}
 use mathlib.Core.Option.{Option, none, some}
 use mathlib.Core.Bool.{Bool, true, false, not, cond, _&&_, true≢false}
-use Prim.Native.Nat.{ℕ, suc, _+_, _≤_, _<_}
+use Prim.Native.Nat.{zero, ℕ, suc, _+_, _≤_, _<_}
 use native.Mathlib.Omega.{arith}
-use lib.Dec.{ltb, nltb→le, nleb→lt}
+use lib.Dec.{lt→ltb, eqb, ltb, nltb→le, nleb→lt}
 use lib.ListN.{length}
 use lib.Ieee.{Float, nan, inf, fin, lt, le, eq, ofBits}
-use Rattle.steps.specs.Number.{zero64, one64, nearZero, belowZero, magnitude, cutoff, isFinite}
+use Rattle.steps.specs.Number.{zero64, nearZero, belowZero, cutoffFits, isFinite}
 use Rattle.steps.specs.Strength.{required, clip}
 use Rattle.steps.specs.Symbol.{isError}
 use Rattle.steps.specs.Row.{reverseSign}
@@ -20,11 +20,12 @@ use Rattle.steps.specs.Edit.{editTerms, addEditSteps}
 use Rattle.steps.specs.Tests.{Test, firstRefusal, addTests, addEditTests, finiteTerms, keptTerms, newVariables, constraintsFull, variablesFull, hasConstraint, hasEdit, findConstraint, keepConstraint, findEdit, keepEdit}
 use Rattle.steps.specs.Calls.{begin, finish, refusedBy, acceptedAs, concludeAdd, add, addEdit}
 use Rattle.steps.specs.Readable.{usesIn, constraintFinite, editFinite, tagKinds, editKinds}
-use Rattle.keeps.specs.Lists.{All, all-out, total, times, so-not, both, left, right, none≢some}
+use Rattle.keeps.specs.Lists.{truly, All, all-out, total, times, so-not, both, left, right, none≢some}
 use Rattle.keeps.specs.Keys.{find-none, keep-total, keep-length, keep-all, keep-up, findConstraint-is, keepConstraint-is, findEdit-is, keepEdit-is}
 use Rattle.keeps.specs.Cells.{zero-finite}
 use Rattle.keeps.specs.Passes.{Ends, ends-to}
 use Rattle.keeps.specs.Reads.{Reads, conNumber, editNumber, tagCode, usedBy}
+use Rattle.steps.proofs.Cutoff.{one-kept}
 use Rattle.keeps.specs.Good.{good-to, tagsBy, begin-good, Stored, stored-in, finish-reads}
 use Rattle.keeps.specs.Creating.{createRow-kinds}
 use Rattle.keeps.specs.Adding.{AddedOk, add-ends}
@@ -53,35 +54,35 @@ room : (s : State) → constraintsFull s ≡ false → length (s .constraints) +
 unfolding constraintsFull
 room s e = nleb→lt 48 (length (s .constraints) + length (s .edits)) (so-not e)
 
-places : (ts : List Term) (s : State) → variablesFull ts s ≡ false → length (s .changes .variables) + length (newVariables (s .changes .variables) [] (keptTerms ts)) ≤ 32
+places : (ts : List Term) (s : State) → variablesFull ts s ≡ false → length (s .changes .variables) + length (newVariables (s .changes .variables) [] (keptTerms (s .tableau .cutoff) ts)) ≤ 32
 unfolding variablesFull
 places ts s e = at-most 32 _ e
 
 -- ---- the terms kept
 
-kept-length : (ts : List Term) → length (keptTerms ts) ≤ length ts
+kept-length : (cut : Float) (ts : List Term) → length (keptTerms cut ts) ≤ length ts
 unfolding keptTerms
-kept-length [] = omega arith
-kept-length (t ∷ ts) = go (nearZero (t .coefficient)) (kept-length ts)
+kept-length cut [] = omega arith
+kept-length cut (t ∷ ts) = go (nearZero cut (t .coefficient)) (kept-length cut ts)
   where
-    go : (z : Bool) → length (keptTerms ts) ≤ length ts → length {A = Term} (elim z [ true ↦ keptTerms ts | false ↦ t ∷ keptTerms ts ]) ≤ suc (length ts)
+    go : (z : Bool) → length (keptTerms cut ts) ≤ length ts → length {A = Term} (elim z [ true ↦ keptTerms cut ts | false ↦ t ∷ keptTerms cut ts ]) ≤ suc (length ts)
     go true ih = omega arith
     go false ih = omega arith
 
-kept-finite : (ts : List Term) → finiteTerms ts ≡ true → All (λ (t : Term). isFinite (t .coefficient) ≡ true) (keptTerms ts)
+kept-finite : (cut : Float) (ts : List Term) → finiteTerms ts ≡ true → All (λ (t : Term). isFinite (t .coefficient) ≡ true) (keptTerms cut ts)
 unfolding keptTerms finiteTerms
-kept-finite [] e = tt
-kept-finite (t ∷ ts) e = go (nearZero (t .coefficient)) (kept-finite ts (right (isFinite (t .coefficient)) (finiteTerms ts) e))
+kept-finite cut [] e = tt
+kept-finite cut (t ∷ ts) e = go (nearZero cut (t .coefficient)) (kept-finite cut ts (right (isFinite (t .coefficient)) (finiteTerms ts) e))
   where
-    go : (z : Bool) → All (λ (t : Term). isFinite (t .coefficient) ≡ true) (keptTerms ts)
-        → All (λ (t : Term). isFinite (t .coefficient) ≡ true) (elim z [ true ↦ keptTerms ts | false ↦ t ∷ keptTerms ts ])
+    go : (z : Bool) → All (λ (t : Term). isFinite (t .coefficient) ≡ true) (keptTerms cut ts)
+        → All (λ (t : Term). isFinite (t .coefficient) ≡ true) (elim z [ true ↦ keptTerms cut ts | false ↦ t ∷ keptTerms cut ts ])
     go true ih = ih
     go false ih = (left (isFinite (t .coefficient)) (finiteTerms ts) e, ih)
 
--- an edit's term is kept
-kept-edit : (n : ℕ) → keptTerms (editTerms n) ≡ editTerms n
-unfolding keptTerms editTerms nearZero magnitude one64 zero64 cutoff lt ofBits
-kept-edit n = refl
+-- an edit's term is kept: 1 is above every cutoff
+kept-edit : (cut : Float) (n : ℕ) → cutoffFits cut ≡ true → keptTerms cut (editTerms n) ≡ editTerms n
+unfolding keptTerms editTerms
+kept-edit cut n fits = rw (one-kept cut fits, keptTerms) refl
 
 -- ---- a strength that is clipped, and isn't the required one
 
@@ -115,7 +116,7 @@ unfolding createRow addTag
 edit-marker terms k s w e = go (belowZero (c .row .constant))
   where
     b : Building
-    b = insertTerms terms (record { work = w; row = record { constant = k; cells = map (λ _. zero64) (w .tableau .symbols) } })
+    b = insertTerms (w .tableau .cutoff) terms (record { work = w; row = record { constant = k; cells = map (λ _. zero64) (w .tableau .symbols) } })
 
     c : Created
     c = addTag (equal s) b
@@ -144,17 +145,25 @@ plain : (s : State) → begin s .artificial ≡ none
 unfolding begin
 plain s = refl
 
-module _ (n : ℕ) (terms : List Term) (constant : Float) (r : Relation) (s : State) (reads : Reads s) (pass : firstRefusal (addTests n terms constant r s) ≡ none) where
+module _ (g n : ℕ) (terms : List Term) (constant : Float) (r : Relation) (s : State) (reads : Reads s) (pass : firstRefusal (addTests g n terms constant r s) ≡ none) where
   tests : ((not (finiteTerms terms && isFinite constant && isFinite (strengthOf r))) ≡ false) × (ltb 16 (length terms) ≡ false) × (hasConstraint n s ≡ false) × (constraintsFull s ≡ false) × (variablesFull terms s ≡ false)
   unfolding addTests
   tests =
-      let a = passed _ _ pass in
+      let a = passed _ _ (passed _ _ pass .1) in
       let b = passed _ _ (a .1) in
       let c = passed _ _ (b .1) in
       let d = passed _ _ (c .1) in
       let e = passed _ _ (d .1) in
       let f = passed _ _ (e .1) in
       (a .0, c .0, d .0, e .0, f .0)
+
+  grouped : ltb 0 g ≡ true
+  unfolding addTests
+  grouped = above g (passed _ _ pass .0)
+    where
+      above : (g : ℕ) → eqb g 0 ≡ false → ltb 0 g ≡ true
+      above zero e = absurd (true≢false e)
+      above (suc g) e = truly (ltb 0 (suc g)) (lt→ltb 0 (suc g) (omega arith))
 
   finite : (finiteTerms terms && isFinite constant && isFinite (strengthOf r)) ≡ true
   finite = not-false _ (tests .0)
@@ -168,7 +177,7 @@ module _ (n : ℕ) (terms : List Term) (constant : Float) (r : Relation) (s : St
   few : length (s .constraints) + length (s .edits) < 48
   few = room s (tests .3)
 
-  few-vars : length (s .changes .variables) + length (newVariables (s .changes .variables) [] (keptTerms terms)) ≤ 32
+  few-vars : length (s .changes .variables) + length (newVariables (s .changes .variables) [] (keptTerms (s .tableau .cutoff) terms)) ≤ 32
   few-vars = places terms s (tests .4)
 
   unused : times n (map conNumber (s .constraints)) ≡ 0
@@ -181,15 +190,15 @@ module _ (n : ℕ) (terms : List Term) (constant : Float) (r : Relation) (s : St
       go (some c) e q = absurd (true≢false q)
 
   added-reads : (c : Created) (a : Added) → tagKinds (strengthOf r) (c .tag) ≡ true
-      → AddedOk (λ m. tagsBy m (s .constraints) (s .edits)) (λ m. usesIn m (keptTerms terms) + usedBy m (s .constraints) (s .edits))
-      (suc (length (s .tableau .rows))) (length (s .changes .variables) + length (newVariables (s .changes .variables) [] (keptTerms terms))) c a
-      → Reads (finish (a .work) (keepConstraint (record { number = n; strength = strengthOf r; terms = keptTerms terms; tag = a .tag }) (s .constraints)) (s .edits))
+      → AddedOk (λ m. tagsBy m (s .constraints) (s .edits)) (λ m. usesIn m (keptTerms (s .tableau .cutoff) terms) + usedBy m (s .constraints) (s .edits))
+      (suc (length (s .tableau .rows))) (length (s .changes .variables) + length (newVariables (s .changes .variables) [] (keptTerms (s .tableau .cutoff) terms))) c a
+      → Reads (finish (a .work) (keepConstraint (record { number = n; group = g; strength = strengthOf r; terms = keptTerms (s .tableau .cutoff) terms; tag = a .tag }) (s .constraints)) (s .edits))
   added-reads c a kinds h =
       finish-reads (a .work) cs (s .edits) (good-to _ _ _ _ (a .work) tags uses (h .stands .good)) (h .stands .fine) stored
       (omega (arith, h .stands .size, few-vars)) (omega (arith, h .stands .rows, reads .few-rows, size))
     where
       con : Constraint
-      con = record { number = n; strength = strengthOf r; terms = keptTerms terms; tag = a .tag }
+      con = record { number = n; group = g; strength = strengthOf r; terms = keptTerms (s .tableau .cutoff) terms; tag = a .tag }
 
       cs : List Constraint
       cs = keepConstraint con (s .constraints)
@@ -209,40 +218,41 @@ module _ (n : ℕ) (terms : List Term) (constant : Float) (r : Relation) (s : St
       tags : (m : ℕ) → tagCode m (c .tag) + tagsBy m (s .constraints) (s .edits) ≡ tagsBy m cs (s .edits)
       tags m = omega (arith, part (λ (c : Constraint). tagCode m (c .tag)), ap (tagCode m) (h .tag))
 
-      uses : (m : ℕ) → usesIn m (keptTerms terms) + usedBy m (s .constraints) (s .edits) ≡ usedBy m cs (s .edits)
+      uses : (m : ℕ) → usesIn m (keptTerms (s .tableau .cutoff) terms) + usedBy m (s .constraints) (s .edits) ≡ usedBy m cs (s .edits)
       uses m = omega (arith, part (λ (c : Constraint). usesIn m (c .terms)))
 
       stored : Stored cs (s .edits)
       stored =
           record {
             few-tags = omega (arith, size, few);
-            few-terms = more _ (omega (arith, kept-length terms, at-most 16 (length terms) (tests .1))) (old .few-terms);
+            few-terms = more _ (omega (arith, kept-length (s .tableau .cutoff) terms, at-most 16 (length terms) (tests .1))) (old .few-terms);
             constraints-up = rw keepConstraint-is (keep-up conNumber 0 con (s .constraints) (omega arith) unused (old .constraints-up));
             edits-up = old .edits-up;
             constraints-finite =
                 more (λ (c : Constraint). constraintFinite c ≡ true)
                 (unfold constraintFinite in both (right (finiteTerms terms && isFinite constant) (isFinite (strengthOf r)) finite)
-                (all-out _ (keptTerms terms) (kept-finite terms terms-finite))) (old .constraints-finite);
+                (all-out _ (keptTerms (s .tableau .cutoff) terms) (kept-finite (s .tableau .cutoff) terms terms-finite))) (old .constraints-finite);
             constraint-kinds =
                 more (λ (c : Constraint). tagKinds (c .strength) (c .tag) ≡ true) (subst (λ (t : Tag). tagKinds (strengthOf r) t ≡ true) (sym (h .tag)) kinds)
                 (old .constraint-kinds);
             edits-finite = old .edits-finite;
             edit-kinds = old .edit-kinds;
+            groups = more (λ (c : Constraint). ltb 0 (c .group) ≡ true) grouped (old .groups);
           }
 
-pub add-kept : (n : ℕ) (terms : List Term) (constant : Float) (r : Relation) (budget : ℕ) (s : State) → Reads s → Reads (add n terms constant r budget s .state)
+pub add-kept : (g n : ℕ) (terms : List Term) (constant : Float) (r : Relation) (budget : ℕ) (s : State) → Reads s → Reads (add g n terms constant r budget s .state)
 unfolding add refusedBy
-add-kept n terms constant r budget s reads = go (firstRefusal (addTests n terms constant r s)) refl
+add-kept g n terms constant r budget s reads = go (firstRefusal (addTests g n terms constant r s)) refl
   where
-    go : (o : Option ℕ) → firstRefusal (addTests n terms constant r s) ≡ o → Reads (add n terms constant r budget s .state)
+    go : (o : Option ℕ) → firstRefusal (addTests g n terms constant r s) ≡ o → Reads (add g n terms constant r budget s .state)
     go (some k) e = rw (e, add) reads
     go none e =
         rw (e, add) (concludeAdd-reads s (addSteps budget terms constant r (begin s))
-        (λ a. finish (a .work) (keepConstraint (record { number = n; strength = strengthOf r; terms = keptTerms terms; tag = a .tag }) (s .constraints))
+        (λ a. finish (a .work) (keepConstraint (record { number = n; group = g; strength = strengthOf r; terms = keptTerms (s .tableau .cutoff) terms; tag = a .tag }) (s .constraints))
         (s .edits)) reads
         (ends-to _ _ (addSteps budget terms constant r (begin s))
-        (add-ends budget terms constant r _ _ (begin s) (begin-good s reads) (plain s) (constant-finite n terms constant r s reads e))
-        (λ a h. unfold begin in added-reads n terms constant r s reads e _ a (createRow-kinds terms constant r _) h)))
+        (add-ends budget terms constant r _ _ (begin s) (begin-good s reads) (plain s) (constant-finite g n terms constant r s reads e))
+        (λ a h. unfold begin in added-reads g n terms constant r s reads e _ a (createRow-kinds terms constant r _) h)))
 
 module _ (n : ℕ) (strength : Float) (s : State) (reads : Reads s) (pass : firstRefusal (addEditTests n strength s) ≡ none) where
   edit-tests : (hasEdit n s ≡ false) × (eq strength required ≡ false) × (constraintsFull s ≡ false) × (variablesFull (editTerms n) s ≡ false)
@@ -263,8 +273,8 @@ module _ (n : ℕ) (strength : Float) (s : State) (reads : Reads s) (pass : firs
       go (some c) e q = absurd (true≢false q)
 
   edit-reads : isFinite strength ≡ true → (c : Created) (a : Added) → isError (c .tag .marker) ≡ true → tagKinds strength (c .tag) ≡ true
-      → AddedOk (λ m. tagsBy m (s .constraints) (s .edits)) (λ m. usesIn m (keptTerms (editTerms n)) + usedBy m (s .constraints) (s .edits))
-      (suc (length (s .tableau .rows))) (length (s .changes .variables) + length (newVariables (s .changes .variables) [] (keptTerms (editTerms n)))) c a
+      → AddedOk (λ m. tagsBy m (s .constraints) (s .edits)) (λ m. usesIn m (keptTerms (s .tableau .cutoff) (editTerms n)) + usedBy m (s .constraints) (s .edits))
+      (suc (length (s .tableau .rows))) (length (s .changes .variables) + length (newVariables (s .changes .variables) [] (keptTerms (s .tableau .cutoff) (editTerms n)))) c a
       → Reads (finish (a .work) (s .constraints) (keepEdit (record { variable = n; strength = strength; tag = a .tag; suggestion = zero64 }) (s .edits)))
   edit-reads held c a marker kinds h =
       finish-reads (a .work) (s .constraints) es (good-to _ _ _ _ (a .work) tags uses (h .stands .good)) (h .stands .fine) stored
@@ -291,8 +301,8 @@ module _ (n : ℕ) (strength : Float) (s : State) (reads : Reads s) (pass : firs
       tags : (m : ℕ) → tagCode m (c .tag) + tagsBy m (s .constraints) (s .edits) ≡ tagsBy m (s .constraints) es
       tags m = omega (arith, part (λ (e : Edit). tagCode m (e .tag)), ap (tagCode m) (h .tag))
 
-      uses : (m : ℕ) → usesIn m (keptTerms (editTerms n)) + usedBy m (s .constraints) (s .edits) ≡ usedBy m (s .constraints) es
-      uses m = omega (arith, part (λ (e : Edit). usesIn m (editTerms (e .variable))), ap (usesIn m) (kept-edit n))
+      uses : (m : ℕ) → usesIn m (keptTerms (s .tableau .cutoff) (editTerms n)) + usedBy m (s .constraints) (s .edits) ≡ usedBy m (s .constraints) es
+      uses m = omega (arith, part (λ (e : Edit). usesIn m (editTerms (e .variable))), ap (usesIn m) (kept-edit (s .tableau .cutoff) n (reads .cutoff)))
 
       stored : Stored (s .constraints) es
       stored =
@@ -307,6 +317,7 @@ module _ (n : ℕ) (strength : Float) (s : State) (reads : Reads s) (pass : firs
             edit-kinds =
                 more (λ (e : Edit). editKinds e ≡ true)
                 (unfold editKinds in both (ap (λ (t : Tag). isError (t .marker)) (h .tag) ∙ marker) (ap (tagKinds strength) (h .tag) ∙ kinds)) (old .edit-kinds);
+            groups = old .groups;
           }
 
 pub addEdit-kept : (n : ℕ) (strength : Float) (budget : ℕ) (s : State) → Reads s → Reads (addEdit n strength budget s .state)

@@ -67,8 +67,8 @@ along-zero R f (x ∷ xs) = (f (x .id), along-zero R f xs)
 
 -- ---- the operations on cells
 
-module _ (O Q : ℕ → Float → Type 0) (R : ℕ → Cell → Type 0) (k : Float) (f : (i : ℕ) (o c : Float) → O i o → Q i c → R i (insertTimes k o c)) where
-  pub along-insertCells : (xs : List Symbol) (os cs : List Float) → Along O xs os → Along Q xs cs → Along R xs (insertCells k os cs)
+module _ (O Q : ℕ → Float → Type 0) (R : ℕ → Cell → Type 0) (cut k : Float) (f : (i : ℕ) (o c : Float) → O i o → Q i c → R i (insertTimes cut k o c)) where
+  pub along-insertCells : (xs : List Symbol) (os cs : List Float) → Along O xs os → Along Q xs cs → Along R xs (insertCells cut k os cs)
   unfolding insertCells
   along-insertCells [] [] [] g h = tt
   along-insertCells [] [] (c ∷ cs) g h = absurd h
@@ -77,16 +77,16 @@ module _ (O Q : ℕ → Float → Type 0) (R : ℕ → Cell → Type 0) (k : Flo
   along-insertCells (x ∷ xs) (o ∷ os) [] g h = absurd h
   along-insertCells (x ∷ xs) (o ∷ os) (c ∷ cs) g h = (f (x .id) o c (g .0) (h .0), along-insertCells xs os cs (g .1) (h .1))
 
-module _ (Q : ℕ → Float → Type 0) (R : ℕ → Cell → Type 0) (s : ℕ) (k : Float) (here : (c : Float) → Q s c → R s (insertCell c k)) (there : (i : ℕ) (c : Float) → s ≢ i → Q i c → R i (kept c)) where
-  pub along-insertSymbol : (xs : List Symbol) (cs : List Float) → Along Q xs cs → Along R xs (insertSymbol s k xs cs)
+module _ (Q : ℕ → Float → Type 0) (R : ℕ → Cell → Type 0) (cut : Float) (s : ℕ) (k : Float) (here : (c : Float) → Q s c → R s (insertCell cut c k)) (there : (i : ℕ) (c : Float) → s ≢ i → Q i c → R i (kept c)) where
+  pub along-insertSymbol : (xs : List Symbol) (cs : List Float) → Along Q xs cs → Along R xs (insertSymbol cut s k xs cs)
   unfolding insertSymbol isSymbol
   along-insertSymbol [] [] h = tt
   along-insertSymbol [] (c ∷ cs) h = absurd h
   along-insertSymbol (x ∷ xs) [] h = absurd h
   along-insertSymbol (x ∷ xs) (c ∷ cs) h = (go (same? s (x .id)) (h .0), along-insertSymbol xs cs (h .1))
     where
-      go : Same? s (x .id) → Q (x .id) c → R (x .id) (elim (eqb s (x .id)) [ true ↦ insertCell c k | false ↦ kept c ])
-      go (is a b d) q = rw a (subst (λ (i : ℕ). R i (insertCell c k)) b (here c (subst (λ (i : ℕ). Q i c) (sym b) q)))
+      go : Same? s (x .id) → Q (x .id) c → R (x .id) (elim (eqb s (x .id)) [ true ↦ insertCell cut c k | false ↦ kept c ])
+      go (is a b d) q = rw a (subst (λ (i : ℕ). R i (insertCell cut c k)) b (here c (subst (λ (i : ℕ). Q i c) (sym b) q)))
       go (isnt a b d) q = rw a (there (x .id) c b q)
 
 pub along-scale : (Q : ℕ → Float → Type 0) (R : ℕ → Cell → Type 0) (k : Float) → ((i : ℕ) (c : Float) → Q i c → R i (scaleCell k c))

@@ -47,37 +47,37 @@ module _ (K U : ℕ → ℕ) (N : ℕ) (b : Building) (h : Built K U N b) where
       record {
         good = marked m;
         row =
-            unfold marking in insertSymbolInRow-ok (IsBasic (b .work .tableau .rows)) (Fine (b .work .mark)) (Fine (worse (b .work .mark) m))
+            unfold marking in insertSymbolInRow-ok (b .work .tableau .cutoff) (IsBasic (b .work .tableau .rows)) (Fine (b .work .mark)) (Fine (worse (b .work .mark) m))
             (fine-l (b .work .mark) m) (b .work .tableau .symbols) s k (b .row) (λ q. omega arith) (h .row) (fine-r (b .work .mark) m);
         plain = unfold marking in h .plain;
         count = unfold marking in h .count;
       }
     where
       m : Mark
-      m = insertSymbolInRow s k (b .work .tableau .symbols) (b .row) .mark
+      m = insertSymbolInRow (b .work .tableau .cutoff) s k (b .work .tableau .symbols) (b .row) .mark
 
   insertRow-built : (r : Row) (k : Float) → RowOk (IsBasic (b .work .tableau .rows)) (Fine (b .work .mark)) (b .work .tableau .symbols) r
-      → Built K U N (written (insertRow r k (b .row)) (b .work))
+      → Built K U N (written (insertRow (b .work .tableau .cutoff) r k (b .row)) (b .work))
   unfolding written
   insertRow-built r k o =
       record {
         good = marked m;
         row =
-            unfold marking in insertRow-ok (IsBasic (b .work .tableau .rows)) (Fine (b .work .mark)) (Fine (worse (b .work .mark) m)) (fine-l (b .work .mark) m)
+            unfold marking in insertRow-ok (b .work .tableau .cutoff) (IsBasic (b .work .tableau .rows)) (Fine (b .work .mark)) (Fine (worse (b .work .mark) m)) (fine-l (b .work .mark) m)
             (b .work .tableau .symbols) k r (b .row) o (h .row) (fine-r (b .work .mark) m);
         plain = unfold marking in h .plain;
         count = unfold marking in h .count;
       }
     where
       m : Mark
-      m = insertRow r k (b .row) .mark
+      m = insertRow (b .work .tableau .cutoff) r k (b .row) .mark
 
   pub insertVariable-built : (s : Symbol) (k : Float) → Built K U N (insertVariable s k b)
   unfolding insertVariable
   insertVariable-built s k = go (findRow (s .id) (b .work .tableau .rows)) (row? (s .id) (b .work .tableau .rows))
     where
       next : Option Row → Building
-      next o = elim o [ none ↦ insertInto (s .id) k b | some r ↦ written (insertRow r k (b .row)) (b .work) ]
+      next o = elim o [ none ↦ insertInto (s .id) k b | some r ↦ written (insertRow (b .work .tableau .cutoff) r k (b .row)) (b .work) ]
 
       go : (o : Option Row) → Row? (s .id) (b .work .tableau .rows) o → Built K U N (next o)
       go o (no-row q) = insertInto-built (s .id) k (find-none rowId (s .id) (b .work .tableau .rows) q)
@@ -130,6 +130,7 @@ append-built K U N b s e h =
             C = h .good .C;
             vars = unfold appendSymbol withTableau in h .good .vars;
             owns = λ n. unfold appendSymbol withTableau in omega (arith, codes-append n (b .work .tableau .symbols) s, h .good .owns n);
+            cutoff = unfold appendSymbol withTableau in h .good .cutoff;
           };
       row = append-row s (b .work) (b .row) (h .row);
       plain = unfold appendSymbol withTableau in h .plain;
@@ -175,6 +176,7 @@ addVariable-built K U N n b z h =
             C = λ m. same m (code s) + h .good .C m;
             vars = unfold appendSymbol withTableau in new-vars n s (h .good .C) U (b .work .changes .variables) (unfold isExternal in refl) z (h .good .vars);
             owns = λ m. unfold appendSymbol withTableau in omega (arith, codes-append m (b .work .tableau .symbols) s, h .good .owns m);
+            cutoff = unfold appendSymbol withTableau in h .good .cutoff;
           };
       row = append-row s (b .work) (b .row) (h .row);
       plain = unfold appendSymbol withTableau in h .plain;

@@ -161,22 +161,22 @@ module _ (B : ℕ → Type 0) (G : Type 0) (bound : Float) (i : ℕ) where
   unfolding cellValue cellMark
   wrote-ok c h = ((λ b. stored-absent c (h b)), λ g f. stored-finite c (write-finite bound c f))
 
-  pub insert-ok : (c k : Float) → (B i → ⊥) → Ok B G i c → OkCell B G bound i (insertCell c k)
+  pub insert-ok : (cut c k : Float) → (B i → ⊥) → Ok B G i c → OkCell B G bound i (insertCell cut c k)
   unfolding insertCell
-  insert-ok c k n h = go (absent c) (nearZero k)
+  insert-ok cut c k n h = go (absent c) (nearZero cut k)
     where
-      go : (a z : Bool) → OkCell B G bound i (elim a [ true ↦ elim z [ true ↦ kept c | false ↦ wrote k ] | false ↦ wrote (goesIfNearZero (c +₆₄ k)) ])
+      go : (a z : Bool) → OkCell B G bound i (elim a [ true ↦ elim z [ true ↦ kept c | false ↦ wrote k ] | false ↦ wrote (goesIfNearZero cut (c +₆₄ k)) ])
       go true true = kept-ok c h
       go true false = wrote-ok k (λ b. absurd (n b))
-      go false z = wrote-ok (goesIfNearZero (c +₆₄ k)) (λ b. absurd (n b))
+      go false z = wrote-ok (goesIfNearZero cut (c +₆₄ k)) (λ b. absurd (n b))
 
-  pub times-ok : (k o c : Float) → Ok B G i o → Ok B G i c → OkCell B G bound i (insertTimes k o c)
+  pub times-ok : (cut k o c : Float) → Ok B G i o → Ok B G i c → OkCell B G bound i (insertTimes cut k o c)
   unfolding insertTimes
-  times-ok k o c g h = go (absent o) refl
+  times-ok cut k o c g h = go (absent o) refl
     where
-      go : (a : Bool) → absent o ≡ a → OkCell B G bound i (elim a [ true ↦ kept c | false ↦ insertCell c (o *₆₄ k) ])
+      go : (a : Bool) → absent o ≡ a → OkCell B G bound i (elim a [ true ↦ kept c | false ↦ insertCell cut c (o *₆₄ k) ])
       go true e = kept-ok c h
-      go false e = insert-ok c (o *₆₄ k) (λ b. no-both (g .0 b) e) h
+      go false e = insert-ok cut c (o *₆₄ k) (λ b. no-both (g .0 b) e) h
 
   pub scale-ok : (k c : Float) → Ok B G i c → OkCell B G bound i (scaleCell k c)
   unfolding scaleCell

@@ -84,7 +84,7 @@ addError-step K U N b s k strength e h =
     one = addSymbol-step K U N b s k e h
 
     only : Frame (added .work) goal
-    only = unfold insertInObjective marking withObjective withTableau in record { symbols = refl; next = refl; variables = refl; plain = λ e. e }
+    only = unfold insertInObjective marking withObjective withTableau in record { symbols = refl; next = refl; variables = refl; plain = λ e. e; cutoff = refl }
 
 -- ---- a row with its tag; L is the number of variables
 
@@ -215,8 +215,8 @@ addTag-kinds (equal s) b = go (lt s required) refl
 -- ---- steps 1 to 3
 
 pub createRow-tagged : (K U : ℕ → ℕ) (terms : List Term) (constant : Float) (r : Relation) (w : Work) → Good K U w → w .artificial ≡ none → isFinite constant ≡ true
-    → Tagged K (λ m. usesIn m (keptTerms terms) + U m) (length (w .tableau .rows))
-    (length (w .changes .variables) + length (newVariables (w .changes .variables) [] (keptTerms terms))) (createRow terms constant r w)
+    → Tagged K (λ m. usesIn m (keptTerms (w .tableau .cutoff) terms) + U m) (length (w .tableau .rows))
+    (length (w .changes .variables) + length (newVariables (w .changes .variables) [] (keptTerms (w .tableau .cutoff) terms))) (createRow terms constant r w)
 unfolding createRow
 createRow-tagged K U terms constant r w g plain fin = go (belowZero (c .row .constant))
   where
@@ -224,19 +224,19 @@ createRow-tagged K U terms constant r w g plain fin = go (belowZero (c .row .con
     start = record { work = w; row = record { constant = constant; cells = map (λ _. zero64) (w .tableau .symbols) } }
 
     c : Created
-    c = addTag r (insertTerms terms start)
+    c = addTag r (insertTerms (w .tableau .cutoff) terms start)
 
     L : ℕ
-    L = length (w .changes .variables) + length (newVariables (w .changes .variables) [] (keptTerms terms))
+    L = length (w .changes .variables) + length (newVariables (w .changes .variables) [] (keptTerms (w .tableau .cutoff) terms))
 
-    built : Tagged K (λ m. usesIn m (keptTerms terms) + U m) (length (w .tableau .rows)) L c
-    built = subst (λ (l : ℕ). Tagged K (λ m. usesIn m (keptTerms terms) + U m) (length (w .tableau .rows)) l c) (insertTerms-length terms start)
-        (addTag-tagged K (λ m. usesIn m (keptTerms terms) + U m) (length (w .tableau .rows)) (insertTerms terms start) r
-        (insertTerms-built K U (length (w .tableau .rows)) terms start
+    built : Tagged K (λ m. usesIn m (keptTerms (w .tableau .cutoff) terms) + U m) (length (w .tableau .rows)) L c
+    built = subst (λ (l : ℕ). Tagged K (λ m. usesIn m (keptTerms (w .tableau .cutoff) terms) + U m) (length (w .tableau .rows)) l c) (insertTerms-length (w .tableau .cutoff) terms start)
+        (addTag-tagged K (λ m. usesIn m (keptTerms (w .tableau .cutoff) terms) + U m) (length (w .tableau .rows)) (insertTerms (w .tableau .cutoff) terms start) r
+        (insertTerms-built (w .tableau .cutoff) K U (length (w .tableau .rows)) terms start
         (record { good = g; row = bare-ok (IsBasic (w .tableau .rows)) (Fine (w .mark)) (w .tableau .symbols) constant fin; plain = plain; count = refl })))
 
     go : (t : Bool)
-        → Tagged K (λ m. usesIn m (keptTerms terms) + U m) (length (w .tableau .rows)) L (elim t [ false ↦ c | true ↦ record { work = c .work; row = reverseSign (c .row); tag = c .tag } ])
+        → Tagged K (λ m. usesIn m (keptTerms (w .tableau .cutoff) terms) + U m) (length (w .tableau .rows)) L (elim t [ false ↦ c | true ↦ record { work = c .work; row = reverseSign (c .row); tag = c .tag } ])
     go false = built
     go true =
         record {
@@ -254,7 +254,7 @@ unfolding createRow
 createRow-kinds terms constant r w = go (belowZero (c .row .constant))
   where
     c : Created
-    c = addTag r (insertTerms terms (record { work = w; row = record { constant = constant; cells = map (λ _. zero64) (w .tableau .symbols) } }))
+    c = addTag r (insertTerms (w .tableau .cutoff) terms (record { work = w; row = record { constant = constant; cells = map (λ _. zero64) (w .tableau .symbols) } }))
 
     made : Bool → Created
     made t = elim t [ false ↦ c | true ↦ record { work = c .work; row = reverseSign (c .row); tag = c .tag } ]

@@ -177,6 +177,7 @@ purge-good s K L U w g plain h =
       C = g .C;
       vars = unfold purge withTableau in g .vars;
       owns = unfold purge withTableau in purge-owns s (λ n. g .C n + L n) (w .tableau .symbols) (g .fits .up) (λ n. omega (arith, g .owns n, h n));
+      cutoff = unfold purge withTableau in g .cutoff;
     }
 
 -- ---- a term's use falls
@@ -223,13 +224,14 @@ dropUse-good t K U W w g plain h = go (fallen .gone) refl
 
     go : (o : Option Symbol) → fallen .gone ≡ o → Good K W (after o) × Shrunk w (after o)
     go none e =
-        (record { fits = g .fits; C = λ n. total (varCode n) (fallen .variables); vars = vars; owns = λ n. omega (arith, rw e at (left n)) }, shrunk)
+        (record { fits = g .fits; C = λ n. total (varCode n) (fallen .variables); vars = vars; owns = λ n. omega (arith, rw e at (left n)); cutoff = g .cutoff }, shrunk)
     go (some s) e = (
       record {
         fits = purge-fits (s .id) v (g .fits) plain;
         C = λ n. total (varCode n) (fallen .variables);
         vars = unfold purge withTableau in vars;
         owns = unfold purge withTableau in purge-owns s (λ n. total (varCode n) (fallen .variables) + K n) (w .tableau .symbols) (g .fits .up) (λ n. rw e at (left n));
+        cutoff = unfold purge withTableau in g .cutoff;
       },
       shrunk-trans shrunk (purge-shrunk (s .id) v),
     )

@@ -5,7 +5,7 @@ use mathlib.Core.Option.{Option, none, some}
 use mathlib.Core.Bool.{Bool, true, false, cond, _&&_}
 use Prim.Native.Nat.{ℕ, suc}
 use lib.ListN.{length}
-use lib.Ieee.{ne}
+use lib.Ieee.{Float, ne}
 use Rattle.steps.specs.Number.{zero64, Mark}
 use Rattle.steps.specs.Symbol.{Symbol, isExternal}
 use Rattle.steps.specs.Row.{Row, Written, solveForSymbols}
@@ -20,9 +20,10 @@ pub record Frame (w v : Work) : Type 0 where
   pub next : v .tableau .nextId ≡ w .tableau .nextId
   pub variables : clearChanged (v .changes .variables) ≡ clearChanged (w .changes .variables)
   pub plain : w .artificial ≡ none → v .artificial ≡ none
+  pub cutoff : v .tableau .cutoff ≡ w .tableau .cutoff
 
 pub frame-refl : (w : Work) → Frame w w
-frame-refl w = record { symbols = refl; next = refl; variables = refl; plain = λ e. e }
+frame-refl w = record { symbols = refl; next = refl; variables = refl; plain = λ e. e; cutoff = refl }
 
 pub frame-trans : {w v u : Work} → Frame w v → Frame v u → Frame w u
 frame-trans f g =
@@ -31,6 +32,7 @@ frame-trans f g =
       next = g .next ∙ f .next;
       variables = g .variables ∙ f .variables;
       plain = λ e. g .plain (f .plain e);
+      cutoff = g .cutoff ∙ f .cutoff;
     }
 
 -- ---- flags
@@ -66,21 +68,22 @@ substitute-frame s r w =
     record {
       symbols = refl;
       next = refl;
-      variables = clear-all (notedOf (substituteInRows s (w .tableau .symbols) r (w .tableau .rows))) (w .changes);
+      variables = clear-all (notedOf (substituteInRows (w .tableau .cutoff) s (w .tableau .symbols) r (w .tableau .rows))) (w .changes);
       plain = λ e. rw e;
+      cutoff = refl;
     }
 
 pub note-frame : (s : ℕ) (w : Work) → Frame w (note s w)
 unfolding note withChanges
-note-frame s w = record { symbols = refl; next = refl; variables = clear-changed s (w .changes); plain = λ e. e }
+note-frame s w = record { symbols = refl; next = refl; variables = clear-changed s (w .changes); plain = λ e. e; cutoff = refl }
 
 pub rows-frame : (bs : List Basic) (w : Work) → Frame w (withRows bs w)
 unfolding withRows withTableau
-rows-frame bs w = record { symbols = refl; next = refl; variables = refl; plain = λ e. e }
+rows-frame bs w = record { symbols = refl; next = refl; variables = refl; plain = λ e. e; cutoff = refl }
 
 pub mark-frame : (m : Mark) (w : Work) → Frame w (marking m w)
 unfolding marking
-mark-frame m w = record { symbols = refl; next = refl; variables = refl; plain = λ e. e }
+mark-frame m w = record { symbols = refl; next = refl; variables = refl; plain = λ e. e; cutoff = refl }
 
 pub enter-frame : (s : Symbol) (r : Row) (w : Work) → Frame w (enterBasis s r w)
 unfolding enterBasis
@@ -93,10 +96,10 @@ enter-frame s r w = go (isExternal s && ne (r .constant) zero64)
     go true = frame-trans (frame-trans (substitute-frame (s .id) r w) (note-frame (s .id) v)) (rows-frame _ (note (s .id) v))
     go false = frame-trans (substitute-frame (s .id) r w) (rows-frame _ v)
 
-pub rowsOf-length : (s : ℕ) (xs : List Symbol) (r : Row) (bs : List Basic) → length (rowsOf (substituteInRows s xs r bs)) ≡ length bs
+pub rowsOf-length : (cut : Float) (s : ℕ) (xs : List Symbol) (r : Row) (bs : List Basic) → length (rowsOf (substituteInRows cut s xs r bs)) ≡ length bs
 unfolding rowsOf substituteInRows
-rowsOf-length s xs r [] = refl
-rowsOf-length s xs r (b ∷ bs) = ap suc (rowsOf-length s xs r bs)
+rowsOf-length cut s xs r [] = refl
+rowsOf-length cut s xs r (b ∷ bs) = ap suc (rowsOf-length cut s xs r bs)
 
 pub enter-count : (s : Symbol) (r : Row) (w : Work) → length (enterBasis s r w .tableau .rows) ≡ suc (length (w .tableau .rows))
 unfolding enterBasis substitute marking withArtificial withChanges withObjective withRows withTableau note
@@ -109,8 +112,8 @@ enter-count s r w = go (isExternal s && ne (r .constant) zero64)
     more bs e = rw keepRow-is (keep-length rowId _ bs ∙ ap suc e)
 
     go : (t : Bool) → length (keepRow (record { symbol = s; row = r }) ((cond t (note (s .id) v) v) .tableau .rows)) ≡ suc (length (w .tableau .rows))
-    go true = more _ (rowsOf-length (s .id) (w .tableau .symbols) r (w .tableau .rows))
-    go false = more _ (rowsOf-length (s .id) (w .tableau .symbols) r (w .tableau .rows))
+    go true = more _ (rowsOf-length (w .tableau .cutoff) (s .id) (w .tableau .symbols) r (w .tableau .rows))
+    go false = more _ (rowsOf-length (w .tableau .cutoff) (s .id) (w .tableau .symbols) r (w .tableau .rows))
 
 pub pivot-frame : (l : ℕ) (e : Symbol) (w : Work) → Frame w (pivot l e w)
 unfolding pivot
@@ -118,13 +121,13 @@ pivot-frame l e w = go (findRow l (w .tableau .rows))
   where
     after : Row → Work
     after row =
-        let solved : Written = solveForSymbols l (e .id) (w .tableau .symbols) row in
+        let solved : Written = solveForSymbols (w .tableau .cutoff) l (e .id) (w .tableau .symbols) row in
         enterBasis e (solved .row) (marking (solved .mark) (withRows (dropRow l (w .tableau .rows)) w))
 
     go : (o : Option Row) → Frame w (elim o [ none ↦ w | some row ↦ after row ])
     go none = frame-refl w
     go (some row) =
-        let solved : Written = solveForSymbols l (e .id) (w .tableau .symbols) row in
+        let solved : Written = solveForSymbols (w .tableau .cutoff) l (e .id) (w .tableau .symbols) row in
         let x : Work = withRows (dropRow l (w .tableau .rows)) w in
         frame-trans (frame-trans (rows-frame (dropRow l (w .tableau .rows)) w) (mark-frame (solved .mark) x)) (enter-frame e (solved .row) (marking (solved .mark) x))
 
@@ -134,7 +137,7 @@ pivot-count l e w = go (findRow l (w .tableau .rows)) (row? l (w .tableau .rows)
   where
     after : Row → Work
     after row =
-        let solved : Written = solveForSymbols l (e .id) (w .tableau .symbols) row in
+        let solved : Written = solveForSymbols (w .tableau .cutoff) l (e .id) (w .tableau .symbols) row in
         enterBasis e (solved .row) (marking (solved .mark) (withRows (dropRow l (w .tableau .rows)) w))
 
     next : Option Row → Work

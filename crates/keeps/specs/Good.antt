@@ -1,12 +1,12 @@
--- The work of a call on a state that reads: the tableau's shape, and the variables, whose symbols with K's are the live ones and whose uses are U. Assumes nothing.
+-- The work of a call on a state that reads: the tableau's shape, and the variables, whose symbols with K's are the live ones and whose uses are U; a cutoff in its range. Assumes nothing.
 use mathlib.Core.Path.{_≡_, refl, sym, ap, ap₂, _∙_}
 use mathlib.Core.List.{List, [], _∷_, map}
 use mathlib.Core.Bool.{true, false, cond, _||_}
 use Prim.Native.Nat.{ℕ, _+_, _≤_}
-use lib.Dec.{eqb}
+use lib.Dec.{eqb, ltb}
 use lib.ListN.{length, length-map}
 use lib.Ieee.{isNan}
-use Rattle.steps.specs.Number.{isFinite, allWhole}
+use Rattle.steps.specs.Number.{isFinite, cutoffFits, allWhole}
 use Rattle.steps.specs.Symbol.{Symbol, isExternal}
 use Rattle.steps.specs.State.{Variable, Constraint, Edit, State}
 use Rattle.steps.specs.Work.{Work}
@@ -92,6 +92,7 @@ pub record Good (K U : ℕ → ℕ) (w : Work) : Type 0 where
   pub C : ℕ → ℕ
   pub vars : Vars C U (w .changes .variables)
   pub owns : (n : ℕ) → C n + K n ≡ times n (codes (w .tableau .symbols))
+  pub cutoff : cutoffFits (w .tableau .cutoff) ≡ true
 
 pub good-frame : (K U : ℕ → ℕ) (w v : Work) → Good K U w → FitsW v → Frame w v → Good K U v
 good-frame K U w v g f h =
@@ -100,6 +101,7 @@ good-frame K U w v g f h =
       C = g .C;
       vars = vars-flags (g .C) U (w .changes .variables) (v .changes .variables) (h .variables) (g .vars);
       owns = λ n. g .owns n ∙ ap (λ (xs : List Symbol). times n (codes xs)) (sym (h .symbols));
+      cutoff = ap cutoffFits (h .cutoff) ∙ g .cutoff;
     }
 
 pub good-to : (K L U W : ℕ → ℕ) (w : Work) → ((n : ℕ) → K n ≡ L n) → ((n : ℕ) → U n ≡ W n) → Good K U w → Good L W w
@@ -109,6 +111,7 @@ good-to K L U W w k u g =
       C = g .C;
       vars = record { up = g .vars .up; symbols = g .vars .symbols; uses = λ n. g .vars .uses n ∙ u n; olds = g .vars .olds; externals = g .vars .externals };
       owns = λ n. ap (λ (a : ℕ). g .C n + a) (sym (k n)) ∙ g .owns n;
+      cutoff = g .cutoff;
     }
 
 -- ---- the start
@@ -124,6 +127,7 @@ begin-good s r =
       C = λ n. total (varCode n) (s .changes .variables);
       vars = record { up = r .variables-up; symbols = λ n. refl; uses = r .uses; olds = r .olds; externals = r .externals };
       owns = r .owns;
+      cutoff = r .cutoff;
     }
 
 -- ---- the end
@@ -138,6 +142,7 @@ pub record Stored (cs : List Constraint) (es : List Edit) : Type 0 where
   pub constraint-kinds : All (λ (c : Constraint). tagKinds (c .strength) (c .tag) ≡ true) cs
   pub edits-finite : All (λ (e : Edit). editFinite e ≡ true) es
   pub edit-kinds : All (λ (e : Edit). editKinds e ≡ true) es
+  pub groups : All (λ (c : Constraint). ltb 0 (c .group) ≡ true) cs
 
 pub stored-in : (s : State) → Reads s → Stored (s .constraints) (s .edits)
 stored-in s r =
@@ -150,6 +155,7 @@ stored-in s r =
       constraint-kinds = r .constraint-kinds;
       edits-finite = r .edits-finite;
       edit-kinds = r .edit-kinds;
+      groups = r .groups;
     }
 
 pub finish-reads : (w : Work) (cs : List Constraint) (es : List Edit) → Good (λ n. tagsBy n cs es) (λ n. usedBy n cs es) w → Fine (w .mark) → Stored cs es
@@ -173,4 +179,6 @@ finish-reads w cs es g m t few rows =
       constraint-kinds = t .constraint-kinds;
       edits-finite = t .edits-finite;
       edit-kinds = t .edit-kinds;
+      cutoff = g .cutoff;
+      groups = t .groups;
     }

@@ -40,22 +40,22 @@ pub symbol-objective : (s : ℕ) (k : Float) (w : Work) → FitsW w → times s 
 unfolding insertInObjective marking withObjective withTableau
 symbol-objective s k w f z =
     fits-objective f (cellValues cells) (cellMarks objectiveBound cells)
-    (symbol-inserted (IsBasic (w .tableau .rows)) (Fine (w .mark)) (Fine (worse (w .mark) (cellMarks objectiveBound cells))) (fine-l (w .mark) _)
+    (symbol-inserted (w .tableau .cutoff) (IsBasic (w .tableau .rows)) (Fine (w .mark)) (Fine (worse (w .mark) (cellMarks objectiveBound cells))) (fine-l (w .mark) _)
     (w .tableau .symbols) objectiveBound s k (w .tableau .objective) (λ b. omega arith) (f .objective) (fine-r (w .mark) _))
   where
     cells : List Cell
-    cells = insertSymbol s k (w .tableau .symbols) (w .tableau .objective)
+    cells = insertSymbol (w .tableau .cutoff) s k (w .tableau .symbols) (w .tableau .objective)
 
 row-objective : (r : Row) (k : Float) (w : Work) → FitsW w → RowOk (IsBasic (w .tableau .rows)) (Fine (w .mark)) (w .tableau .symbols) r
     → FitsW (insertRowInObjective r k w)
 unfolding insertRowInObjective marking withObjective withTableau
 row-objective r k w f h =
     fits-objective f (cellValues cells) (cellMarks objectiveBound cells)
-    (cells-inserted (IsBasic (w .tableau .rows)) (Fine (w .mark)) (Fine (worse (w .mark) (cellMarks objectiveBound cells))) (fine-l (w .mark) _)
+    (cells-inserted (w .tableau .cutoff) (IsBasic (w .tableau .rows)) (Fine (w .mark)) (Fine (worse (w .mark) (cellMarks objectiveBound cells))) (fine-l (w .mark) _)
     (w .tableau .symbols) objectiveBound k (r .cells) (w .tableau .objective) (h .1) (f .objective) (fine-r (w .mark) _))
   where
     cells : List Cell
-    cells = insertCells k (r .cells) (w .tableau .objective)
+    cells = insertCells (w .tableau .cutoff) k (r .cells) (w .tableau .objective)
 
 -- the objective and the mark alone change
 pub record OnlyGoal (w v : Work) : Type 0 where
@@ -74,7 +74,7 @@ effect s strength w f = go (isError s)
     by o (no-row q) =
         record {
           fits = symbol-objective (s .id) (neg strength) w f (find-none rowId (s .id) (w .tableau .rows) q);
-          frame = unfold insertInObjective marking withObjective withTableau in record { symbols = refl; next = refl; variables = refl; plain = λ e. e };
+          frame = unfold insertInObjective marking withObjective withTableau in record { symbols = refl; next = refl; variables = refl; plain = λ e. e; cutoff = refl };
           rows = unfold insertInObjective marking withObjective withTableau in refl;
         }
     by o (a-row b q) =
@@ -84,7 +84,7 @@ effect s strength w f = go (isError s)
               (find-all rowId (λ (b : Basic). RowOk (IsBasic (w .tableau .rows)) (Fine (w .mark)) (w .tableau .symbols) (b .row)) (s .id) (w .tableau .rows) b q
               (f .rows));
           frame =
-              unfold insertRowInObjective marking withObjective withTableau in record { symbols = refl; next = refl; variables = refl; plain = λ e. e };
+              unfold insertRowInObjective marking withObjective withTableau in record { symbols = refl; next = refl; variables = refl; plain = λ e. e; cutoff = refl };
           rows = unfold insertRowInObjective marking withObjective withTableau in refl;
         }
 
@@ -205,7 +205,7 @@ pivot-basic l e w h = go (findRow l (w .tableau .rows)) (row? l (w .tableau .row
   where
     after : Row → Work
     after row =
-        let solved : Written = solveForSymbols l (e .id) (w .tableau .symbols) row in
+        let solved : Written = solveForSymbols (w .tableau .cutoff) l (e .id) (w .tableau .symbols) row in
         enterBasis e (solved .row) (marking (solved .mark) (withRows (dropRow l (w .tableau .rows)) w))
 
     next : Option Row → Work

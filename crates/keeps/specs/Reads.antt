@@ -5,9 +5,10 @@ use mathlib.Core.Option.{none}
 use mathlib.Core.Bool.{true, _||_}
 use Prim.Native.Nat.{ℕ, _+_, _≤_}
 use native.Mathlib.Omega.{arith}
+use lib.Dec.{ltb}
 use lib.ListN.{length, length-append, length-map}
 use lib.Ieee.{isNan}
-use Rattle.steps.specs.Number.{isFinite, allWhole}
+use Rattle.steps.specs.Number.{isFinite, cutoffFits, allWhole}
 use Rattle.steps.specs.Symbol.{isExternal}
 use Rattle.steps.specs.State.{Tag, Variable, Constraint, Edit, State}
 use Rattle.steps.specs.Edit.{editTerms}
@@ -53,6 +54,8 @@ pub record Reads (s : State) : Type 0 where
   pub constraint-kinds : All (λ (c : Constraint). tagKinds (c .strength) (c .tag) ≡ true) (s .constraints)
   pub edits-finite : All (λ (e : Edit). editFinite e ≡ true) (s .edits)
   pub edit-kinds : All (λ (e : Edit). editKinds e ≡ true) (s .edits)
+  pub cutoff : cutoffFits (s .tableau .cutoff) ≡ true
+  pub groups : All (λ (c : Constraint). ltb 0 (c .group) ≡ true) (s .constraints)
 
 pub unmap : {A B : Type 0} (g : A → B) (P : B → Type 0) (xs : List A) → All P (map g xs) → All (λ (x : A). P (g x)) xs
 unmap g P [] h = tt

@@ -42,6 +42,7 @@ countUse-built K U N n b l h =
             C = h .good .C;
             vars = once-vars n (h .good .C) U (b .work .changes .variables) l (h .good .vars);
             owns = h .good .owns;
+            cutoff = h .good .cutoff;
           };
       row = h .row;
       plain = h .plain;
@@ -90,26 +91,26 @@ insertTerm-built K U N t b h = go (findVariable n (b .work .changes .variables))
 
 -- ---- all terms
 
-pub insertTerms-built : (K U : ℕ → ℕ) (N : ℕ) (ts : List Term) (b : Building) → Built K U N b → Built K (λ m. usesIn m (keptTerms ts) + U m) N (insertTerms ts b)
+pub insertTerms-built : (cut : Float) (K U : ℕ → ℕ) (N : ℕ) (ts : List Term) (b : Building) → Built K U N b → Built K (λ m. usesIn m (keptTerms cut ts) + U m) N (insertTerms cut ts b)
 unfolding insertTerms keptTerms usesIn same
-insertTerms-built K U N [] b h = record { good = good-to K K U _ (b .work) (λ n. refl) (λ n. omega arith) (h .good); row = h .row; plain = h .plain; count = h .count }
-insertTerms-built K U N (t ∷ ts) b h =
-    go (nearZero (t .coefficient)) (insertTerms-built K U N ts b h)
-    (insertTerms-built K (λ m. same m (t .variable) + U m) N ts (insertTerm t b) (insertTerm-built K U N t b h))
+insertTerms-built cut K U N [] b h = record { good = good-to K K U _ (b .work) (λ n. refl) (λ n. omega arith) (h .good); row = h .row; plain = h .plain; count = h .count }
+insertTerms-built cut K U N (t ∷ ts) b h =
+    go (nearZero cut (t .coefficient)) (insertTerms-built cut K U N ts b h)
+    (insertTerms-built cut K (λ m. same m (t .variable) + U m) N ts (insertTerm t b) (insertTerm-built K U N t b h))
   where
     next : Bool → Building
-    next z = insertTerms ts (elim z [ true ↦ b | false ↦ insertTerm t b ])
+    next z = insertTerms cut ts (elim z [ true ↦ b | false ↦ insertTerm t b ])
 
     terms : Bool → List Term
-    terms z = elim z [ true ↦ keptTerms ts | false ↦ t ∷ keptTerms ts ]
+    terms z = elim z [ true ↦ keptTerms cut ts | false ↦ t ∷ keptTerms cut ts ]
 
-    go : (z : Bool) → Built K (λ m. usesIn m (keptTerms ts) + U m) N (insertTerms ts b)
-        → Built K (λ m. usesIn m (keptTerms ts) + (same m (t .variable) + U m)) N (insertTerms ts (insertTerm t b))
+    go : (z : Bool) → Built K (λ m. usesIn m (keptTerms cut ts) + U m) N (insertTerms cut ts b)
+        → Built K (λ m. usesIn m (keptTerms cut ts) + (same m (t .variable) + U m)) N (insertTerms cut ts (insertTerm t b))
         → Built K (λ m. usesIn m (terms z) + U m) N (next z)
     go true a c = a
     go false a c =
         record {
-          good = good-to K K _ _ (insertTerms ts (insertTerm t b) .work) (λ n. refl) (λ n. omega arith) (c .good);
+          good = good-to K K _ _ (insertTerms cut ts (insertTerm t b) .work) (λ n. refl) (λ n. omega arith) (c .good);
           row = c .row;
           plain = c .plain;
           count = c .count;
@@ -123,7 +124,7 @@ unfolding insertVariable insertInto written marking
 insert-vars s k b = go (findRow (s .id) (b .work .tableau .rows))
   where
     next : Option Row → Building
-    next o = elim o [ none ↦ insertInto (s .id) k b | some r ↦ written (insertRow r k (b .row)) (b .work) ]
+    next o = elim o [ none ↦ insertInto (s .id) k b | some r ↦ written (insertRow (b .work .tableau .cutoff) r k (b .row)) (b .work) ]
 
     go : (o : Option Row) → next o .work .changes .variables ≡ b .work .changes .variables
     go none = refl
@@ -213,30 +214,30 @@ grown-step vs found t b g = go (findVariable n vs) refl (member n found) refl (f
     go none e false f (some x) q = absurd (no-both (member-out n found (omega (arith, live-some n now x q, live-none n vs e, g .names n))) f)
     go none e false f none q = new q
 
-grown-terms : (vs : List Variable) (ts : List Term) (found : List ℕ) (b : Building) → Grown vs found b
-    → length (insertTerms ts b .work .changes .variables) ≡ length vs + length (newVariables vs found (keptTerms ts))
+grown-terms : (cut : Float) (vs : List Variable) (ts : List Term) (found : List ℕ) (b : Building) → Grown vs found b
+    → length (insertTerms cut ts b .work .changes .variables) ≡ length vs + length (newVariables vs found (keptTerms cut ts))
 unfolding insertTerms keptTerms newVariables isKnown
-grown-terms vs [] found b g = g .size
-grown-terms vs (t ∷ ts) found b g =
-    go (nearZero (t .coefficient)) (grown-terms vs ts found b g)
-    (grown-terms vs ts (cond (isKnown (t .variable) found (findVariable (t .variable) vs)) found (t .variable ∷ found)) (insertTerm t b) (grown-step vs found t b g))
+grown-terms cut vs [] found b g = g .size
+grown-terms cut vs (t ∷ ts) found b g =
+    go (nearZero cut (t .coefficient)) (grown-terms cut vs ts found b g)
+    (grown-terms cut vs ts (cond (isKnown (t .variable) found (findVariable (t .variable) vs)) found (t .variable ∷ found)) (insertTerm t b) (grown-step vs found t b g))
   where
     next : Bool → Building
-    next z = insertTerms ts (elim z [ true ↦ b | false ↦ insertTerm t b ])
+    next z = insertTerms cut ts (elim z [ true ↦ b | false ↦ insertTerm t b ])
 
     terms : Bool → List Term
-    terms z = elim z [ true ↦ keptTerms ts | false ↦ t ∷ keptTerms ts ]
+    terms z = elim z [ true ↦ keptTerms cut ts | false ↦ t ∷ keptTerms cut ts ]
 
     more : List ℕ
     more = cond (isKnown (t .variable) found (findVariable (t .variable) vs)) found (t .variable ∷ found)
 
-    go : (z : Bool) → length (insertTerms ts b .work .changes .variables) ≡ length vs + length (newVariables vs found (keptTerms ts))
-        → length (insertTerms ts (insertTerm t b) .work .changes .variables) ≡ length vs + length (newVariables vs more (keptTerms ts))
+    go : (z : Bool) → length (insertTerms cut ts b .work .changes .variables) ≡ length vs + length (newVariables vs found (keptTerms cut ts))
+        → length (insertTerms cut ts (insertTerm t b) .work .changes .variables) ≡ length vs + length (newVariables vs more (keptTerms cut ts))
         → length (next z .work .changes .variables) ≡ length vs + length (newVariables vs found (terms z))
     go true a c = a
     go false a c = c
 
-pub insertTerms-length : (ts : List Term) (b : Building)
-    → length (insertTerms ts b .work .changes .variables) ≡ length (b .work .changes .variables) + length (newVariables (b .work .changes .variables) [] (keptTerms ts))
+pub insertTerms-length : (cut : Float) (ts : List Term) (b : Building)
+    → length (insertTerms cut ts b .work .changes .variables) ≡ length (b .work .changes .variables) + length (newVariables (b .work .changes .variables) [] (keptTerms cut ts))
 unfolding times
-insertTerms-length ts b = grown-terms (b .work .changes .variables) ts [] b (record { size = omega arith; names = λ m. omega arith })
+insertTerms-length cut ts b = grown-terms cut (b .work .changes .variables) ts [] b (record { size = omega arith; names = λ m. omega arith })

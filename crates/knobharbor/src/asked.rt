@@ -25,11 +25,12 @@ pub extern "C" fn knobharbor_reset(
     bytes: &mut Bytes,
     reals: &mut Reals,
     values: &mut Values,
+    cutoff: f64,
     answer: &mut [u32; 3],
 )
-    ensures { λ _. ⌜ placed (now (answer .exit)) (lent (words .exit) (keys .exit) (bytes .exit) (reals .exit) (values .exit)) ≡ placedBy (resetOf (lent (words .entry) (keys .entry) (bytes .entry) (reals .entry) (values .entry))) ⌝ }
+    ensures { λ _. ⌜ placed (now (answer .exit)) (lent (words .exit) (keys .exit) (bytes .exit) (reals .exit) (values .exit)) ≡ placedBy (resetOf cutoff (lent (words .entry) (keys .entry) (bytes .entry) (reals .entry) (values .entry))) ⌝ }
 {
-    let a = lending::reset(words, keys, bytes, reals, values);
+    let a = lending::reset(words, keys, bytes, reals, values, cutoff);
     put(answer, a);
 }
 

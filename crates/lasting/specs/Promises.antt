@@ -4,11 +4,14 @@ use mathlib.Core.Path.{_≡_, refl, sym, ap, _∙_}
 use mathlib.Core.Logic.{_≢_}
 use mathlib.Core.Bool.{Bool, true, false, cond}
 use native.Mathlib.Omega.{arith}
+use lib.Ieee.{Float}
+use Rattle.steps.specs.Number.{cutoffFits}
 use Rattle.steps.specs.State.{State}
 use Rattle.steps.specs.Changes.{fetchChanges}
-use Rattle.steps.specs.Calls.{Result, reset, empty}
+use Rattle.steps.specs.Calls.{Result, empty, reset, refusedBy}
 use Rattle.steps.specs.Changing.{Changing, adds, removes, addsEdit, removesEdit, suggests, made, budgetOf}
 use Rattle.steps.specs.Readable.{readable}
+use Rattle.steps.proofs.Cutoff.{reset-refused, reset-taken}
 use Rattle.steps.proofs.Refusals.{refusal-keeps}
 use Rattle.steps.proofs.Budgets.{within-budget}
 use Rattle.keeps.specs.Keeps.{empty-reads, add-reads, remove-reads, addEdit-reads, removeEdit-reads, suggest-reads, fetch-reads}
@@ -20,7 +23,7 @@ use Rattle.sparse.specs.Written.{write-read}
 use Rattle.sparse_test.specs.Reads.{reads}
 use Rattle.sparse_test.specs.Meaning.{reads-form, reads-readable}
 use Rattle.lending.specs.Lending.{Called, called, refused18, callIn, callOf}
-use Rattle.lending.specs.Reset.{resetOf}
+use Rattle.lending.specs.Reset.{refused24, resetOf, reset-read}
 use Rattle.fetches.specs.Fetch.{fetchOf, fetchIn}
 use Rattle.narrow.specs.Narrow.{Narrow, Typed, made-narrow, fetch-narrow, empty-narrow}
 use Rattle.narrow.specs.Tabled.{narrow-of, plain-of}
@@ -88,7 +91,21 @@ fetch-holds s t h =
     let e : read t ≡ s = h .state in
     rw (h .reads, ← e) (written-holds (fetchChanges (read t) .state) t (fetch-reads (read t) (reads-readable t (h .reads))) (fetch-narrow (read t) (narrow-of t (h .reads))) (fetch-plain (read t) (plain-of t (h .reads))) (h .lengths))
 
--- a reset of any tables of the right lengths
-pub reset-holds : (t : Sparse) → Lengths t → Holds empty (resetOf t .tables)
-unfolding resetOf callIn reset
-reset-holds t l = written-holds empty t empty-reads empty-narrow empty-plain l
+-- a reset of any tables of the right lengths, with a cutoff in its range
+pub reset-holds : (cutoff : Float) → cutoffFits cutoff ≡ true → (t : Sparse) → Lengths t → Holds (empty cutoff) (resetOf cutoff t .tables)
+unfolding resetOf callIn
+reset-holds cutoff fits t l =
+    rw (fits, reset-taken cutoff (read t) fits) (written-holds (empty cutoff) t (empty-reads cutoff fits) (empty-narrow cutoff) (empty-plain cutoff) l)
+
+-- with one outside it, "24": no table changes, whatever the tables hold
+pub reset-leaves : (cutoff : Float) → cutoffFits cutoff ≡ false → (t : Sparse) → resetOf cutoff t ≡ called (refused24 t) t
+unfolding resetOf
+reset-leaves cutoff out t = rw out refl
+
+-- on tables that hold a state, either way: the steps' answer, and tables that hold the steps' state
+pub reset-made : (cutoff : Float) (s : State) (t : Sparse) → Holds s t → (resetOf cutoff t .answer ≡ reset cutoff s .answer) × Holds (reset cutoff s .state) (resetOf cutoff t .tables)
+reset-made cutoff s t h = (ap (λ (c : Called). c .answer) (reset-read cutoff t (h .reads)) ∙ (unfold callIn in ap (λ (x : State). reset cutoff x .answer) (h .state)), go (cutoffFits cutoff) refl)
+  where
+    go : (b : Bool) → cutoffFits cutoff ≡ b → Holds (reset cutoff s .state) (resetOf cutoff t .tables)
+    go true e = rw (reset-taken cutoff s e) (reset-holds cutoff e t (h .lengths))
+    go false e = unfold refusedBy in rw (reset-refused cutoff s e, reset-leaves cutoff e t) h

@@ -9,12 +9,12 @@ use lib.ListN.{length}
 use lib.Ieee.{Float}
 use borrow.Author.Tests.{le-leb}
 use Rattle.steps.specs.State.{State}
-use Rattle.steps.specs.Calls.{add, remove, addEdit, removeEdit, suggest, reset}
+use Rattle.steps.specs.Calls.{add, remove, addEdit, removeEdit, suggest}
 use Rattle.steps.specs.Changing as changing
 use Rattle.sparse.specs.Sparse.{Sparse, read}
 use Rattle.sparse_test.specs.Asked.{asked}
 use Rattle.sparse_test.specs.Reads.{greatestU32}
-use Rattle.lending.specs.Lending.{Called, called, callIn, callOf}
+use Rattle.lending.specs.Lending.{Called, called, callOf}
 use Rattle.lending.specs.Reset.{resetOf}
 use Rattle.fetches.specs.Fetch.{fetchOf}
 use Rattle.terms.specs.declared.Term.{Term}
@@ -31,12 +31,12 @@ use Rattle.run.specs.Demand.{Call, resets, fetches, adds, removes, addsEdit, re
 use Rattle.narrow.specs.Numbers.{isU32}
 use Rattle.narrow.specs.Narrow.{Typed}
 use Rattle.narrow.specs.NearAdd.{TermNamed}
-use Rattle.lasting.specs.Promises.{Holds, call-holds, fetch-holds, reset-holds}
+use Rattle.lasting.specs.Promises.{Holds, call-holds, fetch-holds, reset-made}
 
 -- a call of a run over tables, with its working room: what its contract says that it answers and leaves. A fetch is no changing call: it leaves what its contract
 -- says, and counts as accepted here, with the stored mark, as in `make`; what it lists is `tables-fetch`.
 unfoldable pub makeOn : Call → Sparse → Sparse → Called
-makeOn resets work t = resetOf t
+makeOn (resets cutoff) work t = resetOf cutoff t
 makeOn fetches work t = called (record { number = 0; pivots = 0; whole = read t .whole }) (fetchOf t .tables)
 makeOn (adds n terms constant relation budget) work t = callOf (add n terms constant relation budget) work t
 makeOn (removes n budget) work t = callOf (remove n budget) work t
@@ -96,7 +96,7 @@ unfitNumber (addsText n line budget) = lineNumber (readLine line)
 
 -- what the types of the call's numbers say: a constraint's and a variable's number is a u32
 abbrev pub TypedCall : Call → Type 0
-TypedCall resets = Unit {0}
+TypedCall (resets cutoff) = Unit {0}
 TypedCall fetches = Unit {0}
 TypedCall (adds n terms constant relation budget) = Typed (changing.adds n terms constant relation budget)
 TypedCall (removes n budget) = Unit {0}
@@ -126,7 +126,7 @@ Steps k s t r none = (r .answer .number ≡ k) × (r .tables ≡ t) × (r .answe
 module _ (s : State) (w t : Sparse) (h : Holds s t) where
   made-is : (c : Call) → TypedCall c → Steps 18 s t (makeOn c w t) (some c)
   unfolding makeOn make
-  made-is resets typed = unfold resetOf callIn reset in (refl, reset-holds t (h .lengths))
+  made-is (resets cutoff) typed = reset-made cutoff s t h
   made-is fetches typed = (rw (h .state) refl, fetch-holds s t h)
   made-is (adds n ts k r b) typed = call-holds (changing.adds n ts k r b) s w t typed h
   made-is (removes n b) typed = call-holds (changing.removes n b) s w t typed h

@@ -1,4 +1,4 @@
--- DEMANDS 2 AND 3 of the public calls: any sequence of calls over lent tables, from a reset on. What a call answers and leaves is what its contract says, whatever
+-- DEMANDS 2 AND 3 of the public calls: any sequence of calls over lent tables, from a reset with any cutoff in its range on. What a call answers and leaves is what its contract says, whatever
 -- the working room held; the tables then read as the state of the run of the steps that the fit calls make, so what is proved of runs
 -- (`run`, `stall`) holds of what the firmware has in hand. A call with lists or a kind that are unfit is answered 18 and changes nothing; a line that
 -- does not read is answered its own number and changes nothing. Assumes nothing.
@@ -8,8 +8,9 @@ use mathlib.Core.Logic.{_≢_}
 use mathlib.Core.Bool.{true}
 use mathlib.Core.List.{List, [], _∷_}
 use mathlib.Core.Option.{Option, none, some}
+use lib.Ieee.{Float}
 use lib.ListN.{length, replicate}
-use Rattle.steps.specs.Number.{zero64}
+use Rattle.steps.specs.Number.{zero64, cutoffFits}
 use Rattle.steps.specs.State.{State}
 use Rattle.steps.specs.Changes.{Change, fetchChanges}
 use Rattle.steps.specs.Calls.{Answer, empty}
@@ -52,19 +53,19 @@ unfoldable pub callsOf : List Step → List Call
 callsOf [] = []
 callsOf (s ∷ ss) = andThen (callOfStep s) (callsOf ss)
 
--- the tables after a reset and these calls; the last call stands first
-unfoldable pub tablesAfter : Sparse → List Step → Sparse
-tablesAfter t [] = resetOf t .tables
-tablesAfter t (s ∷ ss) = publicOn (s .call) (s .room) (tablesAfter t ss) .tables
+-- the tables after a reset with this cutoff and these calls; the last call stands first
+unfoldable pub tablesAfter : Float → Sparse → List Step → Sparse
+tablesAfter cutoff t [] = resetOf cutoff t .tables
+tablesAfter cutoff t (s ∷ ss) = publicOn (s .call) (s .room) (tablesAfter cutoff t ss) .tables
 
 -- what a call answers after these
-abbrev pub answers : Sparse → Step → List Step → Answer
-answers t s ss = publicOn (s .call) (s .room) (tablesAfter t ss) .answer
+abbrev pub answers : Float → Sparse → Step → List Step → Answer
+answers cutoff t s ss = publicOn (s .call) (s .room) (tablesAfter cutoff t ss) .answer
 
 -- every call's answer says yes
-abbrev pub WholeOn : Sparse → List Step → Type 0
-WholeOn t [] = Unit {0}
-WholeOn t (s ∷ ss) = WholeOn t ss × (answers t s ss .whole ≡ true)
+abbrev pub WholeOn : Float → Sparse → List Step → Type 0
+WholeOn cutoff t [] = Unit {0}
+WholeOn cutoff t (s ∷ ss) = WholeOn cutoff t ss × (answers cutoff t s ss .whole ≡ true)
 
 -- what a fetch answers with this list: 0, how many are listed, and the two lists, "zero past its count"
 pub record Lists (l : List Change) (f : Fetch) : Type 0 where
@@ -77,83 +78,84 @@ pub record Lists (l : List Change) (f : Fetch) : Type 0 where
 -- ---- the tables hold the run's state
 
 -- one more call, on tables that hold the state after the calls cs
-onward : (s : Step) (cs : List Call) (u : Sparse) → Holds (after cs .state) u → (o : Option Call) → Steps (unfitNumber (s .call)) (after cs .state) u (publicOn (s .call) (s .room) u) o
-    → Holds (after (andThen o cs) .state) (publicOn (s .call) (s .room) u .tables)
+onward : (cutoff : Float) (s : Step) (cs : List Call) (u : Sparse) → Holds (after cutoff cs .state) u → (o : Option Call) → Steps (unfitNumber (s .call)) (after cutoff cs .state) u (publicOn (s .call) (s .room) u) o
+    → Holds (after cutoff (andThen o cs) .state) (publicOn (s .call) (s .room) u .tables)
 unfolding after next
-onward s cs u h (some c) e = e .1
-onward s cs u h none e = rw (e .1) h
+onward cutoff s cs u h (some c) e = e .1
+onward cutoff s cs u h none e = rw (e .1) h
 
-module _ (t : Sparse) (long : Lengths t) where
-  pub tables-hold : (ss : List Step) → All Lent ss → Holds (after (callsOf ss) .state) (tablesAfter t ss)
+-- "from a reset with this cutoff"
+module _ (cutoff : Float) (fits : cutoffFits cutoff ≡ true) (t : Sparse) (long : Lengths t) where
+  pub tables-hold : (ss : List Step) → All Lent ss → Holds (after cutoff (callsOf ss) .state) (tablesAfter cutoff t ss)
   unfolding tablesAfter callsOf after start
-  tables-hold [] h = reset-holds t long
+  tables-hold [] h = reset-holds cutoff fits t long
   tables-hold (s ∷ ss) h =
       let held = tables-hold ss (h .1) in
-      onward s (callsOf ss) (tablesAfter t ss) held (callOfStep s) (public-step (after (callsOf ss) .state) (s .room) (tablesAfter t ss) held (s .call) (h .0))
+      onward cutoff s (callsOf ss) (tablesAfter cutoff t ss) held (callOfStep s) (public-step (after cutoff (callsOf ss) .state) (s .room) (tablesAfter cutoff t ss) held (s .call) (h .0))
 
-  stepped : (s : Step) (ss : List Step) → All Lent (s ∷ ss) → Steps (unfitNumber (s .call)) (after (callsOf ss) .state) (tablesAfter t ss) (publicOn (s .call) (s .room) (tablesAfter t ss)) (callOfStep s)
-  stepped s ss h = public-step (after (callsOf ss) .state) (s .room) (tablesAfter t ss) (tables-hold ss (h .1)) (s .call) (h .0)
+  stepped : (s : Step) (ss : List Step) → All Lent (s ∷ ss) → Steps (unfitNumber (s .call)) (after cutoff (callsOf ss) .state) (tablesAfter cutoff t ss) (publicOn (s .call) (s .room) (tablesAfter cutoff t ss)) (callOfStep s)
+  stepped s ss h = public-step (after cutoff (callsOf ss) .state) (s .room) (tablesAfter cutoff t ss) (tables-hold ss (h .1)) (s .call) (h .0)
 
   -- a fit call: its answer is the run's
-  pub tables-answer : (s : Step) (ss : List Step) → All Lent (s ∷ ss) → (c : Call) → callOfStep s ≡ some c → answers t s ss ≡ make c (after (callsOf ss) .state) .answer
+  pub tables-answer : (s : Step) (ss : List Step) → All Lent (s ∷ ss) → (c : Call) → callOfStep s ≡ some c → answers cutoff t s ss ≡ make c (after cutoff (callsOf ss) .state) .answer
   tables-answer s ss h c e = (rw e at (stepped s ss h)) .0
 
   -- an unfit one: "18 | a lent table has the wrong length ...", or a line that does not read, its own number; and nothing changed
-  pub tables-unfit : (s : Step) (ss : List Step) → All Lent (s ∷ ss) → callOfStep s ≡ none → (answers t s ss .number ≡ unfitNumber (s .call)) × (tablesAfter t (s ∷ ss) ≡ tablesAfter t ss)
+  pub tables-unfit : (s : Step) (ss : List Step) → All Lent (s ∷ ss) → callOfStep s ≡ none → (answers cutoff t s ss .number ≡ unfitNumber (s .call)) × (tablesAfter cutoff t (s ∷ ss) ≡ tablesAfter cutoff t ss)
   unfolding tablesAfter
   tables-unfit s ss h e = let q = rw e at (stepped s ss h) in (q .0, q .1)
 
   -- ---- queries and fetch
 
   -- a query, by its contract (`asked`: of the value, of a constraint or of an edit), gives what the steps' query gives of the run's state
-  pub tables-asked : {A : Type 0} (query : State → A) (otherwise : A) (ss : List Step) → All Lent ss → asked query otherwise (tablesAfter t ss) ≡ query (after (callsOf ss) .state)
+  pub tables-asked : {A : Type 0} (query : State → A) (otherwise : A) (ss : List Step) → All Lent ss → asked query otherwise (tablesAfter cutoff t ss) ≡ query (after cutoff (callsOf ss) .state)
   unfolding asked
   tables-asked query otherwise ss h = let held = tables-hold ss h in rw (held .reads, held .state) refl
 
   -- "Changes: `fetch_changes` toggles as in the crate": a fetch, by its contract, lists what the steps' fetch lists of the run's state
-  pub tables-fetch : (ss : List Step) → All Lent ss → Lists (fetchChanges (after (callsOf ss) .state) .list) (fetchOf (tablesAfter t ss))
+  pub tables-fetch : (ss : List Step) → All Lent ss → Lists (fetchChanges (after cutoff (callsOf ss) .state) .list) (fetchOf (tablesAfter cutoff t ss))
   unfolding fetchOf fetchIn
   tables-fetch ss h =
       let held = tables-hold ss h in
-      let room : length (fetchChanges (read (tablesAfter t ss)) .list) ≤ places = fetch-room (read (tablesAfter t ss)) (reads-in _ (reads-readable (tablesAfter t ss) (held .reads))) in
+      let room : length (fetchChanges (read (tablesAfter cutoff t ss)) .list) ≤ places = fetch-room (read (tablesAfter cutoff t ss)) (reads-in _ (reads-readable (tablesAfter cutoff t ss) (held .reads))) in
       rw (held .reads, ← held .state) (record { number = refl; count = refl; room = room; numbers = refl; values = refl })
 
   -- ---- demand 2
 
   -- an answer that says yes leaves the mark yes in the tables
-  pub tables-yes : (s : Step) (ss : List Step) → All Lent (s ∷ ss) → answers t s ss .whole ≡ true → read (tablesAfter t (s ∷ ss)) .whole ≡ true
+  pub tables-yes : (s : Step) (ss : List Step) → All Lent (s ∷ ss) → answers cutoff t s ss .whole ≡ true → read (tablesAfter cutoff t (s ∷ ss)) .whole ≡ true
   tables-yes s ss h w = unfold tablesAfter in go (callOfStep s) (stepped s ss h)
     where
-      go : (o : Option Call) → Steps (unfitNumber (s .call)) (after (callsOf ss) .state) (tablesAfter t ss) (publicOn (s .call) (s .room) (tablesAfter t ss)) o → read (publicOn (s .call) (s .room) (tablesAfter t ss) .tables) .whole ≡ true
-      go (some c) e = rw (e .1 .state) (yes-stored c (after (callsOf ss) .state) (rw (e .0) at w))
+      go : (o : Option Call) → Steps (unfitNumber (s .call)) (after cutoff (callsOf ss) .state) (tablesAfter cutoff t ss) (publicOn (s .call) (s .room) (tablesAfter cutoff t ss)) o → read (publicOn (s .call) (s .room) (tablesAfter cutoff t ss) .tables) .whole ≡ true
+      go (some c) e = rw (e .1 .state) (yes-stored c (after cutoff (callsOf ss) .state) (rw (e .0) at w))
       go none e = rw (e .1) (e .2 w)
 
   -- "while it says yes, the values are exact and the best that any fractions give": the values that the tables give, while their mark says yes
-  pub tables-marked-best : (ss : List Step) → All Lent ss → read (tablesAfter t ss) .whole ≡ true → Best (record { state = read (tablesAfter t ss); live = after (callsOf ss) .live })
-  tables-marked-best ss h w = let e = tables-hold ss h .state in rw e (marked-best (callsOf ss) (rw e at w))
+  pub tables-marked-best : (ss : List Step) → All Lent ss → read (tablesAfter cutoff t ss) .whole ≡ true → Best (record { state = read (tablesAfter cutoff t ss); live = after cutoff (callsOf ss) .live })
+  tables-marked-best ss h w = let e = tables-hold ss h .state in rw e (marked-best cutoff fits (callsOf ss) (rw e at w))
 
   -- "In a whole run (document 01) the values meet every required constraint exactly, no assignment by fractions that meets them has less weighted error"
-  pub tables-best : (ss : List Step) → All Lent ss → WholeOn t ss → Best (record { state = read (tablesAfter t ss); live = after (callsOf ss) .live })
+  pub tables-best : (ss : List Step) → All Lent ss → WholeOn cutoff t ss → Best (record { state = read (tablesAfter cutoff t ss); live = after cutoff (callsOf ss) .live })
   tables-best [] h w = tables-marked-best [] h (unfold callsOf after start empty in rw (tables-hold [] h .state) refl)
   tables-best (s ∷ ss) h w = tables-marked-best (s ∷ ss) h (tables-yes s ss h (w .1))
 
-  module _ (s : Step) (ss : List Step) (h : All Lent (s ∷ ss)) (c : Call) (is : callOfStep s ≡ some c) (w : answers t s ss .whole ≡ true) where
+  module _ (s : Step) (ss : List Step) (h : All Lent (s ∷ ss)) (c : Call) (is : callOfStep s ≡ some c) (w : answers cutoff t s ss .whole ≡ true) where
     -- "and "cannot be met" (12) is said only when none meets them": where the answer says yes, as in a whole run
-    pub tables-12 : answers t s ss .number ≡ 12 → None (accepted c (after (callsOf ss) .live))
-    tables-12 e = let a = tables-answer s ss h c is in marked-12 c (callsOf ss) (rw a at w) (rw a at e)
+    pub tables-12 : answers cutoff t s ss .number ≡ 12 → None (accepted c (after cutoff (callsOf ss) .live))
+    tables-12 e = let a = tables-answer s ss h c is in marked-12 cutoff fits c (callsOf ss) (rw a at w) (rw a at e)
 
     -- ---- demand 3, of adds, removals and suggestions, where the answer says yes, as in a whole run
 
     module _ (b : ℕ) (budget : budgetOf c ≡ some b) where
       -- "no optimise pass of an add or a removal holds the same set of basic symbols twice", "a dual pass then never holds the same basic set twice", and the
       -- rest, of the state that the tables read as
-      pub tables-never-stalls : Demand3 b c (read (tablesAfter t ss))
-      tables-never-stalls = rw (tables-hold ss (h .1) .state) (marked-never-stalls (callsOf ss) c b budget (rw (tables-answer s ss h c is) at w))
+      pub tables-never-stalls : Demand3 b c (read (tablesAfter cutoff t ss))
+      tables-never-stalls = rw (tables-hold ss (h .1) .state) (marked-never-stalls cutoff fits (callsOf ss) c b budget (rw (tables-answer s ss h c is) at w))
 
       -- "a budget no smaller than these ways summed over such a call's passes is never the reason for its refusal"
-      pub tables-14 : allWays (passesOf c (read (tablesAfter t ss))) ≤ b → answers t s ss .number ≢ 14
+      pub tables-14 : allWays (passesOf c (read (tablesAfter cutoff t ss))) ≤ b → answers cutoff t s ss .number ≢ 14
       tables-14 l = rw (tables-answer s ss h c is, ← tables-hold ss (h .1) .state) (tables-never-stalls .enough l)
 
       -- "and 16 is never given"
-      pub tables-16 : answers t s ss .number ≢ 16
+      pub tables-16 : answers cutoff t s ss .number ≢ 16
       tables-16 = rw (tables-answer s ss h c is, ← tables-hold ss (h .1) .state) (tables-never-stalls .some-way)

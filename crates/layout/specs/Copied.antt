@@ -1,7 +1,7 @@
 -- The live part of tables copied over others: the copy reads as the same state, and fits as well.
 -- Assumes nothing.
 use Prim.Native.Nat.{ℕ, zero, suc, _+_, _≤_, _<_}
-use mathlib.Core.Path.{_≡_, sym, ap, _∙_}
+use mathlib.Core.Path.{_≡_, refl, sym, ap, _∙_}
 use mathlib.Core.Bool.{Bool, true, false}
 use mathlib.Core.List.{[]}
 use native.Mathlib.Nat.{zero-add, suc-ne-zero}
@@ -46,6 +46,10 @@ module _ (t : Tables) (q : Coded t) where
   unfolding constraintOf tagOf
   other-named j = named _
 
+  one-group : (j : ℕ) → constraintOf (getD (t .names) (constraintsAt + j) []) (getD (t .reals) (constraintsAt + j) []) .group ≡ 1
+  unfolding constraintOf
+  one-group j = refl
+
   minus-named : (j : ℕ) → Named (editOf (getD (t .names) (editsAt + j) []) (getD (t .reals) (editsAt + j) []) .tag .other)
   unfolding editOf tagOf
   minus-named j = named _
@@ -54,6 +58,7 @@ module _ (t : Tables) (q : Coded t) where
   unfolding read symbolsOf basicsOf variablesOf constraintsOf editsOf cellsOf
   read-fits c =
       record {
+        usual = refl;
         symbols = rw (length-listOf _ _) (c .0);
         rows = rw (length-listOf _ _) (c .1);
         variables = rw (length-listOf _ _) (c .2);
@@ -62,6 +67,7 @@ module _ (t : Tables) (q : Coded t) where
         objective = length-listOf _ _ ∙ sym (length-listOf _ _);
         cells = λ d j k. rw (getD-listOf _ _ j d (rw (length-listOf _ _) at k)) (row-cells j ∙ sym (length-listOf _ _));
         terms = λ d j k. rw (getD-listOf _ _ j d (rw (length-listOf _ _) at k)) (few-terms j (rw (length-listOf _ _) at k));
+        groups = λ d j k. rw (getD-listOf _ _ j d (rw (length-listOf _ _) at k)) (one-group j);
         others = λ d j k. rw (getD-listOf _ _ j d (rw (length-listOf _ _) at k)) (other-named j);
         minuses = λ d j k. rw (getD-listOf _ _ j d (rw (length-listOf _ _) at k)) (minus-named j);
       }

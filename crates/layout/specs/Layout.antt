@@ -7,6 +7,7 @@ use mathlib.Core.Option.{Option, none, some}
 use lib.Dec.{eqb}
 use lib.ListN.{length, getD}
 use lib.Ieee.{Float, nan}
+use Rattle.steps.specs.Number.{usualCutoff}
 use Rattle.steps.specs.Symbol.{Kind, External, Slack, Error, Dummy, Symbol}
 use Rattle.steps.specs.State.{Term, Basic, Tag, Variable, Constraint, Edit, State}
 use Rattle.steps.specs.Readable.{code}
@@ -160,8 +161,9 @@ tagOf n = record { marker = symbolOf (symbolCode n); other = otherOf (otherSymbo
 unfoldable pub termOf : List ℕ → List Float → ℕ → Term
 termOf n r j = record { variable = getD n (termsAt + j) 0; coefficient = getD r (coefficientsAt + j) nan }
 
+-- these tables are older than groups and have no place for one: their constraints are in group 1
 unfoldable pub constraintOf : List ℕ → List Float → Constraint
-constraintOf n r = record { number = numberOf n; strength = strengthIn r; terms = listOf (termCount n) (termOf n r); tag = tagOf n }
+constraintOf n r = record { number = numberOf n; group = 1; strength = strengthIn r; terms = listOf (termCount n) (termOf n r); tag = tagOf n }
 
 unfoldable pub editOf : List ℕ → List Float → Edit
 editOf n r = record { variable = numberOf n; strength = strengthIn r; tag = tagOf n; suggestion = suggestionIn r }
@@ -192,6 +194,8 @@ read t =
     record {
       tableau =
           record {
+            -- these tables are older than the choice of a cutoff and have no place for it
+            cutoff = usualCutoff;
             symbols = symbolsOf t;
             nextId = nextIdOf (t .head);
             rows = basicsOf t;

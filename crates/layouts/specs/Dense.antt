@@ -1,4 +1,4 @@
--- The calls over the four dense tables: the test for 18, a changing call, a reset, a fetch.
+-- The calls over the four dense tables: the test for 18, a changing call, a reset, a fetch. They are older than the choice of a cutoff: theirs is the usual one.
 use Prim.Native.Nat.{ℕ, _+_}
 use mathlib.Core.Bool.{Bool, true, _&&_, cond}
 use mathlib.Core.List.{List, []}
@@ -6,7 +6,7 @@ use lib.Dec.{leb}
 use lib.Ieee.{Float}
 use lib.ListN.{length, getD, replicate}
 use Rattle.laws.specs.Lists.{allIn}
-use Rattle.steps.specs.Number.{zero64}
+use Rattle.steps.specs.Number.{zero64, usualCutoff}
 use Rattle.steps.specs.State.{State}
 use Rattle.steps.specs.Changes.{Fetched, fetchChanges}
 use Rattle.steps.specs.Calls.{Answer, Result, reset}
@@ -46,7 +46,7 @@ unfoldable pub callOf : (State → Result) → Tables → Tables → Called
 callOf f work t = cond (reads t && lengthsRight work) (callIn f t) (called refused18 t)
 
 unfoldable pub resetOf : Tables → Called
-resetOf t = cond (lengthsRight t) (callIn reset t) (called refused18 t)
+resetOf t = cond (lengthsRight t) (callIn (reset usualCutoff) t) (called refused18 t)
 
 -- the answer, 0 or 18; the two lists, and how many of their places are filled; the tables
 pub record Fetch : Type 0 where

@@ -1,14 +1,17 @@
--- One relation that every call keeps: dense and sparse tables that read as the same state, or neither as one.
+-- One relation that every call keeps: dense and sparse tables that read as the same state, or neither as one. Dense tables have no place for a cutoff, so both have the usual one.
 -- Assumes nothing.
 use Prim.Native.Nat.{ℕ}
 use mathlib.Core.Path.{_≡_, refl, sym, ap, _∙_, subst}
 use mathlib.Core.Bool.{Bool, true, false, _&&_, cond}
 use Rattle.laws.specs.Given.{Then, then-given}
+use Rattle.steps.specs.Number.{usualCutoff}
 use Rattle.steps.specs.State.{State}
 use Rattle.steps.specs.Changes.{fetchChanges}
 use Rattle.steps.specs.Calls.{Result, reset, empty}
 use Rattle.steps.specs.Changing.{Changing, made}
 use Rattle.steps.specs.Readable.{readable}
+use Rattle.steps.specs.Cutoffs.{usual-fits}
+use Rattle.steps.proofs.Cutoff.{reset-taken, cutoff-stays, fetch-keeps-cutoff}
 use Rattle.keeps.specs.Keeps.{empty-reads, fetch-reads}
 use Rattle.keeps.specs.Tested.{reads-in}
 use Rattle.layout.specs.Layout.{Tables}
@@ -37,16 +40,20 @@ pub record Related (t : Tables) (u : Sparse) : Type 0 where
   pub test : dense.reads t ≡ reads u
   pub state : Then (reads u) (layout.read t ≡ read u)
 
--- a state written into both
-pub related-written : (s : State) (t : Tables) (u : Sparse) → readable s ≡ true → Narrow s → rooms.Lengths t → rooms.Wide t → Holds s u → Related (layout.write s t) u
-related-written s t u r n l w h =
+-- a state of the usual cutoff written into both
+pub related-written : (s : State) (t : Tables) (u : Sparse) → readable s ≡ true → s .tableau .cutoff ≡ usualCutoff → Narrow s → rooms.Lengths t → rooms.Wide t → Holds s u → Related (layout.write s t) u
+related-written s t u r c n l w h =
     record {
       lengths = write-lengths s t l;
       wide = write-wide s t l w;
       long = h .lengths;
-      test = written-read s t (reads-in s r) n l w ∙ sym (h .reads);
-      state = rw (h .reads) (written-reads s t (reads-in s r) n l w ∙ sym (h .state));
+      test = written-read s t (reads-in s r) c n l w ∙ sym (h .reads);
+      state = rw (h .reads) (written-reads s t (reads-in s r) c n l w ∙ sym (h .state));
     }
+
+read-usual : (t : Tables) → layout.read t .tableau .cutoff ≡ usualCutoff
+unfolding layout.read
+read-usual t = refl
 
 module _ (t : Tables) (u : Sparse) (r : Related t u) where
   module _ (e : reads u ≡ true) where
@@ -55,6 +62,9 @@ module _ (t : Tables) (u : Sparse) (r : Related t u) where
 
     same : layout.read t ≡ read u
     same = then-given (layout.read t ≡ read u) e (r .state)
+
+    usual : read u .tableau .cutoff ≡ usualCutoff
+    usual = ap (λ (s : State). s .tableau .cutoff) (sym same) ∙ read-usual t
 
     held : Holds (read u) u
     held = record { lengths = r .long; reads = e; state = refl }
@@ -70,7 +80,7 @@ module _ (t : Tables) (u : Sparse) (r : Related t u) where
           let k = call-holds c (read u) w u typed (held e) in
           let n = made-narrow (read u) (narrow-of u e) c typed in
           let q = made-reads c (read u) (reads-readable u e) in
-          rw (dense-reads e, room, same e) (sym (k .0), related-written (made c (read u) .state) t (callOf (made c) w u .tables) q n (r .lengths) (r .wide) (k .1))
+          rw (dense-reads e, room, same e) (sym (k .0), related-written (made c (read u) .state) t (callOf (made c) w u .tables) q (cutoff-stays c (read u) ∙ usual e) n (r .lengths) (r .wide) (k .1))
       go false e = unfold callOf in rw (r .test, e) (refl, r)
 
   pub related-fetch :
@@ -82,7 +92,7 @@ module _ (t : Tables) (u : Sparse) (r : Related t u) where
           → (dense.fetchOf t .number ≡ fetchOf u .number) × (dense.fetchOf t .count ≡ fetchOf u .count) × (dense.fetchOf t .numbers ≡ fetchOf u .numbers) × (dense.fetchOf t .values ≡ fetchOf u .values) × Related (dense.fetchOf t .tables) (fetchOf u .tables)
       go true e =
           let k : Holds (fetchChanges (read u) .state) (fetchOf u .tables) = fetch-holds (read u) u (held e) in
-          let q = related-written (fetchChanges (read u) .state) t (fetchOf u .tables) (fetch-reads (read u) (reads-readable u e)) (fetch-narrow (read u) (narrow-of u e)) (r .lengths) (r .wide) k in
+          let q = related-written (fetchChanges (read u) .state) t (fetchOf u .tables) (fetch-reads (read u) (reads-readable u e)) (fetch-keeps-cutoff (read u) ∙ usual e) (fetch-narrow (read u) (narrow-of u e)) (r .lengths) (r .wide) k in
           let made-list : fetchOf u ≡ fetchIn u = unfold fetchOf in rw e refl in
           rw (dense-reads e, same e) (ap (λ (x : Fetch). x .number) (sym made-list), ap (λ (x : Fetch). x .count) (sym made-list), ap (λ (x : Fetch). x .numbers) (sym made-list), ap (λ (x : Fetch). x .values) (sym made-list), q)
       go false e = unfold fetchOf in unfold fetch18 in rw (r .test, e) (refl, refl, refl, refl, r)
@@ -96,9 +106,12 @@ module _ (t : Tables) (u : Sparse) (r : Related t u) where
       go true e = rw (dense-reads e, same e, e) refl
       go false e = rw (r .test, e) refl
 
--- "Reset refuses only wrong lengths": of any two tables as the arrays' types have them
-pub related-reset : (t : Tables) (u : Sparse) → rooms.Lengths t → rooms.Wide t → Lengths u → (dense.resetOf t .answer ≡ resetOf u .answer) × Related (dense.resetOf t .tables) (resetOf u .tables)
+-- a reset with the usual cutoff, of any two tables as the arrays' types have them
+pub related-reset : (t : Tables) (u : Sparse) → rooms.Lengths t → rooms.Wide t → Lengths u → (dense.resetOf t .answer ≡ resetOf usualCutoff u .answer) × Related (dense.resetOf t .tables) (resetOf usualCutoff u .tables)
 unfolding dense.resetOf dense.callIn
 related-reset t u l w k =
-    let h : Holds empty (resetOf u .tables) = reset-holds u k in
-    rw (rooms.lengths-right t l) (unfold resetOf in unfold callIn in unfold reset in refl, unfold reset in related-written empty t (resetOf u .tables) empty-reads empty-narrow l w h)
+    let h : Holds (empty usualCutoff) (resetOf usualCutoff u .tables) = reset-holds usualCutoff usual-fits u k in
+    rw (rooms.lengths-right t l, reset-taken usualCutoff (layout.read t) usual-fits) (
+      unfold resetOf in unfold callIn in rw (usual-fits, reset-taken usualCutoff (read u) usual-fits) refl,
+      related-written (empty usualCutoff) t (resetOf usualCutoff u .tables) (empty-reads usualCutoff usual-fits) (unfold empty in refl) (empty-narrow usualCutoff) l w h,
+    )

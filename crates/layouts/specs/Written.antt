@@ -1,4 +1,4 @@
--- A state that reads, with numbers that a u32 holds, has its place in the dense tables, and the tables that it is written into read as it. Assumes nothing.
+-- A state of the usual cutoff that reads, with numbers that a u32 holds, has its place in the dense tables, and the tables that it is written into read as it. Assumes nothing.
 use Prim.Native.Nat.{ℕ, zero, suc, _+_, _≤_, _<_}
 use mathlib.Core.Path.{_≡_, refl, sym, ap, _∙_, subst}
 use mathlib.Core.Bool.{true}
@@ -9,6 +9,7 @@ use native.Mathlib.Omega.{arith}
 use lib.ListN.{length, getD}
 use borrow.Author.Tests.{le-leb}
 use Rattle.laws.specs.Lists.{listOf, laid, length-laid}
+use Rattle.steps.specs.Number.{usualCutoff}
 use Rattle.steps.specs.Symbol.{Symbol}
 use Rattle.steps.specs.State.{Tag, Variable, Constraint, Edit, State}
 use Rattle.steps.specs.Readable.{code, tagSymbols, readable}
@@ -66,12 +67,13 @@ tag-named t xs h u = go (t .other) (λ n. unfold tagSymbols in h n)
 
 -- ---- the state has its place
 
-pub fits-of : (s : State) → Reads s → Fits s
-fits-of s r =
+pub fits-of : (s : State) → Reads s → s .tableau .cutoff ≡ usualCutoff → Fits s
+fits-of s r u =
     let few = few-symbols s r in
     let many = r .few-variables in
     let tags = r .few-tags in
     record {
+      usual = u;
       symbols = omega arith;
       rows = omega (arith, r .few-rows);
       variables = many;
@@ -111,12 +113,12 @@ write-wide s t l w =
 
 -- ---- the tables read as it
 
-module _ (s : State) (t : Tables) (r : Reads s) (n : Narrow s) (l : Lengths t) (w : Wide t) where
+module _ (s : State) (t : Tables) (r : Reads s) (usual : s .tableau .cutoff ≡ usualCutoff) (n : Narrow s) (l : Lengths t) (w : Wide t) where
   abbrev u : Tables
   u = write s t
 
   pub written-reads : read u ≡ s
-  written-reads = read-write s t (fits-of s r) l w
+  written-reads = read-write s t (fits-of s r usual) l w
 
   variable-u32 : (j : ℕ) → j < variableCount (u .head) → isU32 (numberOf (getD (u .names) j [])) ≡ true
   unfolding read variablesOf variableOf
@@ -143,8 +145,8 @@ module _ (s : State) (t : Tables) (r : Reads s) (n : Narrow s) (l : Lengths t) (
   codes-fit : codesFit u ≡ true
   unfolding codesFit
   codes-fit =
-      let c = write-counts s t (fits-of s r) l w in
-      let q = write-coded s t (fits-of s r) l w in
+      let c = write-counts s t (fits-of s r usual) l w in
+      let q = write-coded s t (fits-of s r usual) l w in
       both (both (both (both (both id-u32 (le-leb _ 129 (c .0))) (le-leb _ 1 (q .0))) (le-leb _ 1 (q .1)))
       (at-all _ 0 (variableCount (u .head)) (λ j a k. both (variable-u32 j k) (le-leb _ 1 (q .2 j k)))))
       (at-all _ 0 (constraintCount (u .head)) (λ j a k. constraint-u32 j k))

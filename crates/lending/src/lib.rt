@@ -9,7 +9,7 @@ ghost use Rattle.sparse_test.specs.Reads.{reads};
 ghost use Rattle.sparse_copy.specs.Over.{tables};
 ghost use Rattle.lending.specs.Lending.{answerOf, called, refused18};
 ghost use Rattle.lending.specs.Entered.{bareWords, zeroRoom, Entered};
-ghost use Rattle.lending.specs.Reset.{resetOf, resetWords};
+ghost use Rattle.lending.specs.Reset.{refused24, resetOf, resetWords};
 
 pub mod clearing;
 pub mod room;
@@ -170,17 +170,34 @@ fn reset_words(words: &mut Words)
     words[sparse::WHOLE] = 1;
 }
 
-// "Reset refuses only wrong lengths.", which these types rule out.
+// Reset takes any tables, so they need not read as a state: only then is there a mark.
+fn refuse24(words: &Words, keys: &Keys, bytes: &Bytes, reals: &Reals, values: &Values) -> Answer
+    ensures { λ r. ⌜ answerOf r ≡ refused24 (tables (now (words .entry)) (now (keys .entry)) (now (bytes .entry)) (now (reals .entry)) (now (values .entry))) ⌝ }
+{
+    let reads = sparse_test::reads_as_state(words, keys, bytes, reals, values);
+    Answer {
+        number: 24,
+        pivots: 0,
+        whole: reads & (words[sparse::WHOLE] == 1),
+    }
+}
+
+// "Reset refuses wrong lengths (18) and a cutoff outside the range (24), in that order; nothing else." These types rule out 18.
 pub fn reset(
     words: &mut Words,
     keys: &mut Keys,
     bytes: &mut Bytes,
     reals: &mut Reals,
     values: &mut Values,
+    cutoff: f64,
 ) -> Answer
-    ensures { λ r. ⌜ called (answerOf r) (tables (now (words .exit)) (now (keys .exit)) (now (bytes .exit)) (now (reals .exit)) (now (values .exit))) ≡ resetOf (tables (now (words .entry)) (now (keys .entry)) (now (bytes .entry)) (now (reals .entry)) (now (values .entry))) ⌝ }
+    ensures { λ r. ⌜ called (answerOf r) (tables (now (words .exit)) (now (keys .exit)) (now (bytes .exit)) (now (reals .exit)) (now (values .exit))) ≡ resetOf cutoff (tables (now (words .entry)) (now (keys .entry)) (now (bytes .entry)) (now (reals .entry)) (now (values .entry))) ⌝ }
 {
+    if !sparse_test::records::cutoff_fits(cutoff) {
+        return refuse24(words, keys, bytes, reals, values);
+    }
     reset_words(words);
+    reals[sparse::CUTOFF] = cutoff;
     Answer {
         number: 0,
         pivots: 0,

@@ -26,13 +26,13 @@ run-of keys n i a e up pl q r =
     inside : (x : ℕ) → i * rowSpan ≤ x → x < i * rowSpan + rowSpan → 1 ≤ x % rowSpan → x % rowSpan ≤ lastPlace → (i * rowSpan < x) × (x ≤ i * rowSpan + lastPlace)
     inside x h k l m = (omega arith, omega arith)
 
-pub merged-is : (n i at m : ℕ) (k : Float) (keys : List ℕ) (vals : List Float) (cols : List ℕ) (others : List Float) (a e z : ℕ) (fk fk' ks kt : List ℕ) (fv fv' vs vt : List Float)
+pub merged-is : (cutoff : Float) (n i at m : ℕ) (k : Float) (keys : List ℕ) (vals : List Float) (cols : List ℕ) (others : List Float) (a e z : ℕ) (fk fk' ks kt : List ℕ) (fv fv' vs vt : List Float)
     → length fk ≡ rowRoom → length fv ≡ rowRoom → a ≡ lowerIn keys (i * rowSpan) 0 n → e ≡ lowerIn keys (i * rowSpan + rowSpan) 0 n
-    → cells fk' fv' z ≡ packed lastPlace i (mergedRow k (ownCell keys vals a e i at) (otherCell cols others m)) (cells fk fv 0)
-    → ks ≡ moved e (a + z) (n - e) keys → vs ≡ moved e (a + z) (n - e) vals → kt ≡ pasted 0 a z fk' ks → vt ≡ pasted nan a z fv' vs → cells kt vt (n - e + (a + z)) ≡ mergedInto n i at m k keys vals cols others
+    → cells fk' fv' z ≡ packed lastPlace i (mergedRow cutoff k (ownCell keys vals a e i at) (otherCell cols others m)) (cells fk fv 0)
+    → ks ≡ moved e (a + z) (n - e) keys → vs ≡ moved e (a + z) (n - e) vals → kt ≡ pasted 0 a z fk' ks → vt ≡ pasted nan a z fv' vs → cells kt vt (n - e + (a + z)) ≡ mergedInto cutoff n i at m k keys vals cols others
 unfolding mergedInto ownIn replaced replacedAt
-merged-is n i at m k keys vals cols others a e z fk fk' ks kt fv fv' vs vt lk lv ea ee q h₁ h₂ h₃ h₄ =
-    let row : List Float = mergedRow k (ownCell keys vals a e i at) (otherCell cols others m) in
+merged-is cutoff n i at m k keys vals cols others a e z fk fk' ks kt fv fv' vs vt lk lv ea ee q h₁ h₂ h₃ h₄ =
+    let row : List Float = mergedRow cutoff k (ownCell keys vals a e i at) (otherCell cols others m) in
     let t : Cells = packed lastPlace i row (cells ks vs a) in
     let p : Pasting a ks vs (packed lastPlace i row (cells fk fv 0)) t = packed-pasted a i row ks vs fk fv lk lv in
     let p₁ : Pasting a ks vs (cells fk' fv' z) t = subst (λ (s : Cells). Pasting a ks vs s t) (sym q) p in
@@ -41,7 +41,7 @@ merged-is n i at m k keys vals cols others a e z fk fk' ks kt fv fv' vs vt lk lv
     let e₂ : vt ≡ t .vals = h₄ ∙ sym (p₁ .valued) in
     rw (e₁, e₂, h₁, h₂, c, ← ea, ← ee) refl
 
-pub marked-is : (n i at m : ℕ) (bound k : Float) (keys : List ℕ) (vals : List Float) (cols : List ℕ) (others : List Float) (a e : ℕ) {w : Mark}
-    → a ≡ lowerIn keys (i * rowSpan) 0 n → e ≡ lowerIn keys (i * rowSpan + rowSpan) 0 n → w ≡ mergedMark bound k (ownCell keys vals a e i at) (otherCell cols others m) → w ≡ mergedIntoMark n i at m bound k keys vals cols others
+pub marked-is : (cutoff : Float) (n i at m : ℕ) (bound k : Float) (keys : List ℕ) (vals : List Float) (cols : List ℕ) (others : List Float) (a e : ℕ) {w : Mark}
+    → a ≡ lowerIn keys (i * rowSpan) 0 n → e ≡ lowerIn keys (i * rowSpan + rowSpan) 0 n → w ≡ mergedMark cutoff bound k (ownCell keys vals a e i at) (otherCell cols others m) → w ≡ mergedIntoMark cutoff n i at m bound k keys vals cols others
 unfolding mergedIntoMark ownIn
-marked-is n i at m bound k keys vals cols others a e ea ee q = rw (← ea, ← ee) q
+marked-is cutoff n i at m bound k keys vals cols others a e ea ee q = rw (← ea, ← ee) q

@@ -37,14 +37,14 @@ unfoldable pub otherCell : List ℕ → List Float → ℕ → ℕ → Float
 otherCell cols others m p = cellIn cols others (0 * rowSpan + p) 0 m
 
 -- "then insert row times k", as a dense row; place 0 is free
-unfoldable pub mergedRow : Float → (ℕ → Float) → (ℕ → Float) → List Float
-mergedRow k c o = zero64 ∷ tab (λ p. insertedValue k (c p) (o p)) 1 lastPlace
+unfoldable pub mergedRow : Float → Float → (ℕ → Float) → (ℕ → Float) → List Float
+mergedRow cutoff k c o = zero64 ∷ tab (λ p. insertedValue cutoff k (c p) (o p)) 1 lastPlace
 
-unfoldable pub markTurn : Float → Float → (ℕ → Float) → (ℕ → Float) → ℕ → Mark → Mark
-markTurn bound k c o p m = insertedMark bound k m (c p) (o p)
+unfoldable pub markTurn : Float → Float → Float → (ℕ → Float) → (ℕ → Float) → ℕ → Mark → Mark
+markTurn cutoff bound k c o p m = insertedMark cutoff bound k m (c p) (o p)
 
-unfoldable pub mergedMark : Float → Float → (ℕ → Float) → (ℕ → Float) → Mark
-mergedMark bound k c o = run (markTurn bound k c o) 1 (lastPlace + 1) allWhole
+unfoldable pub mergedMark : Float → Float → Float → (ℕ → Float) → (ℕ → Float) → Mark
+mergedMark cutoff bound k c o = run (markTurn cutoff bound k c o) 1 (lastPlace + 1) allWhole
 
 -- ---- in the tables
 
@@ -60,8 +60,8 @@ pasted d a m from l = run (λ j l. set l (a + j) (getD from j d)) 0 m l
 unfoldable pub ownIn : ℕ → ℕ → ℕ → List ℕ → List Float → ℕ → Float
 ownIn n i at keys vals = ownCell keys vals (lowerIn keys (i * rowSpan) 0 n) (lowerIn keys (i * rowSpan + rowSpan) 0 n) i at
 
-unfoldable pub mergedInto : ℕ → ℕ → ℕ → ℕ → Float → List ℕ → List Float → List ℕ → List Float → Cells
-mergedInto n i at m k keys vals cols others = replaced n i lastPlace (mergedRow k (ownIn n i at keys vals) (otherCell cols others m)) keys vals
+unfoldable pub mergedInto : Float → ℕ → ℕ → ℕ → ℕ → Float → List ℕ → List Float → List ℕ → List Float → Cells
+mergedInto cutoff n i at m k keys vals cols others = replaced n i lastPlace (mergedRow cutoff k (ownIn n i at keys vals) (otherCell cols others m)) keys vals
 
-unfoldable pub mergedIntoMark : ℕ → ℕ → ℕ → ℕ → Float → Float → List ℕ → List Float → List ℕ → List Float → Mark
-mergedIntoMark n i at m bound k keys vals cols others = mergedMark bound k (ownIn n i at keys vals) (otherCell cols others m)
+unfoldable pub mergedIntoMark : Float → ℕ → ℕ → ℕ → ℕ → Float → Float → List ℕ → List Float → List ℕ → List Float → Mark
+mergedIntoMark cutoff n i at m bound k keys vals cols others = mergedMark cutoff bound k (ownIn n i at keys vals) (otherCell cols others m)

@@ -25,12 +25,12 @@ use Rattle.merging.specs.Merge.{RunOf, frontOf, lesser, ownValue, ownCel
 use Rattle.merging.specs.Fronts.{front-live, front-end, front-most, front-low, front-high, front-first, front-up, Behind, behind-next, behind-more, front-here, front-none, lesser-left, lesser-right, lesser-le, lesser-above}
 
 -- ---- a place that the loose row has no cell at
-pub inserted-none : (k c : Float) → insertedValue k c zero64 ≡ c
+pub inserted-none : (cutoff k c : Float) → insertedValue cutoff k c zero64 ≡ c
 unfolding insertedValue cellValue
-inserted-none k c = rw (insertTimes-is k zero64 c, zero-absent) refl
+inserted-none cutoff k c = rw (insertTimes-is cutoff k zero64 c, zero-absent) refl
 
-pub marked-none : (bound k c : Float) (m : Mark) → insertedMark bound k m c zero64 ≡ m
-marked-none bound k c m = sym (passed-mark bound k c zero64 m zero-absent)
+pub marked-none : (cutoff bound k c : Float) (m : Mark) → insertedMark cutoff bound k m c zero64 ≡ m
+marked-none cutoff bound k c m = sym (passed-mark cutoff bound k c zero64 m zero-absent)
 
 zero-off : ne zero64 zero64 ≡ false
 unfolding openSymbol
@@ -44,14 +44,14 @@ own-zero at p = go (eqb p at)
     go true = refl
     go false = refl
 
-pub row-at : (k : Float) (c o : ℕ → Float) (p : ℕ) → 1 ≤ p → p ≤ lastPlace → getD (mergedRow k c o) p nan ≡ insertedValue k (c p) (o p)
+pub row-at : (cutoff k : Float) (c o : ℕ → Float) (p : ℕ) → 1 ≤ p → p ≤ lastPlace → getD (mergedRow cutoff k c o) p nan ≡ insertedValue cutoff k (c p) (o p)
 unfolding mergedRow
-row-at k c o p h l =
+row-at cutoff k c o p h l =
     let e : p ≡ suc (p - 1) = omega arith in
     let d : 1 + (p - 1) ≡ p = omega arith in
-    ap (λ (z : ℕ). getD (zero64 ∷ tab (λ p. insertedValue k (c p) (o p)) 1 lastPlace) z nan) e
-    ∙ getD-tab (λ p. insertedValue k (c p) (o p)) 1 lastPlace (p - 1) nan (omega arith)
-    ∙ ap (λ (z : ℕ). insertedValue k (c z) (o z)) d
+    ap (λ (z : ℕ). getD (zero64 ∷ tab (λ p. insertedValue cutoff k (c p) (o p)) 1 lastPlace) z nan) e
+    ∙ getD-tab (λ p. insertedValue cutoff k (c p) (o p)) 1 lastPlace (p - 1) nan (omega arith)
+    ∙ ap (λ (z : ℕ). insertedValue cutoff k (c z) (o z)) d
 
 pub put-value : (key : ℕ) (v v' : Float) (s : Cells) {t : Cells} → t ≡ putIf key v s → v ≡ v' → t ≡ putIf key v' s
 put-value key v v' s h q = h ∙ ap (λ (z : Float). putIf key z s) q
@@ -60,11 +60,11 @@ pack-is : (i : ℕ) (row : List Float) (y : ℕ) (t : Cells) → packTurn i row 
 unfolding packTurn
 pack-is i row y t = refl
 
-mark-is : (bound k : Float) (c o : ℕ → Float) (y : ℕ) (w : Mark) → markTurn bound k c o y w ≡ insertedMark bound k w (c y) (o y)
+mark-is : (cutoff bound k : Float) (c o : ℕ → Float) (y : ℕ) (w : Mark) → markTurn cutoff bound k c o y w ≡ insertedMark cutoff bound k w (c y) (o y)
 unfolding markTurn
-mark-is bound k c o y w = refl
+mark-is cutoff bound k c o y w = refl
 
-module _ (keys : List ℕ) (vals : List Float) (a e i at : ℕ) (cols : List ℕ) (others : List Float) (m : ℕ) (k bound : Float) where
+module _ (cutoff : Float) (keys : List ℕ) (vals : List Float) (a e i at : ℕ) (cols : List ℕ) (others : List Float) (m : ℕ) (k bound : Float) where
   abbrev c : ℕ → Float
   c = ownCell keys vals a e i at
 
@@ -72,7 +72,7 @@ module _ (keys : List ℕ) (vals : List Float) (a e i at : ℕ) (cols : List ℕ
   o = otherCell cols others m
 
   abbrev row : List Float
-  row = mergedRow k c o
+  row = mergedRow cutoff k c o
 
   abbrev x : ℕ → ℕ → ℕ
   x s j = lesser (frontOf keys s e) (frontOf cols j m)
@@ -80,7 +80,7 @@ module _ (keys : List ℕ) (vals : List Float) (a e i at : ℕ) (cols : List ℕ
   -- s and j cells are done of the two runs: what stands in the loose tables and the mark, with what is left from the lesser front on, are the whole
   pub record Merging (s j : ℕ) (t : Cells) (w : Mark) (u : Cells) : Type 0 where
     pub outs : run (packTurn i row) (x s j) (lastPlace + 1) t ≡ packed lastPlace i row u
-    pub marks : run (markTurn bound k c o) (x s j) (lastPlace + 1) w ≡ mergedMark bound k c o
+    pub marks : run (markTurn cutoff bound k c o) (x s j) (lastPlace + 1) w ≡ mergedMark cutoff bound k c o
     pub mine : Behind keys i a s (x s j)
     pub theirs : Behind cols 0 0 j (x s j)
     pub begun : a ≤ s
@@ -101,12 +101,12 @@ module _ (keys : List ℕ) (vals : List Float) (a e i at : ℕ) (cols : List ℕ
     idle : (y : ℕ) (t : Cells) → 1 ≤ y → y < lastPlace + 1 → c y ≡ zero64 → o y ≡ zero64 → packTurn i row y t ≡ t
     unfolding packTurn
     idle y t h l p q =
-        let v : getD row y nan ≡ zero64 = row-at k c o y h (omega (arith, l)) ∙ ap (λ (z : Float). insertedValue k (c y) z) q ∙ inserted-none k (c y) ∙ p in
+        let v : getD row y nan ≡ zero64 = row-at cutoff k c o y h (omega (arith, l)) ∙ ap (λ (z : Float). insertedValue cutoff k (c y) z) q ∙ inserted-none cutoff k (c y) ∙ p in
         sym (put-off (i * rowSpan + y) (getD row y nan) t (ap (λ (z : Float). ne z zero64) v ∙ zero-off))
 
-    idle-mark : (y : ℕ) (w : Mark) → o y ≡ zero64 → markTurn bound k c o y w ≡ w
+    idle-mark : (y : ℕ) (w : Mark) → o y ≡ zero64 → markTurn cutoff bound k c o y w ≡ w
     unfolding markTurn
-    idle-mark y w q = ap (λ (z : Float). insertedMark bound k w (c y) z) q ∙ marked-none bound k (c y) w
+    idle-mark y w q = ap (λ (z : Float). insertedMark cutoff bound k w (c y) z) q ∙ marked-none cutoff bound k (c y) w
 
     pub merging-start : (u : Cells) → u .size ≡ 0 → a ≤ e → Merging a 0 u allWhole u
     unfolding packed mergedMark
@@ -119,7 +119,7 @@ module _ (keys : List ℕ) (vals : List Float) (a e i at : ℕ) (cols : List ℕ
         let b₂ : (y : ℕ) → Behind cols 0 0 0 y = λ y t p q. absurd (omega (arith, q)) in
         record {
           outs = sym (run-skip (packTurn i row) 1 (x a 0) (lastPlace + 1) u f λ y p q r. idle y u p r (own-none a y (omega arith) h (b₁ y) (omega (arith, q, le .0))) (other-none 0 y (omega arith) (b₂ y) (omega (arith, q, le .1))));
-          marks = sym (run-skip (markTurn bound k c o) 1 (x a 0) (lastPlace + 1) allWhole f λ y p q r. idle-mark y allWhole (other-none 0 y (omega arith) (b₂ y) (omega (arith, q, le .1))));
+          marks = sym (run-skip (markTurn cutoff bound k c o) 1 (x a 0) (lastPlace + 1) allWhole f λ y p q r. idle-mark y allWhole (other-none 0 y (omega arith) (b₂ y) (omega (arith, q, le .1))));
           mine = b₁ (x a 0);
           theirs = b₂ (x a 0);
           begun = omega arith;
@@ -131,7 +131,7 @@ module _ (keys : List ℕ) (vals : List Float) (a e i at : ℕ) (cols : List ℕ
     -- a turn: the cell at the lesser front y is laid down and marked, and each run whose front it was goes on
     turn : (s j s' j' : ℕ) (t t' : Cells) (w w' : Mark) (u : Cells) → Merging s j t w u → x s j ≤ lastPlace → 1 ≤ x s j → x s j < x s' j' → a ≤ s' → s' ≤ e → j' ≤ m
         → Behind keys i a s' (x s j + 1) → Behind cols 0 0 j' (x s j + 1)
-        → t' ≡ putIf (i * rowSpan + x s j) (insertedValue k (c (x s j)) (o (x s j))) t → w' ≡ insertedMark bound k w (c (x s j)) (o (x s j)) → t' .size ≤ t .size + 1 → Merging s' j' t' w' u
+        → t' ≡ putIf (i * rowSpan + x s j) (insertedValue cutoff k (c (x s j)) (o (x s j))) t → w' ≡ insertedMark cutoff bound k w (c (x s j)) (o (x s j)) → t' .size ≤ t .size + 1 → Merging s' j' t' w' u
     turn s j s' j' t t' w w' u g h l n p q r b₁ b₂ e₁ e₂ z =
         let y : ℕ = x s j in
         let le = lesser-le (frontOf keys s' e) (frontOf cols j' m) in
@@ -143,8 +143,8 @@ module _ (keys : List ℕ) (vals : List Float) (a e i at : ℕ) (cols : List ℕ
               sym (run-skip (packTurn i row) (y + 1) (x s' j') (lastPlace + 1) t' (omega (arith, n)) λ v d f v₁. idle v t' (omega (arith, d)) v₁ (none₁ v d f) (none₂ v d f))
               ∙ run-next (packTurn i row) y (lastPlace + 1) t (omega (arith, h)) (laid e₁) (g .outs);
           marks =
-              sym (run-skip (markTurn bound k c o) (y + 1) (x s' j') (lastPlace + 1) w' (omega (arith, n)) λ v d f v₁. idle-mark v w' (none₂ v d f))
-              ∙ run-next (markTurn bound k c o) y (lastPlace + 1) w (omega (arith, h)) (noted e₂) (g .marks);
+              sym (run-skip (markTurn cutoff bound k c o) (y + 1) (x s' j') (lastPlace + 1) w' (omega (arith, n)) λ v d f v₁. idle-mark v w' (none₂ v d f))
+              ∙ run-next (markTurn cutoff bound k c o) y (lastPlace + 1) w (omega (arith, h)) (noted e₂) (g .marks);
           mine = behind-more keys i a e R s' (y + 1) (x s' j') b₁ (omega (arith, n));
           theirs = behind-more cols 0 0 m L j' (y + 1) (x s' j') b₂ (omega (arith, n));
           begun = p;
@@ -153,14 +153,14 @@ module _ (keys : List ℕ) (vals : List Float) (a e i at : ℕ) (cols : List ℕ
           few = omega (arith, z, few, n);
         }
       where
-        laid : t' ≡ putIf (i * rowSpan + x s j) (insertedValue k (c (x s j)) (o (x s j))) t → t' ≡ packTurn i row (x s j) t
+        laid : t' ≡ putIf (i * rowSpan + x s j) (insertedValue cutoff k (c (x s j)) (o (x s j))) t → t' ≡ packTurn i row (x s j) t
         laid e₁ = e₁ ∙ sym (packs (x s j) t l h)
           where
-            packs : (y : ℕ) (t : Cells) → 1 ≤ y → y ≤ lastPlace → packTurn i row y t ≡ putIf (i * rowSpan + y) (insertedValue k (c y) (o y)) t
-            packs y t l h = pack-is i row y t ∙ ap (λ (v : Float). putIf (i * rowSpan + y) v t) (row-at k c o y l h)
+            packs : (y : ℕ) (t : Cells) → 1 ≤ y → y ≤ lastPlace → packTurn i row y t ≡ putIf (i * rowSpan + y) (insertedValue cutoff k (c y) (o y)) t
+            packs y t l h = pack-is i row y t ∙ ap (λ (v : Float). putIf (i * rowSpan + y) v t) (row-at cutoff k c o y l h)
 
-        noted : w' ≡ insertedMark bound k w (c (x s j)) (o (x s j)) → w' ≡ markTurn bound k c o (x s j) w
-        noted e₂ = e₂ ∙ sym (mark-is bound k c o (x s j) w)
+        noted : w' ≡ insertedMark cutoff bound k w (c (x s j)) (o (x s j)) → w' ≡ markTurn cutoff bound k c o (x s j) w
+        noted e₂ = e₂ ∙ sym (mark-is cutoff bound k c o (x s j) w)
 
     module _ (s j : ℕ) (t t' : Cells) (w : Mark) (u : Cells) (g : Merging s j t w u) (z : t' .size ≤ t .size + 1) where
       abbrev p : ℕ
@@ -187,25 +187,25 @@ module _ (keys : List ℕ) (vals : List Float) (a e i at : ℕ) (cols : List ℕ
           let up = front-up keys i a e R s (g .begun) l in
           let b = g .begun in
           let none : o p ≡ zero64 = other-none j p (g .loose) (subst (λ (y : ℕ). Behind cols 0 0 j y) ex (g .theirs)) h in
-          let value : insertedValue k (c p) (o p) ≡ ownValue at p (getD vals s nan) = ap (insertedValue k (c p)) none ∙ inserted-none k (c p) ∙ own-at l in
+          let value : insertedValue cutoff k (c p) (o p) ≡ ownValue at p (getD vals s nan) = ap (insertedValue cutoff k (c p)) none ∙ inserted-none cutoff k (c p) ∙ own-at l in
           turn s j (s + 1) j t t' w w u g (omega (arith, ex, hi)) (omega (arith, ex, lo))
           (lesser-above (x s j) (frontOf keys (s + 1) e) q (omega (arith, ex, up)) (omega (arith, ex, h)))
           (omega (arith, b)) (omega (arith, l)) (g .loose)
           (behind-next keys i a e R s (x s j) (x s j + 1) (g .begun) l (g .mine) (omega arith) (omega (arith, ex)))
           (behind-more cols 0 0 m L j (x s j) (x s j + 1) (g .theirs) (omega arith))
-          (subst (λ (y : ℕ). t' ≡ putIf (i * rowSpan + y) (insertedValue k (c y) (o y)) t) (sym ex) (d ∙ ap (λ (v : Float). putIf (i * rowSpan + p) v t) (sym value)))
-          (subst (λ (y : ℕ). w ≡ insertedMark bound k w (c y) (o y)) (sym ex) (sym (ap (λ (v : Float). insertedMark bound k w (c p) v) none ∙ marked-none bound k (c p) w)))
+          (subst (λ (y : ℕ). t' ≡ putIf (i * rowSpan + y) (insertedValue cutoff k (c y) (o y)) t) (sym ex) (d ∙ ap (λ (v : Float). putIf (i * rowSpan + p) v t) (sym value)))
+          (subst (λ (y : ℕ). w ≡ insertedMark cutoff bound k w (c y) (o y)) (sym ex) (sym (ap (λ (v : Float). insertedMark cutoff bound k w (c p) v) none ∙ marked-none cutoff bound k (c p) w)))
           z
 
       module _ (w' : Mark) where
         abbrev Made : Float → Type 0
-        Made v = (t' ≡ putIf (i * rowSpan + q) (insertedValue k v (getD others j nan)) t) × (w' ≡ insertedMark bound k w v (getD others j nan))
+        Made v = (t' ≡ putIf (i * rowSpan + q) (insertedValue cutoff k v (getD others j nan)) t) × (w' ≡ insertedMark cutoff bound k w v (getD others j nan))
 
-        made : (v : Float) → Made v → j < m → c q ≡ v → (t' ≡ putIf (i * rowSpan + q) (insertedValue k (c q) (o q)) t) × (w' ≡ insertedMark bound k w (c q) (o q))
+        made : (v : Float) → Made v → j < m → c q ≡ v → (t' ≡ putIf (i * rowSpan + q) (insertedValue cutoff k (c q) (o q)) t) × (w' ≡ insertedMark cutoff bound k w (c q) (o q))
         made v f l n = rw (other-at l, n) f
 
         -- the loose row's cell alone
-        pub merging-other : q < p → (t' ≡ putIf (i * rowSpan + q) (insertedValue k zero64 (getD others j nan)) t) × (w' ≡ insertedMark bound k w zero64 (getD others j nan)) → Merging s (j + 1) t' w' u
+        pub merging-other : q < p → (t' ≡ putIf (i * rowSpan + q) (insertedValue cutoff k zero64 (getD others j nan)) t) × (w' ≡ insertedMark cutoff bound k w zero64 (getD others j nan)) → Merging s (j + 1) t' w' u
         merging-other h f =
             let ex : x s j ≡ q = lesser-right p q (omega (arith, h)) in
             let l : j < m = front-live cols j m (let v = front-most keys s e in omega (arith, h, v)) in
@@ -219,12 +219,12 @@ module _ (keys : List ℕ) (vals : List Float) (a e i at : ℕ) (cols : List ℕ
             (g .begun) (g .within) (omega (arith, l))
             (behind-more keys i a e R s (x s j) (x s j + 1) (g .mine) (omega arith))
             (behind-next cols 0 0 m L j (x s j) (x s j + 1) (omega arith) l (g .theirs) (omega arith) (omega (arith, ex)))
-            (subst (λ (y : ℕ). t' ≡ putIf (i * rowSpan + y) (insertedValue k (c y) (o y)) t) (sym ex) (both .0))
-            (subst (λ (y : ℕ). w' ≡ insertedMark bound k w (c y) (o y)) (sym ex) (both .1))
+            (subst (λ (y : ℕ). t' ≡ putIf (i * rowSpan + y) (insertedValue cutoff k (c y) (o y)) t) (sym ex) (both .0))
+            (subst (λ (y : ℕ). w' ≡ insertedMark cutoff bound k w (c y) (o y)) (sym ex) (both .1))
             z
 
         -- a cell of each
-        pub merging-both : p ≡ q → s < e → j < m → (t' ≡ putIf (i * rowSpan + q) (insertedValue k (ownValue at p (getD vals s nan)) (getD others j nan)) t) × (w' ≡ insertedMark bound k w (ownValue at p (getD vals s nan)) (getD others j nan)) → Merging (s + 1) (j + 1) t' w' u
+        pub merging-both : p ≡ q → s < e → j < m → (t' ≡ putIf (i * rowSpan + q) (insertedValue cutoff k (ownValue at p (getD vals s nan)) (getD others j nan)) t) × (w' ≡ insertedMark cutoff bound k w (ownValue at p (getD vals s nan)) (getD others j nan)) → Merging (s + 1) (j + 1) t' w' u
         merging-both h l₁ l f =
             let ex : x s j ≡ q = lesser-right p q (omega (arith, h)) in
             let hi = front-high cols 0 0 m L j (omega arith) l in
@@ -238,19 +238,19 @@ module _ (keys : List ℕ) (vals : List Float) (a e i at : ℕ) (cols : List ℕ
             (omega (arith, b₁)) (omega (arith, l₁)) (omega (arith, l))
             (behind-next keys i a e R s (x s j) (x s j + 1) (g .begun) l₁ (g .mine) (omega arith) (omega (arith, ex, h)))
             (behind-next cols 0 0 m L j (x s j) (x s j + 1) (omega arith) l (g .theirs) (omega arith) (omega (arith, ex)))
-            (subst (λ (y : ℕ). t' ≡ putIf (i * rowSpan + y) (insertedValue k (c y) (o y)) t) (sym ex) (both .0))
-            (subst (λ (y : ℕ). w' ≡ insertedMark bound k w (c y) (o y)) (sym ex) (both .1))
+            (subst (λ (y : ℕ). t' ≡ putIf (i * rowSpan + y) (insertedValue cutoff k (c y) (o y)) t) (sym ex) (both .0))
+            (subst (λ (y : ℕ). w' ≡ insertedMark cutoff bound k w (c y) (o y)) (sym ex) (both .1))
             z
 
     -- both runs are done
-    pub merging-end : (s j : ℕ) (t : Cells) (w : Mark) (u : Cells) → Merging s j t w u → e + m ≤ s + j → (t ≡ packed lastPlace i row u) × (w ≡ mergedMark bound k c o)
+    pub merging-end : (s j : ℕ) (t : Cells) (w : Mark) (u : Cells) → Merging s j t w u → e + m ≤ s + j → (t ≡ packed lastPlace i row u) × (w ≡ mergedMark cutoff bound k c o)
     merging-end s j t w u g h =
         let b = g .within in
         let d = g .loose in
         let f₁ = front-end keys s e (omega (arith, h, b, d)) in
         let f₂ = front-end cols j m (omega (arith, h, b, d)) in
         let v : lastPlace < x s j = lesser-above lastPlace (frontOf keys s e) (frontOf cols j m) (omega (arith, f₁)) (omega (arith, f₂)) in
-        (run-last (packTurn i row) (x s j) (lastPlace + 1) t (omega (arith, v)) (g .outs), run-last (markTurn bound k c o) (x s j) (lastPlace + 1) w (omega (arith, v)) (g .marks))
+        (run-last (packTurn i row) (x s j) (lastPlace + 1) t (omega (arith, v)) (g .outs), run-last (markTurn cutoff bound k c o) (x s j) (lastPlace + 1) w (omega (arith, v)) (g .marks))
 
     -- where the fronts meet before the end, both runs have a cell there; and there is room for it
     pub merging-first : (s j p q : ℕ) (t : Cells) (w : Mark) (u : Cells) → Merging s j t w u → p ≡ frontOf keys s e → q ≡ frontOf cols j m → p < q → (s < e) × (t .size ≤ lastPlace)
@@ -296,10 +296,10 @@ module _ (keys : List ℕ) (vals : List Float) (a e i at : ℕ) (cols : List ℕ
       pub own-turn : (v : Float) → p < q → v ≡ ownValue at p (getD vals s nan) → cells ks' vs' n' ≡ putIf (base + p) v (cells ks vs n) → Merging (s + 1) j (cells ks' vs' n') w u
       own-turn v h ev d = merging-own s j (cells ks vs n) (cells ks' vs' n') w u g z (rw (← f₁, ← f₂) h) (rw (← f₁, ← ev, ← eb) d)
 
-      pub other-turn : (w' : Mark) → q < p → cells ks' vs' n' ≡ putIf (base + q) (insertedValue k zero64 (getD others j nan)) (cells ks vs n) → w' ≡ insertedMark bound k w zero64 (getD others j nan) → Merging s (j + 1) (cells ks' vs' n') w' u
+      pub other-turn : (w' : Mark) → q < p → cells ks' vs' n' ≡ putIf (base + q) (insertedValue cutoff k zero64 (getD others j nan)) (cells ks vs n) → w' ≡ insertedMark cutoff bound k w zero64 (getD others j nan) → Merging s (j + 1) (cells ks' vs' n') w' u
       other-turn w' h d r = merging-other s j (cells ks vs n) (cells ks' vs' n') w u g z w' (rw (← f₁, ← f₂) h) (rw (← f₂, ← eb) d, r)
 
-      pub both-turn : (w' : Mark) (v : Float) → q ≤ p → p ≤ q → s + j < e + m → v ≡ ownValue at p (getD vals s nan) → cells ks' vs' n' ≡ putIf (base + q) (insertedValue k v (getD others j nan)) (cells ks vs n) → w' ≡ insertedMark bound k w v (getD others j nan) → Merging (s + 1) (j + 1) (cells ks' vs' n') w' u
+      pub both-turn : (w' : Mark) (v : Float) → q ≤ p → p ≤ q → s + j < e + m → v ≡ ownValue at p (getD vals s nan) → cells ks' vs' n' ≡ putIf (base + q) (insertedValue cutoff k v (getD others j nan)) (cells ks vs n) → w' ≡ insertedMark cutoff bound k w v (getD others j nan) → Merging (s + 1) (j + 1) (cells ks' vs' n') w' u
       both-turn w' v h l b ev d r =
           let live = merging-third s j p q (cells ks vs n) w u g f₁ f₂ h l b in
           merging-both s j (cells ks vs n) (cells ks' vs' n') w u g z w' (omega (arith, f₁, f₂, h, l)) (live .0) (live .1) (rw (← f₁, ← f₂, ← ev, ← eb) d, rw (← f₁, ← ev) r)

@@ -48,22 +48,22 @@ settled-stored c = go (absent c) refl
     go true q = settled-absent zero64 zero-absent
     go false q = settled-there c q
 
-pub settled-insert : (c k : Float) → settled c ≡ c → settled (cellValue (insertCell c k)) ≡ cellValue (insertCell c k)
+pub settled-insert : (cutoff c k : Float) → settled c ≡ c → settled (cellValue (insertCell cutoff c k)) ≡ cellValue (insertCell cutoff c k)
 unfolding cellValue
-settled-insert c k h = rw (insertCell-is c k) (go (absent c) (nearZero k))
+settled-insert cutoff c k h = rw (insertCell-is cutoff c k) (go (absent c) (nearZero cutoff k))
   where
-    go : (b d : Bool) → settled (cellValue (cond b (cond d (kept c) (wrote k)) (wrote (goesIfNearZero (c +₆₄ k))))) ≡ cellValue (cond b (cond d (kept c) (wrote k)) (wrote (goesIfNearZero (c +₆₄ k))))
+    go : (b d : Bool) → settled (cellValue (cond b (cond d (kept c) (wrote k)) (wrote (goesIfNearZero cutoff (c +₆₄ k))))) ≡ cellValue (cond b (cond d (kept c) (wrote k)) (wrote (goesIfNearZero cutoff (c +₆₄ k))))
     go true true = h
     go true false = settled-stored k
-    go false d = settled-stored (goesIfNearZero (c +₆₄ k))
+    go false d = settled-stored (goesIfNearZero cutoff (c +₆₄ k))
 
-settled-inserted : (k c o : Float) → settled c ≡ c → settled (insertedValue k c o) ≡ insertedValue k c o
+settled-inserted : (cutoff k c o : Float) → settled c ≡ c → settled (insertedValue cutoff k c o) ≡ insertedValue cutoff k c o
 unfolding insertedValue cellValue
-settled-inserted k c o h = rw (insertTimes-is k o c) (go (absent o))
+settled-inserted cutoff k c o h = rw (insertTimes-is cutoff k o c) (go (absent o))
   where
-    go : (b : Bool) → settled (cellValue (cond b (kept c) (insertCell c (o *₆₄ k)))) ≡ cellValue (cond b (kept c) (insertCell c (o *₆₄ k)))
+    go : (b : Bool) → settled (cellValue (cond b (kept c) (insertCell cutoff c (o *₆₄ k)))) ≡ cellValue (cond b (kept c) (insertCell cutoff c (o *₆₄ k)))
     go true = h
-    go false = settled-insert c (o *₆₄ k) h
+    go false = settled-insert cutoff c (o *₆₄ k) h
 
 own-settled : (at p : ℕ) (x : Float) → settled x ≡ x → settled (ownValue at p x) ≡ ownValue at p x
 unfolding ownValue
@@ -114,18 +114,18 @@ module _ {S : Type 0} where
   idle-turns g zero i t f = refl
   idle-turns g (suc d) i t f = ap (turns g d (suc i)) (f i t (omega arith) (omega arith)) ∙ idle-turns g d (suc i) t λ j z u v. f j z (omega (arith, u)) (omega (arith, v))
 
-marks-tab : (bound k : Float) (c o : ℕ → Float) (n i : ℕ) (m : Mark) → turns (markTurn bound k c o) n i m ≡ worse m (cellMarks bound (tab (λ p. insertTimes k (o p) (c p)) i n))
+marks-tab : (cutoff bound k : Float) (c o : ℕ → Float) (n i : ℕ) (m : Mark) → turns (markTurn cutoff bound k c o) n i m ≡ worse m (cellMarks bound (tab (λ p. insertTimes cutoff k (o p) (c p)) i n))
 unfolding turns markTurn insertedMark tab cellMarks
-marks-tab bound k c o zero i m = sym (worse-unit m)
-marks-tab bound k c o (suc n) i m =
-    marks-tab bound k c o n (suc i) (worse m (cellMark bound (insertTimes k (o i) (c i))))
-    ∙ worse-assoc m (cellMark bound (insertTimes k (o i) (c i))) (cellMarks bound (tab (λ p. insertTimes k (o p) (c p)) (suc i) n))
+marks-tab cutoff bound k c o zero i m = sym (worse-unit m)
+marks-tab cutoff bound k c o (suc n) i m =
+    marks-tab cutoff bound k c o n (suc i) (worse m (cellMark bound (insertTimes cutoff k (o i) (c i))))
+    ∙ worse-assoc m (cellMark bound (insertTimes cutoff k (o i) (c i))) (cellMarks bound (tab (λ p. insertTimes cutoff k (o p) (c p)) (suc i) n))
 
-pub run-marks : (bound k : Float) (c o : ℕ → Float) (w : ℕ) (m : Mark) → run (markTurn bound k c o) 1 (w + 1) m ≡ worse m (cellMarks bound (tab (λ p. insertTimes k (o p) (c p)) 1 w))
+pub run-marks : (cutoff bound k : Float) (c o : ℕ → Float) (w : ℕ) (m : Mark) → run (markTurn cutoff bound k c o) 1 (w + 1) m ≡ worse m (cellMarks bound (tab (λ p. insertTimes cutoff k (o p) (c p)) 1 w))
 unfolding run
-run-marks bound k c o w m =
+run-marks cutoff bound k c o w m =
     let e : w + 1 - 1 ≡ w = omega arith in
-    rw e (marks-tab bound k c o w 1 m)
+    rw e (marks-tab cutoff bound k c o w 1 m)
 
 run-split : {S : Type 0} (g : ℕ → S → S) (w e : ℕ) (s : S) → w ≤ e → ((j : ℕ) (t : S) → w < j → j ≤ e → g j t ≡ t) → run g 1 (e + 1) s ≡ run g 1 (w + 1) s
 run-split {S} g w e s h f =
@@ -137,22 +137,22 @@ run-split {S} g w e s h f =
     idle : turns g (e - w) (1 + w) (turns g w 1 s) ≡ turns g w 1 s
     idle = idle-turns g (e - w) (1 + w) (turns g w 1 s) λ j z a b. f j z (omega (arith, a)) (omega (arith, b, h))
 
-past-marks : (bound k : Float) (c o : ℕ → Float) (w : ℕ) (m : Mark) → w ≤ lastPlace → ((p : ℕ) → w < p → p ≤ lastPlace → o p ≡ zero64) → run (markTurn bound k c o) 1 (lastPlace + 1) m ≡ run (markTurn bound k c o) 1 (w + 1) m
+past-marks : (cutoff bound k : Float) (c o : ℕ → Float) (w : ℕ) (m : Mark) → w ≤ lastPlace → ((p : ℕ) → w < p → p ≤ lastPlace → o p ≡ zero64) → run (markTurn cutoff bound k c o) 1 (lastPlace + 1) m ≡ run (markTurn cutoff bound k c o) 1 (w + 1) m
 unfolding markTurn
-past-marks bound k c o w m h f = run-split (markTurn bound k c o) w lastPlace m h λ p z u v. ap (insertedMark bound k z (c p)) (f p u v) ∙ marked-none bound k (c p) z
+past-marks cutoff bound k c o w m h f = run-split (markTurn cutoff bound k c o) w lastPlace m h λ p z u v. ap (insertedMark cutoff bound k z (c p)) (f p u v) ∙ marked-none cutoff bound k (c p) z
 
 pub first-mark : (m : Mark) → worse allWhole m ≡ m
 unfolding worse
 first-mark m = refl
 
-substitute-is : (s : ℕ) (symbols : List Symbol) (other mine : Row) → absent (coefficientFor s symbols (mine .cells)) ≡ false
-    → substituteInRow s symbols other mine ≡ insertRow other (coefficientFor s symbols (mine .cells)) (record { constant = mine .constant; cells = clearCell s symbols (mine .cells) })
+substitute-is : (cutoff : Float) (s : ℕ) (symbols : List Symbol) (other mine : Row) → absent (coefficientFor s symbols (mine .cells)) ≡ false
+    → substituteInRow cutoff s symbols other mine ≡ insertRow cutoff other (coefficientFor s symbols (mine .cells)) (record { constant = mine .constant; cells = clearCell s symbols (mine .cells) })
 unfolding substituteInRow
-substitute-is s symbols other mine h = rw (h, substituteInRow) refl
+substitute-is cutoff s symbols other mine h = rw (h, substituteInRow) refl
 
 -- ---- the law: s is the symbol at place 1 + j of w
 
-module _ (n i j m w : ℕ) (k : Float) (keys : List ℕ) (vals : List Float) (cols : List ℕ) (others : List Float)
+module _ (cutoff : Float) (n i j m w : ℕ) (k : Float) (keys : List ℕ) (vals : List Float) (cols : List ℕ) (others : List Float)
     (up : Ascending keys n) (pr : Present vals n) (lk : n + lastPlace ≤ length keys) (lv : n + lastPlace ≤ length vals) (lw : w ≤ lastPlace) where
   abbrev own : ℕ → Float
   own = ownIn n i (1 + j) keys vals
@@ -161,7 +161,7 @@ module _ (n i j m w : ℕ) (k : Float) (keys : List ℕ) (vals : List Float) (co
   other = otherCell cols others m
 
   abbrev t : Cells
-  t = mergedInto n i (1 + j) m k keys vals cols others
+  t = mergedInto cutoff n i (1 + j) m k keys vals cols others
 
   own-is : (p : ℕ) → p < rowSpan → own p ≡ ownValue (1 + j) p (cellAt keys vals n (i * rowSpan + p))
   unfolding ownIn ownCell
@@ -173,12 +173,12 @@ module _ (n i j m w : ℕ) (k : Float) (keys : List ℕ) (vals : List Float) (co
       let b = row-run keys n i refl refl in
       own-settled (1 + j) p _ (cell-settled keys vals n (i * rowSpan + p) _ _ pr (run-ordered keys n i _ _ refl refl) (b .1 .1))
 
-  wide-read : rowOf (t .keys) (t .vals) (t .size) lastPlace i ≡ tab (λ p. insertedValue k (own p) (other p)) 1 lastPlace
+  wide-read : rowOf (t .keys) (t .vals) (t .size) lastPlace i ≡ tab (λ p. insertedValue cutoff k (own p) (other p)) 1 lastPlace
   unfolding mergedInto
   wide-read =
-      replaced-own n i lastPlace (mergedRow k own other) keys vals (up, omega arith, lk, lv)
-      ∙ tab-ext _ (λ p. insertedValue k (own p) (other p)) 1 lastPlace λ p u v.
-      ap settled (row-at k own other p u (omega (arith, v))) ∙ settled-inserted k (own p) (other p) (own-kept p)
+      replaced-own n i lastPlace (mergedRow cutoff k own other) keys vals (up, omega arith, lk, lv)
+      ∙ tab-ext _ (λ p. insertedValue cutoff k (own p) (other p)) 1 lastPlace λ p u v.
+      ap settled (row-at cutoff k own other p u (omega (arith, v))) ∙ settled-inserted cutoff k (own p) (other p) (own-kept p)
 
   narrow : (f g : ℕ → Float) → tab f 1 lastPlace ≡ tab g 1 lastPlace → tab f 1 w ≡ tab g 1 w
   narrow f g q =
@@ -188,15 +188,15 @@ module _ (n i j m w : ℕ) (k : Float) (keys : List ℕ) (vals : List Float) (co
       let x : f (1 + (p - 1)) ≡ g (1 + (p - 1)) = sym (getD-tab f 1 lastPlace (p - 1) nan l) ∙ ap (λ (z : List Float). getD z (p - 1) nan) q ∙ getD-tab g 1 lastPlace (p - 1) nan l in
       rw o at x
 
-  pub merged-cells : rowOf (t .keys) (t .vals) (t .size) w i ≡ cellValues (insertCells k (rowOf cols others m w 0) (tab own 1 w))
+  pub merged-cells : rowOf (t .keys) (t .vals) (t .size) w i ≡ cellValues (insertCells cutoff k (rowOf cols others m w 0) (tab own 1 w))
   unfolding rowOf insertedValue otherCell cellAt
   merged-cells =
-      narrow _ (λ p. insertedValue k (own p) (other p)) wide-read
-      ∙ sym (ap cellValues (insert-tab k other own 1 w) ∙ values-tab (λ p. insertTimes k (other p) (own p)) 1 w)
+      narrow _ (λ p. insertedValue cutoff k (own p) (other p)) wide-read
+      ∙ sym (ap cellValues (insert-tab cutoff k other own 1 w) ∙ values-tab (λ p. insertTimes cutoff k (other p) (own p)) 1 w)
 
-  others-are : insertCells k (rowOf cols others m w 0) (tab own 1 w) ≡ tab (λ p. insertTimes k (other p) (own p)) 1 w
+  others-are : insertCells cutoff k (rowOf cols others m w 0) (tab own 1 w) ≡ tab (λ p. insertTimes cutoff k (other p) (own p)) 1 w
   unfolding rowOf otherCell cellAt
-  others-are = insert-tab k other own 1 w
+  others-are = insert-tab cutoff k other own 1 w
 
   module _ (s : ℕ) (symbols : List Symbol) (at : PlaceOf s symbols j) (ls : length symbols ≡ w) where
     below : j < w
@@ -216,19 +216,19 @@ module _ (n i j m w : ℕ) (k : Float) (keys : List ℕ) (vals : List Float) (co
         ∙ row-set
         ∙ sym (clear-at s symbols j (rowOf keys vals n w i) at along)
 
-    pub substituted-cells : rowOf (t .keys) (t .vals) (t .size) w i ≡ cellValues (insertCells k (rowOf cols others m w 0) (clearCell s symbols (rowOf keys vals n w i)))
-    substituted-cells = merged-cells ∙ ap (λ (l : List Float). cellValues (insertCells k (rowOf cols others m w 0) l)) own-cleared
+    pub substituted-cells : rowOf (t .keys) (t .vals) (t .size) w i ≡ cellValues (insertCells cutoff k (rowOf cols others m w 0) (clearCell s symbols (rowOf keys vals n w i)))
+    substituted-cells = merged-cells ∙ ap (λ (l : List Float). cellValues (insertCells cutoff k (rowOf cols others m w 0) l)) own-cleared
 
-    inserted-are : insertCells k (rowOf cols others m w 0) (clearCell s symbols (rowOf keys vals n w i)) ≡ tab (λ p. insertTimes k (other p) (own p)) 1 w
-    inserted-are = ap (insertCells k (rowOf cols others m w 0)) (sym own-cleared) ∙ others-are
+    inserted-are : insertCells cutoff k (rowOf cols others m w 0) (clearCell s symbols (rowOf keys vals n w i)) ≡ tab (λ p. insertTimes cutoff k (other p) (own p)) 1 w
+    inserted-are = ap (insertCells cutoff k (rowOf cols others m w 0)) (sym own-cleared) ∙ others-are
 
     -- where the loose row has no cell past the live symbols
-    pub substituted-mark : ((p : ℕ) → w < p → p ≤ lastPlace → other p ≡ zero64) → mergedIntoMark n i (1 + j) m cellBound k keys vals cols others ≡ cellMarks cellBound (insertCells k (rowOf cols others m w 0) (clearCell s symbols (rowOf keys vals n w i)))
+    pub substituted-mark : ((p : ℕ) → w < p → p ≤ lastPlace → other p ≡ zero64) → mergedIntoMark cutoff n i (1 + j) m cellBound k keys vals cols others ≡ cellMarks cellBound (insertCells cutoff k (rowOf cols others m w 0) (clearCell s symbols (rowOf keys vals n w i)))
     unfolding mergedIntoMark mergedMark
     substituted-mark none =
-        past-marks cellBound k own other w allWhole lw none
-        ∙ run-marks cellBound k own other w allWhole
-        ∙ first-mark (cellMarks cellBound (tab (λ p. insertTimes k (other p) (own p)) 1 w))
+        past-marks cutoff cellBound k own other w allWhole lw none
+        ∙ run-marks cutoff cellBound k own other w allWhole
+        ∙ first-mark (cellMarks cellBound (tab (λ p. insertTimes cutoff k (other p) (own p)) 1 w))
         ∙ ap (cellMarks cellBound) (sym inserted-are)
 
     -- "Substitute s" as the steps have it, with the constants beside the cells
@@ -236,10 +236,10 @@ module _ (n i j m w : ℕ) (k : Float) (keys : List ℕ) (vals : List Float) (co
         → record {
           row = record { constant = x +₆₄ (y *₆₄ k); cells = rowOf (t .keys) (t .vals) (t .size) w i };
           constantChanged = ne (y *₆₄ k) zero64;
-          mark = worse (markWrite constantBound (x +₆₄ (y *₆₄ k))) (mergedIntoMark n i (1 + j) m cellBound k keys vals cols others);
+          mark = worse (markWrite constantBound (x +₆₄ (y *₆₄ k))) (mergedIntoMark cutoff n i (1 + j) m cellBound k keys vals cols others);
         }
-        ≡ substituteInRow s symbols (record { constant = y; cells = rowOf cols others m w 0 }) (record { constant = x; cells = rowOf keys vals n w i })
+        ≡ substituteInRow cutoff s symbols (record { constant = y; cells = rowOf cols others m w 0 }) (record { constant = x; cells = rowOf keys vals n w i })
     unfolding insertRow
     substituted x y q a none =
-        sym (substitute-is s symbols (record { constant = y; cells = rowOf cols others m w 0 }) (record { constant = x; cells = rowOf keys vals n w i }) (subst (λ (z : Float). absent z ≡ false) q a)
+        sym (substitute-is cutoff s symbols (record { constant = y; cells = rowOf cols others m w 0 }) (record { constant = x; cells = rowOf keys vals n w i }) (subst (λ (z : Float). absent z ≡ false) q a)
         ∙ rw (← q, ← substituted-cells, ← substituted-mark none) refl)

@@ -57,8 +57,8 @@ fn own(x: f64, p: u16, at: u8) -> f64
 }
 
 // "Insert a symbol": what o times k leaves where c stands.
-fn inserted(k: f64, o: f64, c: f64) -> Left
-    ensures { λ r. ⌜ cellOf r ≡ insertTimes k o c ⌝ }
+fn inserted(cutoff: f64, k: f64, o: f64, c: f64) -> Left
+    ensures { λ r. ⌜ cellOf r ≡ insertTimes cutoff k o c ⌝ }
 {
     if o == 0.0 {
         return Left {
@@ -66,7 +66,7 @@ fn inserted(k: f64, o: f64, c: f64) -> Left
             value: c,
         };
     }
-    insert_cell(c, o * k)
+    insert_cell(cutoff, c, o * k)
 }
 
 // A cell that is not zero goes to place n; where the next one goes.
@@ -85,6 +85,7 @@ fn put(keys: &mut [u16; ROW_ROOM], vals: &mut [f64; ROW_ROOM], n: usize, key: u1
 
 // The sum at one place, laid down and marked.
 fn put_sum(
+    cutoff: f64,
     keys: &mut [u16; ROW_ROOM],
     vals: &mut [f64; ROW_ROOM],
     n: usize,
@@ -96,11 +97,11 @@ fn put_sum(
     before: Wrote,
 ) -> Merged
     requires { ⌜ n < rowRoom ⌝ }
-    ensures { λ r. ⌜ cells (now (keys .exit)) (now (vals .exit)) (r .size) ≡ putIf key (insertedValue k c o) (cells (now (keys .entry)) (now (vals .entry)) n) ⌝ }
-    ensures { λ r. ⌜ markOf (r .wrote) ≡ insertedMark bound k (markOf before) c o ⌝ }
+    ensures { λ r. ⌜ cells (now (keys .exit)) (now (vals .exit)) (r .size) ≡ putIf key (insertedValue cutoff k c o) (cells (now (keys .entry)) (now (vals .entry)) n) ⌝ }
+    ensures { λ r. ⌜ markOf (r .wrote) ≡ insertedMark cutoff bound k (markOf before) c o ⌝ }
     ensures { λ r. ⌜ r .size ≤ n + 1 ⌝ }
 {
-    let l = inserted(k, o, c);
+    let l = inserted(cutoff, k, o, c);
     let next = put(keys, vals, n, key, cell_value(l));
     Merged {
         size: next,
@@ -110,6 +111,7 @@ fn put_sum(
 
 // "Substitute s: s's cell k goes, then insert row times k.": row i's cells from place a up to e, without that of place `at`, and k times the loose row.
 pub fn merge_run(
+    cutoff: f64,
     keys: &[u16; CELL_ROOM],
     vals: &[f64; CELL_ROOM],
     a: usize,
@@ -130,8 +132,8 @@ pub fn merge_run(
     requires { ⌜ i < topRow ⌝ }
     requires { ⌜ RunOf (now keys) i a e ⌝ }
     requires { ⌜ RunOf (now cols) 0 0 m ⌝ }
-    ensures { λ r. ⌜ cells (now (fresh .exit)) (now (sums .exit)) (r .size) ≡ packed lastPlace i (mergedRow k (ownCell (now (keys .entry)) (now (vals .entry)) a e i at) (otherCell (now (cols .entry)) (now (others .entry)) m)) (cells (now (fresh .entry)) (now (sums .entry)) 0) ⌝ }
-    ensures { λ r. ⌜ markOf (r .wrote) ≡ mergedMark bound k (ownCell (now (keys .entry)) (now (vals .entry)) a e i at) (otherCell (now (cols .entry)) (now (others .entry)) m) ⌝ }
+    ensures { λ r. ⌜ cells (now (fresh .exit)) (now (sums .exit)) (r .size) ≡ packed lastPlace i (mergedRow cutoff k (ownCell (now (keys .entry)) (now (vals .entry)) a e i at) (otherCell (now (cols .entry)) (now (others .entry)) m)) (cells (now (fresh .entry)) (now (sums .entry)) 0) ⌝ }
+    ensures { λ r. ⌜ markOf (r .wrote) ≡ mergedMark cutoff bound k (ownCell (now (keys .entry)) (now (vals .entry)) a e i at) (otherCell (now (cols .entry)) (now (others .entry)) m) ⌝ }
     ensures { λ r. ⌜ r .size ≤ lastPlace ⌝ }
 {
     let base = i as u16 * ROW_SPAN;
@@ -149,14 +151,25 @@ pub fn merge_run(
             continue;
         }
         if q < p {
-            let r = put_sum(fresh, sums, n, base + q, k, others[j], 0.0, bound, w);
+            let r = put_sum(
+                cutoff,
+                fresh,
+                sums,
+                n,
+                base + q,
+                k,
+                others[j],
+                0.0,
+                bound,
+                w,
+            );
             n = r.size;
             w = r.wrote;
             j += 1;
             continue;
         }
         let x = own(vals[s], p, at);
-        let r = put_sum(fresh, sums, n, base + q, k, others[j], x, bound, w);
+        let r = put_sum(cutoff, fresh, sums, n, base + q, k, others[j], x, bound, w);
         n = r.size;
         w = r.wrote;
         s += 1;

@@ -53,6 +53,7 @@ fn paste(
 
 // "Substitute s: s's cell k goes, then insert row times k.", in row i's cells; s stands at place `at`, and the row is loose.
 pub fn merge_row(
+    cutoff: f64,
     keys: &mut [u16; CELL_ROOM],
     vals: &mut [f64; CELL_ROOM],
     n: usize,
@@ -71,8 +72,8 @@ pub fn merge_row(
     requires { ⌜ Ascending (now keys) n ⌝ }
     requires { ⌜ Placed (now keys) n ⌝ }
     requires { ⌜ RunOf (now cols) 0 0 m ⌝ }
-    ensures { λ r. ⌜ cells (now (keys .exit)) (now (vals .exit)) (r .size) ≡ mergedInto n i at m k (now (keys .entry)) (now (vals .entry)) (now (cols .entry)) (now (others .entry)) ⌝ }
-    ensures { λ r. ⌜ markOf (r .wrote) ≡ mergedIntoMark n i at m cellBound k (now (keys .entry)) (now (vals .entry)) (now (cols .entry)) (now (others .entry)) ⌝ }
+    ensures { λ r. ⌜ cells (now (keys .exit)) (now (vals .exit)) (r .size) ≡ mergedInto cutoff n i at m k (now (keys .entry)) (now (vals .entry)) (now (cols .entry)) (now (others .entry)) ⌝ }
+    ensures { λ r. ⌜ markOf (r .wrote) ≡ mergedIntoMark cutoff n i at m cellBound k (now (keys .entry)) (now (vals .entry)) (now (cols .entry)) (now (others .entry)) ⌝ }
 {
     loose_wide(fresh);
     wide(sums);
@@ -80,6 +81,7 @@ pub fn merge_row(
     let a = find(keys, n, base);
     let e = find(keys, n, base + ROW_SPAN);
     let r = merge_run(
+        cutoff,
         keys,
         vals,
         a,

@@ -81,7 +81,7 @@ module _ (s : State) (h : Narrow s) where
   add-narrow n ts k r budget e q = go (firstRefusal (addTests n ts k r s)) refl
     where
       new : Tag → Constraint
-      new tag = record { number = n; strength = strengthOf r; terms = keptTerms ts; tag = tag }
+      new tag = record { number = n; strength = strengthOf r; terms = keptTerms (s .tableau .cutoff) ts; tag = tag }
 
       kept : (tag : Tag) → All (λ (c : Constraint). isU32 (c .number) ≡ true) (keepConstraint (new tag) (s .constraints))
       kept tag = rw keepConstraint-is (keep-all (λ (c : Constraint). c .number) _ (new tag) (s .constraints) e (h .constraints))
@@ -173,6 +173,6 @@ module _ (s : State) (h : Narrow s) where
       go true = unfold clearChanged withFlag in all-map (withFlag false) U32 (s .changes .variables) (h .variables)
       go false = h .variables
 
-pub empty-narrow : Narrow empty
+pub empty-narrow : (cutoff : Float) → Narrow (empty cutoff)
 unfolding empty isU32
-empty-narrow = record { next = refl; variables = tt; constraints = tt }
+empty-narrow cutoff = record { next = refl; variables = tt; constraints = tt }

@@ -57,10 +57,10 @@ module _ (p : ℕ → Bool) where
   unfolding insertVariable
   variable-inserted s k b = go (findRow (s .id) (b .work .tableau .rows))
     where
-      row : (r : Row) → At 0 b (written (insertRow r k (b .row)) (b .work))
-      row r = unfold written marking in near-same p (b .work) (written (insertRow r k (b .row)) (b .work) .work) refl refl
+      row : (r : Row) → At 0 b (written (insertRow (b .work .tableau .cutoff) r k (b .row)) (b .work))
+      row r = unfold written marking in near-same p (b .work) (written (insertRow (b .work .tableau .cutoff) r k (b .row)) (b .work) .work) refl refl
 
-      go : (o : Option Row) → At 0 b (elim o [ none ↦ insertInto (s .id) k b | some r ↦ written (insertRow r k (b .row)) (b .work) ])
+      go : (o : Option Row) → At 0 b (elim o [ none ↦ insertInto (s .id) k b | some r ↦ written (insertRow (b .work .tableau .cutoff) r k (b .row)) (b .work) ])
       go none = inserted (s .id) k b
       go (some r) = row r
 
@@ -88,12 +88,12 @@ module _ (p : ℕ → Bool) where
           go none = counted (t .variable) now
           go (some v) = near-on p (counted (t .variable) now) (variable-inserted (v .symbol) (t .coefficient) used)
 
-  terms-inserted : (ts : List Term) (b : Building) → All TermNamed ts → At (length ts) b (insertTerms ts b)
+  terms-inserted : (cutoff : Float) (ts : List Term) (b : Building) → All TermNamed ts → At (length ts) b (insertTerms cutoff ts b)
   unfolding insertTerms
-  terms-inserted [] b h = near-refl p (b .work)
-  terms-inserted (t ∷ ts) b h = go (nearZero (t .coefficient)) (terms-inserted ts b (h .1)) (terms-inserted ts (insertTerm t b) (h .1))
+  terms-inserted cutoff [] b h = near-refl p (b .work)
+  terms-inserted cutoff (t ∷ ts) b h = go (nearZero cutoff (t .coefficient)) (terms-inserted cutoff ts b (h .1)) (terms-inserted cutoff ts (insertTerm t b) (h .1))
     where
-      go : (z : Bool) → At (length ts) b (insertTerms ts b) → At (length ts) (insertTerm t b) (insertTerms ts (insertTerm t b)) → At (suc (length ts)) b (insertTerms ts (elim z [ true ↦ b | false ↦ insertTerm t b ]))
+      go : (z : Bool) → At (length ts) b (insertTerms cutoff ts b) → At (length ts) (insertTerm t b) (insertTerms cutoff ts (insertTerm t b)) → At (suc (length ts)) b (insertTerms cutoff ts (elim z [ true ↦ b | false ↦ insertTerm t b ]))
       go true a c = near-then p (near-refl p (b .work)) a (omega arith)
       go false a c = near-then p (term-inserted t b (h .0)) c (omega arith)
 
@@ -149,10 +149,10 @@ module _ (p : ℕ → Bool) where
       start = record { work = w; row = record { constant = constant; cells = map (λ _. zero64) (w .tableau .symbols) } }
 
       c : Created
-      c = addTag r (insertTerms ts start)
+      c = addTag r (insertTerms (w .tableau .cutoff) ts start)
 
       made : Near p (length ts + 2) w (c .work)
-      made = near-then p (terms-inserted ts start h) (tag-added r (insertTerms ts start)) (omega arith)
+      made = near-then p (terms-inserted (w .tableau .cutoff) ts start h) (tag-added r (insertTerms (w .tableau .cutoff) ts start)) (omega arith)
 
       go : (z : Bool) → Near p (length ts + 2) w ((elim z as (λ _. Created) [ false ↦ c | true ↦ record { work = c .work; row = reverseSign (c .row); tag = c .tag } ]) .work)
       go true = made
@@ -224,9 +224,9 @@ module _ (p : ℕ → Bool) where
       by true false = tt
       by true true = subject-added (c .tag .marker) c
 
-      go : (o : Option Symbol) → Ends (Near p 1 (c .work)) (elim o [ some s ↦ addWithSubject s c | none ↦ dummies (allDummies c) (nearZero (c .row .constant)) ])
+      go : (o : Option Symbol) → Ends (Near p 1 (c .work)) (elim o [ some s ↦ addWithSubject s c | none ↦ dummies (allDummies c) (nearZero (c .work .tableau .cutoff) (c .row .constant)) ])
       go (some s) = subject-added s c
-      go none = by (allDummies c) (nearZero (c .row .constant))
+      go none = by (allDummies c) (nearZero (c .work .tableau .cutoff) (c .row .constant))
 
   pub add-near : (budget : ℕ) (ts : List Term) (constant : Float) (r : Relation) (w : Work) → All TermNamed ts → Ends (λ (a : Added). Near p (length ts + 3) w (a .work)) (addSteps budget ts constant r w)
   unfolding addSteps

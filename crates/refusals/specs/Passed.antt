@@ -20,7 +20,7 @@ use Rattle.layout.specs.Rooms.{and-left, and-right}
 use Rattle.terms.specs.declared.Term.{Term}
 use Rattle.terms.specs.declared.Pack.{Pack}
 use Rattle.terms.specs.Terms.{packOf, keptOf, termsIn}
-use Rattle.refusals.specs.Refusals.{nextIn, variablesIn, constraintsIn, editsIn, liveIn, editedIn, newIn, constraintsFullIn, variablesFullIn, idsUsedIn, roomRefusal, inputRefusal, addRefusal, editPack, addEditRefusal}
+use Rattle.refusals.specs.Refusals.{nextIn, variablesIn, constraintsIn, editsIn, liveIn, editedIn, newIn, constraintsFullIn, variablesFullIn, idsUsedIn, cutoffIn, roomRefusal, inputRefusal, addRefusal, editPack, addEditRefusal}
 use Rattle.refusals.specs.Tested.{numberOr0, add-refusal, add-edit-refusal}
 
 -- ---- the number as the steps have it
@@ -47,22 +47,25 @@ unfolding numberOr0
 some-is none h = absurd (h refl)
 some-is (some n) h = refl
 
-module _ (t : Sparse) (good : reads t ≡ true) (x : ℕ) (ts : List Term) (constant : Float) (relation : steps.Relation) where
+module _ (t : Sparse) (good : reads t ≡ true) (g x : ℕ) (ts : List Term) (constant : Float) (relation : steps.Relation) where
   abbrev refuses : ℕ
-  refuses = addRefusal x (packOf ts) constant (steps.strengthOf relation) (t .words)
+  refuses = addRefusal (cutoffIn (t .reals)) g x (packOf ts) constant (steps.strengthOf relation) (t .words)
 
-  pub add-refused : (refuses ≡ 0 → ⊥) → firstRefusal (addTests x (termsIn ts) constant relation (read t)) ≡ some refuses
-  add-refused h = let e = add-refusal t good x ts constant relation in some-is _ (λ q. h (sym e ∙ q)) ∙ ap some e
+  pub add-refused : (refuses ≡ 0 → ⊥) → firstRefusal (addTests g x (termsIn ts) constant relation (read t)) ≡ some refuses
+  add-refused h = let e = add-refusal t good g x ts constant relation in some-is _ (λ q. h (sym e ∙ q)) ∙ ap some e
 
-  pub add-passes : refuses ≡ 0 → firstRefusal (addTests x (termsIn ts) constant relation (read t)) ≡ none
+  pub add-passes : refuses ≡ 0 → firstRefusal (addTests g x (termsIn ts) constant relation (read t)) ≡ none
   unfolding addTests numbered
-  add-passes h = first-none (addTests x (termsIn ts) constant relation (read t)) refl (add-refusal t good x ts constant relation ∙ h)
+  add-passes h = first-none (addTests g x (termsIn ts) constant relation (read t)) refl (add-refusal t good g x ts constant relation ∙ h)
 
 module _ (t : Sparse) (good : reads t ≡ true) (x : ℕ) (strength : Float) where
-  pub add-edit-refused : (addEditRefusal x strength (t .words) (t .bytes) ≡ 0 → ⊥) → firstRefusal (addEditTests x strength (read t)) ≡ some (addEditRefusal x strength (t .words) (t .bytes))
+  abbrev edit-refuses : ℕ
+  edit-refuses = addEditRefusal (cutoffIn (t .reals)) x strength (t .words) (t .bytes)
+
+  pub add-edit-refused : (edit-refuses ≡ 0 → ⊥) → firstRefusal (addEditTests x strength (read t)) ≡ some edit-refuses
   add-edit-refused h = let e = add-edit-refusal t good x strength in some-is _ (λ q. h (sym e ∙ q)) ∙ ap some e
 
-  pub add-edit-passes : addEditRefusal x strength (t .words) (t .bytes) ≡ 0 → firstRefusal (addEditTests x strength (read t)) ≡ none
+  pub add-edit-passes : edit-refuses ≡ 0 → firstRefusal (addEditTests x strength (read t)) ≡ none
   unfolding addEditTests numbered
   add-edit-passes h = first-none (addEditTests x strength (read t)) refl (add-edit-refusal t good x strength ∙ h)
 
@@ -72,34 +75,35 @@ pub passed : (b : Bool) (k y : ℕ) → 0 < k → cond b k y ≡ 0 → (b ≡ fa
 passed true k y h e = absurd (omega arith)
 passed false k y h e = (refl, e)
 
--- room for a constraint, for the variables that the pack's terms bring, and for ids
-abbrev pub Room : List ℕ → Pack → Type 0
-Room w p = (constraintsIn w + editsIn w < mostConstraints) × (variablesIn w + newIn w (variablesIn w) (keptOf p) ≤ mostVariables) × (nextIn w ≤ 4_294_900_000)
+-- room for a constraint, for the variables that the pack's terms bring by the cutoff u, and for ids
+abbrev pub Room : Float → List ℕ → Pack → Type 0
+Room u w p = (constraintsIn w + editsIn w < mostConstraints) × (variablesIn w + newIn w (variablesIn w) (keptOf u p) ≤ mostVariables) × (nextIn w ≤ 4_294_900_000)
 
-room-passed : (w : List ℕ) (p : Pack) → roomRefusal w p ≡ 0 → Room w p
+room-passed : (u : Float) (w : List ℕ) (p : Pack) → roomRefusal u w p ≡ 0 → Room u w p
 unfolding roomRefusal constraintsFullIn variablesFullIn idsUsedIn
-room-passed w p e =
+room-passed u w p e =
     let a = passed (constraintsFullIn w) 10 _ (omega arith) e in
-    let b = passed (variablesFullIn w p) 9 _ (omega arith) (a .1) in
+    let b = passed (variablesFullIn u w p) 9 _ (omega arith) (a .1) in
     let c = passed (idsUsedIn w) 11 _ (omega arith) (b .1) in
     (leb-false mostConstraints (constraintsIn w + editsIn w) (a .0), ltb-false mostVariables _ (b .0), ltb-false 4_294_900_000 (nextIn w) (c .0))
 
--- an added constraint: finite inputs, at most 16 terms, a number that is not live, and room
-pub add-passed : (x : ℕ) (p : Pack) (constant strength : Float) (w : List ℕ) → addRefusal x p constant strength w ≡ 0
-    → (p .finite && isFinite constant && isFinite strength ≡ true) × (belowZero strength ≡ false) × (eqb (p .count) 17 ≡ false) × (liveIn w constraintNumbersAt (constraintsIn w) x ≡ false) × (Room w p)
+-- an added constraint: a group above 0, finite inputs, at most 16 terms, a number that is not live, and room
+pub add-passed : (u : Float) (g x : ℕ) (p : Pack) (constant strength : Float) (w : List ℕ) → addRefusal u g x p constant strength w ≡ 0
+    → (eqb g 0 ≡ false) × (p .finite && isFinite constant && isFinite strength ≡ true) × (belowZero strength ≡ false) × (eqb (p .count) 17 ≡ false) × (liveIn w constraintNumbersAt (constraintsIn w) x ≡ false) × (Room u w p)
 unfolding addRefusal inputRefusal
-add-passed x p constant strength w e =
-    let a = passed (not (p .finite && isFinite constant && isFinite strength)) 1 _ (omega arith) e in
+add-passed u g x p constant strength w e =
+    let z = passed (eqb g 0) 26 _ (omega arith) e in
+    let a = passed (not (p .finite && isFinite constant && isFinite strength)) 1 _ (omega arith) (z .1) in
     let b = passed (belowZero strength) 2 _ (omega arith) (a .1) in
     let c = passed (eqb (p .count) 17) 3 _ (omega arith) (b .1) in
     let d = passed (liveIn w constraintNumbersAt (constraintsIn w) x) 4 _ (omega arith) (c .1) in
-    (not-false _ (a .0), b .0, c .0, d .0, room-passed w p (d .1))
+    (z .0, not-false _ (a .0), b .0, c .0, d .0, room-passed u w p (d .1))
 
 -- an edit: the variable has none, its strength is not required, and room
-pub add-edit-passed : (x : ℕ) (strength : Float) (w b : List ℕ) → addEditRefusal x strength w b ≡ 0
-    → (editedIn w b x ≡ false) × (eq strength required ≡ false) × (Room w (editPack x))
+pub add-edit-passed : (u : Float) (x : ℕ) (strength : Float) (w b : List ℕ) → addEditRefusal u x strength w b ≡ 0
+    → (editedIn w b x ≡ false) × (eq strength required ≡ false) × (Room u w (editPack x))
 unfolding addEditRefusal
-add-edit-passed x strength w b e =
+add-edit-passed u x strength w b e =
     let a = passed (editedIn w b x) 6 _ (omega arith) e in
     let d = passed (eq strength required) 7 _ (omega arith) (a .1) in
-    (a .0, d .0, room-passed w (editPack x) (d .1))
+    (a .0, d .0, room-passed u w (editPack x) (d .1))

@@ -4,19 +4,19 @@ use mathlib.Core.Bool.{Bool, not, _&&_, cond}
 use mathlib.Core.List.{List, [], _∷_}
 use lib.Dec.{eqb, leb, ltb}
 use lib.ListN.{getD}
-use lib.Ieee.{Float, eq}
+use lib.Ieee.{Float, nan, eq}
 use Rattle.steps.specs.Number.{one64, belowZero, isFinite}
 use Rattle.steps.specs.Strength.{required}
 use Rattle.laws.specs.Lists.{allIn, sumIn}
 use Rattle.layout.specs.Layout.{bitOf}
 use Rattle.layout.specs.Copy.{most16}
-use Rattle.sparse.specs.Places.{mostVariables, mostConstraints, nextIdAt, variableCountAt, constraintCountAt, editCountAt, variableNumbersAt, constraintNumbersAt}
+use Rattle.sparse.specs.Places.{mostVariables, mostConstraints, nextIdAt, variableCountAt, constraintCountAt, editCountAt, variableNumbersAt, constraintNumbersAt, cutoffAt}
 use Rattle.sparse.specs.Lookup.{placeFrom}
 use Rattle.sparse_test.specs.Asked.{editIn}
 use Rattle.terms.specs.declared.Pack.{Pack}
 use Rattle.terms.specs.Terms.{packOf, keptOf}
 
--- ---- counts
+-- ---- counts, and the cutoff of near zero
 
 abbrev pub nextIn : List ℕ → ℕ
 nextIn w = getD w nextIdAt 0
@@ -29,6 +29,9 @@ constraintsIn w = getD w constraintCountAt 0
 
 abbrev pub editsIn : List ℕ → ℕ
 editsIn w = getD w editCountAt 0
+
+abbrev pub cutoffIn : List Float → Float
+cutoffIn r = getD r cutoffAt nan
 
 -- ---- what is looked up
 
@@ -58,16 +61,16 @@ newIn w v p = sumIn (newAt w v p) 0 (most16 (p .count))
 unfoldable pub constraintsFullIn : List ℕ → Bool
 constraintsFullIn w = leb mostConstraints (constraintsIn w + editsIn w)
 
--- 9: "live variables plus the new ones in terms not near zero exceed 32"
-unfoldable pub variablesFullIn : List ℕ → Pack → Bool
-variablesFullIn w p = ltb mostVariables (variablesIn w + newIn w (variablesIn w) (keptOf p))
+-- 9: "live variables plus the new ones in terms not near zero exceed 32", by the cutoff u
+unfoldable pub variablesFullIn : Float → List ℕ → Pack → Bool
+variablesFullIn u w p = ltb mostVariables (variablesIn w + newIn w (variablesIn w) (keptOf u p))
 
 -- 11: "next id is above 4,294,900,000"
 unfoldable pub idsUsedIn : List ℕ → Bool
 idsUsedIn w = ltb 4_294_900_000 (nextIn w)
 
-unfoldable pub roomRefusal : List ℕ → Pack → ℕ
-roomRefusal w p = cond (constraintsFullIn w) 10 (cond (variablesFullIn w p) 9 (cond (idsUsedIn w) 11 0))
+unfoldable pub roomRefusal : Float → List ℕ → Pack → ℕ
+roomRefusal u w p = cond (constraintsFullIn w) 10 (cond (variablesFullIn u w p) 9 (cond (idsUsedIn w) 11 0))
 
 -- ---- the tests of a call
 
@@ -75,17 +78,17 @@ roomRefusal w p = cond (constraintsFullIn w) 10 (cond (variablesFullIn w p) 9 (c
 unfoldable pub inputRefusal : Pack → Float → Float → ℕ → ℕ
 inputRefusal p constant strength rest = cond (not (p .finite && isFinite constant && isFinite strength)) 1 (cond (belowZero strength) 2 (cond (eqb (p .count) 17) 3 rest))
 
--- "Add: 18, 1, 2, 3, 4, 10, 9, 11."
-unfoldable pub addRefusal : ℕ → Pack → Float → Float → List ℕ → ℕ
-addRefusal x p constant strength w = inputRefusal p constant strength (cond (liveIn w constraintNumbersAt (constraintsIn w) x) 4 (roomRefusal w p))
+-- "Add: 18, 26, 1, 2, 3, 4, 10, 9, 11."
+unfoldable pub addRefusal : Float → ℕ → ℕ → Pack → Float → Float → List ℕ → ℕ
+addRefusal u g x p constant strength w = cond (eqb g 0) 26 (inputRefusal p constant strength (cond (liveIn w constraintNumbersAt (constraintsIn w) x) 4 (roomRefusal u w p)))
 
 -- the one term of an edit, the variable times 1
 unfoldable pub editPack : ℕ → Pack
 editPack x = packOf (record { variable = x; coefficient = one64 } ∷ [])
 
 -- "Add edit: 18, 6, 7, 10, 9, 11." The strength comes clipped.
-unfoldable pub addEditRefusal : ℕ → Float → List ℕ → List ℕ → ℕ
-addEditRefusal x strength w b = cond (editedIn w b x) 6 (cond (eq strength required) 7 (roomRefusal w (editPack x)))
+unfoldable pub addEditRefusal : Float → ℕ → Float → List ℕ → List ℕ → ℕ
+addEditRefusal u x strength w b = cond (editedIn w b x) 6 (cond (eq strength required) 7 (roomRefusal u w (editPack x)))
 
 -- "Suggest: 18, 1, 8."
 unfoldable pub suggestRefusal : ℕ → Float → List ℕ → List ℕ → ℕ

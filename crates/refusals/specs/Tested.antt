@@ -14,7 +14,7 @@ use Rattle.steps.specs.Number.{one64, belowZero, isFinite}
 use Rattle.steps.specs.Strength.{required}
 use Rattle.steps.specs.State as steps
 use Rattle.steps.specs.Edit.{editTerms}
-use Rattle.steps.specs.Tests.{Test, _if_, firstRefusal, newVariables, hasConstraint, hasEdit, constraintsFull, variablesFull, idsUsed, addTests, addEditTests}
+use Rattle.steps.specs.Tests.{Test, _if_, firstRefusal, newVariables, hasConstraint, hasEdit, constraintsFull, variablesFull, idsUsed, keptTerms, addTests, addEditTests}
 use Rattle.laws.specs.Lists.{listOf, length-tab}
 use Rattle.sparse.specs.Places.{constraintNumbersAt}
 use Rattle.sparse.specs.Sparse.{Sparse, variableCount, constraintCount, editCount, read}
@@ -27,7 +27,7 @@ use Rattle.terms.specs.declared.Pack.{Pack}
 use Rattle.terms.specs.Terms.{packOf, keptOf, termOf, termsIn, termsOf}
 use Rattle.terms.specs.Packed.{pack-finite, pack-many, pack-terms, length-terms}
 use Rattle.terms.specs.Kept.{kept-terms}
-use Rattle.refusals.specs.Refusals.{liveIn, editedIn, newIn, constraintsFullIn, variablesFullIn, idsUsedIn, roomRefusal, inputRefusal, addRefusal, editPack, addEditRefusal}
+use Rattle.refusals.specs.Refusals.{liveIn, editedIn, newIn, constraintsFullIn, variablesFullIn, idsUsedIn, cutoffIn, roomRefusal, inputRefusal, addRefusal, editPack, addEditRefusal}
 use Rattle.refusals.specs.New.{variablesOf, new-is}
 
 -- the number of a refusal, 0 if there is none
@@ -78,27 +78,35 @@ module _ (t : Sparse) (good : reads t ≡ true) where
   unfolding read listOf
   variables-count = length-tab _ 0 (variableCount t)
 
-  variables-full : (p : Pack) → variablesFull (termsOf p) (read t) ≡ variablesFullIn (t .words) p
+  abbrev cutoff : Float
+  cutoff = cutoffIn (t .reals)
+
+  cutoff-is : read t .tableau .cutoff ≡ cutoff
+  unfolding read
+  cutoff-is = refl
+
+  variables-full : (p : Pack) → variablesFull (termsOf p) (read t) ≡ variablesFullIn cutoff (t .words) p
   unfolding variablesFull variablesFullIn
   variables-full p =
-      ap (λ (l : List steps.Term). ltb 32 (length (variablesOf t) + length (newVariables (variablesOf t) [] l))) (sym (kept-terms p))
-      ∙ ap (λ (k : ℕ). ltb 32 (length (variablesOf t) + k)) (new-is t (keptOf p))
-      ∙ ap (λ (k : ℕ). ltb 32 (k + newIn (t .words) (variableCount t) (keptOf p))) variables-count
+      ap (λ (l : List steps.Term). ltb 32 (length (variablesOf t) + length (newVariables (variablesOf t) [] l))) (ap (λ (u : Float). keptTerms u (termsOf p)) cutoff-is ∙ sym (kept-terms cutoff p))
+      ∙ ap (λ (k : ℕ). ltb 32 (length (variablesOf t) + k)) (new-is t (keptOf cutoff p))
+      ∙ ap (λ (k : ℕ). ltb 32 (k + newIn (t .words) (variableCount t) (keptOf cutoff p))) variables-count
 
   room-refusal : (p : Pack) (ts : List steps.Term) → termsOf p ≡ ts
-      → numberOr0 (firstRefusal (10 if constraintsFull (read t) ∷ 9 if variablesFull ts (read t) ∷ 11 if idsUsed (read t) ∷ [])) ≡ roomRefusal (t .words) p
+      → numberOr0 (firstRefusal (10 if constraintsFull (read t) ∷ 9 if variablesFull ts (read t) ∷ 11 if idsUsed (read t) ∷ [])) ≡ roomRefusal cutoff (t .words) p
   unfolding roomRefusal
   room-refusal p ts e =
       first-if 10 _ (constraintsFullIn (t .words)) _ _ constraints-full λ _.
-      first-if 9 _ (variablesFullIn (t .words) p) _ _ (ap (λ (l : List steps.Term). variablesFull l (read t)) (sym e) ∙ variables-full p) λ _.
+      first-if 9 _ (variablesFullIn cutoff (t .words) p) _ _ (ap (λ (l : List steps.Term). variablesFull l (read t)) (sym e) ∙ variables-full p) λ _.
       first-if 11 _ (idsUsedIn (t .words)) _ _ ids-used λ _. none-left
 
-  -- "Add: 18, 1, 2, 3, 4, 10, 9, 11."
-  pub add-refusal : (x : ℕ) (ts : List Term) (constant : Float) (relation : steps.Relation)
-      → numberOr0 (firstRefusal (addTests x (termsIn ts) constant relation (read t))) ≡ addRefusal x (packOf ts) constant (steps.strengthOf relation) (t .words)
+  -- "Add: 18, 26, 1, 2, 3, 4, 10, 9, 11."
+  pub add-refusal : (g x : ℕ) (ts : List Term) (constant : Float) (relation : steps.Relation)
+      → numberOr0 (firstRefusal (addTests g x (termsIn ts) constant relation (read t))) ≡ addRefusal cutoff g x (packOf ts) constant (steps.strengthOf relation) (t .words)
   unfolding addTests addRefusal inputRefusal
-  add-refusal x ts constant relation =
+  add-refusal g x ts constant relation =
       let s : Float = steps.strengthOf relation in
+      first-if 26 _ (eqb g 0) _ _ refl λ _.
       first-if 1 _ (not (packOf ts .finite && isFinite constant && isFinite s)) _ _ (ap (λ (b : Bool). not (b && isFinite constant && isFinite s)) (sym (pack-finite ts))) λ _.
       first-if 2 _ (belowZero s) _ _ refl λ _.
       first-if 3 _ (eqb (packOf ts .count) 17) _ _ (pack-many ts) λ few.
@@ -106,7 +114,7 @@ module _ (t : Sparse) (good : reads t ≡ true) where
       room-refusal (packOf ts) (termsIn ts) (pack-terms ts (few-terms ts few))
 
   -- "Add edit: 18, 6, 7, 10, 9, 11."
-  pub add-edit-refusal : (x : ℕ) (strength : Float) → numberOr0 (firstRefusal (addEditTests x strength (read t))) ≡ addEditRefusal x strength (t .words) (t .bytes)
+  pub add-edit-refusal : (x : ℕ) (strength : Float) → numberOr0 (firstRefusal (addEditTests x strength (read t))) ≡ addEditRefusal cutoff x strength (t .words) (t .bytes)
   unfolding addEditTests addEditRefusal
   add-edit-refusal x strength =
       first-if 6 _ (editedIn (t .words) (t .bytes) x) _ _ (live-edit x) λ _.

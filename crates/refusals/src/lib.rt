@@ -94,13 +94,13 @@ fn constraints_full(words: &Words) -> bool
     48 <= words[sparse::CONSTRAINT_COUNT] + words[sparse::EDIT_COUNT]
 }
 
-fn variables_full(words: &Words, p: terms::Pack) -> bool
+fn variables_full(words: &Words, cutoff: f64, p: terms::Pack) -> bool
     requires { ⌜ variablesIn (now words) ≤ mostVariables ⌝ }
     requires { ⌜ Ascends (now words) variableNumbersAt (variablesIn (now words)) ⌝ }
-    ensures { λ r. ⌜ r ≡ variablesFullIn (now (words .entry)) p ⌝ }
+    ensures { λ r. ⌜ r ≡ variablesFullIn cutoff (now (words .entry)) p ⌝ }
 {
     let v = words[sparse::VARIABLE_COUNT];
-    let kept = terms::kept(p);
+    let kept = terms::kept(cutoff, p);
     32 < v + new_variables(words, v as usize, kept)
 }
 
@@ -111,15 +111,15 @@ fn ids_used(words: &Words) -> bool
 }
 
 // "10, 9, 11"
-fn room_tests(words: &Words, p: terms::Pack) -> u64
+fn room_tests(words: &Words, cutoff: f64, p: terms::Pack) -> u64
     requires { ⌜ variablesIn (now words) ≤ mostVariables ⌝ }
     requires { ⌜ constraintsIn (now words) ≤ mostConstraints ⌝ }
     requires { ⌜ editsIn (now words) ≤ mostConstraints ⌝ }
     requires { ⌜ Ascends (now words) variableNumbersAt (variablesIn (now words)) ⌝ }
-    ensures { λ r. ⌜ r ≡ roomRefusal (now (words .entry)) p ⌝ }
+    ensures { λ r. ⌜ r ≡ roomRefusal cutoff (now (words .entry)) p ⌝ }
 {
     let ids = refusal(ids_used(words), 11, 0);
-    let variables = refusal(variables_full(words, p), 9, ids);
+    let variables = refusal(variables_full(words, cutoff, p), 9, ids);
     refusal(constraints_full(words), 10, variables)
 }
 
@@ -135,23 +135,32 @@ fn input_tests(p: terms::Pack, constant: f64, strength: f64, rest: u64) -> u64
     refusal(!finite, 1, below)
 }
 
-// "Add: 18, 1, 2, 3, 4, 10, 9, 11."
-pub fn add_tests(words: &Words, n: u32, p: terms::Pack, constant: f64, strength: f64) -> u64
+// "Add: 18, 26, 1, 2, 3, 4, 10, 9, 11." The cutoff is the one that the tables hold.
+pub fn add_tests(
+    words: &Words,
+    cutoff: f64,
+    g: u16,
+    n: u32,
+    p: terms::Pack,
+    constant: f64,
+    strength: f64,
+) -> u64
     requires { ⌜ variablesIn (now words) ≤ mostVariables ⌝ }
     requires { ⌜ constraintsIn (now words) ≤ mostConstraints ⌝ }
     requires { ⌜ editsIn (now words) ≤ mostConstraints ⌝ }
     requires { ⌜ Ascends (now words) variableNumbersAt (variablesIn (now words)) ⌝ }
     requires { ⌜ Ascends (now words) constraintNumbersAt (constraintsIn (now words)) ⌝ }
-    ensures { λ r. ⌜ r ≡ addRefusal n p constant strength (now (words .entry)) ⌝ }
+    ensures { λ r. ⌜ r ≡ addRefusal cutoff g n p constant strength (now (words .entry)) ⌝ }
 {
-    let room = room_tests(words, p);
+    let room = room_tests(words, cutoff, p);
     let c = words[sparse::CONSTRAINT_COUNT] as usize;
     let live = refusal(
         is_live(words, sparse::CONSTRAINT_NUMBERS, c, n as u64),
         4,
         room,
     );
-    input_tests(p, constant, strength, live)
+    let inputs = input_tests(p, constant, strength, live);
+    refusal(g == 0, 26, inputs)
 }
 
 // The variable times 1, as a pack.
@@ -168,14 +177,14 @@ pub fn edit_pack(n: u32) -> terms::Pack
 }
 
 // "Add edit: 18, 6, 7, 10, 9, 11." The strength comes clipped.
-pub fn add_edit_tests(words: &Words, bytes: &Bytes, n: u32, strength: f64) -> u64
+pub fn add_edit_tests(words: &Words, bytes: &Bytes, cutoff: f64, n: u32, strength: f64) -> u64
     requires { ⌜ variablesIn (now words) ≤ mostVariables ⌝ }
     requires { ⌜ constraintsIn (now words) ≤ mostConstraints ⌝ }
     requires { ⌜ editsIn (now words) ≤ mostConstraints ⌝ }
     requires { ⌜ Ascends (now words) variableNumbersAt (variablesIn (now words)) ⌝ }
-    ensures { λ r. ⌜ r ≡ addEditRefusal n strength (now (words .entry)) (now (bytes .entry)) ⌝ }
+    ensures { λ r. ⌜ r ≡ addEditRefusal cutoff n strength (now (words .entry)) (now (bytes .entry)) ⌝ }
 {
-    let room = room_tests(words, edit_pack(n));
+    let room = room_tests(words, cutoff, edit_pack(n));
     let required = refusal(strength == rows::strength::REQUIRED, 7, room);
     refusal(is_edited(words, bytes, n as u64), 6, required)
 }

@@ -42,10 +42,10 @@ unfolding tab cellValues
 values-tab g i zero = refl
 values-tab g i (suc n) = ap (λ (r : List Float). cellValue (g i) ∷ r) (values-tab g (suc i) n)
 
-pub insert-tab : (k : Float) (o c : ℕ → Float) (i n : ℕ) → insertCells k (tab o i n) (tab c i n) ≡ tab (λ j. insertTimes k (o j) (c j)) i n
+pub insert-tab : (cutoff k : Float) (o c : ℕ → Float) (i n : ℕ) → insertCells cutoff k (tab o i n) (tab c i n) ≡ tab (λ j. insertTimes cutoff k (o j) (c j)) i n
 unfolding tab insertCells
-insert-tab k o c i zero = refl
-insert-tab k o c i (suc n) = ap (λ (r : List Cell). insertTimes k (o i) (c i) ∷ r) (insert-tab k o c (suc i) n)
+insert-tab cutoff k o c i zero = refl
+insert-tab cutoff k o c i (suc n) = ap (λ (r : List Cell). insertTimes cutoff k (o i) (c i) ∷ r) (insert-tab cutoff k o c (suc i) n)
 
 pub scale-tab : (factor : Float) (c : ℕ → Float) (i n : ℕ) → scaleCells factor (tab c i n) ≡ tab (λ j. scaleCell factor (c j)) i n
 unfolding tab scaleCells

@@ -58,19 +58,19 @@ joined-mark v w h p q = rw (h, mark-join, p, q)
 
 -- ---- the steps' cells by their tests, as the code goes
 
-pub insertCell-is : (old k : Float) → insertCell old k ≡ cond (absent old) (cond (nearZero k) (kept old) (wrote k)) (wrote (goesIfNearZero (old +₆₄ k)))
+pub insertCell-is : (cutoff old k : Float) → insertCell cutoff old k ≡ cond (absent old) (cond (nearZero cutoff k) (kept old) (wrote k)) (wrote (goesIfNearZero cutoff (old +₆₄ k)))
 unfolding insertCell
-insertCell-is old k = go (absent old) (nearZero k)
+insertCell-is cutoff old k = go (absent old) (nearZero cutoff k)
   where
-    go : (a n : Bool) → elim a [ true ↦ elim n [ true ↦ kept old | false ↦ wrote k ] | false ↦ wrote (goesIfNearZero (old +₆₄ k)) ] ≡ cond a (cond n (kept old) (wrote k)) (wrote (goesIfNearZero (old +₆₄ k)))
+    go : (a n : Bool) → elim a [ true ↦ elim n [ true ↦ kept old | false ↦ wrote k ] | false ↦ wrote (goesIfNearZero cutoff (old +₆₄ k)) ] ≡ cond a (cond n (kept old) (wrote k)) (wrote (goesIfNearZero cutoff (old +₆₄ k)))
     go true true = refl
     go true false = refl
     go false n = refl
 
-pub insertTimes-is : (k o c : Float) → insertTimes k o c ≡ cond (absent o) (kept c) (insertCell c (o *₆₄ k))
+pub insertTimes-is : (cutoff k o c : Float) → insertTimes cutoff k o c ≡ cond (absent o) (kept c) (insertCell cutoff c (o *₆₄ k))
 unfolding insertTimes
-insertTimes-is k o c = go (absent o)
+insertTimes-is cutoff k o c = go (absent o)
   where
-    go : (a : Bool) → elim a [ true ↦ kept c | false ↦ insertCell c (o *₆₄ k) ] ≡ cond a (kept c) (insertCell c (o *₆₄ k))
+    go : (a : Bool) → elim a [ true ↦ kept c | false ↦ insertCell cutoff c (o *₆₄ k) ] ≡ cond a (kept c) (insertCell cutoff c (o *₆₄ k))
     go true = refl
     go false = refl

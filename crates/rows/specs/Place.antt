@@ -45,12 +45,12 @@ clear-at s (x ∷ xs) zero (c ∷ cs) p q = rw (p .0, clearCell)
 clear-at s (x ∷ xs) (suc j) (c ∷ cs) p q = rw (p .0, clearCell) (ap (λ (r : List Float). c ∷ r) (clear-at s xs j cs (p .1) (suc-inj q)))
 
 -- where no symbol has the id, nothing is inserted
-pub insert-none : (s : ℕ) (k : Float) (xs : List Symbol) (cs : List Float) → Missing s xs → length cs ≡ length xs → insertSymbol s k xs cs ≡ map kept cs
+pub insert-none : (cutoff : Float) (s : ℕ) (k : Float) (xs : List Symbol) (cs : List Float) → Missing s xs → length cs ≡ length xs → insertSymbol cutoff s k xs cs ≡ map kept cs
 unfolding Missing insertSymbol
-insert-none s k [] [] p q = refl
-insert-none s k [] (c ∷ cs) p q = absurd (suc-ne-zero (length cs) q)
-insert-none s k (x ∷ xs) [] p q = absurd (suc-ne-zero (length xs) (sym q))
-insert-none s k (x ∷ xs) (c ∷ cs) p q = rw (p .0) (ap (λ (r : List Cell). kept c ∷ r) (insert-none s k xs cs (p .1) (suc-inj q)))
+insert-none cutoff s k [] [] p q = refl
+insert-none cutoff s k [] (c ∷ cs) p q = absurd (suc-ne-zero (length cs) q)
+insert-none cutoff s k (x ∷ xs) [] p q = absurd (suc-ne-zero (length xs) (sym q))
+insert-none cutoff s k (x ∷ xs) (c ∷ cs) p q = rw (p .0) (ap (λ (r : List Cell). kept c ∷ r) (insert-none cutoff s k xs cs (p .1) (suc-inj q)))
 
 pub kept-values : (cs : List Float) → cellValues (map kept cs) ≡ cs
 unfolding cellValues cellValue
@@ -62,19 +62,19 @@ unfolding cellMarks cellMark worse
 kept-marks bound [] = refl
 kept-marks bound (c ∷ cs) = kept-marks bound cs
 
-pub insert-values : (s : ℕ) (k : Float) (xs : List Symbol) (j : ℕ) (cs : List Float) (d : Float) → PlaceOf s xs j → length cs ≡ length xs → cellValues (insertSymbol s k xs cs) ≡ set cs j (cellValue (insertCell (getD cs j d) k))
+pub insert-values : (cutoff : Float) (s : ℕ) (k : Float) (xs : List Symbol) (j : ℕ) (cs : List Float) (d : Float) → PlaceOf s xs j → length cs ≡ length xs → cellValues (insertSymbol cutoff s k xs cs) ≡ set cs j (cellValue (insertCell cutoff (getD cs j d) k))
 unfolding PlaceOf insertSymbol cellValues cellValue
-insert-values s k [] j cs d p q = absurd p
-insert-values s k (x ∷ xs) j [] d p q = absurd (suc-ne-zero (length xs) (sym q))
-insert-values s k (x ∷ xs) zero (c ∷ cs) d p q = rw (p .0, insert-none s k xs cs (p .1) (suc-inj q), kept-values)
-insert-values s k (x ∷ xs) (suc j) (c ∷ cs) d p q = rw (p .0) (ap (λ (r : List Float). c ∷ r) (insert-values s k xs j cs d (p .1) (suc-inj q)))
+insert-values cutoff s k [] j cs d p q = absurd p
+insert-values cutoff s k (x ∷ xs) j [] d p q = absurd (suc-ne-zero (length xs) (sym q))
+insert-values cutoff s k (x ∷ xs) zero (c ∷ cs) d p q = rw (p .0, insert-none cutoff s k xs cs (p .1) (suc-inj q), kept-values)
+insert-values cutoff s k (x ∷ xs) (suc j) (c ∷ cs) d p q = rw (p .0) (ap (λ (r : List Float). c ∷ r) (insert-values cutoff s k xs j cs d (p .1) (suc-inj q)))
 
-pub insert-marks : (s : ℕ) (k bound : Float) (xs : List Symbol) (j : ℕ) (cs : List Float) (d : Float) → PlaceOf s xs j → length cs ≡ length xs → cellMarks bound (insertSymbol s k xs cs) ≡ cellMark bound (insertCell (getD cs j d) k)
+pub insert-marks : (cutoff : Float) (s : ℕ) (k bound : Float) (xs : List Symbol) (j : ℕ) (cs : List Float) (d : Float) → PlaceOf s xs j → length cs ≡ length xs → cellMarks bound (insertSymbol cutoff s k xs cs) ≡ cellMark bound (insertCell cutoff (getD cs j d) k)
 unfolding PlaceOf insertSymbol cellMarks cellMark worse
-insert-marks s k bound [] j cs d p q = absurd p
-insert-marks s k bound (x ∷ xs) j [] d p q = absurd (suc-ne-zero (length xs) (sym q))
-insert-marks s k bound (x ∷ xs) zero (c ∷ cs) d p q = rw (p .0, insert-none s k xs cs (p .1) (suc-inj q), kept-marks) (worse-unit (cellMark bound (insertCell c k)))
-insert-marks s k bound (x ∷ xs) (suc j) (c ∷ cs) d p q = rw (p .0) (insert-marks s k bound xs j cs d (p .1) (suc-inj q))
+insert-marks cutoff s k bound [] j cs d p q = absurd p
+insert-marks cutoff s k bound (x ∷ xs) j [] d p q = absurd (suc-ne-zero (length xs) (sym q))
+insert-marks cutoff s k bound (x ∷ xs) zero (c ∷ cs) d p q = rw (p .0, insert-none cutoff s k xs cs (p .1) (suc-inj q), kept-marks) (worse-unit (cellMark bound (insertCell cutoff c k)))
+insert-marks cutoff s k bound (x ∷ xs) (suc j) (c ∷ cs) d p q = rw (p .0) (insert-marks cutoff s k bound xs j cs d (p .1) (suc-inj q))
 
 -- ---- a place from what stands at each place
 

@@ -31,31 +31,31 @@ writtenOf r b m = record { row = r; constantChanged = b; mark = m }
 
 -- ---- insert
 
-pub insert-cells-read : (k : Float) (n : ℕ) (other row : List Float) → n < length row → n < length other → cellsOf n (insertCellsIn k n other row) ≡ cellValues (insertCells k (cellsOf n other) (cellsOf n row))
+pub insert-cells-read : (cutoff k : Float) (n : ℕ) (other row : List Float) → n < length row → n < length other → cellsOf n (insertCellsIn cutoff k n other row) ≡ cellValues (insertCells cutoff k (cellsOf n other) (cellsOf n row))
 unfolding cellsOf listOf insertCellsIn insertedValue
-insert-cells-read k n other row h h₁ =
-    tab-zipIn (insertedValue k) 1 n row other nan nan (omega arith) (omega arith)
-    ∙ sym (ap cellValues (insert-tab k (λ j. getD other (1 + j) nan) (λ j. getD row (1 + j) nan) 0 n) ∙ values-tab (λ j. insertTimes k (getD other (1 + j) nan) (getD row (1 + j) nan)) 0 n)
+insert-cells-read cutoff k n other row h h₁ =
+    tab-zipIn (insertedValue cutoff k) 1 n row other nan nan (omega arith) (omega arith)
+    ∙ sym (ap cellValues (insert-tab cutoff k (λ j. getD other (1 + j) nan) (λ j. getD row (1 + j) nan) 0 n) ∙ values-tab (λ j. insertTimes cutoff k (getD other (1 + j) nan) (getD row (1 + j) nan)) 0 n)
 
-pub insert-cells-marks : (bound k : Float) (n : ℕ) (other row : List Float) → n < length row → n < length other → insertCellsMark bound k n other row ≡ cellMarks bound (insertCells k (cellsOf n other) (cellsOf n row))
+pub insert-cells-marks : (cutoff bound k : Float) (n : ℕ) (other row : List Float) → n < length row → n < length other → insertCellsMark cutoff bound k n other row ≡ cellMarks bound (insertCells cutoff k (cellsOf n other) (cellsOf n row))
 unfolding cellsOf listOf insertCellsMark insertedMark worse
-insert-cells-marks bound k n other row h h₁ =
+insert-cells-marks cutoff bound k n other row h h₁ =
     let e : 1 + 0 ≡ 1 = add-zero 1 in
-    rw e at (fold2-cells bound (λ c o. insertTimes k o c) 0 n row other allWhole (omega arith) (omega arith))
-    ∙ sym (ap (cellMarks bound) (insert-tab k (λ j. getD other (1 + j) nan) (λ j. getD row (1 + j) nan) 0 n))
+    rw e at (fold2-cells bound (λ c o. insertTimes cutoff k o c) 0 n row other allWhole (omega arith) (omega arith))
+    ∙ sym (ap (cellMarks bound) (insert-tab cutoff k (λ j. getD other (1 + j) nan) (λ j. getD row (1 + j) nan) 0 n))
 
-insert-cells-constant : (k : Float) (n : ℕ) (other row : List Float) → getD (insertCellsIn k n other row) 0 nan ≡ getD row 0 nan
+insert-cells-constant : (cutoff k : Float) (n : ℕ) (other row : List Float) → getD (insertCellsIn cutoff k n other row) 0 nan ≡ getD row 0 nan
 unfolding insertCellsIn
-insert-cells-constant k n other row = zipIn-before (insertedValue k) 1 (1 + n) row other 0 nan (omega arith)
+insert-cells-constant cutoff k n other row = zipIn-before (insertedValue cutoff k) 1 (1 + n) row other 0 nan (omega arith)
 
-pub insert-row-read : (k : Float) (n : ℕ) (other row : List Float) → n < length row → n < length other
-    → writtenOf (rowOf n (insertRowIn k n other row)) (insertRowChanged k other) (insertRowMark k n other row) ≡ insertRow (rowOf n other) k (rowOf n row)
+pub insert-row-read : (cutoff k : Float) (n : ℕ) (other row : List Float) → n < length row → n < length other
+    → writtenOf (rowOf n (insertRowIn cutoff k n other row)) (insertRowChanged k other) (insertRowMark cutoff k n other row) ≡ insertRow cutoff (rowOf n other) k (rowOf n row)
 unfolding rowOf addedConstant insertRowIn insertRowMark insertRowChanged insertRow
-insert-row-read k n other row h h₁ =
+insert-row-read cutoff k n other row h h₁ =
     let v : Float = addedConstant k other row in
     let l : n < length (set row 0 v) = rw (length-set row 0 v) h in
-    let c : getD (insertCellsIn k n other (set row 0 v)) 0 nan ≡ v = insert-cells-constant k n other (set row 0 v) ∙ getD-set-same row 0 v nan (omega arith) in
-    rw (c, insert-cells-read k n other (set row 0 v) l h₁, insert-cells-marks cellBound k n other (set row 0 v) l h₁, cells-constant n row v) refl
+    let c : getD (insertCellsIn cutoff k n other (set row 0 v)) 0 nan ≡ v = insert-cells-constant cutoff k n other (set row 0 v) ∙ getD-set-same row 0 v nan (omega arith) in
+    rw (c, insert-cells-read cutoff k n other (set row 0 v) l h₁, insert-cells-marks cutoff cellBound k n other (set row 0 v) l h₁, cells-constant n row v) refl
 
 -- ---- a symbol's cell: s stands at place j of the live symbols, and so at place 1 + j of the row
 
@@ -80,24 +80,24 @@ module _ (s : ℕ) (symbols : List Symbol) (j n : ℕ) (row : List Float) (p : P
   unfolding rowOf
   clear-row-read h = rw (constant-stays zero64, clear-read h)
 
-  pub insert-symbol-values : (k : Float) → n < length row → cellsOf n (insertSymbolAt (1 + j) k row) ≡ cellValues (insertSymbol s k symbols (cellsOf n row))
+  pub insert-symbol-values : (cutoff k : Float) → n < length row → cellsOf n (insertSymbolAt cutoff (1 + j) k row) ≡ cellValues (insertSymbol cutoff s k symbols (cellsOf n row))
   unfolding insertSymbolAt
-  insert-symbol-values k h =
-      cells-set n row j (cellValue (insertCell (getD row (1 + j) nan) k)) below h
-      ∙ sym (insert-values s k symbols j (cellsOf n row) nan p along ∙ ap (λ (c : Float). set (cellsOf n row) j (cellValue (insertCell c k))) (cell-at n row j nan below))
+  insert-symbol-values cutoff k h =
+      cells-set n row j (cellValue (insertCell cutoff (getD row (1 + j) nan) k)) below h
+      ∙ sym (insert-values cutoff s k symbols j (cellsOf n row) nan p along ∙ ap (λ (c : Float). set (cellsOf n row) j (cellValue (insertCell cutoff c k))) (cell-at n row j nan below))
 
-  pub insert-symbol-marks : (bound k : Float) → insertSymbolMark (1 + j) k bound row ≡ cellMarks bound (insertSymbol s k symbols (cellsOf n row))
+  pub insert-symbol-marks : (cutoff bound k : Float) → insertSymbolMark cutoff (1 + j) k bound row ≡ cellMarks bound (insertSymbol cutoff s k symbols (cellsOf n row))
   unfolding insertSymbolMark
-  insert-symbol-marks bound k =
-      sym (insert-marks s k bound symbols j (cellsOf n row) nan p along ∙ ap (λ (c : Float). cellMark bound (insertCell c k)) (cell-at n row j nan below))
+  insert-symbol-marks cutoff bound k =
+      sym (insert-marks cutoff s k bound symbols j (cellsOf n row) nan p along ∙ ap (λ (c : Float). cellMark bound (insertCell cutoff c k)) (cell-at n row j nan below))
 
-  insert-symbol-constant : (k : Float) → getD (insertSymbolAt (1 + j) k row) 0 nan ≡ getD row 0 nan
+  insert-symbol-constant : (cutoff k : Float) → getD (insertSymbolAt cutoff (1 + j) k row) 0 nan ≡ getD row 0 nan
   unfolding insertSymbolAt
-  insert-symbol-constant k = constant-stays (cellValue (insertCell (getD row (1 + j) nan) k))
+  insert-symbol-constant cutoff k = constant-stays (cellValue (insertCell cutoff (getD row (1 + j) nan) k))
 
-  pub insert-symbol-read : (k : Float) → n < length row → writtenOf (rowOf n (insertSymbolAt (1 + j) k row)) false (insertSymbolMark (1 + j) k cellBound row) ≡ insertSymbolInRow s k symbols (rowOf n row)
+  pub insert-symbol-read : (cutoff k : Float) → n < length row → writtenOf (rowOf n (insertSymbolAt cutoff (1 + j) k row)) false (insertSymbolMark cutoff (1 + j) k cellBound row) ≡ insertSymbolInRow cutoff s k symbols (rowOf n row)
   unfolding rowOf insertSymbolInRow
-  insert-symbol-read k h = rw (insert-symbol-values k h, insert-symbol-marks cellBound k, insert-symbol-constant k) refl
+  insert-symbol-read cutoff k h = rw (insert-symbol-values cutoff k h, insert-symbol-marks cutoff cellBound k, insert-symbol-constant cutoff k) refl
 
 -- ---- solve
 
@@ -133,70 +133,70 @@ solve-read s symbols j n row p m h =
     rw (coefficient-read s symbols j n row p m, c, scale-cells-read f n start l₁, scale-cells-marks f n start l₁, d) refl
 
 -- the leaving symbol at place i, the entering one at place j
-pub solve-both-read : (t s : ℕ) (symbols : List Symbol) (i j n : ℕ) (row : List Float) → PlaceOf t symbols i → PlaceOf s symbols j → length symbols ≡ n → n < length row
-    → writtenOf (rowOf n (solveForSymbolsIn (1 + i) (1 + j) n row)) false (solveForSymbolsMark (1 + i) (1 + j) n row) ≡ solveForSymbols t s symbols (rowOf n row)
+pub solve-both-read : (cutoff : Float) (t s : ℕ) (symbols : List Symbol) (i j n : ℕ) (row : List Float) → PlaceOf t symbols i → PlaceOf s symbols j → length symbols ≡ n → n < length row
+    → writtenOf (rowOf n (solveForSymbolsIn cutoff (1 + i) (1 + j) n row)) false (solveForSymbolsMark cutoff (1 + i) (1 + j) n row) ≡ solveForSymbols cutoff t s symbols (rowOf n row)
 unfolding solveForSymbolsIn solveForSymbolsMark solveForSymbols
-solve-both-read t s symbols i j n row q p m h =
-    let l : n < length (insertSymbolAt (1 + i) minusOne64 row) = rw (length-insertSymbolAt (1 + i) minusOne64 row) h in
-    let e = insert-symbol-read t symbols i n row q m minusOne64 h in
-    rw (← e, ← solve-read s symbols j n (insertSymbolAt (1 + i) minusOne64 row) p m l) refl
+solve-both-read cutoff t s symbols i j n row q p m h =
+    let l : n < length (insertSymbolAt cutoff (1 + i) minusOne64 row) = rw (length-insertSymbolAt cutoff (1 + i) minusOne64 row) h in
+    let e = insert-symbol-read t symbols i n row q m cutoff minusOne64 h in
+    rw (← e, ← solve-read s symbols j n (insertSymbolAt cutoff (1 + i) minusOne64 row) p m l) refl
 
 -- ---- substitute
 
-substitute-row-is : (s : ℕ) (symbols : List Symbol) (other mine : Row)
-    → substituteInRow s symbols other mine
-    ≡ cond (absent (coefficientFor s symbols (mine .cells))) (untouched mine) (insertRow other (coefficientFor s symbols (mine .cells)) (record { constant = mine .constant; cells = clearCell s symbols (mine .cells) }))
+substitute-row-is : (cutoff : Float) (s : ℕ) (symbols : List Symbol) (other mine : Row)
+    → substituteInRow cutoff s symbols other mine
+    ≡ cond (absent (coefficientFor s symbols (mine .cells))) (untouched mine) (insertRow cutoff other (coefficientFor s symbols (mine .cells)) (record { constant = mine .constant; cells = clearCell s symbols (mine .cells) }))
 unfolding substituteInRow
-substitute-row-is s symbols other mine = go (coefficientFor s symbols (mine .cells)) (absent (coefficientFor s symbols (mine .cells)))
+substitute-row-is cutoff s symbols other mine = go (coefficientFor s symbols (mine .cells)) (absent (coefficientFor s symbols (mine .cells)))
   where
     go : (k : Float) (b : Bool)
-        → elim b [ true ↦ untouched mine | false ↦ insertRow other k (record { constant = mine .constant; cells = clearCell s symbols (mine .cells) }) ]
-        ≡ cond b (untouched mine) (insertRow other k (record { constant = mine .constant; cells = clearCell s symbols (mine .cells) }))
+        → elim b [ true ↦ untouched mine | false ↦ insertRow cutoff other k (record { constant = mine .constant; cells = clearCell s symbols (mine .cells) }) ]
+        ≡ cond b (untouched mine) (insertRow cutoff other k (record { constant = mine .constant; cells = clearCell s symbols (mine .cells) }))
     go k true = refl
     go k false = refl
 
-pub substitute-row-read : (s : ℕ) (symbols : List Symbol) (j n : ℕ) (other row : List Float) → PlaceOf s symbols j → length symbols ≡ n → n < length row → n < length other
-    → writtenOf (rowOf n (substituteRowIn (1 + j) n other row)) (substituteRowChanged (1 + j) other row) (substituteRowMark (1 + j) n other row) ≡ substituteInRow s symbols (rowOf n other) (rowOf n row)
+pub substitute-row-read : (cutoff : Float) (s : ℕ) (symbols : List Symbol) (j n : ℕ) (other row : List Float) → PlaceOf s symbols j → length symbols ≡ n → n < length row → n < length other
+    → writtenOf (rowOf n (substituteRowIn cutoff (1 + j) n other row)) (substituteRowChanged (1 + j) other row) (substituteRowMark cutoff (1 + j) n other row) ≡ substituteInRow cutoff s symbols (rowOf n other) (rowOf n row)
 unfolding rowOf substituteRowIn substituteRowChanged substituteRowMark untouched
-substitute-row-read s symbols j n other row p m h h₁ =
+substitute-row-read cutoff s symbols j n other row p m h h₁ =
     let k : Float = getD row (1 + j) nan in
     let l : n < length (set row (1 + j) zero64) = rw (length-set row (1 + j) zero64) h in
-    rw (substitute-row-is s symbols (rowOf n other) (rowOf n row), coefficient-read s symbols j n row p m, ← clear-row-read s symbols j n row p m h)
-    (go (absent k) _ _ _ _ (insert-row-read k n other (set row (1 + j) zero64) l h₁))
+    rw (substitute-row-is cutoff s symbols (rowOf n other) (rowOf n row), coefficient-read s symbols j n row p m, ← clear-row-read s symbols j n row p m h)
+    (go (absent k) _ _ _ _ (insert-row-read cutoff k n other (set row (1 + j) zero64) l h₁))
   where
     go : (b : Bool) (x y : List Float) (c : Bool) (a : Mark) {w : Written} → writtenOf (rowOf n y) c a ≡ w
         → writtenOf (rowOf n (cond b x y)) (cond b false c) (cond b allWhole a) ≡ cond b (untouched (rowOf n x)) w
     go true x y c a q = refl
     go false x y c a q = q
 
-substitute-cells-is : (s : ℕ) (symbols : List Symbol) (other mine : List Float)
-    → substituteInCells s symbols other mine ≡ cond (absent (coefficientFor s symbols mine)) (map kept mine) (insertCells (coefficientFor s symbols mine) other (clearCell s symbols mine))
+substitute-cells-is : (cutoff : Float) (s : ℕ) (symbols : List Symbol) (other mine : List Float)
+    → substituteInCells cutoff s symbols other mine ≡ cond (absent (coefficientFor s symbols mine)) (map kept mine) (insertCells cutoff (coefficientFor s symbols mine) other (clearCell s symbols mine))
 unfolding substituteInCells
-substitute-cells-is s symbols other mine = go (coefficientFor s symbols mine) (absent (coefficientFor s symbols mine))
+substitute-cells-is cutoff s symbols other mine = go (coefficientFor s symbols mine) (absent (coefficientFor s symbols mine))
   where
-    go : (k : Float) (b : Bool) → elim b [ true ↦ map kept mine | false ↦ insertCells k other (clearCell s symbols mine) ] ≡ cond b (map kept mine) (insertCells k other (clearCell s symbols mine))
+    go : (k : Float) (b : Bool) → elim b [ true ↦ map kept mine | false ↦ insertCells cutoff k other (clearCell s symbols mine) ] ≡ cond b (map kept mine) (insertCells cutoff k other (clearCell s symbols mine))
     go k true = refl
     go k false = refl
 
-module _ (s : ℕ) (symbols : List Symbol) (j n : ℕ) (other row : List Float) (p : PlaceOf s symbols j) (m : length symbols ≡ n) (h : n < length row) (h₁ : n < length other) where
+module _ (cutoff : Float) (s : ℕ) (symbols : List Symbol) (j n : ℕ) (other row : List Float) (p : PlaceOf s symbols j) (m : length symbols ≡ n) (h : n < length row) (h₁ : n < length other) where
   cleared : n < length (set row (1 + j) zero64)
   cleared = rw (length-set row (1 + j) zero64) h
 
-  pub substitute-cells-read : cellsOf n (substituteCellsIn (1 + j) n other row) ≡ cellValues (substituteInCells s symbols (cellsOf n other) (cellsOf n row))
+  pub substitute-cells-read : cellsOf n (substituteCellsIn cutoff (1 + j) n other row) ≡ cellValues (substituteInCells cutoff s symbols (cellsOf n other) (cellsOf n row))
   unfolding substituteCellsIn
   substitute-cells-read =
-      rw (substitute-cells-is s symbols (cellsOf n other) (cellsOf n row), coefficient-read s symbols j n row p m, ← clear-read s symbols j n row p m h)
-      (go (absent (getD row (1 + j) nan)) _ _ (insert-cells-read (getD row (1 + j) nan) n other (set row (1 + j) zero64) cleared h₁))
+      rw (substitute-cells-is cutoff s symbols (cellsOf n other) (cellsOf n row), coefficient-read s symbols j n row p m, ← clear-read s symbols j n row p m h)
+      (go (absent (getD row (1 + j) nan)) _ _ (insert-cells-read cutoff (getD row (1 + j) nan) n other (set row (1 + j) zero64) cleared h₁))
     where
       go : (b : Bool) (y : List Float) (cs : List Cell) → cellsOf n y ≡ cellValues cs → cellsOf n (cond b row y) ≡ cellValues (cond b (map kept (cellsOf n row)) cs)
       go true y cs q = sym (kept-values (cellsOf n row))
       go false y cs q = q
 
-  pub substitute-cells-marks : (bound : Float) → substituteCellsMark bound (1 + j) n other row ≡ cellMarks bound (substituteInCells s symbols (cellsOf n other) (cellsOf n row))
+  pub substitute-cells-marks : (bound : Float) → substituteCellsMark cutoff bound (1 + j) n other row ≡ cellMarks bound (substituteInCells cutoff s symbols (cellsOf n other) (cellsOf n row))
   unfolding substituteCellsMark
   substitute-cells-marks bound =
-      rw (substitute-cells-is s symbols (cellsOf n other) (cellsOf n row), coefficient-read s symbols j n row p m, ← clear-read s symbols j n row p m h)
-      (go (absent (getD row (1 + j) nan)) _ _ (insert-cells-marks bound (getD row (1 + j) nan) n other (set row (1 + j) zero64) cleared h₁))
+      rw (substitute-cells-is cutoff s symbols (cellsOf n other) (cellsOf n row), coefficient-read s symbols j n row p m, ← clear-read s symbols j n row p m h)
+      (go (absent (getD row (1 + j) nan)) _ _ (insert-cells-marks cutoff bound (getD row (1 + j) nan) n other (set row (1 + j) zero64) cleared h₁))
     where
       go : (b : Bool) (a : Mark) (cs : List Cell) → a ≡ cellMarks bound cs → cond b allWhole a ≡ cellMarks bound (cond b (map kept (cellsOf n row)) cs)
       go true a cs q = sym (kept-marks bound (cellsOf n row))

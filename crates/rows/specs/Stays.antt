@@ -13,17 +13,17 @@ use Rattle.rows.specs.Table.{insertedValue, scaledValue, reversedValue, 
 
 -- ---- lengths
 
-pub length-insertSymbolAt : (at : ℕ) (k : Float) (row : List Float) → length (insertSymbolAt at k row) ≡ length row
+pub length-insertSymbolAt : (cutoff : Float) (at : ℕ) (k : Float) (row : List Float) → length (insertSymbolAt cutoff at k row) ≡ length row
 unfolding insertSymbolAt
-length-insertSymbolAt at k row = length-set row at (cellValue (insertCell (getD row at nan) k))
+length-insertSymbolAt cutoff at k row = length-set row at (cellValue (insertCell cutoff (getD row at nan) k))
 
-pub length-insertCellsIn : (k : Float) (n : ℕ) (other row : List Float) → length (insertCellsIn k n other row) ≡ length row
+pub length-insertCellsIn : (cutoff k : Float) (n : ℕ) (other row : List Float) → length (insertCellsIn cutoff k n other row) ≡ length row
 unfolding insertCellsIn
-length-insertCellsIn k n other row = length-zipIn (insertedValue k) 1 (1 + n) row other
+length-insertCellsIn cutoff k n other row = length-zipIn (insertedValue cutoff k) 1 (1 + n) row other
 
-pub length-insertRowIn : (k : Float) (n : ℕ) (other row : List Float) → length (insertRowIn k n other row) ≡ length row
+pub length-insertRowIn : (cutoff k : Float) (n : ℕ) (other row : List Float) → length (insertRowIn cutoff k n other row) ≡ length row
 unfolding insertRowIn
-length-insertRowIn k n other row = length-insertCellsIn k n other (set row 0 (addedConstant k other row)) ∙ length-set row 0 (addedConstant k other row)
+length-insertRowIn cutoff k n other row = length-insertCellsIn cutoff k n other (set row 0 (addedConstant k other row)) ∙ length-set row 0 (addedConstant k other row)
 
 length-solveStart : (at : ℕ) (row : List Float) → length (solveStart at row) ≡ length row
 unfolding solveStart
@@ -33,9 +33,9 @@ pub length-solveRowIn : (at n : ℕ) (row : List Float) → length (solveRowIn a
 unfolding solveRowIn scaleCellsIn
 length-solveRowIn at n row = length-mapIn (scaledValue (solveFactor at row)) 1 (1 + n) (solveStart at row) ∙ length-solveStart at row
 
-pub length-solveForSymbolsIn : (leaving entering n : ℕ) (row : List Float) → length (solveForSymbolsIn leaving entering n row) ≡ length row
+pub length-solveForSymbolsIn : (cutoff : Float) (leaving entering n : ℕ) (row : List Float) → length (solveForSymbolsIn cutoff leaving entering n row) ≡ length row
 unfolding solveForSymbolsIn
-length-solveForSymbolsIn leaving entering n row = length-solveRowIn entering n (insertSymbolAt leaving minusOne64 row) ∙ length-insertSymbolAt leaving minusOne64 row
+length-solveForSymbolsIn cutoff leaving entering n row = length-solveRowIn entering n (insertSymbolAt cutoff leaving minusOne64 row) ∙ length-insertSymbolAt cutoff leaving minusOne64 row
 
 pub length-reverseSignIn : (n : ℕ) (row : List Float) → length (reverseSignIn n row) ≡ length row
 unfolding reverseSignIn
@@ -46,15 +46,15 @@ either : (f : List Float → ℕ) (b : Bool) (x y : List Float) → f y ≡ f x 
 either f true x y h = refl
 either f false x y h = h
 
-pub length-substituteRowIn : (at n : ℕ) (other row : List Float) → length (substituteRowIn at n other row) ≡ length row
+pub length-substituteRowIn : (cutoff : Float) (at n : ℕ) (other row : List Float) → length (substituteRowIn cutoff at n other row) ≡ length row
 unfolding substituteRowIn
-length-substituteRowIn at n other row =
-    either length (absent (getD row at nan)) row (insertRowIn (getD row at nan) n other (set row at zero64)) (length-insertRowIn (getD row at nan) n other (set row at zero64) ∙ length-set row at zero64)
+length-substituteRowIn cutoff at n other row =
+    either length (absent (getD row at nan)) row (insertRowIn cutoff (getD row at nan) n other (set row at zero64)) (length-insertRowIn cutoff (getD row at nan) n other (set row at zero64) ∙ length-set row at zero64)
 
-pub length-substituteCellsIn : (at n : ℕ) (other row : List Float) → length (substituteCellsIn at n other row) ≡ length row
+pub length-substituteCellsIn : (cutoff : Float) (at n : ℕ) (other row : List Float) → length (substituteCellsIn cutoff at n other row) ≡ length row
 unfolding substituteCellsIn
-length-substituteCellsIn at n other row =
-    either length (absent (getD row at nan)) row (insertCellsIn (getD row at nan) n other (set row at zero64)) (length-insertCellsIn (getD row at nan) n other (set row at zero64) ∙ length-set row at zero64)
+length-substituteCellsIn cutoff at n other row =
+    either length (absent (getD row at nan)) row (insertCellsIn cutoff (getD row at nan) n other (set row at zero64)) (length-insertCellsIn cutoff (getD row at nan) n other (set row at zero64) ∙ length-set row at zero64)
 
 pub length-shiftConstantIn : (d : Float) (row : List Float) → length (shiftConstantIn d row) ≡ length row
 unfolding shiftConstantIn

@@ -14,11 +14,11 @@ use Rattle.rows.specs.Marks.{worse-unit, insertTimes-is}
 
 -- ---- a cell's new value, and the mark so far with it
 
-unfoldable pub insertedValue : Float → Float → Float → Float
-insertedValue k c o = cellValue (insertTimes k o c)
+unfoldable pub insertedValue : Float → Float → Float → Float → Float
+insertedValue cutoff k c o = cellValue (insertTimes cutoff k o c)
 
-unfoldable pub insertedMark : Float → Float → Mark → Float → Float → Mark
-insertedMark bound k m c o = worse m (cellMark bound (insertTimes k o c))
+unfoldable pub insertedMark : Float → Float → Float → Mark → Float → Float → Mark
+insertedMark cutoff bound k m c o = worse m (cellMark bound (insertTimes cutoff k o c))
 
 unfoldable pub scaledValue : Float → Float → Float
 scaledValue factor c = cellValue (scaleCell factor c)
@@ -31,27 +31,27 @@ reversedValue c = stored (neg c)
 
 -- ---- insert
 
-unfoldable pub insertSymbolAt : ℕ → Float → List Float → List Float
-insertSymbolAt at k row = set row at (cellValue (insertCell (getD row at nan) k))
+unfoldable pub insertSymbolAt : Float → ℕ → Float → List Float → List Float
+insertSymbolAt cutoff at k row = set row at (cellValue (insertCell cutoff (getD row at nan) k))
 
-unfoldable pub insertSymbolMark : ℕ → Float → Float → List Float → Mark
-insertSymbolMark at k bound row = cellMark bound (insertCell (getD row at nan) k)
+unfoldable pub insertSymbolMark : Float → ℕ → Float → Float → List Float → Mark
+insertSymbolMark cutoff at k bound row = cellMark bound (insertCell cutoff (getD row at nan) k)
 
-unfoldable pub insertCellsIn : Float → ℕ → List Float → List Float → List Float
-insertCellsIn k width other row = zipIn (insertedValue k) 1 (1 + width) row other
+unfoldable pub insertCellsIn : Float → Float → ℕ → List Float → List Float → List Float
+insertCellsIn cutoff k width other row = zipIn (insertedValue cutoff k) 1 (1 + width) row other
 
-unfoldable pub insertCellsMark : Float → Float → ℕ → List Float → List Float → Mark
-insertCellsMark bound k width other row = fold2In (insertedMark bound k) 1 (1 + width) row other allWhole
+unfoldable pub insertCellsMark : Float → Float → Float → ℕ → List Float → List Float → Mark
+insertCellsMark cutoff bound k width other row = fold2In (insertedMark cutoff bound k) 1 (1 + width) row other allWhole
 
 unfoldable pub addedConstant : Float → List Float → List Float → Float
 addedConstant k other row = getD row 0 nan +₆₄ (getD other 0 nan *₆₄ k)
 
-unfoldable pub insertRowIn : Float → ℕ → List Float → List Float → List Float
-insertRowIn k width other row = insertCellsIn k width other (set row 0 (addedConstant k other row))
+unfoldable pub insertRowIn : Float → Float → ℕ → List Float → List Float → List Float
+insertRowIn cutoff k width other row = insertCellsIn cutoff k width other (set row 0 (addedConstant k other row))
 
-unfoldable pub insertRowMark : Float → ℕ → List Float → List Float → Mark
-insertRowMark k width other row =
-    worse (markWrite constantBound (addedConstant k other row)) (insertCellsMark cellBound k width other (set row 0 (addedConstant k other row)))
+unfoldable pub insertRowMark : Float → Float → ℕ → List Float → List Float → Mark
+insertRowMark cutoff k width other row =
+    worse (markWrite constantBound (addedConstant k other row)) (insertCellsMark cutoff cellBound k width other (set row 0 (addedConstant k other row)))
 
 unfoldable pub insertRowChanged : Float → List Float → Bool
 insertRowChanged k other = ne (getD other 0 nan *₆₄ k) zero64
@@ -80,36 +80,36 @@ solveRowMark at width row =
     (factorMark (getD row at nan) (solveFactor at row))
     (worse (markWrite constantBound (getD row 0 nan *₆₄ solveFactor at row)) (scaleCellsMark (solveFactor at row) width (solveStart at row)))
 
-unfoldable pub solveForSymbolsIn : ℕ → ℕ → ℕ → List Float → List Float
-solveForSymbolsIn leaving entering width row = solveRowIn entering width (insertSymbolAt leaving minusOne64 row)
+unfoldable pub solveForSymbolsIn : Float → ℕ → ℕ → ℕ → List Float → List Float
+solveForSymbolsIn cutoff leaving entering width row = solveRowIn entering width (insertSymbolAt cutoff leaving minusOne64 row)
 
-unfoldable pub solveForSymbolsMark : ℕ → ℕ → ℕ → List Float → Mark
-solveForSymbolsMark leaving entering width row =
-    worse (insertSymbolMark leaving minusOne64 cellBound row) (solveRowMark entering width (insertSymbolAt leaving minusOne64 row))
+unfoldable pub solveForSymbolsMark : Float → ℕ → ℕ → ℕ → List Float → Mark
+solveForSymbolsMark cutoff leaving entering width row =
+    worse (insertSymbolMark cutoff leaving minusOne64 cellBound row) (solveRowMark entering width (insertSymbolAt cutoff leaving minusOne64 row))
 
 unfoldable pub reverseSignIn : ℕ → List Float → List Float
 reverseSignIn width row = mapIn reversedValue 1 (1 + width) (set row 0 (neg (getD row 0 nan)))
 
 -- ---- substitute for the symbol at a place
 
-unfoldable pub substituteRowIn : ℕ → ℕ → List Float → List Float → List Float
-substituteRowIn at width other row =
-    cond (absent (getD row at nan)) row (insertRowIn (getD row at nan) width other (set row at zero64))
+unfoldable pub substituteRowIn : Float → ℕ → ℕ → List Float → List Float → List Float
+substituteRowIn cutoff at width other row =
+    cond (absent (getD row at nan)) row (insertRowIn cutoff (getD row at nan) width other (set row at zero64))
 
-unfoldable pub substituteRowMark : ℕ → ℕ → List Float → List Float → Mark
-substituteRowMark at width other row =
-    cond (absent (getD row at nan)) allWhole (insertRowMark (getD row at nan) width other (set row at zero64))
+unfoldable pub substituteRowMark : Float → ℕ → ℕ → List Float → List Float → Mark
+substituteRowMark cutoff at width other row =
+    cond (absent (getD row at nan)) allWhole (insertRowMark cutoff (getD row at nan) width other (set row at zero64))
 
 unfoldable pub substituteRowChanged : ℕ → List Float → List Float → Bool
 substituteRowChanged at other row = cond (absent (getD row at nan)) false (insertRowChanged (getD row at nan) other)
 
-unfoldable pub substituteCellsIn : ℕ → ℕ → List Float → List Float → List Float
-substituteCellsIn at width other row =
-    cond (absent (getD row at nan)) row (insertCellsIn (getD row at nan) width other (set row at zero64))
+unfoldable pub substituteCellsIn : Float → ℕ → ℕ → List Float → List Float → List Float
+substituteCellsIn cutoff at width other row =
+    cond (absent (getD row at nan)) row (insertCellsIn cutoff (getD row at nan) width other (set row at zero64))
 
-unfoldable pub substituteCellsMark : Float → ℕ → ℕ → List Float → List Float → Mark
-substituteCellsMark bound at width other row =
-    cond (absent (getD row at nan)) allWhole (insertCellsMark bound (getD row at nan) width other (set row at zero64))
+unfoldable pub substituteCellsMark : Float → Float → ℕ → ℕ → List Float → List Float → Mark
+substituteCellsMark cutoff bound at width other row =
+    cond (absent (getD row at nan)) allWhole (insertCellsMark cutoff bound (getD row at nan) width other (set row at zero64))
 
 -- ---- a constant that gets d
 
@@ -122,17 +122,17 @@ shiftConstantMark d row = markWrite constantBound (getD row 0 nan +₆₄ d)
 -- ---- a turn of each loop, from what its calls ensure
 
 -- an absent cell of the row that is inserted: nothing is written
-pub passed-over : (k o : Float) (row : List Float) (i : ℕ) → absent o ≡ true → row ≡ set row i (insertedValue k (getD row i nan) o)
+pub passed-over : (cutoff k o : Float) (row : List Float) (i : ℕ) → absent o ≡ true → row ≡ set row i (insertedValue cutoff k (getD row i nan) o)
 unfolding insertedValue cellValue
-passed-over k o row i h = rw (insertTimes-is, h) (sym (set-getD row i nan))
+passed-over cutoff k o row i h = rw (insertTimes-is cutoff, h) (sym (set-getD row i nan))
 
-pub passed-mark : (bound k c o : Float) (m : Mark) → absent o ≡ true → m ≡ insertedMark bound k m c o
+pub passed-mark : (cutoff bound k c o : Float) (m : Mark) → absent o ≡ true → m ≡ insertedMark cutoff bound k m c o
 unfolding insertedMark cellMark
-passed-mark bound k c o m h = rw (insertTimes-is, h) (sym (worse-unit m))
+passed-mark cutoff bound k c o m h = rw (insertTimes-is cutoff, h) (sym (worse-unit m))
 
 -- and one that is there
-pub there-is : (k c o : Float) {l : Cell} → absent o ≡ false → l ≡ insertCell c (o *₆₄ k) → l ≡ insertTimes k o c
-there-is k c o h e = rw (insertTimes-is, h) e
+pub there-is : (cutoff k c o : Float) {l : Cell} → absent o ≡ false → l ≡ insertCell cutoff c (o *₆₄ k) → l ≡ insertTimes cutoff k o c
+there-is cutoff k c o h e = rw (insertTimes-is cutoff, h) e
 
 scale-absent : (factor c : Float) → absent c ≡ true → scaleCell factor c ≡ kept c
 unfolding scaleCell
@@ -146,13 +146,13 @@ pub unscaled-mark : (factor c : Float) (m : Mark) → absent c ≡ true → m �
 unfolding scaledMark cellMark
 unscaled-mark factor c m h = rw (scale-absent factor c h) (sym (worse-unit m))
 
-pub inserted-value : (k c o : Float) {v : Float} {l : Cell} → v ≡ cellValue l → l ≡ insertTimes k o c → v ≡ insertedValue k c o
+pub inserted-value : (cutoff k c o : Float) {v : Float} {l : Cell} → v ≡ cellValue l → l ≡ insertTimes cutoff k o c → v ≡ insertedValue cutoff k c o
 unfolding insertedValue
-inserted-value k c o h q = rw (← q) h
+inserted-value cutoff k c o h q = rw (← q) h
 
-pub inserted-mark : (bound k c o : Float) (m : Mark) {t : Mark} {l : Cell} → t ≡ worse m (cellMark bound l) → l ≡ insertTimes k o c → t ≡ insertedMark bound k m c o
+pub inserted-mark : (cutoff bound k c o : Float) (m : Mark) {t : Mark} {l : Cell} → t ≡ worse m (cellMark bound l) → l ≡ insertTimes cutoff k o c → t ≡ insertedMark cutoff bound k m c o
 unfolding insertedMark
-inserted-mark bound k c o m h q = rw (← q) h
+inserted-mark cutoff bound k c o m h q = rw (← q) h
 
 pub scaled-value : (factor c : Float) {v : Float} {l : Cell} → v ≡ cellValue l → l ≡ scaleCell factor c → v ≡ scaledValue factor c
 unfolding scaledValue

@@ -22,17 +22,17 @@ pub fn stored(c: f64) -> f64
     if c == 0.0 { 0.0 } else { c }
 }
 
-fn goes_if_near_zero(c: f64) -> f64
-    ensures { λ r. ⌜ r ≡ goesIfNearZero c ⌝ }
+fn goes_if_near_zero(cutoff: f64, c: f64) -> f64
+    ensures { λ r. ⌜ r ≡ goesIfNearZero cutoff c ⌝ }
 {
-    if near_zero(c) { 0.0 } else { c }
+    if near_zero(cutoff, c) { 0.0 } else { c }
 }
 
-pub fn insert_cell(old: f64, k: f64) -> Left
-    ensures { λ r. ⌜ cellOf r ≡ insertCell old k ⌝ }
+pub fn insert_cell(cutoff: f64, old: f64, k: f64) -> Left
+    ensures { λ r. ⌜ cellOf r ≡ insertCell cutoff old k ⌝ }
 {
     if old == 0.0 {
-        if near_zero(k) {
+        if near_zero(cutoff, k) {
             Left {
                 wrote: false,
                 value: old,
@@ -46,7 +46,7 @@ pub fn insert_cell(old: f64, k: f64) -> Left
     } else {
         Left {
             wrote: true,
-            value: goes_if_near_zero(old + k),
+            value: goes_if_near_zero(cutoff, old + k),
         }
     }
 }

@@ -4,9 +4,6 @@ ghost use Rattle.steps.specs.Number.{magnitude, nearZero, isFinite, isWhole, wi
 ghost use Rattle.steps.specs.Add.{wholeWithin};
 ghost use Rattle.rows.specs.Marks.{markOf, clean, join};
 
-// 1E-8: this line alone says what near zero is.
-pub const CUTOFF: f64 = 0.00000001;
-
 pub const CELL_BOUND: f64 = 1024.0;
 
 pub const CONSTANT_BOUND: f64 = 1073741824.0;
@@ -19,10 +16,11 @@ pub fn magnitude(x: f64) -> f64
     if x < 0.0 { -x } else { x }
 }
 
-pub fn near_zero(x: f64) -> bool
-    ensures { λ r. ⌜ r ≡ nearZero x ⌝ }
+// "Near zero: magnitude strictly below the cutoff given at reset, so the cutoff itself is kept."
+pub fn near_zero(cutoff: f64, x: f64) -> bool
+    ensures { λ r. ⌜ r ≡ nearZero cutoff x ⌝ }
 {
-    magnitude(x) < CUTOFF
+    magnitude(x) < cutoff
 }
 
 pub fn is_finite(x: f64) -> bool

@@ -37,31 +37,40 @@ pub struct Inserted {
     pub wrote: Wrote,
 }
 
-pub fn insert_symbol(row: &mut [f64; 130], at: usize, k: f64, bound: f64) -> Wrote
+pub fn insert_symbol(cutoff: f64, row: &mut [f64; 130], at: usize, k: f64, bound: f64) -> Wrote
     requires { ⌜ at < 130 ⌝ }
-    ensures { λ r. ⌜ markOf r ≡ insertSymbolMark at k bound (now (row .entry)) ⌝ }
-    ensures { λ _. ⌜ now (row .exit) ≡ insertSymbolAt at k (now (row .entry)) ⌝ }
+    ensures { λ r. ⌜ markOf r ≡ insertSymbolMark cutoff at k bound (now (row .entry)) ⌝ }
+    ensures { λ _. ⌜ now (row .exit) ≡ insertSymbolAt cutoff at k (now (row .entry)) ⌝ }
 {
-    let c = insert_cell(row[at], k);
+    let c = insert_cell(cutoff, row[at], k);
     row[at] = cell_value(c);
     cell_mark(bound, c)
 }
 
 // The cell at place i gets o times k. An absent o is passed over before anything is computed: most cells of a layout are.
-fn insert_at(row: &mut [f64; 130], i: usize, o: f64, k: f64, bound: f64, before: Wrote) -> Wrote
+fn insert_at(
+    cutoff: f64,
+    row: &mut [f64; 130],
+    i: usize,
+    o: f64,
+    k: f64,
+    bound: f64,
+    before: Wrote,
+) -> Wrote
     requires { ⌜ i < 130 ⌝ }
-    ensures { λ r. ⌜ markOf r ≡ insertedMark bound k (markOf before) (getD (now (row .entry)) i nan) o ⌝ }
-    ensures { λ _. ⌜ now (row .exit) ≡ set (now (row .entry)) i (insertedValue k (getD (now (row .entry)) i nan) o) ⌝ }
+    ensures { λ r. ⌜ markOf r ≡ insertedMark cutoff bound k (markOf before) (getD (now (row .entry)) i nan) o ⌝ }
+    ensures { λ _. ⌜ now (row .exit) ≡ set (now (row .entry)) i (insertedValue cutoff k (getD (now (row .entry)) i nan) o) ⌝ }
 {
     if o == 0.0 {
         return before;
     }
-    let c = insert_cell(row[i], o * k);
+    let c = insert_cell(cutoff, row[i], o * k);
     row[i] = cell_value(c);
     mark_cell(bound, before, c)
 }
 
 pub fn insert_cells(
+    cutoff: f64,
     row: &mut [f64; 130],
     other: &[f64; 130],
     k: f64,
@@ -69,30 +78,36 @@ pub fn insert_cells(
     bound: f64,
 ) -> Wrote
     requires { ⌜ width < 130 ⌝ }
-    ensures { λ r. ⌜ markOf r ≡ insertCellsMark bound k width (now (other .entry)) (now (row .entry)) ⌝ }
-    ensures { λ _. ⌜ now (row .exit) ≡ insertCellsIn k width (now (other .entry)) (now (row .entry)) ⌝ }
+    ensures { λ r. ⌜ markOf r ≡ insertCellsMark cutoff bound k width (now (other .entry)) (now (row .entry)) ⌝ }
+    ensures { λ _. ⌜ now (row .exit) ≡ insertCellsIn cutoff k width (now (other .entry)) (now (row .entry)) ⌝ }
 {
     wide(row);
     wide(other);
     let mut w = nothing();
     let mut i = 1;
     while i <= width {
-        w = insert_at(row, i, other[i], k, bound, w);
+        w = insert_at(cutoff, row, i, other[i], k, bound, w);
         i += 1;
     }
     w
 }
 
-pub fn insert_row(row: &mut [f64; 130], other: &[f64; 130], k: f64, width: usize) -> Inserted
+pub fn insert_row(
+    cutoff: f64,
+    row: &mut [f64; 130],
+    other: &[f64; 130],
+    k: f64,
+    width: usize,
+) -> Inserted
     requires { ⌜ width < 130 ⌝ }
     ensures { λ r. ⌜ r .changed ≡ insertRowChanged k (now (other .entry)) ⌝ }
-    ensures { λ r. ⌜ markOf (r .wrote) ≡ insertRowMark k width (now (other .entry)) (now (row .entry)) ⌝ }
-    ensures { λ _. ⌜ now (row .exit) ≡ insertRowIn k width (now (other .entry)) (now (row .entry)) ⌝ }
+    ensures { λ r. ⌜ markOf (r .wrote) ≡ insertRowMark cutoff k width (now (other .entry)) (now (row .entry)) ⌝ }
+    ensures { λ _. ⌜ now (row .exit) ≡ insertRowIn cutoff k width (now (other .entry)) (now (row .entry)) ⌝ }
 {
     let p = other[0] * k;
     let total = row[0] + p;
     row[0] = total;
-    let w = insert_cells(row, other, k, width, CELL_BOUND);
+    let w = insert_cells(cutoff, row, other, k, width, CELL_BOUND);
     Inserted {
         changed: p != 0.0,
         wrote: joined(mark_write(CONSTANT_BOUND, total), w),
@@ -146,6 +161,7 @@ pub fn solve_for(row: &mut [f64; 130], at: usize, width: usize) -> Wrote
 }
 
 pub fn solve_for_symbols(
+    cutoff: f64,
     row: &mut [f64; 130],
     leaving: usize,
     entering: usize,
@@ -154,10 +170,10 @@ pub fn solve_for_symbols(
     requires { ⌜ leaving < 130 ⌝ }
     requires { ⌜ entering < 130 ⌝ }
     requires { ⌜ width < 130 ⌝ }
-    ensures { λ r. ⌜ markOf r ≡ solveForSymbolsMark leaving entering width (now (row .entry)) ⌝ }
-    ensures { λ _. ⌜ now (row .exit) ≡ solveForSymbolsIn leaving entering width (now (row .entry)) ⌝ }
+    ensures { λ r. ⌜ markOf r ≡ solveForSymbolsMark cutoff leaving entering width (now (row .entry)) ⌝ }
+    ensures { λ _. ⌜ now (row .exit) ≡ solveForSymbolsIn cutoff leaving entering width (now (row .entry)) ⌝ }
 {
-    let v = insert_symbol(row, leaving, -1.0, CELL_BOUND);
+    let v = insert_symbol(cutoff, row, leaving, -1.0, CELL_BOUND);
     let w = solve_for(row, entering, width);
     joined(v, w)
 }
@@ -174,12 +190,18 @@ pub fn reverse_sign(row: &mut [f64; 130], width: usize)
     }
 }
 
-pub fn substitute_row(row: &mut [f64; 130], at: usize, other: &[f64; 130], width: usize) -> Inserted
+pub fn substitute_row(
+    cutoff: f64,
+    row: &mut [f64; 130],
+    at: usize,
+    other: &[f64; 130],
+    width: usize,
+) -> Inserted
     requires { ⌜ at < 130 ⌝ }
     requires { ⌜ width < 130 ⌝ }
     ensures { λ r. ⌜ r .changed ≡ substituteRowChanged at (now (other .entry)) (now (row .entry)) ⌝ }
-    ensures { λ r. ⌜ markOf (r .wrote) ≡ substituteRowMark at width (now (other .entry)) (now (row .entry)) ⌝ }
-    ensures { λ _. ⌜ now (row .exit) ≡ substituteRowIn at width (now (other .entry)) (now (row .entry)) ⌝ }
+    ensures { λ r. ⌜ markOf (r .wrote) ≡ substituteRowMark cutoff at width (now (other .entry)) (now (row .entry)) ⌝ }
+    ensures { λ _. ⌜ now (row .exit) ≡ substituteRowIn cutoff at width (now (other .entry)) (now (row .entry)) ⌝ }
 {
     let k = row[at];
     if k == 0.0 {
@@ -190,11 +212,12 @@ pub fn substitute_row(row: &mut [f64; 130], at: usize, other: &[f64; 130], width
         };
     }
     row[at] = 0.0;
-    insert_row(row, other, k, width)
+    insert_row(cutoff, row, other, k, width)
 }
 
 // In an objective, which has no constant.
 pub fn substitute_cells(
+    cutoff: f64,
     row: &mut [f64; 130],
     at: usize,
     other: &[f64; 130],
@@ -203,15 +226,15 @@ pub fn substitute_cells(
 ) -> Wrote
     requires { ⌜ at < 130 ⌝ }
     requires { ⌜ width < 130 ⌝ }
-    ensures { λ r. ⌜ markOf r ≡ substituteCellsMark bound at width (now (other .entry)) (now (row .entry)) ⌝ }
-    ensures { λ _. ⌜ now (row .exit) ≡ substituteCellsIn at width (now (other .entry)) (now (row .entry)) ⌝ }
+    ensures { λ r. ⌜ markOf r ≡ substituteCellsMark cutoff bound at width (now (other .entry)) (now (row .entry)) ⌝ }
+    ensures { λ _. ⌜ now (row .exit) ≡ substituteCellsIn cutoff at width (now (other .entry)) (now (row .entry)) ⌝ }
 {
     let k = row[at];
     if k == 0.0 {
         return nothing();
     }
     row[at] = 0.0;
-    insert_cells(row, other, k, width, bound)
+    insert_cells(cutoff, row, other, k, width, bound)
 }
 
 pub fn shift_constant(row: &mut [f64; 130], d: f64) -> Inserted

@@ -25,11 +25,11 @@ use Rattle.steps.specs.Work.{Work, marking}
 use Rattle.steps.specs.Changes.{findVariable}
 use Rattle.steps.specs.CreateRow.{Created}
 use Rattle.steps.specs.Add.{wholeInputs, addSteps}
-use Rattle.steps.specs.Tests.{findConstraint, findEdit, keptTerms}
+use Rattle.steps.specs.Tests.{findConstraint, findEdit}
 use Rattle.steps.specs.Calls.{begin, finish}
 use Rattle.bridge.specs.Rows.{In}
 use Rattle.run.specs.Demand.{Key, ofConstraint, ofEdit, sameKey, Demand, Moment, Meets, None}
-use Rattle.run.specs.Inv.{columns, Held, exprOf, otherId, conOf, formOf, findHeld, ConstraintAt, EditAt, VarAt, Inv}
+use Rattle.run.specs.Inv.{nonZeroTerms, columns, Held, exprOf, otherId, conOf, formOf, findHeld, ConstraintAt, EditAt, VarAt, Inv}
 use Rattle.run.specs.Words.{Agrees, meets-from}
 use Rattle.run.specs.Vars.{Same, same-kept, at-same, known-same, known-back}
 use Rattle.run.specs.Perm.{found-hit, found-miss}
@@ -84,14 +84,14 @@ module _ (art : ArtificialEnds) (m : Moment) (I : Inv m) (d : Demand) (budget : 
   -- ---- the demand as it lives: a number of the same worth for its constant
   module _ (k : Float) (same : val k ≡ val (d .constant)) (inputs : wholeInputs (d .terms) k (d .relation) ≡ true) where
     abbrev e : Demand
-    e = record { key = d .key; terms = d .terms; constant = k; relation = d .relation }
+    e = record { key = d .key; group = d .group; terms = d .terms; constant = k; relation = d .relation }
 
     abbrev new : Held
     new = record { demand = e; tag = c .tag }
 
     same-con : conOf (B .column) new ≡ conOf (B .column) (newHeld d c)
     unfolding conOf newHeld
-    same-con = ap (λ (z : ℤ). record { expr = exprOf (B .column) (keptTerms (d .terms)) z; form = formOf (d .relation); weight = val (strengthOf (d .relation)); marker = c .tag .marker .id; other = otherId (c .tag .other) }) same
+    same-con = ap (λ (z : ℤ). record { expr = exprOf (B .column) (nonZeroTerms (d .terms)) z; form = formOf (d .relation); weight = val (strengthOf (d .relation)); marker = c .tag .marker .id; other = otherId (c .tag .other) }) same
 
     same-cons : map (conOf (B .column)) (newHeld d c ∷ I .held) ≡ map (conOf (B .column)) (new ∷ I .held)
     same-cons = ap (λ (x : Con). x ∷ map (conOf (B .column)) (I .held)) (sym same-con)
@@ -118,7 +118,7 @@ module _ (art : ArtificialEnds) (m : Moment) (I : Inv m) (d : Demand) (budget : 
         σ = at 0 a (λ j. x (B .name j))
 
         agree : All (Agrees (B .column) σ x) (new ∷ I .held)
-        agree = all-map (λ (h : Held) q. all-map (λ (t : Term) z. let l = column-in (t .variable) z in (l .0, at-there 0 a (λ j. x (B .name j)) (B .column (t .variable)) (l .1) ∙ ap x (B .names (t .variable) z))) (keptTerms (h .demand .terms)) q) (new ∷ I .held) known
+        agree = all-map (λ (h : Held) q. all-map (λ (t : Term) z. let l = column-in (t .variable) z in (l .0, at-there 0 a (λ j. x (B .name j)) (B .column (t .variable)) (l .1) ∙ ap x (B .names (t .variable) z))) (nonZeroTerms (h .demand .terms)) q) (new ∷ I .held) known
 
         met : All (Rattle.simplex.specs.Problem.Meets columns σ) (map (conOf (B .column)) (new ∷ I .held))
         met = meets-from (B .column) σ x (new ∷ I .held) (all-map whole-terms (new ∷ I .held) ((inputs, up), I .inputs)) agree
@@ -160,6 +160,7 @@ module _ (art : ArtificialEnds) (m : Moment) (I : Inv m) (d : Demand) (budget : 
           rows = F .rested .reads .rows;
           objective = F .rested .reads .objective;
           beyond = F .rested .reads .beyond;
+          cutoff = F .rested .reads .cutoff;
           artificial = tt;
         };
         first = omega (arith, next-is, F .placed .above, B .first);
@@ -174,5 +175,5 @@ module _ (art : ArtificialEnds) (m : Moment) (I : Inv m) (d : Demand) (budget : 
         vars = λ u. at-same (B .kind) (x .tableau .symbols) (findVariable u (c .work .changes .variables)) (findVariable u (x .changes .variables)) (B .column u) (vars u)
             (subst (λ (xs : List Symbol). VarAt (B .kind) xs (findVariable u (c .work .changes .variables)) (B .column u)) (sym symbols) (B .vars u));
         names = λ u h. B .names u (known-back (findVariable u (c .work .changes .variables)) (findVariable u (x .changes .variables)) (vars u) h);
-        known = all-map (λ (h : Held) q. all-map (λ (t : Term) z. known-same (findVariable (t .variable) (c .work .changes .variables)) (findVariable (t .variable) (x .changes .variables)) (vars (t .variable)) z) (keptTerms (h .demand .terms)) q) (new ∷ I .held) known;
+        known = all-map (λ (h : Held) q. all-map (λ (t : Term) z. known-same (findVariable (t .variable) (c .work .changes .variables)) (findVariable (t .variable) (x .changes .variables)) (vars (t .variable)) z) (nonZeroTerms (h .demand .terms)) q) (new ∷ I .held) known;
       }

@@ -28,21 +28,21 @@ unfolding createRow
 created-mark ts k r w = go (belowZero (c .row .constant))
   where
     b : Building
-    b = insertTerms ts (record { work = w; row = record { constant = k; cells = map (λ _. zero64) (w .tableau .symbols) } })
+    b = insertTerms (w .tableau .cutoff) ts (record { work = w; row = record { constant = k; cells = map (λ _. zero64) (w .tableau .symbols) } })
 
     c : Created
-    c = addTag r (insertTerms ts (record { work = w; row = record { constant = k; cells = map (λ _. zero64) (w .tableau .symbols) } }))
+    c = addTag r (insertTerms (w .tableau .cutoff) ts (record { work = w; row = record { constant = k; cells = map (λ _. zero64) (w .tableau .symbols) } }))
 
     go : (t : Bool) → (elim t as (λ _. Created) [ false ↦ c | true ↦ record { work = c .work; row = reverseSign (c .row); tag = c .tag } ]) .work .mark ≡ allWhole → w .mark ≡ allWhole
-    go false m = terms-mark ts (record { work = w; row = record { constant = k; cells = map (λ _. zero64) (w .tableau .symbols) } }) (tag-mark r b m)
-    go true m = terms-mark ts (record { work = w; row = record { constant = k; cells = map (λ _. zero64) (w .tableau .symbols) } }) (tag-mark r b m)
+    go false m = terms-mark (w .tableau .cutoff) ts (record { work = w; row = record { constant = k; cells = map (λ _. zero64) (w .tableau .symbols) } }) (tag-mark r b m)
+    go true m = terms-mark (w .tableau .cutoff) ts (record { work = w; row = record { constant = k; cells = map (λ _. zero64) (w .tableau .symbols) } }) (tag-mark r b m)
 
 pub marked : (m : Mark) (w : Work) → marking m w .mark ≡ allWhole → (w .mark ≡ allWhole) × (m ≡ allWhole)
 unfolding marking
 marked m w e = (worse-l (w .mark) m e, worse-r (w .mark) m e)
 
 -- ---- steps 4 to 6
-finite-mark : (x : Work) → markOf (checkFinite x) ≡ allWhole → x .mark ≡ allWhole
+pub finite-mark : (x : Work) → markOf (checkFinite x) ≡ allWhole → x .mark ≡ allWhole
 unfolding checkFinite refuse markOf
 finite-mark x = go (x .mark) refl
   where
@@ -51,7 +51,7 @@ finite-mark x = go (x .mark) refl
     go notWhole e m = m
     go notFinite e m = m
 
-subject-mark : (s : Symbol) (c : Created) → markOf (addWithSubject s c) ≡ allWhole → c .work .mark ≡ allWhole
+pub subject-mark : (s : Symbol) (c : Created) → markOf (addWithSubject s c) ≡ allWhole → c .work .mark ≡ allWhole
 unfolding addWithSubject
 subject-mark s c m =
     let row : Row = solveForSymbol (s .id) (c .work .tableau .symbols) (c .row) .row in
@@ -59,7 +59,7 @@ subject-mark s c m =
     let v : Work = marking mk (c .work) in
     marked mk (c .work) (worse-l (v .mark) _ (sym (enter-parts s row v .mark) ∙ finite-mark (enterBasis s row v) m)) .0
 
-temporary-mark : (t : Symbol) (w : Work) → markOf (removeTemporary t w) ≡ allWhole → w .mark ≡ allWhole
+pub temporary-mark : (t : Symbol) (w : Work) → markOf (removeTemporary t w) ≡ allWhole → w .mark ≡ allWhole
 unfolding removeTemporary markOf refuse purge withTableau
 temporary-mark t w = by-row (findRow (t .id) (w .tableau .rows))
   where
@@ -86,12 +86,12 @@ standing-mark : (t : Symbol) (c : Created) → standTemporary t (record { work =
 unfolding standTemporary appendTo withArtificial withRows withTableau appendSymbol
 standing-mark t c = refl
 
-none-mark : (w : Work) → withArtificial none w .mark ≡ w .mark
+pub none-mark : (w : Work) → withArtificial none w .mark ≡ w .mark
 unfolding withArtificial
 none-mark w = refl
 
 -- what comes after a pass keeps its mark
-bound-mark : (x : Outcome Work) (f : Work → Outcome Work) → ((v : Work) → markOf (f v) ≡ allWhole → v .mark ≡ allWhole) → markOf (x >>= f) ≡ allWhole → markOf x ≡ allWhole
+pub bound-mark : (x : Outcome Work) (f : Work → Outcome Work) → ((v : Work) → markOf (f v) ≡ allWhole → v .mark ≡ allWhole) → markOf (x >>= f) ≡ allWhole → markOf x ≡ allWhole
 unfolding markOf _>>=_
 bound-mark (refused k p m) f h e = e
 bound-mark (going v) f h e = h v e
@@ -117,12 +117,12 @@ subject-or-artificial-mark budget c = by-subject (chooseSubject c)
     by-zero false m = unfold refuse markOf in m
     by-zero true m = subject-mark (c .tag .marker) c m
 
-    by-dummies : (b : Bool) → markOf (elim b as (λ _. Outcome Work) [ false ↦ addWithArtificialVariable budget c | true ↦ elim (nearZero (c .row .constant)) as (λ _. Outcome Work) [ false ↦ refuse 12 (c .work) | true ↦ addWithSubject (c .tag .marker) c ] ]) ≡ allWhole → c .work .mark ≡ allWhole
+    by-dummies : (b : Bool) → markOf (elim b as (λ _. Outcome Work) [ false ↦ addWithArtificialVariable budget c | true ↦ elim (nearZero (c .work .tableau .cutoff) (c .row .constant)) as (λ _. Outcome Work) [ false ↦ refuse 12 (c .work) | true ↦ addWithSubject (c .tag .marker) c ] ]) ≡ allWhole → c .work .mark ≡ allWhole
     by-dummies false m = artificial-mark budget c m
-    by-dummies true m = by-zero (nearZero (c .row .constant)) m
+    by-dummies true m = by-zero (nearZero (c .work .tableau .cutoff) (c .row .constant)) m
 
     by-subject : (o : Option Symbol)
-        → markOf (elim o as (λ _. Outcome Work) [ some s ↦ addWithSubject s c | none ↦ elim (allDummies c) as (λ _. Outcome Work) [ false ↦ addWithArtificialVariable budget c | true ↦ elim (nearZero (c .row .constant)) as (λ _. Outcome Work) [ false ↦ refuse 12 (c .work) | true ↦ addWithSubject (c .tag .marker) c ] ] ]) ≡ allWhole
+        → markOf (elim o as (λ _. Outcome Work) [ some s ↦ addWithSubject s c | none ↦ elim (allDummies c) as (λ _. Outcome Work) [ false ↦ addWithArtificialVariable budget c | true ↦ elim (nearZero (c .work .tableau .cutoff) (c .row .constant)) as (λ _. Outcome Work) [ false ↦ refuse 12 (c .work) | true ↦ addWithSubject (c .tag .marker) c ] ] ]) ≡ allWhole
         → c .work .mark ≡ allWhole
     by-subject (some s) m = subject-mark s c m
     by-subject none m = by-dummies (allDummies c) m
@@ -162,14 +162,14 @@ checked x = go (x .mark) refl
     go notFinite e = inr (e, refl)
 
 -- what follows the test of the created row
-afterwards : ℕ → Created → Outcome Work → Outcome Added
+pub afterwards : ℕ → Created → Outcome Work → Outcome Added
 afterwards budget c x = x >>= (λ _. addCreated budget c) >>= (λ v. optimise (budget - v .pivots) theObjective v) >>= (λ v. going (record { work = v; tag = c .tag }))
 
-steps-are : (budget : ℕ) (ts : List Term) (k : Float) (r : Relation) (w : Work) → addSteps budget ts k r w ≡ afterwards budget (createdOf ts k r w) (checkFinite (createdOf ts k r w .work))
+pub steps-are : (budget : ℕ) (ts : List Term) (k : Float) (r : Relation) (w : Work) → addSteps budget ts k r w ≡ afterwards budget (createdOf ts k r w) (checkFinite (createdOf ts k r w .work))
 unfolding addSteps createdOf afterwards
 steps-are budget ts k r w = refl
 
-goes-on : (budget : ℕ) (c : Created) → afterwards budget c (going (c .work)) ≡ addedBy (c .tag) (placedAndRested budget c)
+pub goes-on : (budget : ℕ) (c : Created) → afterwards budget c (going (c .work)) ≡ addedBy (c .tag) (placedAndRested budget c)
 unfolding afterwards addedBy placedAndRested _>>=_
 goes-on budget c = refl
 

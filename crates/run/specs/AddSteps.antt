@@ -45,15 +45,15 @@ module _ (art : ArtificialEnds) (n : ℕ) (old : ℕ → KindZ) (S : StateZ) (he
   created-ends = by-subject (chooseSubject c) refl (subjected n old S held d w c B)
     where
       by-dummies : chooseSubject c ≡ none → (b : Bool) → allDummies c ≡ b → Dummies n old S held d w c B b
-          → markOf (elim b as (λ _. Outcome Work) [ false ↦ addWithArtificialVariable budget c | true ↦ elim (nearZero (c .row .constant)) as (λ _. Outcome Work) [ false ↦ refuse 12 (c .work) | true ↦ addWithSubject (c .tag .marker) c ] ]) ≡ allWhole
-          → EndsIn (elim b [ true ↦ 1 | false ↦ artificialWays c S ]) (elim b [ false ↦ addWithArtificialVariable budget c | true ↦ elim (nearZero (c .row .constant)) [ false ↦ refuse 12 (c .work) | true ↦ addWithSubject (c .tag .marker) c ] ])
+          → markOf (elim b as (λ _. Outcome Work) [ false ↦ addWithArtificialVariable budget c | true ↦ elim (nearZero (c .work .tableau .cutoff) (c .row .constant)) as (λ _. Outcome Work) [ false ↦ refuse 12 (c .work) | true ↦ addWithSubject (c .tag .marker) c ] ]) ≡ allWhole
+          → EndsIn (elim b [ true ↦ 1 | false ↦ artificialWays c S ]) (elim b [ false ↦ addWithArtificialVariable budget c | true ↦ elim (nearZero (c .work .tableau .cutoff) (c .row .constant)) [ false ↦ refuse 12 (c .work) | true ↦ addWithSubject (c .tag .marker) c ] ])
       by-dummies s false e v m = art n old S held d w c B room s e budget m
-      by-dummies s true e v m = flat n old S held d w c B in-n (omega (arith, room)) budget v (nearZero (c .row .constant)) refl m
+      by-dummies s true e v m = flat n old S held d w c B in-n (omega (arith, room)) budget v (nearZero (c .work .tableau .cutoff) (c .row .constant)) refl m
 
       by-subject : (o : Option Symbol) → chooseSubject c ≡ o → Subjected n old S held d w c B o
-          → markOf (elim o as (λ _. Outcome Work) [ some s ↦ addWithSubject s c | none ↦ elim (allDummies c) as (λ _. Outcome Work) [ false ↦ addWithArtificialVariable budget c | true ↦ elim (nearZero (c .row .constant)) as (λ _. Outcome Work) [ false ↦ refuse 12 (c .work) | true ↦ addWithSubject (c .tag .marker) c ] ] ]) ≡ allWhole
+          → markOf (elim o as (λ _. Outcome Work) [ some s ↦ addWithSubject s c | none ↦ elim (allDummies c) as (λ _. Outcome Work) [ false ↦ addWithArtificialVariable budget c | true ↦ elim (nearZero (c .work .tableau .cutoff) (c .row .constant)) as (λ _. Outcome Work) [ false ↦ refuse 12 (c .work) | true ↦ addWithSubject (c .tag .marker) c ] ] ]) ≡ allWhole
           → EndsIn (elim o [ some s ↦ 1 | none ↦ elim (allDummies c) [ true ↦ 1 | false ↦ artificialWays c S ] ])
-          (elim o [ some s ↦ addWithSubject s c | none ↦ elim (allDummies c) [ false ↦ addWithArtificialVariable budget c | true ↦ elim (nearZero (c .row .constant)) [ false ↦ refuse 12 (c .work) | true ↦ addWithSubject (c .tag .marker) c ] ] ])
+          (elim o [ some s ↦ addWithSubject s c | none ↦ elim (allDummies c) [ false ↦ addWithArtificialVariable budget c | true ↦ elim (nearZero (c .work .tableau .cutoff) (c .row .constant)) [ false ↦ refuse 12 (c .work) | true ↦ addWithSubject (c .tag .marker) c ] ] ])
       by-subject (some s) e v m = chosen n old S held d w c B in-n (omega (arith, room)) budget s v m
       by-subject none e v m = by-dummies e (allDummies c) refl (dummies n old S held d w c B) m
 

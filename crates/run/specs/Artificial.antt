@@ -82,9 +82,9 @@ module _ (n : ℕ) (old : ℕ → KindZ) (S : StateZ) (held : List Held) (d : De
   unfolding artificialConstantNearZero
   near-is left x P = go (x .artificial) (P .reads .artificial) (P .stands)
     where
-      go : (t : Option Row) → ArtAt (x .tableau .symbols) t (P .T .o) → Standing t → _≡_ {A = Bool} (elim t [ none ↦ false | some r ↦ nearZero (r .constant) ]) (eqZb (P .T .o 0) (pos 0))
+      go : (t : Option Row) → ArtAt (x .tableau .symbols) t (P .T .o) → Standing t → _≡_ {A = Bool} (elim t [ none ↦ false | some r ↦ nearZero (x .tableau .cutoff) (r .constant) ]) (eqZb (P .T .o 0) (pos 0))
       go none a s = absurd s
-      go (some r) a s = nearZero-z (a .constant .isz)
+      go (some r) a s = nearZero-z (x .tableau .cutoff) (P .reads .cutoff) (a .constant .isz)
 
   ways-same : waysOf (begun .tableau .symbols) (at (c .work .tableau .nextId) true (S .B)) ≡ artificialWays c S
   unfolding begun standTemporary appendTo withArtificial withRows withTableau appendSymbol artificialWays

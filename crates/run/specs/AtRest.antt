@@ -20,12 +20,11 @@ use Rattle.steps.specs.Number.{zero64}
 use Rattle.steps.specs.State.{Term, Variable}
 use Rattle.steps.specs.Changes.{findVariable, valueOf, value}
 use Rattle.steps.specs.Add.{wholeTerms, wholeInputs}
-use Rattle.steps.specs.Tests.{keptTerms}
 use Rattle.steps.specs.Calls.{begin}
 use Rattle.bridge.specs.Nums.{zero64-z}
 use Rattle.bridge.specs.Ends.{valueAt, value-z}
 use Rattle.run.specs.Demand.{Demand, Moment, Meets, weighted, values, Best}
-use Rattle.run.specs.Inv.{columns, Held, conOf, VarAt, WholeDemand, Inv}
+use Rattle.run.specs.Inv.{nonZeroTerms, columns, Held, conOf, VarAt, WholeDemand, Inv}
 use Rattle.run.specs.Words.{Agrees, WholeTerms, meets-to, meets-from, error-to}
 use Rattle.run.specs.Inputs.{z-whole}
 
@@ -75,7 +74,7 @@ module _ (m : Moment) (I : Inv m) where
   whole-demands = all-map whole-terms (I .held) (I .inputs)
 
   agree : (σ : Vec) (x : ℕ → ℤ) → ((v : ℕ) → Known v → σ (I .sym v) ≡ x v) → All (Agrees (I .sym) σ x) (I .held)
-  agree σ x f = all-map (λ (h : Held). all-map (λ (t : Term) k. (column-in (t .variable) k .0, f (t .variable) k)) (keptTerms (h .demand .terms))) (I .held) (I .known)
+  agree σ x f = all-map (λ (h : Held). all-map (λ (t : Term) k. (column-in (t .variable) k .0, f (t .variable) k)) (nonZeroTerms (h .demand .terms))) (I .held) (I .known)
 
   pub one : I .table .R 0 0 ≡ 1ℤ
   one = I .good .shape .unit 0 (I .good .shape .const) 0 ∙ δ-same 0

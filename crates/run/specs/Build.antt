@@ -22,16 +22,15 @@ use Rattle.steps.specs.Symbol.{Symbol}
 use Rattle.steps.specs.State.{Term}
 use Rattle.steps.specs.Work.{Work}
 use Rattle.steps.specs.Changes.{findVariable}
-use Rattle.steps.specs.Tests.{keptTerms}
 use Rattle.steps.specs.CreateRow.{Created}
 use Rattle.bridge.specs.Rows.{In, ReadsRow}
 use Rattle.bridge.specs.Table.{Live, ReadsWork}
 use Rattle.run.specs.Demand.{Demand}
-use Rattle.run.specs.Inv.{Held, conOf, formOf, Shaped, VarAt}
+use Rattle.run.specs.Inv.{nonZeroTerms, Held, conOf, formOf, Shaped, VarAt}
 
 -- the variables of the demand's terms that count have symbols
 abbrev pub KnownIn : Work → Held → Type 0
-KnownIn w h = All (λ (t : Term). findVariable (t .variable) (w .changes .variables) ≢ none) (keptTerms (h .demand .terms))
+KnownIn w h = All (λ (t : Term). findVariable (t .variable) (w .changes .variables) ≢ none) (nonZeroTerms (h .demand .terms))
 
 -- a symbol of the new demand: live, in the created row with 1 or -1, and in no row of the tableau
 pub record NewTag (n : ℕ) (old kind : ℕ → KindZ) (S : StateZ) (w : Work) (r : Vec) (s : Symbol) : Type 0 where

@@ -18,10 +18,9 @@ use Rattle.simplex.specs.Problem.{Con, Sound, Sounds, Tag as TagZ, Apart, marke
 use Rattle.simplex.specs.Steps.{dot-nil}
 use Rattle.steps.specs.Symbol.{Symbol}
 use Rattle.steps.specs.State.{Term, Tag, strengthOf}
-use Rattle.steps.specs.Tests.{keptTerms}
 use Rattle.bridge.specs.Table.{kindOf}
 use Rattle.run.specs.Demand.{sumOf}
-use Rattle.run.specs.Inv.{Held, exprOf, otherId, conOf, formOf, Shaped}
+use Rattle.run.specs.Inv.{nonZeroTerms, Held, exprOf, otherId, conOf, formOf, Shaped}
 
 -- ---- the expression
 pub expr-dot : (n : ℕ) → 0 < n → (column : ℕ → ℕ) (ts : List Term) (c : ℤ) (σ : Vec) → All (λ (t : Term). column (t .variable) < n) ts
@@ -55,11 +54,11 @@ unfolding exprOf
 expr-same f g [] c h = refl
 expr-same f g (t ∷ ts) c h = ap₂ (λ (x : Vec) (y : ℕ). plus x (val (t .coefficient)) (δ y)) (expr-same f g ts c (h .1)) (h .0)
 
-pub con-same : (f g : ℕ → ℕ) (h : Held) → All (λ (t : Term). f (t .variable) ≡ g (t .variable)) (keptTerms (h .demand .terms)) → conOf f h ≡ conOf g h
+pub con-same : (f g : ℕ → ℕ) (h : Held) → All (λ (t : Term). f (t .variable) ≡ g (t .variable)) (nonZeroTerms (h .demand .terms)) → conOf f h ≡ conOf g h
 unfolding conOf
-con-same f g h e = ap (λ (x : Vec). record { expr = x; form = formOf (h .demand .relation); weight = val (strengthOf (h .demand .relation)); marker = h .tag .marker .id; other = otherId (h .tag .other) }) (expr-same f g (keptTerms (h .demand .terms)) (val (h .demand .constant)) e)
+con-same f g h e = ap (λ (x : Vec). record { expr = x; form = formOf (h .demand .relation); weight = val (strengthOf (h .demand .relation)); marker = h .tag .marker .id; other = otherId (h .tag .other) }) (expr-same f g (nonZeroTerms (h .demand .terms)) (val (h .demand .constant)) e)
 
-pub cons-same : (f g : ℕ → ℕ) (hs : List Held) → All (λ (h : Held). All (λ (t : Term). f (t .variable) ≡ g (t .variable)) (keptTerms (h .demand .terms))) hs → map (conOf f) hs ≡ map (conOf g) hs
+pub cons-same : (f g : ℕ → ℕ) (hs : List Held) → All (λ (h : Held). All (λ (t : Term). f (t .variable) ≡ g (t .variable)) (nonZeroTerms (h .demand .terms))) hs → map (conOf f) hs ≡ map (conOf g) hs
 cons-same f g [] e = refl
 cons-same f g (h ∷ hs) e = ap₂ (λ (x : Con) (y : List Con). x ∷ y) (con-same f g h (e .0)) (cons-same f g hs (e .1))
 

@@ -26,14 +26,13 @@ use Rattle.steps.specs.Row.{Row, reverseSign}
 use Rattle.steps.specs.State.{Term, strengthOf, Variable}
 use Rattle.steps.specs.Work.{Work}
 use Rattle.steps.specs.Changes.{findVariable}
-use Rattle.steps.specs.Tests.{keptTerms}
 use Rattle.steps.specs.CreateRow.{Building, Created, insertTerms, addTag, createRow}
 use Rattle.bridge.specs.Nums.{zero64-z}
 use Rattle.bridge.specs.Rows.{Reads, In, ReadsRow, zb-to}
 use Rattle.bridge.specs.Table.{ReadsWork, in-nonzero}
 use Rattle.bridge.specs.Enter.{reverse-z}
 use Rattle.run.specs.Demand.{Demand, sumOf}
-use Rattle.run.specs.Inv.{Held, exprOf, otherId, conOf, formOf, VarAt}
+use Rattle.run.specs.Inv.{nonZeroTerms, Held, exprOf, otherId, conOf, formOf, VarAt}
 use Rattle.run.specs.Inputs.{Inputs, nonneg-z, below-z}
 use Rattle.run.specs.Build.{KnownIn, NewTag, newHeld, Built}
 use Rattle.run.specs.BuildVars.{stays-known, LiveAt, columnIn, AgreesAt, Agrees, own-columns, agrees-back}
@@ -63,7 +62,7 @@ module _ (n : ℕ) (old : ℕ → KindZ) (S : StateZ) (column₀ name₀ : ℕ �
   b₀ = record { work = w; row = bare }
 
   abbrev b₁ : Building
-  b₁ = insertTerms (d .terms) b₀
+  b₁ = insertTerms (w .tableau .cutoff) (d .terms) b₀
 
   abbrev c : Created
   c = addTag (d .relation) b₁
@@ -113,7 +112,7 @@ module _ (n : ℕ) (old : ℕ → KindZ) (S : StateZ) (column₀ name₀ : ℕ �
     m₁ = tag-mark (d .relation) b₁ mk
 
     U : Summed n old S (d .terms) b₀ b₁ r₀
-    U = terms n old S (d .terms) (I .terms) b₀ name₀ r₀ stage₀ (omega (arith, room)) m₁
+    U = terms n old S (w .tableau .cutoff) (H .cutoff) (d .terms) (I .terms) b₀ name₀ r₀ stage₀ (omega (arith, room)) m₁
 
     T : Tagged n (formOf (d .relation)) (val (strengthOf (d .relation))) old S (b₁ .work) (U .vec) c
     T = tag n old S (U .name) b₁ (U .vec) (U .stage) (omega (arith, room, U .grew .next)) (d .relation) (I .strength) up mk
@@ -137,11 +136,11 @@ module _ (n : ℕ) (old : ℕ → KindZ) (S : StateZ) (column₀ name₀ : ℕ �
         let l : LiveAt (T .kinds) (c .work .tableau .symbols) (T .name) m (some (k .0)) = subst (LiveAt (T .kinds) (c .work .tableau .symbols) (T .name) m) (k .1) (T .stage .vars m) in
         (subst (λ (j : ℕ). j < n) (k .2) (omega (arith, room, grown .next, T .stage .ids (k .0 .symbol .id) (l .1))), sym (ap (T .kinds) (k .2)) ∙ l .2)
 
-    new-known : All (λ (t : Term). findVariable (t .variable) vs ≢ none) (keptTerms (d .terms))
-    new-known = all-map (λ (t : Term) h. stays-known (b₁ .work .changes .variables) vs (T .grew .vars) (t .variable) h) (keptTerms (d .terms)) (U .found)
+    new-known : All (λ (t : Term). findVariable (t .variable) vs ≢ none) (nonZeroTerms (d .terms))
+    new-known = all-map (λ (t : Term) h. stays-known (b₁ .work .changes .variables) vs (T .grew .vars) (t .variable) h) (nonZeroTerms (d .terms)) (U .found)
 
     held-known : All (KnownIn (c .work)) held
-    held-known = all-map (λ (h : Held) k. all-map (λ (t : Term) x. stays-known (w .changes .variables) vs (grown .vars) (t .variable) x) (keptTerms (h .demand .terms)) k) held known
+    held-known = all-map (λ (h : Held) k. all-map (λ (t : Term) x. stays-known (w .changes .variables) vs (grown .vars) (t .variable) x) (nonZeroTerms (h .demand .terms)) k) held known
 
     -- the held demands' columns stay
     same-columns : (m : ℕ) → findVariable m (w .changes .variables) ≢ none → column m ≡ column₀ m
@@ -152,7 +151,7 @@ module _ (n : ℕ) (old : ℕ → KindZ) (S : StateZ) (column₀ name₀ : ℕ �
         go (some u) e a v = sym a ∙ v .0
 
     cons : map (conOf column) held ≡ map (conOf column₀) held
-    cons = cons-same column column₀ held (all-map (λ (h : Held) k. all-map (λ (t : Term) x. same-columns (t .variable) x) (keptTerms (h .demand .terms)) k) held known)
+    cons = cons-same column column₀ held (all-map (λ (h : Held) k. all-map (λ (t : Term) x. same-columns (t .variable) x) (nonZeroTerms (h .demand .terms)) k) held known)
 
     -- ---- the new demand
     module _ (row′ : Row) where
@@ -164,7 +163,7 @@ module _ (n : ℕ) (old : ℕ → KindZ) (S : StateZ) (column₀ name₀ : ℕ �
 
       plain-of : (h : Held) → KnownIn (c .work) h → PlainIn (T .kinds) (conOf column h)
       unfolding conOf
-      plain-of h k = expr-plain (T .kinds) column (keptTerms (h .demand .terms)) (val (h .demand .constant)) (all-map (λ (t : Term) x. at-known (t .variable) x .1) (keptTerms (h .demand .terms)) k) (T .stage .good .zero)
+      plain-of h k = expr-plain (T .kinds) column (nonZeroTerms (h .demand .terms)) (val (h .demand .constant)) (all-map (λ (t : Term) x. at-known (t .variable) x .1) (nonZeroTerms (h .demand .terms)) k) (T .stage .good .zero)
 
       plains : (hs : List Held) → All (KnownIn (c .work)) hs → All (PlainIn (T .kinds)) (map (conOf column) hs)
       plains [] k = tt
@@ -214,8 +213,8 @@ module _ (n : ℕ) (old : ℕ → KindZ) (S : StateZ) (column₀ name₀ : ℕ �
       unfolding conOf newHeld exprOf sumOf
       value σ s =
           U .value column (agrees-back column (b₁ .work .changes .variables) vs (T .grew .vars) agrees) σ s
-          ∙ ap (λ (z : ℤ). z +ℤ sumOf (keptTerms (d .terms)) (λ m. σ (column m))) (expr-dot n in-n column [] κ₀ σ tt ∙ ring ((κ₀ *ℤ σ 0) ∷ []) (ν 0 ⊞ lit 0ℤ) (ν 0) tt)
-          ∙ sym (expr-dot n in-n column (keptTerms (d .terms)) κ₀ σ (all-map (λ (t : Term) x. at-known (t .variable) x .0) (keptTerms (d .terms)) new-known))
+          ∙ ap (λ (z : ℤ). z +ℤ sumOf (nonZeroTerms (d .terms)) (λ m. σ (column m))) (expr-dot n in-n column [] κ₀ σ tt ∙ ring ((κ₀ *ℤ σ 0) ∷ []) (ν 0 ⊞ lit 0ℤ) (ν 0) tt)
+          ∙ sym (expr-dot n in-n column (nonZeroTerms (d .terms)) κ₀ σ (all-map (λ (t : Term) x. at-known (t .variable) x .0) (nonZeroTerms (d .terms)) new-known))
 
       row : (σ : Vec) → Solves n (S .R) σ → dot n (T .vec) σ ≡ left n σ con
       unfolding conOf newHeld

@@ -19,16 +19,16 @@ use Rattle.simplex.specs.Tab.{Solves}
 use Rattle.simplex.specs.Opt.{Kind as KindZ}
 use Rattle.simplex.specs.Pass.{State as StateZ}
 use Rattle.simplex.specs.Change.{insert-term}
-use Rattle.steps.specs.Number.{nearZero, allWhole}
-use Rattle.steps.specs.Symbol.{Symbol}
+use Rattle.steps.specs.Number.{nearZero, allWhole, cutoffFits}
+use Rattle.steps.specs.Symbol.{Symbol, absent}
 use Rattle.steps.specs.Row.{Row, Written, insertSymbolInRow, insertRow}
 use Rattle.steps.specs.State.{Term, Variable}
 use Rattle.steps.specs.Work.{Work, withTableau, withChanges, marking, findRow, appendSymbol}
 use Rattle.steps.specs.Changes.{findVariable}
-use Rattle.steps.specs.Tests.{keptTerms}
 use Rattle.steps.specs.CreateRow.{Building, written, appendTo, insertInto, withVariables, addVariable, countUse, insertVariable, insertTerm, insertTerms}
-use Rattle.bridge.specs.Nums.{worse-l}
+use Rattle.bridge.specs.Nums.{worse-l, nearZero-absent}
 use Rattle.run.specs.Demand.{sumOf}
+use Rattle.run.specs.Inv.{nonZeroTerms}
 use Rattle.run.specs.BuildVars.{stays-known, LiveAt, AgreesAt, Agrees, agrees-back}
 use Rattle.run.specs.BuildTerms.{Stage, Grew, grew-refl, grew-trans, grew-more, variable-stage, variable-grew, variable-found, use-stage, use-grew, insert-stage, insert-grew}
 
@@ -41,9 +41,9 @@ insert-mark : (s : Symbol) (k : Float) (b : Building) → insertVariable s k b .
 unfolding insertVariable insertInto
 insert-mark s k b = go (findRow (s .id) (b .work .tableau .rows))
   where
-    go : (q : Option Row) → (elim q as (λ _. Building) [ none ↦ written (insertSymbolInRow (s .id) k (b .work .tableau .symbols) (b .row)) (b .work) | some y ↦ written (insertRow y k (b .row)) (b .work) ]) .work .mark ≡ allWhole → b .work .mark ≡ allWhole
-    go none m = written-mark (insertSymbolInRow (s .id) k (b .work .tableau .symbols) (b .row)) (b .work) m
-    go (some y) m = written-mark (insertRow y k (b .row)) (b .work) m
+    go : (q : Option Row) → (elim q as (λ _. Building) [ none ↦ written (insertSymbolInRow (b .work .tableau .cutoff) (s .id) k (b .work .tableau .symbols) (b .row)) (b .work) | some y ↦ written (insertRow (b .work .tableau .cutoff) y k (b .row)) (b .work) ]) .work .mark ≡ allWhole → b .work .mark ≡ allWhole
+    go none m = written-mark (insertSymbolInRow (b .work .tableau .cutoff) (s .id) k (b .work .tableau .symbols) (b .row)) (b .work) m
+    go (some y) m = written-mark (insertRow (b .work .tableau .cutoff) y k (b .row)) (b .work) m
 
 variable-mark : (n : ℕ) (b : Building) → addVariable n b .work .mark ≡ b .work .mark
 unfolding addVariable appendTo withVariables withChanges appendSymbol withTableau
@@ -85,13 +85,13 @@ term-mark t b m =
     let n : ℕ = t .variable in
     sym (knowing-mark n b) ∙ sym (use-mark n (knowing n b)) ∙ putting-mark n (t .coefficient) (countUse n (knowing n b)) (sym (ap (λ (x : Building). x .work .mark) (term-is t b)) ∙ m)
 
-pub terms-mark : (ts : List Term) (b : Building) → insertTerms ts b .work .mark ≡ allWhole → b .work .mark ≡ allWhole
+pub terms-mark : (cut : Float) (ts : List Term) (b : Building) → insertTerms cut ts b .work .mark ≡ allWhole → b .work .mark ≡ allWhole
 unfolding insertTerms
-terms-mark [] b m = m
-terms-mark (t ∷ ts) b m = go (nearZero (t .coefficient)) (terms-mark ts) m
+terms-mark cut [] b m = m
+terms-mark cut (t ∷ ts) b m = go (nearZero cut (t .coefficient)) (terms-mark cut ts) m
   where
-    go : (q : Bool) → ((b : Building) → insertTerms ts b .work .mark ≡ allWhole → b .work .mark ≡ allWhole)
-        → insertTerms ts (elim q [ true ↦ b | false ↦ insertTerm t b ]) .work .mark ≡ allWhole → b .work .mark ≡ allWhole
+    go : (q : Bool) → ((b : Building) → insertTerms cut ts b .work .mark ≡ allWhole → b .work .mark ≡ allWhole)
+        → insertTerms cut ts (elim q [ true ↦ b | false ↦ insertTerm t b ]) .work .mark ≡ allWhole → b .work .mark ≡ allWhole
     go true ih m = ih b m
     go false ih m = term-mark t b (ih (insertTerm t b) m)
 
@@ -127,8 +127,8 @@ module _ (n : ℕ) (kind : ℕ → KindZ) (S : StateZ) where
     pub vec : Vec
     pub stage : Stage n kind S name (x .work) (x .row) vec
     pub grew : Grew (length ts) (b .work) (x .work)
-    pub found : All (λ (t : Term). findVariable (t .variable) (x .work .changes .variables) ≢ none) (keptTerms ts)
-    pub value : (column : ℕ → ℕ) → Agrees column (x .work .changes .variables) → (σ : Vec) → Solves n (S .R) σ → dot n vec σ ≡ dot n r σ +ℤ sumOf (keptTerms ts) (λ m. σ (column m))
+    pub found : All (λ (t : Term). findVariable (t .variable) (x .work .changes .variables) ≢ none) (nonZeroTerms ts)
+    pub value : (column : ℕ → ℕ) → Agrees column (x .work .changes .variables) → (σ : Vec) → Solves n (S .R) σ → dot n vec σ ≡ dot n r σ +ℤ sumOf (nonZeroTerms ts) (λ m. σ (column m))
 
   record Put (m : ℕ) (q : ℤ) (b x : Building) (r : Vec) : Type 0 where
     vec : Vec
@@ -210,62 +210,65 @@ module _ (n : ℕ) (kind : ℕ → KindZ) (S : StateZ) where
   unfolding sumOf
   sum-cons t ts x = refl
 
-  abbrev Sums : List Term → Type 0
-  Sums ts = (b : Building) (name : ℕ → ℕ) (r : Vec) → Stage n kind S name (b .work) (b .row) r → b .work .tableau .nextId + length ts ≤ n → insertTerms ts b .work .mark ≡ allWhole → Summed ts b (insertTerms ts b) r
+  abbrev Sums : Float → List Term → Type 0
+  Sums cut ts = (b : Building) (name : ℕ → ℕ) (r : Vec) → Stage n kind S name (b .work) (b .row) r → b .work .tableau .nextId + length ts ≤ n → insertTerms cut ts b .work .mark ≡ allWhole → Summed ts b (insertTerms cut ts b) r
 
-  one-more : (t : Term) (ts : List Term) → Zb 1024 (t .coefficient) (val (t .coefficient)) → nearZero (t .coefficient) ≡ false → (b : Building) (name : ℕ → ℕ) (r : Vec) → Stage n kind S name (b .work) (b .row) r
-      → b .work .tableau .nextId + length (t ∷ ts) ≤ n → Sums ts → insertTerms ts (insertTerm t b) .work .mark ≡ allWhole → Summed (t ∷ ts) b (insertTerms ts (insertTerm t b)) r
-  unfolding keptTerms
-  one-more t ts K nz b name r A room ih m = record {
+  one-more : (cut : Float) (t : Term) (ts : List Term) → Zb 1024 (t .coefficient) (val (t .coefficient)) → absent (t .coefficient) ≡ false → (b : Building) (name : ℕ → ℕ) (r : Vec) → Stage n kind S name (b .work) (b .row) r
+      → b .work .tableau .nextId + length (t ∷ ts) ≤ n → Sums cut ts → insertTerms cut ts (insertTerm t b) .work .mark ≡ allWhole → Summed (t ∷ ts) b (insertTerms cut ts (insertTerm t b)) r
+  unfolding nonZeroTerms
+  one-more cut t ts K nz b name r A room ih m = record {
     name = U .name;
     vec = U .vec;
     stage = U .stage;
-    grew = grew-more (1 + length ts) (length (t ∷ ts)) (b .work) (insertTerms ts (insertTerm t b) .work) (omega arith) (grew-trans 1 (length ts) (b .work) (insertTerm t b .work) (insertTerms ts (insertTerm t b) .work) (P .grew) (U .grew));
-    found = subst (All (λ (s : Term). findVariable (s .variable) (insertTerms ts (insertTerm t b) .work .changes .variables) ≢ none)) (sym kept)
-        (stays-known (insertTerm t b .work .changes .variables) (insertTerms ts (insertTerm t b) .work .changes .variables) (U .grew .vars) (t .variable) (P .found), U .found);
+    grew = grew-more (1 + length ts) (length (t ∷ ts)) (b .work) (insertTerms cut ts (insertTerm t b) .work) (omega arith) (grew-trans 1 (length ts) (b .work) (insertTerm t b .work) (insertTerms cut ts (insertTerm t b) .work) (P .grew) (U .grew));
+    found = subst (All (λ (s : Term). findVariable (s .variable) (insertTerms cut ts (insertTerm t b) .work .changes .variables) ≢ none)) (sym kept)
+        (stays-known (insertTerm t b .work .changes .variables) (insertTerms cut ts (insertTerm t b) .work .changes .variables) (U .grew .vars) (t .variable) (P .found), U .found);
     value = λ column a σ s. U .value column a σ s
-        ∙ ap (λ (z : ℤ). z +ℤ sumOf (keptTerms ts) (λ m. σ (column m))) (P .value column (agrees-back column (insertTerm t b .work .changes .variables) (insertTerms ts (insertTerm t b) .work .changes .variables) (U .grew .vars) a) σ s)
-        ∙ ring (dot n r σ ∷ (val (t .coefficient) *ℤ σ (column (t .variable))) ∷ sumOf (keptTerms ts) (λ m. σ (column m)) ∷ []) (ν 0 ⊞ ν 1 ⊞ ν 2) (ν 0 ⊞ (ν 1 ⊞ ν 2)) tt
-        ∙ ap (λ (z : ℤ). dot n r σ +ℤ z) (sym (ap (λ (l : List Term). sumOf l (λ m. σ (column m))) kept ∙ sum-cons t (keptTerms ts) (λ m. σ (column m))));
+        ∙ ap (λ (z : ℤ). z +ℤ sumOf (nonZeroTerms ts) (λ m. σ (column m))) (P .value column (agrees-back column (insertTerm t b .work .changes .variables) (insertTerms cut ts (insertTerm t b) .work .changes .variables) (U .grew .vars) a) σ s)
+        ∙ ring (dot n r σ ∷ (val (t .coefficient) *ℤ σ (column (t .variable))) ∷ sumOf (nonZeroTerms ts) (λ m. σ (column m)) ∷ []) (ν 0 ⊞ ν 1 ⊞ ν 2) (ν 0 ⊞ (ν 1 ⊞ ν 2)) tt
+        ∙ ap (λ (z : ℤ). dot n r σ +ℤ z) (sym (ap (λ (l : List Term). sumOf l (λ m. σ (column m))) kept ∙ sum-cons t (nonZeroTerms ts) (λ m. σ (column m))));
   }
     where
       P : Termed t b (insertTerm t b) r
-      P = term t K b name r A (omega (arith, room)) (terms-mark ts (insertTerm t b) m)
+      P = term t K b name r A (omega (arith, room)) (terms-mark cut ts (insertTerm t b) m)
 
-      U : Summed ts (insertTerm t b) (insertTerms ts (insertTerm t b)) (P .vec)
+      U : Summed ts (insertTerm t b) (insertTerms cut ts (insertTerm t b)) (P .vec)
       U = ih (insertTerm t b) (P .name) (P .vec) (P .stage) (omega (arith, room, P .grew .next)) m
 
-      kept : keptTerms (t ∷ ts) ≡ t ∷ keptTerms ts
-      kept = rw (nz, keptTerms)
+      kept : nonZeroTerms (t ∷ ts) ≡ t ∷ nonZeroTerms ts
+      kept = rw (nz, nonZeroTerms)
 
-  pub terms : (ts : List Term) → All (λ (t : Term). Zb 1024 (t .coefficient) (val (t .coefficient))) ts → Sums ts
+  pub terms : (cut : Float) → cutoffFits cut ≡ true → (ts : List Term) → All (λ (t : Term). Zb 1024 (t .coefficient) (val (t .coefficient))) ts → Sums cut ts
   unfolding insertTerms
-  terms [] K b name r A room m = record {
+  terms cut fits [] K b name r A room m = record {
     name = name;
     vec = r;
     stage = A;
     grew = grew-refl (b .work);
-    found = unfold keptTerms in tt;
+    found = unfold nonZeroTerms in tt;
     value = λ column a σ s. ring (dot n r σ ∷ []) (ν 0) (ν 0 ⊞ lit 0ℤ) tt ∙ ap (λ (z : ℤ). dot n r σ +ℤ z) (sym (no-kept (λ m. σ (column m))));
   }
     where
-      no-kept : (x : ℕ → ℤ) → sumOf (keptTerms []) x ≡ 0ℤ
-      no-kept x = unfold keptTerms sumOf in refl
-  terms (t ∷ ts) K b name r A room m = go (nearZero (t .coefficient)) refl (terms ts (K .1)) m
+      no-kept : (x : ℕ → ℤ) → sumOf (nonZeroTerms []) x ≡ 0ℤ
+      no-kept x = unfold nonZeroTerms sumOf in refl
+  terms cut fits (t ∷ ts) K b name r A room m = go (nearZero cut (t .coefficient)) refl (terms cut fits ts (K .1)) m
     where
-      skipped : nearZero (t .coefficient) ≡ true → keptTerms (t ∷ ts) ≡ keptTerms ts
-      skipped e = unfold keptTerms in rw (e, keptTerms)
+      is-zero : nearZero cut (t .coefficient) ≡ absent (t .coefficient)
+      is-zero = nearZero-absent cut fits (K .0 .isz)
 
-      go : (q : Bool) → nearZero (t .coefficient) ≡ q → Sums ts → insertTerms ts (elim q [ true ↦ b | false ↦ insertTerm t b ]) .work .mark ≡ allWhole
-          → Summed (t ∷ ts) b (insertTerms ts (elim q [ true ↦ b | false ↦ insertTerm t b ])) r
+      skipped : nearZero cut (t .coefficient) ≡ true → nonZeroTerms (t ∷ ts) ≡ nonZeroTerms ts
+      skipped e = unfold nonZeroTerms in rw (sym is-zero ∙ e, nonZeroTerms)
+
+      go : (q : Bool) → nearZero cut (t .coefficient) ≡ q → Sums cut ts → insertTerms cut ts (elim q [ true ↦ b | false ↦ insertTerm t b ]) .work .mark ≡ allWhole
+          → Summed (t ∷ ts) b (insertTerms cut ts (elim q [ true ↦ b | false ↦ insertTerm t b ])) r
       go true e ih w =
           let U = ih b name r A (omega (arith, room)) w in
           record {
             name = U .name;
             vec = U .vec;
             stage = U .stage;
-            grew = grew-more (length ts) (length (t ∷ ts)) (b .work) (insertTerms ts b .work) (omega arith) (U .grew);
-            found = subst (All (λ (s : Term). findVariable (s .variable) (insertTerms ts b .work .changes .variables) ≢ none)) (sym (skipped e)) (U .found);
+            grew = grew-more (length ts) (length (t ∷ ts)) (b .work) (insertTerms cut ts b .work) (omega arith) (U .grew);
+            found = subst (All (λ (s : Term). findVariable (s .variable) (insertTerms cut ts b .work .changes .variables) ≢ none)) (sym (skipped e)) (U .found);
             value = λ column a σ s. U .value column a σ s ∙ ap (λ (l : List Term). dot n r σ +ℤ sumOf l (λ m. σ (column m))) (sym (skipped e));
           }
-      go false e ih w = one-more t ts (K .0) e b name r A room ih w
+      go false e ih w = one-more cut t ts (K .0) (sym is-zero ∙ e) b name r A room ih w

@@ -47,9 +47,9 @@ module _ (n : ℕ) (kind : ℕ → KindZ) (S : StateZ) (name : ℕ → ℕ) (b :
       let N = appended n kind S name (b .work) (b .row) r A κ 0 in
       let w : Work = appendTo s b .work in
       let row : Row = appendTo s b .row in
-      written-stage n (at t (kindOf κ) kind) S (at t 0 name) w row r N (insertSymbolInRow t k (w .tableau .symbols) row) (plus r q (δ t))
-      (written-marks n (at t (kindOf κ) kind) S (at t 0 name) w row r N (insertSymbolInRow t k (w .tableau .symbols) row) m .1)
-      (insertSymbolInRow-z t (w .tableau .symbols) row r (next≢0 n kind S name (b .work) (b .row) r A) (append-new (b .work .tableau .symbols) s) K l (N .line)) clear
+      written-stage n (at t (kindOf κ) kind) S (at t 0 name) w row r N (insertSymbolInRow (w .tableau .cutoff) t k (w .tableau .symbols) row) (plus r q (δ t))
+      (written-marks n (at t (kindOf κ) kind) S (at t 0 name) w row r N (insertSymbolInRow (w .tableau .cutoff) t k (w .tableau .symbols) row) m .1)
+      (insertSymbolInRow-z (w .tableau .cutoff) (N .reads .cutoff) t (w .tableau .symbols) row r (next≢0 n kind S name (b .work) (b .row) r A) (append-new (b .work .tableau .symbols) s) K l (N .line)) clear
     where
       clear : Clear (S .B) (plus r q (δ t))
       clear j h = ap₂ (λ (x y : ℤ). x +ℤ q *ℤ y) (A .clear j h) (δ-other away) ∙ ring (q ∷ []) (lit 0ℤ ⊞ ν 0 ⊠ lit 0ℤ) (lit 0ℤ) tt

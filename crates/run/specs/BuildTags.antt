@@ -198,7 +198,7 @@ module _ (n : ℕ) (kind : ℕ → KindZ) (S : StateZ) (w : Work) (r : Vec) wher
 -- ---- the marks only get worse
 add-mark : (s : Symbol) (k : Float) (b : Building) → addSymbol s k b .work .mark ≡ allWhole → b .work .mark ≡ allWhole
 unfolding addSymbol insertInto appendTo appendSymbol withTableau
-add-mark s k b m = written-mark (insertSymbolInRow (s .id) k (appendTo s b .work .tableau .symbols) (appendTo s b .row)) (appendTo s b .work) m
+add-mark s k b m = written-mark (insertSymbolInRow (appendTo s b .work .tableau .cutoff) (s .id) k (appendTo s b .work .tableau .symbols) (appendTo s b .row)) (appendTo s b .work) m
 
 module _ (n : ℕ) (kind : ℕ → KindZ) (S : StateZ) (name : ℕ → ℕ) (b : Building) (r : Vec) (A : Stage n kind S name (b .work) (b .row) r) (room : b .work .tableau .nextId + 2 ≤ n)
     {strength : Float} {weight : ℤ} (W : IsZ strength weight) (up : belowZero strength ≡ false) where

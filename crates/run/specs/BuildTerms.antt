@@ -44,6 +44,7 @@ reads-kinds kind kind′ w B R o a e H = record {
   rows = H .rows;
   objective = H .objective;
   beyond = H .beyond;
+  cutoff = H .cutoff;
   artificial = H .artificial;
 }
 
@@ -227,15 +228,15 @@ module _ (n : ℕ) (kind : ℕ → KindZ) (S : StateZ) (name : ℕ → ℕ) (w :
 
   -- ---- a variable's row, or its symbol, is inserted
   abbrev insertion : Symbol → Float → Written
-  insertion s k = elim (findRow (s .id) (w .tableau .rows)) as (λ _. Written) [ none ↦ insertSymbolInRow (s .id) k (w .tableau .symbols) row | some y ↦ insertRow y k row ]
+  insertion s k = elim (findRow (s .id) (w .tableau .rows)) as (λ _. Written) [ none ↦ insertSymbolInRow (w .tableau .cutoff) (s .id) k (w .tableau .symbols) row | some y ↦ insertRow (w .tableau .cutoff) y k row ]
 
   inserted-is : (s : Symbol) (k : Float) → insertVariable s k (record { work = w; row = row })
       ≡ written (insertion s k) w
   unfolding insertVariable insertInto
   inserted-is s k = go (findRow (s .id) (w .tableau .rows))
     where
-      go : (q : Option Row) → _≡_ {A = Building} (elim q [ none ↦ written (insertSymbolInRow (s .id) k (w .tableau .symbols) row) w | some y ↦ written (insertRow y k row) w ])
-          (written (elim q as (λ _. Written) [ none ↦ insertSymbolInRow (s .id) k (w .tableau .symbols) row | some y ↦ insertRow y k row ]) w)
+      go : (q : Option Row) → _≡_ {A = Building} (elim q [ none ↦ written (insertSymbolInRow (w .tableau .cutoff) (s .id) k (w .tableau .symbols) row) w | some y ↦ written (insertRow (w .tableau .cutoff) y k row) w ])
+          (written (elim q as (λ _. Written) [ none ↦ insertSymbolInRow (w .tableau .cutoff) (s .id) k (w .tableau .symbols) row | some y ↦ insertRow (w .tableau .cutoff) y k row ]) w)
       go none = refl
       go (some y) = refl
 

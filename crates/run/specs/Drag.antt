@@ -44,8 +44,8 @@ shift-marks tag d w m = (worse-l (w .mark) (marksOf (shiftRows (shiftOf tag d w)
 
 -- ---- the dual pass starts well
 
-objective-to : (kind : ℕ → KindZ) (xs : List Symbol) (bs : List Basic) (cs : List Float) (B : Mask) (R : ℕ → Vec) (o q a : Vec) → ((j : ℕ) → j ≢ 0 → q j ≡ o j) → ReadsTable kind xs bs cs none B R o a → ReadsTable kind xs bs cs none B R q a
-objective-to kind xs bs cs B R o q a same H = record {
+objective-to : (kind : ℕ → KindZ) (cut : Float) (xs : List Symbol) (bs : List Basic) (cs : List Float) (B : Mask) (R : ℕ → Vec) (o q a : Vec) → ((j : ℕ) → j ≢ 0 → q j ≡ o j) → ReadsTable kind cut xs bs cs none B R o a → ReadsTable kind cut xs bs cs none B R q a
+objective-to kind cut xs bs cs B R o q a same H = record {
   up = H .up;
   kinds = H .kinds;
   unknown = H .unknown;
@@ -54,6 +54,7 @@ objective-to kind xs bs cs B R o q a same H = record {
   rows = H .rows;
   objective = reads-to (2 ^ 40) xs cs o q (λ x i. sym (same (x .id) (in-nonzero (x .id) xs (H .up) i))) (H .objective);
   beyond = λ i n m. same i n ∙ H .beyond i n m;
+  cutoff = H .cutoff;
   artificial = H .artificial;
 }
 
@@ -61,8 +62,8 @@ module _ (n : ℕ) (kind : ℕ → KindZ) (in-n : 0 < n) (inside : (j : ℕ) →
     (rest : (j : ℕ) → kind j ≡ slack → 0ℤ ≼ S .o j) (H : ReadsWork kind w (S .B) (S .R) (S .o) z) (no-art : w .artificial ≡ none)
     (a : Vec) (wt : ℤ) (tag : Tag) (o : Symbol) (two : tag .other ≡ some o) (cs : List Con) (D : Models n kind (S .B) (S .R) (S .o) (edit a wt (tag .marker .id) (o .id) ∷ cs))
     (delta : Float) (y : ℤ) (Y : Zb (2 ^ 31) delta y) (whole : marksOf (shiftRows (shiftOf tag delta w) (w .tableau .rows)) ≡ allWhole) where
-  plain-table : ReadsTable kind (w .tableau .symbols) (w .tableau .rows) (w .tableau .objective) none (S .B) (S .R) (S .o) z
-  plain-table = subst (λ (t : Option Row). ReadsTable kind (w .tableau .symbols) (w .tableau .rows) (w .tableau .objective) t (S .B) (S .R) (S .o) z) no-art H
+  plain-table : ReadsTable kind (w .tableau .cutoff) (w .tableau .symbols) (w .tableau .rows) (w .tableau .objective) none (S .B) (S .R) (S .o) z
+  plain-table = subst (λ (t : Option Row). ReadsTable kind (w .tableau .cutoff) (w .tableau .symbols) (w .tableau .rows) (w .tableau .objective) t (S .B) (S .R) (S .o) z) no-art H
 
   W : Drawn n kind w S z G H in-n a wt tag o two cs D delta y Y
   W = drawn n kind w S z G H in-n a wt tag o two cs D delta y Y
@@ -70,16 +71,16 @@ module _ (n : ℕ) (kind : ℕ → KindZ) (in-n : 0 < n) (inside : (j : ℕ) →
   pub table : State
   table = record { B = S .B; R = W .aimed .R; o = W .aimed .o }
 
-  after-table : ReadsTable kind (w .tableau .symbols) (rowsOf (shiftRows (shiftOf tag delta w) (w .tableau .rows))) (w .tableau .objective) none (S .B) (W .aimed .R) (W .aimed .o) z
+  after-table : ReadsTable kind (w .tableau .cutoff) (w .tableau .symbols) (rowsOf (shiftRows (shiftOf tag delta w) (w .tableau .rows))) (w .tableau .objective) none (S .B) (W .aimed .R) (W .aimed .o) z
   after-table =
-      objective-to kind (w .tableau .symbols) (rowsOf (shiftRows (shiftOf tag delta w) (w .tableau .rows))) (w .tableau .objective) (S .B) (W .aimed .R) (S .o) (W .aimed .o) z (W .aimed .same-o)
-      (shift-table kind (w .tableau .symbols) (w .tableau .rows) (w .tableau .objective) (S .B) (S .R) (S .o) z plain-table (shiftOf tag delta w) (W .d) (W .gets) whole (W .aimed .R) (λ j _ i. W .aimed .rows j i))
+      objective-to kind (w .tableau .cutoff) (w .tableau .symbols) (rowsOf (shiftRows (shiftOf tag delta w) (w .tableau .rows))) (w .tableau .objective) (S .B) (W .aimed .R) (S .o) (W .aimed .o) z (W .aimed .same-o)
+      (shift-table kind (w .tableau .cutoff) (w .tableau .symbols) (w .tableau .rows) (w .tableau .objective) (S .B) (S .R) (S .o) z plain-table (shiftOf tag delta w) (W .d) (W .gets) whole (W .aimed .R) (λ j _ i. W .aimed .rows j i))
 
   pub starts : Dragging n kind inside (edit (plus a (negℤ y) (δ 0)) wt (tag .marker .id) (o .id) ∷ cs) (shiftConstants tag delta w) table z
   unfolding shiftConstants marking withChanges withRows withTableau table
   starts = record {
     good = aimed-good n kind S G rest (W .d) _ (W .aimed);
-    reads = subst (λ (t : Option Row). ReadsTable kind (w .tableau .symbols) (rowsOf (shiftRows (shiftOf tag delta w) (w .tableau .rows))) (w .tableau .objective) t (S .B) (W .aimed .R) (W .aimed .o) z) (sym no-art) after-table;
+    reads = subst (λ (t : Option Row). ReadsTable kind (w .tableau .cutoff) (w .tableau .symbols) (rowsOf (shiftRows (shiftOf tag delta w) (w .tableau .rows))) (w .tableau .objective) t (S .B) (W .aimed .R) (W .aimed .o) z) (sym no-art) after-table;
     models = W .aimed .models;
     no-var = aimed-no-var n kind S G rest (W .d) _ (W .aimed);
   }

@@ -107,7 +107,7 @@ insert-z : (kind : ℕ → KindZ) (w : Work) (B : Mask) (R : ℕ → Vec) (o a :
     → insertRowInObjective r k w .mark ≡ allWhole → Freed kind B R (plus o q f) a w (insertRowInObjective r k w)
 unfolding insertRowInObjective marking withObjective withTableau
 insert-z kind w B R o a H r f h {k} {q} K m = record {
-  mark = worse-l (w .mark) (cellMarks objectiveBound (insertCells k (r .cells) (w .tableau .objective))) m;
+  mark = worse-l (w .mark) (cellMarks objectiveBound (insertCells (w .tableau .cutoff) k (r .cells) (w .tableau .objective))) m;
   reads = record {
     up = H .up;
     kinds = H .kinds;
@@ -115,10 +115,11 @@ insert-z kind w B R o a H r f h {k} {q} K m = record {
     rows-up = H .rows-up;
     rows-live = H .rows-live;
     rows = H .rows;
-    objective = written (2 ^ 40) objectiveBound objectiveBound-z (w .tableau .symbols) (insertCells k (r .cells) (w .tableau .objective)) (plus o q f)
-        (insertCells-z (2 ^ 40) 1024 (2 ^ 30) K (lit≤ tt) (w .tableau .symbols) (r .cells) (w .tableau .objective) f o (h .cells) (H .objective))
-        (worse-r (w .mark) (cellMarks objectiveBound (insertCells k (r .cells) (w .tableau .objective))) m);
+    objective = written (2 ^ 40) objectiveBound objectiveBound-z (w .tableau .symbols) (insertCells (w .tableau .cutoff) k (r .cells) (w .tableau .objective)) (plus o q f)
+        (insertCells-z (w .tableau .cutoff) (H .cutoff) (2 ^ 40) 1024 (2 ^ 30) K (lit≤ tt) (w .tableau .symbols) (r .cells) (w .tableau .objective) f o (h .cells) (H .objective))
+        (worse-r (w .mark) (cellMarks objectiveBound (insertCells (w .tableau .cutoff) k (r .cells) (w .tableau .objective))) m);
     beyond = λ j n x. ap₂ (λ (y z : ℤ). y +ℤ q *ℤ z) (H .beyond j n x) (h .outside j n x) ∙ ring (q ∷ []) (κ 0ℤ ⊞ v 0 ⊠ κ 0ℤ) (κ 0ℤ) tt;
+    cutoff = H .cutoff;
     artificial = H .artificial;
   };
 }
@@ -133,6 +134,7 @@ objective-to kind w B R o p a e H = record {
   rows = H .rows;
   objective = reads-to (2 ^ 40) (w .tableau .symbols) (w .tableau .objective) o p (λ x _. e (x .id)) (H .objective);
   beyond = λ j n x. sym (e j) ∙ H .beyond j n x;
+  cutoff = H .cutoff;
   artificial = H .artificial;
 }
 
@@ -194,8 +196,8 @@ symbols-same s k w = go (isError s)
     cells cs = kept-trans w (withObjective (cellValues cs) w) (marking (cellMarks objectiveBound cs) (withObjective (cellValues cs) w)) (kept-objective (cellValues cs) w) (kept-marking (cellMarks objectiveBound cs) (withObjective (cellValues cs) w))
 
     by : (t : Option Row) → Kept w (elim t as (λ x. Work) [ none ↦ insertInObjective (s .id) (neg k) w | some r ↦ insertRowInObjective r (neg k) w ])
-    by none = cells (insertSymbol (s .id) (neg k) (w .tableau .symbols) (w .tableau .objective))
-    by (some r) = cells (insertCells (neg k) (r .cells) (w .tableau .objective))
+    by none = cells (insertSymbol (w .tableau .cutoff) (s .id) (neg k) (w .tableau .symbols) (w .tableau .objective))
+    by (some r) = cells (insertCells (w .tableau .cutoff) (neg k) (r .cells) (w .tableau .objective))
 
     go : (b : Bool) → Kept w (elim b as (λ x. Work) [ false ↦ w | true ↦ elim (findRow (s .id) (w .tableau .rows)) as (λ x. Work) [ none ↦ insertInObjective (s .id) (neg k) w | some r ↦ insertRowInObjective r (neg k) w ] ])
     go true = by (findRow (s .id) (w .tableau .rows))
@@ -206,8 +208,8 @@ unfolding removeMarkerEffects insertInObjective insertRowInObjective marking wit
 marks-same s k w = go (isError s)
   where
     by : (t : Option Row) → (elim t as (λ x. Work) [ none ↦ insertInObjective (s .id) (neg k) w | some r ↦ insertRowInObjective r (neg k) w ]) .mark ≡ allWhole → w .mark ≡ allWhole
-    by none = λ m. worse-l (w .mark) (cellMarks objectiveBound (insertSymbol (s .id) (neg k) (w .tableau .symbols) (w .tableau .objective))) m
-    by (some r) = λ m. worse-l (w .mark) (cellMarks objectiveBound (insertCells (neg k) (r .cells) (w .tableau .objective))) m
+    by none = λ m. worse-l (w .mark) (cellMarks objectiveBound (insertSymbol (w .tableau .cutoff) (s .id) (neg k) (w .tableau .symbols) (w .tableau .objective))) m
+    by (some r) = λ m. worse-l (w .mark) (cellMarks objectiveBound (insertCells (w .tableau .cutoff) (neg k) (r .cells) (w .tableau .objective))) m
 
     go : (b : Bool) → (elim b as (λ x. Work) [ false ↦ w | true ↦ elim (findRow (s .id) (w .tableau .rows)) as (λ x. Work) [ none ↦ insertInObjective (s .id) (neg k) w | some r ↦ insertRowInObjective r (neg k) w ] ]) .mark ≡ allWhole → w .mark ≡ allWhole
     go true = by (findRow (s .id) (w .tableau .rows))

@@ -19,11 +19,11 @@ use Rattle.simplex.specs.Form.{Form, le!, eq!, ge!, le, eq, ge}
 use Rattle.simplex.specs.Problem.{Con, Models}
 use Rattle.steps.specs.Number.{belowZero}
 use Rattle.steps.specs.Strength.{required}
-use Rattle.steps.specs.Symbol.{External, Slack, Error, Dummy, Symbol}
+use Rattle.steps.specs.Symbol.{External, Slack, Error, Dummy, Symbol, absent}
 use Rattle.steps.specs.State.{Term, Relation, atMost, equal, atLeast, strengthOf, Tag, Variable, Constraint, Edit}
 use Rattle.steps.specs.Changes.{findVariable}
 use Rattle.steps.specs.Add.{wholeInputs}
-use Rattle.steps.specs.Tests.{findConstraint, findEdit, keptTerms}
+use Rattle.steps.specs.Tests.{findConstraint, findEdit}
 use Rattle.steps.specs.Calls.{begin}
 use Rattle.bridge.specs.Rows.{In}
 use Rattle.bridge.specs.Table.{ReadsWork}
@@ -37,6 +37,11 @@ columns = 4_294_967_296
 pub record Held : Type 0 where
   pub demand : Demand
   pub tag : Tag
+
+-- the terms that count in a whole run: those whose coefficient is not 0, whatever the cutoff (`kept-whole` in Words.antt)
+unfoldable pub nonZeroTerms : List Term → List Term
+nonZeroTerms [] = []
+nonZeroTerms (t ∷ ts) = elim (absent (t .coefficient)) [ true ↦ nonZeroTerms ts | false ↦ t ∷ nonZeroTerms ts ]
 
 -- ---- a demand as the theory's constraint; sym is the column of a variable
 
@@ -56,7 +61,7 @@ otherId (some o) = o .id
 unfoldable pub conOf : (ℕ → ℕ) → Held → Con
 conOf sym h =
     record {
-      expr = exprOf sym (keptTerms (h .demand .terms)) (val (h .demand .constant));
+      expr = exprOf sym (nonZeroTerms (h .demand .terms)) (val (h .demand .constant));
       form = formOf (h .demand .relation);
       weight = val (strengthOf (h .demand .relation));
       marker = h .tag .marker .id;
@@ -79,8 +84,9 @@ Shaped eq t = (t .marker .kind ≡ Error) × ((o : Symbol) × (t .other ≡ some
 -- ---- what is stored of a demand
 
 pub record StoredAs (c : Constraint) (h : Held) : Type 0 where
+  pub group : c .group ≡ h .demand .group
   pub strength : c .strength ≡ strengthOf (h .demand .relation)
-  pub terms : c .terms ≡ keptTerms (h .demand .terms)
+  pub terms : c .terms ≡ nonZeroTerms (h .demand .terms)
   pub tag : c .tag ≡ h .tag
 
 abbrev pub ConstraintAt : Option Constraint → Option Held → Type 0
@@ -91,6 +97,7 @@ ConstraintAt (some c) (some h) = StoredAs c h
 
 -- an edit aims at its stored suggestion
 pub record EditedAs (v : ℕ) (e : Edit) (h : Held) : Type 0 where
+  pub group : h .demand .group ≡ 0
   pub relation : h .demand .relation ≡ equal (e .strength)
   pub terms : h .demand .terms ≡ Rattle.steps.specs.Edit.editTerms v
   pub constant : h .demand .constant ≡ neg (e .suggestion)
@@ -141,4 +148,4 @@ pub record Inv (m : Moment) : Type 0 where
   pub edits : (v : ℕ) → EditAt v (findEdit v (m .state .edits)) (findHeld (ofEdit v) held)
   pub vars : (v : ℕ) → VarAt kind (m .state .tableau .symbols) (findVariable v (m .state .changes .variables)) (sym v)
   pub names : (v : ℕ) → findVariable v (m .state .changes .variables) ≢ none → name (sym v) ≡ v
-  pub known : All (λ (h : Held). All (λ (t : Term). findVariable (t .variable) (m .state .changes .variables) ≢ none) (keptTerms (h .demand .terms))) held
+  pub known : All (λ (h : Held). All (λ (t : Term). findVariable (t .variable) (m .state .changes .variables) ≢ none) (nonZeroTerms (h .demand .terms))) held

@@ -134,13 +134,14 @@ other-artificial kind w B R o a b e H = record {
   rows = H .rows;
   objective = H .objective;
   beyond = H .beyond;
+  cutoff = H .cutoff;
   artificial = subst (λ (t : Option Row). ArtAt (w .tableau .symbols) t b) (sym e) tt;
 }
 
 -- ---- the columns of a tableau that a pass moves among
 module _ (n : ℕ) (kind : ℕ → KindZ) (w : Work) (B : Mask) (R : ℕ → Vec) (o a : Vec) (zero : kind 0 ≡ const) (H : ReadsWork kind w B R o a) (inside : (j : ℕ) → In j (w .tableau .symbols) → j < n) where
   pub basic-in : (j : ℕ) → B j ≡ true → In j (w .tableau .symbols)
-  basic-in = of-basic kind (w .tableau .symbols) (w .tableau .rows) (w .tableau .objective) (w .artificial) B R o a H (λ j. In j (w .tableau .symbols)) (all-map (λ (b : Basic) h. h .0) (w .tableau .rows) (H .rows-live))
+  basic-in = of-basic kind (w .tableau .cutoff) (w .tableau .symbols) (w .tableau .rows) (w .tableau .objective) (w .artificial) B R o a H (λ j. In j (w .tableau .symbols)) (all-map (λ (b : Basic) h. h .0) (w .tableau .rows) (H .rows-live))
 
   pub live-asc : Asc (idsOf (w .tableau .symbols))
   live-asc = ids-up 0 (w .tableau .symbols) (H .up) .1

@@ -197,7 +197,7 @@ module _ (n : ℕ) (kind : ℕ → KindZ) (w : Work) (S : StateZ) (a : Vec) (G :
     not-e : (l : ℕ) → S .B l ≡ true → l ≢ e
     not-e l b q = true≢false (sym b ∙ ap (S .B) q ∙ free)
 
-    at-negative : (l : Symbol) → Leaves kind xs bs (w .tableau .objective) (w .artificial) (S .B) (S .R) (S .o) a H e e≢0 l → Ranked l
+    at-negative : (l : Symbol) → Leaves kind (w .tableau .cutoff) xs bs (w .tableau .objective) (w .artificial) (S .B) (S .R) (S .o) a H e e≢0 l → Ranked l
     at-negative l L = record {
       live = L .live;
       basic = L .basic;
@@ -218,7 +218,7 @@ module _ (n : ℕ) (kind : ℕ → KindZ) (w : Work) (S : StateZ) (a : Vec) (G :
         own = is-slack l (L .live) (λ z. ≺-irrefl (subst (λ (x : ℤ). x ≺ 0ℤ) z (L .cell))) (not-e (l .id) (L .basic)) (restricted-is l (L .restricted))
 
     module _ (no-negative : (j : ℕ) → S .B j ≡ true → kind j ≡ slack → S .R j e ≺ 0ℤ → ⊥) where
-      at-positive : (l : Symbol) → LeavesUp kind xs bs (w .tableau .objective) (w .artificial) (S .B) (S .R) (S .o) a H e e≢0 l → Ranked l
+      at-positive : (l : Symbol) → LeavesUp kind (w .tableau .cutoff) xs bs (w .tableau .objective) (w .artificial) (S .B) (S .R) (S .o) a H e e≢0 l → Ranked l
       at-positive l L = record {
         live = L .live;
         basic = L .basic;
@@ -286,19 +286,19 @@ module _ (n : ℕ) (kind : ℕ → KindZ) (w : Work) (S : StateZ) (a : Vec) (G :
             go j ne dummy k = no-dummy j k ne
         by-last (some l) h = at-external l h
 
-      by-positive : (t : Option Symbol) → LeavingUp kind xs bs (w .tableau .objective) (w .artificial) (S .B) (S .R) (S .o) a H e e≢0 t
+      by-positive : (t : Option Symbol) → LeavingUp kind (w .tableau .cutoff) xs bs (w .tableau .objective) (w .artificial) (S .B) (S .R) (S .o) a H e e≢0 t
           → Found (elim t [ some b ↦ some b | none ↦ lastExternalRow e xs none bs ])
-      by-positive none h = by-last h (lastExternalRow e xs none bs) (last-external kind xs (S .B) (S .R) e e≢0 none tt bs (known kind xs bs (w .tableau .objective) (w .artificial) (S .B) (S .R) (S .o) a H))
+      by-positive none h = by-last h (lastExternalRow e xs none bs) (last-external kind xs (S .B) (S .R) e e≢0 none tt bs (known kind (w .tableau .cutoff) xs bs (w .tableau .objective) (w .artificial) (S .B) (S .R) (S .o) a H))
       by-positive (some l) h = at-positive l h
 
   -- "the leaving row is, in rank: .."
   pub marker-row : Found (getMarkerLeavingRow e w)
   unfolding getMarkerLeavingRow
-  marker-row = ranks (firstDummyRow e xs bs) (smallestRatio (negativeRatios e xs bs)) (first-dummy kind xs (S .B) (S .R) e e≢0 bs (known kind xs bs (w .tableau .objective) (w .artificial) (S .B) (S .R) (S .o) a H)) (leaving-is kind xs bs (w .tableau .objective) (w .artificial) (S .B) (S .R) (S .o) a H e e≢0)
+  marker-row = ranks (firstDummyRow e xs bs) (smallestRatio (negativeRatios e xs bs)) (first-dummy kind xs (S .B) (S .R) e e≢0 bs (known kind (w .tableau .cutoff) xs bs (w .tableau .objective) (w .artificial) (S .B) (S .R) (S .o) a H)) (leaving-is kind (w .tableau .cutoff) xs bs (w .tableau .objective) (w .artificial) (S .B) (S .R) (S .o) a H e e≢0)
     where
-      ranks : (t u : Option Symbol) → FirstDummy kind xs (S .B) (S .R) e e≢0 bs t → Leaving kind xs bs (w .tableau .objective) (w .artificial) (S .B) (S .R) (S .o) a H e e≢0 u
+      ranks : (t u : Option Symbol) → FirstDummy kind xs (S .B) (S .R) e e≢0 bs t → Leaving kind (w .tableau .cutoff) xs bs (w .tableau .objective) (w .artificial) (S .B) (S .R) (S .o) a H e e≢0 u
           → Found (elim t [ some b ↦ some b | none ↦ elim u [ some b ↦ some b | none ↦ elim (smallestRatio (positiveRatios e xs bs)) [ some b ↦ some b | none ↦ lastExternalRow e xs none bs ] ] ])
       ranks (some l) (some m) h k = at-dummy l h
       ranks (some l) none h k = at-dummy l h
       ranks none (some m) h k = at-negative (empty dummy h) m k
-      ranks none none h k = by-positive (empty dummy h) k (smallestRatio (positiveRatios e xs bs)) (positive-is kind xs bs (w .tableau .objective) (w .artificial) (S .B) (S .R) (S .o) a H e e≢0)
+      ranks none none h k = by-positive (empty dummy h) k (smallestRatio (positiveRatios e xs bs)) (positive-is kind (w .tableau .cutoff) xs bs (w .tableau .objective) (w .artificial) (S .B) (S .R) (S .o) a H e e≢0)

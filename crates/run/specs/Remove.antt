@@ -11,9 +11,9 @@ use Rattle.steps.specs.Number.{allWhole, saysWhole}
 use Rattle.steps.specs.State.{Term, strengthOf, Tag, Constraint, Edit}
 use Rattle.steps.specs.Work.{Work, Outcome, refused, going}
 use Rattle.steps.specs.Edit.{editTerms}
-use Rattle.steps.specs.Tests.{findConstraint, dropConstraint, findEdit, dropEdit, keptTerms}
+use Rattle.steps.specs.Tests.{findConstraint, dropConstraint, findEdit, dropEdit}
 use Rattle.steps.specs.Remove.{removeSteps}
-use Rattle.steps.specs.Calls.{Result, begin, finish, refusedBy, acceptedAs, conclude, remove, removeEdit}
+use Rattle.steps.specs.Calls.{Result, begin, finish, refusedBy, acceptedAs, conclude, remove, removeEdit, removeStored}
 use Rattle.steps.specs.Readable.{readable, usesIn}
 use Rattle.steps.proofs.After.{says-whole}
 use Rattle.keeps.specs.Lists.{Up}
@@ -22,7 +22,7 @@ use Rattle.keeps.specs.Reads.{Reads, usedBy}
 use Rattle.keeps.specs.Tested.{reads-in}
 use Rattle.bridge.specs.Runs.{markOf}
 use Rattle.run.specs.Demand.{Key, ofConstraint, ofEdit, Demand, Call, removes, removesEdit, make, accepted, without, Moment, next}
-use Rattle.run.specs.Inv.{Held, formOf, Shaped, findHeld, ConstraintAt, EditAt, WholeDemand, Inv}
+use Rattle.run.specs.Inv.{nonZeroTerms, Held, formOf, Shaped, findHeld, ConstraintAt, EditAt, WholeDemand, Inv}
 use Rattle.run.specs.Suggest.{unchanged, changed}
 use Rattle.run.specs.Perm.{withoutHeld, without-is, all-out, once-out}
 use Rattle.run.specs.RemoveUses.{Unnamed}
@@ -36,7 +36,7 @@ pub record After (c : Call) (tested : ℕ) (m : Moment) : Type 0 where
 
 -- ---- the moment after: cs and es are what is stored then
 module _ (m : Moment) (I : Inv m) (k : Key) (h : Held) (found : findHeld k (I .held) ≡ some h) (cs : List Constraint) (es : List Edit)
-    (split : (x : ℕ) → usesOf x (m .state .changes .variables) ≡ usesIn x (keptTerms (h .demand .terms)) + usedBy x cs es) (unused : (x : ℕ) → usedBy x cs es ≡ 0 → Unnamed x (withoutHeld k (I .held)))
+    (split : (x : ℕ) → usesOf x (m .state .changes .variables) ≡ usesIn x (nonZeroTerms (h .demand .terms)) + usedBy x cs es) (unused : (x : ℕ) → usedBy x cs es ≡ 0 → Unnamed x (withoutHeld k (I .held)))
     (up : Up 0 (map varNumber (m .state .changes .variables)))
     (con : (n : ℕ) → ConstraintAt (findConstraint n cs) (findHeld (ofConstraint n) (withoutHeld k (I .held)))) (edi : (u : ℕ) → EditAt u (findEdit u es) (findHeld (ofEdit u) (withoutHeld k (I .held)))) (budget : ℕ) where
   abbrev uses : ℕ → ℕ
@@ -66,6 +66,7 @@ module _ (m : Moment) (I : Inv m) (k : Key) (h : Held) (found : findHeld k (I .h
           rows = H .rows;
           objective = H .objective;
           beyond = H .beyond;
+          cutoff = H .cutoff;
           artificial = tt;
         };
         first = subst (λ (i : ℕ). 0 < i) (sym (E .nextId)) (I .first);
@@ -84,7 +85,7 @@ module _ (m : Moment) (I : Inv m) (k : Key) (h : Held) (found : findHeld k (I .h
 
   -- ---- what the call answers
   module _ (c : Call) (tested : ℕ) (gone : accepted c (m .live) ≡ without k (m .live))
-      (is : make c (m .state) ≡ conclude (m .state) (removeSteps budget (h .tag) (strengthOf (h .demand .relation)) (keptTerms (h .demand .terms)) (begin (m .state))) (λ w. finish w cs es)) where
+      (is : make c (m .state) ≡ conclude (m .state) (removeSteps budget (h .tag) (strengthOf (h .demand .relation)) (nonZeroTerms (h .demand .terms)) (begin (m .state))) (λ w. finish w cs es)) where
     ended : (t : Outcome Work) → make c (m .state) ≡ conclude (m .state) t (λ w. finish w cs es) → Ends m I k h found uses split unused up budget t → markOf t ≡ allWhole → After c tested m
     unfolding conclude markOf refusedBy acceptedAs
     ended (refused n p q) e z w = record {
@@ -103,7 +104,7 @@ module _ (m : Moment) (I : Inv m) (k : Key) (h : Held) (found : findHeld k (I .h
 
     answered : make c (m .state) .answer .whole ≡ true → After c tested m
     answered w =
-        let t : Outcome Work = removeSteps budget (h .tag) (strengthOf (h .demand .relation)) (keptTerms (h .demand .terms)) (begin (m .state)) in
+        let t : Outcome Work = removeSteps budget (h .tag) (strengthOf (h .demand .relation)) (nonZeroTerms (h .demand .terms)) (begin (m .state)) in
         let q : markOf t ≡ allWhole = whole-steps t is w in
         ended t is (steps-end m I k h found uses split unused up budget q) q
 
@@ -113,7 +114,7 @@ steps-same budget s {t} {u} {a} {b} {ts} {us} p q r = ap (λ (t : Tag). removeSt
 
 -- ---- a constraint
 remove-after : (m : Moment) (n b : ℕ) → Inv m → readable (m .state) ≡ true → make (removes n b) (m .state) .answer .whole ≡ true → After (removes n b) 5 m
-unfolding make remove accepted
+unfolding make remove removeStored accepted
 remove-after m n b I R = at (findConstraint n (m .state .constraints)) refl (findHeld (ofConstraint n) (I .held)) refl (I .constraints n)
   where
     r : Reads (m .state)
@@ -135,12 +136,12 @@ remove-after m n b I R = at (findConstraint n (m .state .constraints)) refl (fin
         edi : (u : ℕ) → EditAt u (findEdit u (m .state .edits)) (findHeld (ofEdit u) (withoutHeld (ofConstraint n) (I .held)))
         edi = edits-beside (m .state .constraints) (m .state .edits) (I .held) (I .once) (I .constraints) (I .edits) n
 
-        split : (x : ℕ) → usesOf x (m .state .changes .variables) ≡ usesIn x (keptTerms (h .demand .terms)) + usedBy x (dropConstraint n (m .state .constraints)) (m .state .edits)
+        split : (x : ℕ) → usesOf x (m .state .changes .variables) ≡ usesIn x (nonZeroTerms (h .demand .terms)) + usedBy x (dropConstraint n (m .state .constraints)) (m .state .edits)
         split x =
             r .uses x ∙ split-constraint x n (m .state .constraints) (m .state .edits) d q
             ∙ ap (λ (ts : List Term). usesIn x ts + usedBy x (dropConstraint n (m .state .constraints)) (m .state .edits)) (a .terms)
 
-        is : make (removes n b) (m .state) ≡ conclude (m .state) (removeSteps b (h .tag) (strengthOf (h .demand .relation)) (keptTerms (h .demand .terms)) (begin (m .state))) (λ w. finish w (dropConstraint n (m .state .constraints)) (m .state .edits))
+        is : make (removes n b) (m .state) ≡ conclude (m .state) (removeSteps b (h .tag) (strengthOf (h .demand .relation)) (nonZeroTerms (h .demand .terms)) (begin (m .state))) (λ w. finish w (dropConstraint n (m .state .constraints)) (m .state .edits))
         is = rw (q, remove) (ap (λ (t : Outcome Work). conclude (m .state) t (λ w. finish w (dropConstraint n (m .state .constraints)) (m .state .edits))) (steps-same b (begin (m .state)) (a .tag) (a .strength) (a .terms)))
 
 -- ---- an edit
@@ -167,10 +168,10 @@ removeEdit-after m u b I R = at (findEdit u (m .state .edits)) refl (findHeld (o
         edi : (i : ℕ) → EditAt i (findEdit i (dropEdit u (m .state .edits))) (findHeld (ofEdit i) (withoutHeld (ofEdit u) (I .held)))
         edi = edits-less (m .state .constraints) (m .state .edits) (I .held) (I .once) (I .constraints) (I .edits) u (r .edits-up)
 
-        own-terms : editTerms u ≡ keptTerms (h .demand .terms)
-        own-terms = sym (ap keptTerms (a .terms) ∙ edit-terms u)
+        own-terms : editTerms u ≡ nonZeroTerms (h .demand .terms)
+        own-terms = sym (ap nonZeroTerms (a .terms) ∙ edit-terms u)
 
-        split : (x : ℕ) → usesOf x (m .state .changes .variables) ≡ usesIn x (keptTerms (h .demand .terms)) + usedBy x (m .state .constraints) (dropEdit u (m .state .edits))
+        split : (x : ℕ) → usesOf x (m .state .changes .variables) ≡ usesIn x (nonZeroTerms (h .demand .terms)) + usedBy x (m .state .constraints) (dropEdit u (m .state .edits))
         split x =
             r .uses x ∙ split-edit x u (m .state .constraints) (m .state .edits) d q
             ∙ ap (λ (ts : List Term). usesIn x ts + usedBy x (m .state .constraints) (dropEdit u (m .state .edits))) own-terms
@@ -178,7 +179,7 @@ removeEdit-after m u b I R = at (findEdit u (m .state .edits)) refl (findHeld (o
         own-strength : d .strength ≡ strengthOf (h .demand .relation)
         own-strength = sym (ap strengthOf (a .relation) ∙ unfold strengthOf in refl)
 
-        is : make (removesEdit u b) (m .state) ≡ conclude (m .state) (removeSteps b (h .tag) (strengthOf (h .demand .relation)) (keptTerms (h .demand .terms)) (begin (m .state))) (λ w. finish w (m .state .constraints) (dropEdit u (m .state .edits)))
+        is : make (removesEdit u b) (m .state) ≡ conclude (m .state) (removeSteps b (h .tag) (strengthOf (h .demand .relation)) (nonZeroTerms (h .demand .terms)) (begin (m .state))) (λ w. finish w (m .state .constraints) (dropEdit u (m .state .edits)))
         is = rw (q, removeEdit) (ap (λ (t : Outcome Work). conclude (m .state) t (λ w. finish w (m .state .constraints) (dropEdit u (m .state .edits)))) (steps-same b (begin (m .state)) (a .tag) own-strength own-terms))
 
 -- ---- A REMOVAL KEEPS THE INVARIANT

@@ -84,8 +84,8 @@ module _ (n : ℕ) (kind : ℕ → KindZ) (w : Work) (S : StateZ) (c : Con) (cs 
 
     Hv : ReadsWork kind (noteLeaving l w) (S .B) (S .R) (S .o) (λ _. 0ℤ)
     Hv =
-        subst (λ (t : Tableau). ReadsTable kind (t .symbols) (t .rows) (t .objective) (noteLeaving l w .artificial) (S .B) (S .R) (S .o) (λ _. 0ℤ)) (sym (N .tableau))
-        (subst (λ (t : Option Row). ReadsTable kind (w .tableau .symbols) (w .tableau .rows) (w .tableau .objective) t (S .B) (S .R) (S .o) (λ _. 0ℤ)) (sym (N .artificial)) H)
+        subst (λ (t : Tableau). ReadsTable kind (t .cutoff) (t .symbols) (t .rows) (t .objective) (noteLeaving l w .artificial) (S .B) (S .R) (S .o) (λ _. 0ℤ)) (sym (N .tableau))
+        (subst (λ (t : Option Row). ReadsTable kind (w .tableau .cutoff) (w .tableau .symbols) (w .tableau .rows) (w .tableau .objective) t (S .B) (S .R) (S .o) (λ _. 0ℤ)) (sym (N .artificial)) H)
 
     live-v : Live kind (v .tableau .symbols) m
     live-v = subst (λ (t : Tableau). Live kind (t .symbols) m) (sym (N .tableau)) live

@@ -14,7 +14,6 @@ use Rattle.steps.specs.Number.{allWhole, notWhole, notFinite, Mark}
 use Rattle.steps.specs.State.{Term, strengthOf, Variable, Changes}
 use Rattle.steps.specs.Work.{Work, Outcome, refused, going, _>>=_, refuse, checkFinite}
 use Rattle.steps.specs.Changes.{findVariable, clearChanged}
-use Rattle.steps.specs.Tests.{keptTerms}
 use Rattle.steps.specs.Optimise.{theObjective, optimise}
 use Rattle.steps.specs.Remove.{dropMarker, purgeTag, dropUses, removeSteps}
 use Rattle.steps.specs.Calls.{begin}
@@ -26,7 +25,7 @@ use Rattle.bridge.specs.Rows.{In}
 use Rattle.bridge.specs.Runs.{markOf, optimise-mark}
 use Rattle.bridge.specs.Ranks.{Goes}
 use Rattle.run.specs.Demand.{Key, Moment}
-use Rattle.run.specs.Inv.{columns, Held, conOf, findHeld, VarAt, Inv}
+use Rattle.run.specs.Inv.{nonZeroTerms, columns, Held, conOf, findHeld, VarAt, Inv}
 use Rattle.run.specs.Vars.{AlikeAt, Same, same-kept, at-same, known-same, known-back}
 use Rattle.run.specs.Passes.{waysOf, Rested, Optimised}
 use Rattle.run.specs.Perm.{withoutHeld, all-out}
@@ -38,10 +37,10 @@ use Rattle.run.specs.RemoveUses.{Unnamed, Counts, Using, Went, uses-fall
 
 module _ (m : Moment) (I : Inv m) (k : Key) (h : Held) (found : findHeld k (I .held) ≡ some h) (K : ℕ → ℕ)
     -- the uses of the demand that goes, and those that are left
-    (split : (x : ℕ) → usesOf x (m .state .changes .variables) ≡ usesIn x (keptTerms (h .demand .terms)) + K x) (unused : (x : ℕ) → K x ≡ 0 → Unnamed x (withoutHeld k (I .held)))
+    (split : (x : ℕ) → usesOf x (m .state .changes .variables) ≡ usesIn x (nonZeroTerms (h .demand .terms)) + K x) (unused : (x : ℕ) → K x ≡ 0 → Unnamed x (withoutHeld k (I .held)))
     (up : Up 0 (map varNumber (m .state .changes .variables))) where
   abbrev terms : List Term
-  terms = keptTerms (h .demand .terms)
+  terms = nonZeroTerms (h .demand .terms)
 
   abbrev rest : List Held
   rest = withoutHeld k (I .held)
@@ -93,8 +92,8 @@ module _ (m : Moment) (I : Inv m) (k : Key) (h : Held) (found : findHeld k (I .h
       vars = λ z. at-column (findVariable z (x .changes .variables)) (I .sym z) (at-same (I .kind) (m .state .tableau .symbols) (findVariable z vs) (findVariable z (x .changes .variables)) (I .sym z) (same z) (I .vars z));
       names = λ z n. I .names z (known-back (findVariable z vs) (findVariable z (x .changes .variables)) (same z) n);
       single = single-kept vs (x .changes .variables) names-kept (single-up 0 vs up);
-      known = all-map (λ (g : Held) a. all-map (λ (t : Term) n. known-same (findVariable (t .variable) vs) (findVariable (t .variable) (x .changes .variables)) (same (t .variable)) n) (keptTerms (g .demand .terms)) a) rest
-          (all-out (λ (g : Held). All (λ (t : Term). findVariable (t .variable) vs ≢ none) (keptTerms (g .demand .terms))) k (I .held) (I .known));
+      known = all-map (λ (g : Held) a. all-map (λ (t : Term) n. known-same (findVariable (t .variable) vs) (findVariable (t .variable) (x .changes .variables)) (same (t .variable)) n) (nonZeroTerms (g .demand .terms)) a) rest
+          (all-out (λ (g : Held). All (λ (t : Term). findVariable (t .variable) vs ≢ none) (nonZeroTerms (g .demand .terms))) k (I .held) (I .known));
       counts = λ z. counted (findVariable z vs) (findVariable z (x .changes .variables)) z refl (same z);
     }
 
@@ -169,8 +168,8 @@ module _ (m : Moment) (I : Inv m) (k : Key) (h : Held) (found : findHeld k (I .h
         let B : Begun m I k h found v = begun m I k h found v (f (pass-mark (going v) (fall-mark (pass v) e))) in
         at-end v B (pass v) e (λ q. passed m I k h found v B (budget - v .pivots) q)
 
-    pub steps-end : markOf (removeSteps budget (h .tag) (strengthOf (h .demand .relation)) (keptTerms (h .demand .terms)) (begin (m .state))) ≡ allWhole
-        → Ends budget (removeSteps budget (h .tag) (strengthOf (h .demand .relation)) (keptTerms (h .demand .terms)) (begin (m .state)))
+    pub steps-end : markOf (removeSteps budget (h .tag) (strengthOf (h .demand .relation)) (nonZeroTerms (h .demand .terms)) (begin (m .state))) ≡ allWhole
+        → Ends budget (removeSteps budget (h .tag) (strengthOf (h .demand .relation)) (nonZeroTerms (h .demand .terms)) (begin (m .state)))
     unfolding removeSteps checkFinite refuse first pass fall
     steps-end = go (first m I k h found .mark) refl
       where

@@ -83,6 +83,7 @@ reads-same kind w B C R T o p a b r q H = record {
   rows = λ j. row j (findRow j (w .tableau .rows)) (H .rows j);
   objective = reads-to (2 ^ 40) (w .tableau .symbols) (w .tableau .objective) o p (λ x _. q (x .id)) (H .objective);
   beyond = λ j n x. sym (q j) ∙ H .beyond j n x;
+  cutoff = H .cutoff;
   artificial = H .artificial;
 }
   where

@@ -11,23 +11,23 @@ use Rattle.simplex.specs.Choose.{All, all-map}
 use Rattle.steps.specs.Number.{one64}
 use Rattle.steps.specs.State.{Term, Constraint, Edit}
 use Rattle.steps.specs.Edit.{editTerms}
-use Rattle.steps.specs.Tests.{findConstraint, dropConstraint, findEdit, dropEdit, keptTerms}
+use Rattle.steps.specs.Tests.{findConstraint, dropConstraint, findEdit, dropEdit}
 use Rattle.steps.specs.Readable.{usesIn}
 use Rattle.keeps.specs.Lists.{Up, total}
 use Rattle.keeps.specs.Keys.{findBy, dropBy, find-some, drop-total, findConstraint-is, dropConstraint-is, findEdit-is, dropEdit-is}
 use Rattle.keeps.specs.Reads.{conNumber, editNumber, usedBy}
-use Rattle.bridge.specs.Nums.{one64-z, nearZero-z}
+use Rattle.bridge.specs.Nums.{one64-z, absent-z}
 use Rattle.run.specs.Demand.{Key, ofConstraint, ofEdit, sameKey}
-use Rattle.run.specs.Inv.{Held, findHeld, Once, ConstraintAt, EditAt}
-use Rattle.run.specs.Lookup.{find-drop-same, find-drop-other, eq-no}
+use Rattle.run.specs.Inv.{nonZeroTerms, Held, findHeld, Once, ConstraintAt, EditAt}
+use Rattle.keeps.specs.Lookup.{find-drop-same, find-drop-other, eq-no}
 use Rattle.run.specs.Perm.{withoutHeld, out-same, out-other, each-found}
 use Rattle.run.specs.Uses.{by-number}
 use Rattle.run.specs.RemoveUses.{Unnamed}
 
 -- ---- an edit's term counts
-pub edit-terms : (u : ℕ) → keptTerms (editTerms u) ≡ editTerms u
-unfolding editTerms keptTerms
-edit-terms u = ap (λ (b : Bool). elim b as (λ x. List Term) [ true ↦ [] | false ↦ record { variable = u; coefficient = one64 } ∷ [] ]) (nearZero-z one64-z)
+pub edit-terms : (u : ℕ) → nonZeroTerms (editTerms u) ≡ editTerms u
+unfolding editTerms nonZeroTerms
+edit-terms u = ap (λ (b : Bool). elim b as (λ x. List Term) [ true ↦ [] | false ↦ record { variable = u; coefficient = one64 } ∷ [] ]) (absent-z one64-z)
 
 -- ---- the uses in two parts
 abbrev conUses : ℕ → Constraint → ℕ
@@ -64,17 +64,17 @@ pub unnamed : (cs : List Constraint) (es : List Edit) (held : List Held) → Onc
     → (x : ℕ) → usedBy x cs es ≡ 0 → Unnamed x held
 unnamed cs es held once con edi x z = all-map (λ (h : Held) f. one h (h .demand .key) f) held (each-found held once)
   where
-    of-constraint : (n : ℕ) (h : Held) (o : Option Constraint) → findConstraint n cs ≡ o → ConstraintAt o (some h) → All (λ (t : Term). t .variable ≢ x) (keptTerms (h .demand .terms))
+    of-constraint : (n : ℕ) (h : Held) (o : Option Constraint) → findConstraint n cs ≡ o → ConstraintAt o (some h) → All (λ (t : Term). t .variable ≢ x) (nonZeroTerms (h .demand .terms))
     of-constraint n h none q a = absurd a
     of-constraint n h (some c) q a =
         subst (All (λ (t : Term). t .variable ≢ x)) (a .terms) (unnamed-terms x (c .terms) (omega (arith, split-constraint x n cs es c q)))
 
-    of-edit : (u : ℕ) (h : Held) (o : Option Edit) → findEdit u es ≡ o → EditAt u o (some h) → All (λ (t : Term). t .variable ≢ x) (keptTerms (h .demand .terms))
+    of-edit : (u : ℕ) (h : Held) (o : Option Edit) → findEdit u es ≡ o → EditAt u o (some h) → All (λ (t : Term). t .variable ≢ x) (nonZeroTerms (h .demand .terms))
     of-edit u h none q a = absurd a
     of-edit u h (some e) q a =
-        subst (All (λ (t : Term). t .variable ≢ x)) (sym (ap keptTerms (a .terms) ∙ edit-terms u)) (unnamed-terms x (editTerms u) (omega (arith, split-edit x u cs es e q)))
+        subst (All (λ (t : Term). t .variable ≢ x)) (sym (ap nonZeroTerms (a .terms) ∙ edit-terms u)) (unnamed-terms x (editTerms u) (omega (arith, split-edit x u cs es e q)))
 
-    one : (h : Held) (k : Key) → findHeld k held ≡ some h → All (λ (t : Term). t .variable ≢ x) (keptTerms (h .demand .terms))
+    one : (h : Held) (k : Key) → findHeld k held ≡ some h → All (λ (t : Term). t .variable ≢ x) (nonZeroTerms (h .demand .terms))
     one h (ofConstraint n) f = of-constraint n h (findConstraint n cs) refl (subst (ConstraintAt (findConstraint n cs)) f (con n))
     one h (ofEdit u) f = of-edit u h (findEdit u es) refl (subst (EditAt u (findEdit u es)) f (edi u))
 

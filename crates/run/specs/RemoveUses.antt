@@ -25,19 +25,18 @@ use Rattle.steps.specs.State.{Term, Variable, Changes}
 use Rattle.steps.specs.Work.{Work, withChanges, purge}
 use Rattle.steps.specs.Changes.{findVariable}
 use Rattle.steps.specs.CreateRow.{withVariables}
-use Rattle.steps.specs.Tests.{keptTerms}
 use Rattle.steps.specs.Remove.{Fallen, useLess, dropUse, dropUses}
 use Rattle.steps.specs.Readable.{usesIn}
 use Rattle.bridge.specs.Rows.{In}
 use Rattle.bridge.specs.Finds.{none≢some}
 use Rattle.bridge.specs.Table.{in-nonzero}
-use Rattle.run.specs.Inv.{columns, Held, exprOf, conOf, VarAt}
+use Rattle.run.specs.Inv.{nonZeroTerms, columns, Held, exprOf, conOf, VarAt}
 use Rattle.run.specs.RemovePurge.{Cut, cut, Read, purged, was-slack}
 use Rattle.run.specs.Uses.{by-number, Single, lessUse, Looks, Fell, absent, last, fewer, use-less}
 
 -- the terms of what is still live do not name x
 abbrev pub Unnamed : ℕ → List Held → Type 0
-Unnamed x held = All (λ (h : Held). All (λ (t : Term). t .variable ≢ x) (keptTerms (h .demand .terms))) held
+Unnamed x held = All (λ (h : Held). All (λ (t : Term). t .variable ≢ x) (nonZeroTerms (h .demand .terms))) held
 
 abbrev pub Counts : Option Variable → ℕ → Type 0
 Counts none m = Unit
@@ -52,7 +51,7 @@ pub record Using (sym name : ℕ → ℕ) (held : List Held) (K : ℕ → ℕ) (
   pub vars : (x : ℕ) → VarAt kind (w .tableau .symbols) (findVariable x (w .changes .variables)) (sym x)
   pub names : (x : ℕ) → findVariable x (w .changes .variables) ≢ none → name (sym x) ≡ x
   pub single : Single (w .changes .variables)
-  pub known : All (λ (h : Held). All (λ (t : Term). findVariable (t .variable) (w .changes .variables) ≢ none) (keptTerms (h .demand .terms))) held
+  pub known : All (λ (h : Held). All (λ (t : Term). findVariable (t .variable) (w .changes .variables) ≢ none) (nonZeroTerms (h .demand .terms))) held
   pub counts : (x : ℕ) → Counts (findVariable x (w .changes .variables)) (usesIn x ts + K x)
 
 -- ---- a variable that no demand names
@@ -88,7 +87,7 @@ module _ (sym name : ℕ → ℕ) (held : List Held) (K : ℕ → ℕ) (S : Stat
     vs = w .changes .variables
 
     renamed : (us : List Variable) (o : Option Variable) → Looks n o vs us → VarAt kind (w .tableau .symbols) o (sym n) → Counts o (usesIn n ts + K n) → (o ≢ none → name (sym n) ≡ n)
-        → All (λ (h : Held). All (λ (t : Term). findVariable (t .variable) us ≢ none) (keptTerms (h .demand .terms))) held → Using sym name held K S kind ts (withVariables us w)
+        → All (λ (h : Held). All (λ (t : Term). findVariable (t .variable) us ≢ none) (nonZeroTerms (h .demand .terms))) held → Using sym name held K S kind ts (withVariables us w)
     unfolding withVariables withChanges
     renamed us o L va co na kn = record {
       read = record { good = U .read .good; models = U .read .models; reads = U .read .reads; bare = U .read .bare };
@@ -121,7 +120,7 @@ module _ (sym name : ℕ → ℕ) (held : List Held) (K : ℕ → ℕ) (S : Stat
       vars = λ x. subst (λ (y : Changes). VarAt (at c external kind) (purge c w .tableau .symbols) (findVariable x (y .variables)) (sym x)) (back (X .changes)) (here-too x (findVariable x (w .changes .variables)) refl (U .vars x));
       names = λ x. subst (λ (y : Changes). findVariable x (y .variables) ≢ none → name (sym x) ≡ x) (back (X .changes)) (U .names x);
       single = subst (λ (y : Changes). Single (y .variables)) (back (X .changes)) (U .single);
-      known = subst (λ (y : Changes). All (λ (h : Held). All (λ (t : Term). findVariable (t .variable) (y .variables) ≢ none) (keptTerms (h .demand .terms))) held) (back (X .changes)) (U .known);
+      known = subst (λ (y : Changes). All (λ (h : Held). All (λ (t : Term). findVariable (t .variable) (y .variables) ≢ none) (nonZeroTerms (h .demand .terms))) held) (back (X .changes)) (U .known);
       counts = λ x. subst (λ (y : Changes). Counts (findVariable x (y .variables)) (usesIn x ts + K x)) (back (X .changes)) (U .counts x);
     }
       where
@@ -167,17 +166,17 @@ module _ (sym name : ℕ → ℕ) (held : List Held) (K : ℕ → ℕ) (S : Stat
     terms-foreign b (y ∷ l) k a = (other-name (y .variable) (a .0) (k .0) b, terms-foreign b l (k .1) (a .1))
 
     all-foreign : kind (sym x) ≡ external → sym x ≢ 0 → findVariable x us ≢ none → (hs : List Held) → Sounds columns kind (map (conOf sym) hs)
-        → All (λ (h : Held). All (λ (t : Term). findVariable (t .variable) us ≢ none) (keptTerms (h .demand .terms))) hs → Unnamed x hs → All (Foreign (sym x)) (map (conOf sym) hs)
+        → All (λ (h : Held). All (λ (t : Term). findVariable (t .variable) us ≢ none) (nonZeroTerms (h .demand .terms))) hs → Unnamed x hs → All (Foreign (sym x)) (map (conOf sym) hs)
     unfolding conOf
     all-foreign e n b [] s k a = tt
     all-foreign e n b (h ∷ hs) s k a = (
-      (λ g. not-variable kind (sym x) (tag-kind columns kind (conOf sym h) (s .0) (sym x) g) e, expr-0 sym (sym x) n (keptTerms (h .demand .terms)) (val (h .demand .constant)) (terms-foreign b (keptTerms (h .demand .terms)) (k .0) (a .0))),
+      (λ g. not-variable kind (sym x) (tag-kind columns kind (conOf sym h) (s .0) (sym x) g) e, expr-0 sym (sym x) n (nonZeroTerms (h .demand .terms)) (val (h .demand .constant)) (terms-foreign b (nonZeroTerms (h .demand .terms)) (k .0) (a .0))),
       all-foreign e n b hs (s .2) (k .1) (a .1),
     )
 
     known-all : (ws : List Variable) → ((y : ℕ) → findVariable y us ≢ none → findVariable y ws ≢ none)
-        → All (λ (h : Held). All (λ (t : Term). findVariable (t .variable) ws ≢ none) (keptTerms (h .demand .terms))) held
-    known-all ws f = all-map (λ (h : Held) a. all-map (λ (t : Term) k. f (t .variable) k) (keptTerms (h .demand .terms)) a) held (U .known)
+        → All (λ (h : Held). All (λ (t : Term). findVariable (t .variable) ws ≢ none) (nonZeroTerms (h .demand .terms))) held
+    known-all ws f = all-map (λ (h : Held) a. all-map (λ (t : Term) k. f (t .variable) k) (nonZeroTerms (h .demand .terms)) a) held (U .known)
 
     -- the variable keeps other uses, or is not there
     stays-on : (ws : List Variable) (o : Option Variable) → Looks x o us ws → VarAt kind (w .tableau .symbols) o (sym x) → Counts o (usesIn x ts + K x) → (o ≢ none → name (sym x) ≡ x) → (findVariable x us ≢ none → o ≢ none)
@@ -216,10 +215,10 @@ module _ (sym name : ℕ → ℕ) (held : List Held) (K : ℕ → ℕ) (S : Stat
         F : All (Foreign (sym x)) (map (conOf sym) held)
         F = all-foreign (column u e .3) c≢0 (found u e) held (U .read .models .sounds) (U .known) unnamed
 
-        kn : All (λ (h : Held). All (λ (t : Term). findVariable (t .variable) ws ≢ none) (keptTerms (h .demand .terms))) held
+        kn : All (λ (h : Held). All (λ (t : Term). findVariable (t .variable) ws ≢ none) (nonZeroTerms (h .demand .terms))) held
         kn =
-            all-zip {P = λ (h : Held). All (λ (t : Term). findVariable (t .variable) us ≢ none) (keptTerms (h .demand .terms))}
-            (λ (h : Held) a b. all-zip {P = λ (t : Term). findVariable (t .variable) us ≢ none} (λ (t : Term) k m q. k (back (L .others (t .variable) m) ∙ q)) (keptTerms (h .demand .terms)) a b) held (U .known) unnamed
+            all-zip {P = λ (h : Held). All (λ (t : Term). findVariable (t .variable) us ≢ none) (nonZeroTerms (h .demand .terms))}
+            (λ (h : Held) a b. all-zip {P = λ (t : Term). findVariable (t .variable) us ≢ none} (λ (t : Term) k m q. k (back (L .others (t .variable) m) ∙ q)) (nonZeroTerms (h .demand .terms)) a b) held (U .known) unnamed
 
         W : Using sym name held K S kind ts (withVariables ws w)
         W = renamed kind t ts w U ws none L tt tt (λ ne. absurd (ne refl)) kn

@@ -97,7 +97,7 @@ shift-row xs r f (some t) q u h a m = record {
 
 -- ---- the tableau
 
-module _ (kind : ℕ → KindZ) (xs : List Symbol) (bs : List Basic) (cs : List Float) (B : Mask) (R : ℕ → Vec) (o a : Vec) (H : ReadsTable kind xs bs cs none B R o a)
+module _ (kind : ℕ → KindZ) (cut : Float) (xs : List Symbol) (bs : List Basic) (cs : List Float) (B : Mask) (R : ℕ → Vec) (o a : Vec) (H : ReadsTable kind cut xs bs cs none B R o a)
     (shift : Basic → Option Float) (d : ℕ → ℤ) (gets : (b : Basic) → B (b .symbol .id) ≡ true → ReadsRow xs (b .row) (R (b .symbol .id)) → Amount (shift b) (d (b .symbol .id)))
     (whole : marksOf (shiftRows shift bs) ≡ allWhole) (R′ : ℕ → Vec) (is-shifted : (j : ℕ) → B j ≡ true → (i : ℕ) → R j i +ℤ d j *ℤ δ 0 i ≡ R′ j i) where
   row-after : (j : ℕ) (o q : Option Row) → Found shift j bs o q → RowAt xs o (B j) (R j) → RowAt xs q (B j) (R′ j)
@@ -115,7 +115,7 @@ module _ (kind : ℕ → KindZ) (xs : List Symbol) (bs : List Basic) (cs : List 
       reads : ReadsRow xs (b .row) (R (b .symbol .id))
       reads = subst (λ (t : ℕ). ReadsRow xs (b .row) (R t)) (sym p) (r .1)
 
-  pub shift-table : ReadsTable kind xs (rowsOf (shiftRows shift bs)) cs none B R′ o a
+  pub shift-table : ReadsTable kind cut xs (rowsOf (shiftRows shift bs)) cs none B R′ o a
   shift-table = record {
     up = H .up;
     kinds = H .kinds;
@@ -125,5 +125,6 @@ module _ (kind : ℕ → KindZ) (xs : List Symbol) (bs : List Basic) (cs : List 
     rows = λ j. row-after j (findRow j bs) (findRow j (rowsOf (shiftRows shift bs))) (find-shift shift j bs whole) (H .rows j);
     objective = H .objective;
     beyond = H .beyond;
+    cutoff = H .cutoff;
     artificial = H .artificial;
   }

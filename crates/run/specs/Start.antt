@@ -1,10 +1,11 @@
--- A reset begins a whole run, and a fetch goes on with it. Assumes nothing.
+-- A reset begins a whole run, with any cutoff that it takes, and a fetch goes on with it. Assumes nothing.
 use mathlib.Core.Path.{_≡_, refl, sym, ap, _∙_}
 use mathlib.Core.Logic.{_≢_}
-use mathlib.Core.Bool.{false, true≢false, cond}
+use mathlib.Core.Bool.{false, true≢false, cond, true}
 use mathlib.Core.List.{[]}
 use Prim.Native.Nat.{ℕ}
 use native.Mathlib.Omega.{arith}
+use lib.Ieee.{Float}
 use Rattle.simplex.specs.Ord.{0ℤ, ≼-refl}
 use Rattle.simplex.specs.Lin.{δ, δ-other, dot-δ}
 use Rattle.simplex.specs.At.{at, At, here, there, at?, at-here}
@@ -14,13 +15,15 @@ use Rattle.simplex.specs.Pass.{State as StateZ, Good}
 use Rattle.simplex.specs.Steps.{dot-nil}
 use Rattle.simplex.specs.Problem.{Models}
 use Rattle.simplex.specs.Gone.{dummy≢external, const≢external}
+use Rattle.steps.specs.Number.{cutoffFits}
 use Rattle.steps.specs.State.{Term, State}
 use Rattle.steps.specs.Changes.{findVariable, clearChanged, fetchChanges}
-use Rattle.steps.specs.Tests.{findConstraint, findEdit, keptTerms}
+use Rattle.steps.specs.Tests.{findConstraint, findEdit}
 use Rattle.steps.specs.Calls.{empty, begin}
+use Rattle.steps.proofs.Cutoff.{reset-taken}
 use Rattle.bridge.specs.Columns.{reset-z}
 use Rattle.run.specs.Demand.{Moment, start, next, make, liveAfter, accepted, resets, fetches}
-use Rattle.run.specs.Inv.{columns, Held, findHeld, Inv}
+use Rattle.run.specs.Inv.{nonZeroTerms, columns, Held, findHeld, Inv}
 use Rattle.run.specs.Vars.{Same, same-refl, same-trans, same-cond, same-clear, same-reported, at-same, known-same, known-back}
 
 -- ---- the empty tableau: column 0 is the constant's, every other is free
@@ -74,9 +77,9 @@ blank-models = record {
 }
 
 -- A RUN STARTS AT A RESET
-pub start-inv : Inv start
+pub start-inv : (cutoff : Float) → cutoffFits cutoff ≡ true → Inv (start cutoff)
 unfolding start empty begin blank bare findVariable findConstraint findEdit findHeld
-start-inv = record {
+start-inv cutoff fits = record {
   kind = bare;
   table = blank;
   sym = λ v. 0;
@@ -86,7 +89,7 @@ start-inv = record {
   rest = λ j s. ≼-refl 0ℤ;
   models = blank-models;
   whole = refl;
-  reads = reset-z 1 (λ _. 0ℤ);
+  reads = reset-z cutoff fits 1 (λ _. 0ℤ);
   first = omega arith;
   room = omega arith;
   ids = λ j m. absurd m;
@@ -101,9 +104,9 @@ start-inv = record {
   known = tt;
 }
 
-pub reset-inv : (m : Moment) → Inv (next resets m)
-unfolding next make liveAfter accepted Rattle.steps.specs.Calls.reset start
-reset-inv m = start-inv
+pub reset-inv : (cutoff : Float) → cutoffFits cutoff ≡ true → (m : Moment) → Inv (next (resets cutoff) m)
+unfolding next make liveAfter accepted start
+reset-inv cutoff fits m = rw (reset-taken cutoff (m .state) fits) (start-inv cutoff fits)
 
 -- ---- a fetch moves flags and old values only
 
@@ -139,5 +142,5 @@ fetch-inv m I = record {
   edits = I .edits;
   vars = λ v. at-same (I .kind) (m .state .tableau .symbols) (findVariable v (m .state .changes .variables)) _ (I .sym v) (fetched (m .state) v) (I .vars v);
   names = λ v k. I .names v (known-back (findVariable v (m .state .changes .variables)) _ (fetched (m .state) v) k);
-  known = all-map (λ (h : Held). all-map (λ (t : Term) k. known-same (findVariable (t .variable) (m .state .changes .variables)) _ (fetched (m .state) (t .variable)) k) (keptTerms (h .demand .terms))) (I .held) (I .known);
+  known = all-map (λ (h : Held). all-map (λ (t : Term) k. known-same (findVariable (t .variable) (m .state .changes .variables)) _ (fetched (m .state) (t .variable)) k) (nonZeroTerms (h .demand .terms))) (I .held) (I .known);
 }

@@ -4,7 +4,7 @@ use mathlib.Core.List.{List}
 use mathlib.Core.Option.{Option, none, some}
 use Prim.Native.Nat.{ℕ}
 use mathlib.Core.Bool.{Bool, true, false, _&&_, cond}
-use lib.Ieee.{ne}
+use lib.Ieee.{ne, Float}
 use Rattle.simplex.specs.Opt.{Kind as KindZ}
 use Rattle.steps.specs.Number.{zero64, Mark}
 use Rattle.steps.specs.Symbol.{Symbol, isExternal}
@@ -41,10 +41,10 @@ kept-trans u v w a b = record {
 }
 
 -- ---- a row enters
-art-none : (s : ℕ) (xs : List Symbol) (r : Row) (t : Option Row) → t ≡ none → after-sub s xs r t ≡ none
+art-none : (cut : Float) (s : ℕ) (xs : List Symbol) (r : Row) (t : Option Row) → t ≡ none → after-sub cut s xs r t ≡ none
 unfolding after-sub
-art-none s xs r none e = refl
-art-none s xs r (some q) e = absurd (none≢some (sym e))
+art-none cut s xs r none e = refl
+art-none cut s xs r (some q) e = absurd (none≢some (sym e))
 
 pub enter-kept : (s : Symbol) (r : Row) (w : Work) → Kept w (enterBasis s r w)
 unfolding enterBasis substitute note withTableau withChanges withArtificial marking withRows withObjective
@@ -52,18 +52,18 @@ enter-kept s r w = record {
   symbols = enter-parts s r w .symbols;
   nextId = next (isExternal s && ne (r .constant) zero64);
   variables = vars (isExternal s && ne (r .constant) zero64);
-  artificial = λ e. enter-parts s r w .artificial ∙ art-none (s .id) (w .tableau .symbols) r (w .artificial) e;
+  artificial = λ e. enter-parts s r w .artificial ∙ art-none (w .tableau .cutoff) (s .id) (w .tableau .symbols) r (w .artificial) e;
 }
   where
     next : (b : Bool) → (withRows (keepRow (record { symbol = s; row = r }) ((cond b (note (s .id) (substitute (s .id) r w)) (substitute (s .id) r w)) .tableau .rows)) (cond b (note (s .id) (substitute (s .id) r w)) (substitute (s .id) r w))) .tableau .nextId ≡ w .tableau .nextId
     next true = refl
     next false = refl
 
-    all : clearChanged (allChanged (notedOf (substituteInRows (s .id) (w .tableau .symbols) r (w .tableau .rows))) (w .changes) .variables) ≡ clearChanged (w .changes .variables)
-    all = clear-all (notedOf (substituteInRows (s .id) (w .tableau .symbols) r (w .tableau .rows))) (w .changes)
+    all : clearChanged (allChanged (notedOf (substituteInRows (w .tableau .cutoff) (s .id) (w .tableau .symbols) r (w .tableau .rows))) (w .changes) .variables) ≡ clearChanged (w .changes .variables)
+    all = clear-all (notedOf (substituteInRows (w .tableau .cutoff) (s .id) (w .tableau .symbols) r (w .tableau .rows))) (w .changes)
 
     vars : (b : Bool) → clearChanged ((withRows (keepRow (record { symbol = s; row = r }) ((cond b (note (s .id) (substitute (s .id) r w)) (substitute (s .id) r w)) .tableau .rows)) (cond b (note (s .id) (substitute (s .id) r w)) (substitute (s .id) r w))) .changes .variables) ≡ clearChanged (w .changes .variables)
-    vars true = clear-changed (s .id) (allChanged (notedOf (substituteInRows (s .id) (w .tableau .symbols) r (w .tableau .rows))) (w .changes)) ∙ all
+    vars true = clear-changed (s .id) (allChanged (notedOf (substituteInRows (w .tableau .cutoff) (s .id) (w .tableau .symbols) r (w .tableau .rows))) (w .changes)) ∙ all
     vars false = all
 
 -- ---- a pivot
@@ -74,9 +74,9 @@ less-kept l m w = record { symbols = refl; nextId = refl; variables = refl; arti
 pub pivot-kept : (l : ℕ) (e : Symbol) (w : Work) → Kept w (pivot l e w)
 pivot-kept l e w = pivot-cases l e w (Kept w) (kept-refl w) entered
   where
-    entered : (row : Row) → Kept w (enterBasis e (solveForSymbols l (e .id) (w .tableau .symbols) row .row) (marking (solveForSymbols l (e .id) (w .tableau .symbols) row .mark) (withRows (dropRow l (w .tableau .rows)) w)))
+    entered : (row : Row) → Kept w (enterBasis e (solveForSymbols (w .tableau .cutoff) l (e .id) (w .tableau .symbols) row .row) (marking (solveForSymbols (w .tableau .cutoff) l (e .id) (w .tableau .symbols) row .mark) (withRows (dropRow l (w .tableau .rows)) w)))
     entered row =
-        let s : Written = solveForSymbols l (e .id) (w .tableau .symbols) row in
+        let s : Written = solveForSymbols (w .tableau .cutoff) l (e .id) (w .tableau .symbols) row in
         let v : Work = marking (s .mark) (withRows (dropRow l (w .tableau .rows)) w) in
         kept-trans w v (enterBasis e (s .row) v) (less-kept l (s .mark) w) (enter-kept e (s .row) v)
 

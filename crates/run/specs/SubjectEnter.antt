@@ -207,8 +207,8 @@ module _ (n : ℕ) (old : ℕ → KindZ) (S : StateZ) (held : List Held) (d : De
       go true e = absurd (nz (B .clear s e))
       go false e = e
 
-  constant-zero : (b : Bool) → nearZero (c .row .constant) ≡ b → (b ≡ true → B .r 0 ≡ 0ℤ) × (b ≡ false → B .r 0 ≢ 0ℤ)
-  constant-zero b e = ((λ t. nearZero-yes (B .line .constant .isz) (e ∙ t)), λ t z. subst T (sym (nearZero-z (B .line .constant .isz)) ∙ e ∙ t) (≡→eqZb z))
+  constant-zero : (b : Bool) → nearZero (c .work .tableau .cutoff) (c .row .constant) ≡ b → (b ≡ true → B .r 0 ≡ 0ℤ) × (b ≡ false → B .r 0 ≢ 0ℤ)
+  constant-zero b e = ((λ t. nearZero-yes (c .work .tableau .cutoff) (B .reads .cutoff) (B .line .constant .isz) (e ∙ t)), λ t z. subst T (sym (nearZero-z (c .work .tableau .cutoff) (B .reads .cutoff) (B .line .constant .isz)) ∙ e ∙ t) (≡→eqZb z))
 
   module _ (in-n : 0 < n) (room : c .work .tableau .nextId ≤ n) (budget : ℕ) where
     pub chosen : (s : Symbol) → Subjected n old S held d w c B (some s) → markOf (addWithSubject s c) ≡ allWhole → Ends n (B .kind) cs 1 budget (c .work) (addWithSubject s c)
@@ -226,13 +226,13 @@ module _ (n : ℕ) (old : ℕ → KindZ) (S : StateZ) (held : List Held) (d : De
             (subject-ends budget o (B .other o q .live) (B .other o q .dead .free) (tag-subject o (B .other o q) (unfold NoExternal in f) k z))
         by t (nothing f) s e = absurd (none≢some e)
 
-    pub flat : Dummies n old S held d w c B true → (b : Bool) → nearZero (c .row .constant) ≡ b
+    pub flat : Dummies n old S held d w c B true → (b : Bool) → nearZero (c .work .tableau .cutoff) (c .row .constant) ≡ b
         → markOf (elim b as (λ _. Outcome Work) [ false ↦ refuse 12 (c .work) | true ↦ addWithSubject (c .tag .marker) c ]) ≡ allWhole
         → Ends n (B .kind) cs 1 budget (c .work) (elim b [ false ↦ refuse 12 (c .work) | true ↦ addWithSubject (c .tag .marker) c ])
     unfolding refuse
     flat view = by true view refl
       where
-        by : (t : Bool) → Dummies n old S held d w c B t → t ≡ true → (b : Bool) → nearZero (c .row .constant) ≡ b
+        by : (t : Bool) → Dummies n old S held d w c B t → t ≡ true → (b : Bool) → nearZero (c .work .tableau .cutoff) (c .row .constant) ≡ b
             → markOf (elim b as (λ _. Outcome Work) [ false ↦ refuse 12 (c .work) | true ↦ addWithSubject (c .tag .marker) c ]) ≡ allWhole
             → Ends n (B .kind) cs 1 budget (c .work) (elim b [ false ↦ refuse 12 (c .work) | true ↦ addWithSubject (c .tag .marker) c ])
         by t (all-dummies f) q false e = λ m. inl (refl, dummies-unmet in-n f (constant-zero false e .1 refl))

@@ -26,7 +26,6 @@ use Rattle.steps.specs.Work.{Work, Outcome, refused, going, _>>=_, refuse, chec
 use Rattle.steps.specs.Optimise.{dualOptimise}
 use Rattle.steps.specs.Add.{wholeWithin}
 use Rattle.steps.specs.Edit.{shiftOf, shiftRows, shiftConstants, suggestSteps}
-use Rattle.steps.specs.Tests.{keptTerms}
 use Rattle.steps.specs.Calls.{Result, begin, refusedBy, acceptedAs}
 use Rattle.bridge.specs.Nums.{finite≢, worse-r, constantBound-z, whole-if}
 use Rattle.bridge.specs.Table.{ReadsWork}
@@ -34,7 +33,7 @@ use Rattle.bridge.specs.Looks.{slack-in}
 use Rattle.bridge.specs.Runs.{markOf, dual-mark}
 use Rattle.bridge.specs.Drags.{Drag as Dragging, Dragged, Ends, drag}
 use Rattle.run.specs.Demand.{ofEdit, Call, make, accepted, liveAfter, Moment, next}
-use Rattle.run.specs.Inv.{columns, Held, exprOf, formOf, otherId, conOf, findHeld, Shaped, EditedAs, WholeDemand, Inv}
+use Rattle.run.specs.Inv.{nonZeroTerms, columns, Held, exprOf, formOf, otherId, conOf, findHeld, Shaped, EditedAs, WholeDemand, Inv}
 use Rattle.run.specs.AtRest.{one, best-columns}
 use Rattle.run.specs.Perm.{withoutHeld, all-found, all-first, models-first}
 use Rattle.run.specs.Inputs.{whole-within, inputs-z}
@@ -82,7 +81,7 @@ module _ (m : Moment) (I : Inv m) (u : ℕ) (x : Float) (e : Edit) (h : Held) (f
   o = shape .1 .0
 
   unfoldable pub expr : Vec
-  expr = exprOf (I .sym) (keptTerms (h .demand .terms)) (val (h .demand .constant))
+  expr = exprOf (I .sym) (nonZeroTerms (h .demand .terms)) (val (h .demand .constant))
 
   unfoldable pub weight : ℤ
   weight = val (strengthOf (h .demand .relation))
@@ -93,7 +92,7 @@ module _ (m : Moment) (I : Inv m) (u : ℕ) (x : Float) (e : Edit) (h : Held) (f
   as-edit : conOf (I .sym) h ≡ edit expr weight (h .tag .marker .id) (o .id)
   unfolding conOf expr weight o otherId
   as-edit =
-      ap₂ (λ (f : Form) (q : ℕ). record { expr = exprOf (I .sym) (keptTerms (h .demand .terms)) (val (h .demand .constant)); form = f; weight = val (strengthOf (h .demand .relation)); marker = h .tag .marker .id; other = q }) soft (ap otherId (shape .1 .1))
+      ap₂ (λ (f : Form) (q : ℕ). record { expr = exprOf (I .sym) (nonZeroTerms (h .demand .terms)) (val (h .demand .constant)); form = f; weight = val (strengthOf (h .demand .relation)); marker = h .tag .marker .id; other = q }) soft (ap otherId (shape .1 .1))
 
   pub in-front : Models columns (I .kind) (I .table .B) (I .table .R) (I .table .o) (edit expr weight (h .tag .marker .id) (o .id) ∷ others)
   unfolding others

@@ -27,7 +27,7 @@ use Rattle.steps.specs.Work.{Work, Outcome, refused, going}
 use Rattle.steps.specs.Changes.{findVariable}
 use Rattle.steps.specs.Add.{wholeTerms, wholeWithin, wholeInputs}
 use Rattle.steps.specs.Edit.{suggestSteps}
-use Rattle.steps.specs.Tests.{findConstraint, findEdit, keepEdit, dropEdit, keptTerms}
+use Rattle.steps.specs.Tests.{findConstraint, findEdit, keepEdit, dropEdit}
 use Rattle.steps.specs.Calls.{Result, begin, finish, refusedBy, acceptedAs, conclude, suggest}
 use Rattle.steps.specs.Readable.{readable}
 use Rattle.steps.proofs.After.{says-whole}
@@ -38,8 +38,8 @@ use Rattle.bridge.specs.Rows.{In}
 use Rattle.bridge.specs.Table.{ReadsWork}
 use Rattle.bridge.specs.Runs.{markOf}
 use Rattle.run.specs.Demand.{Key, ofConstraint, ofEdit, sameKey, Demand, moved, Call, suggests, make, accepted, Moment, next}
-use Rattle.run.specs.Inv.{columns, Held, exprOf, formOf, otherId, conOf, findHeld, Shaped, StoredAs, ConstraintAt, EditedAs, EditAt, VarAt, WholeDemand, Inv}
-use Rattle.run.specs.Lookup.{find-keep-same, find-keep-other, find-drop-same, find-drop-other}
+use Rattle.run.specs.Inv.{nonZeroTerms, columns, Held, exprOf, formOf, otherId, conOf, findHeld, Shaped, StoredAs, ConstraintAt, EditedAs, EditAt, VarAt, WholeDemand, Inv}
+use Rattle.keeps.specs.Lookup.{find-keep-same, find-keep-other, find-drop-same, find-drop-other}
 use Rattle.run.specs.Vars.{Same, same-kept, at-same, known-same, known-back}
 use Rattle.run.specs.Perm.{withoutHeld, found-key, own-key}
 use Rattle.run.specs.Refit.{withExpr, models-expr, expr-less, movedHeld, moved-own, moved-other, live-moved, MovedAt, find-moved, out-moved, once-moved, models-back}
@@ -53,7 +53,15 @@ pub moved-terms : (u : ℕ) (x : Float) (c : Demand) → moved u x c .terms ≡ 
 unfolding moved
 moved-terms u x c = go (sameKey (ofEdit u) (c .key))
   where
-    go : (b : Bool) → (elim b as (λ _. Demand) [ true ↦ record { key = c .key; terms = c .terms; constant = neg x; relation = c .relation } | false ↦ c ]) .terms ≡ c .terms
+    go : (b : Bool) → (elim b as (λ _. Demand) [ true ↦ record { key = c .key; group = c .group; terms = c .terms; constant = neg x; relation = c .relation } | false ↦ c ]) .terms ≡ c .terms
+    go true = refl
+    go false = refl
+
+pub moved-group : (u : ℕ) (x : Float) (c : Demand) → moved u x c .group ≡ c .group
+unfolding moved
+moved-group u x c = go (sameKey (ofEdit u) (c .key))
+  where
+    go : (b : Bool) → (elim b as (λ _. Demand) [ true ↦ record { key = c .key; group = c .group; terms = c .terms; constant = neg x; relation = c .relation } | false ↦ c ]) .group ≡ c .group
     go true = refl
     go false = refl
 
@@ -61,7 +69,7 @@ pub moved-relation : (u : ℕ) (x : Float) (c : Demand) → moved u x c .relatio
 unfolding moved
 moved-relation u x c = go (sameKey (ofEdit u) (c .key))
   where
-    go : (b : Bool) → (elim b as (λ _. Demand) [ true ↦ record { key = c .key; terms = c .terms; constant = neg x; relation = c .relation } | false ↦ c ]) .relation ≡ c .relation
+    go : (b : Bool) → (elim b as (λ _. Demand) [ true ↦ record { key = c .key; group = c .group; terms = c .terms; constant = neg x; relation = c .relation } | false ↦ c ]) .relation ≡ c .relation
     go true = refl
     go false = refl
 
@@ -75,7 +83,7 @@ within-neg x e =
     (le-z (magnitude-z (neg-z (h .isz))) constantBound-z ∙ ap (λ (k : ℕ). leZ (pos k) (pos (2 ^ 30))) (abs-neg (val x)) ∙ sym (le-z (magnitude-z (h .isz)) constantBound-z) ∙ t .1)
 
 inputs-with : (h : Held) (c : Float) → wholeWithin constantBound c ≡ true → WholeDemand h
-    → WholeDemand (record { demand = record { key = h .demand .key; terms = h .demand .terms; constant = c; relation = h .demand .relation }; tag = h .tag })
+    → WholeDemand (record { demand = record { key = h .demand .key; group = h .demand .group; terms = h .demand .terms; constant = c; relation = h .demand .relation }; tag = h .tag })
 unfolding wholeInputs
 inputs-with h c e w =
     let t = both (wholeTerms (h .demand .terms) && wholeWithin constantBound (h .demand .constant)) (isWhole (strengthOf (h .demand .relation))) (w .0) in
@@ -126,11 +134,11 @@ module _ (m : Moment) (I : Inv m) (up : Rattle.keeps.specs.Lists.Up 0 (map (λ 
   found-moved = subst (λ (t : Option Held). MovedAt u x t (findHeld (ofEdit u) (map (movedHeld u x) (I .held)))) found (find-moved u x (ofEdit u) (I .held))
 
   -- the constraint with its new aim is the held demand's
-  as-moved : withExpr (edit (plus (expr m I u x e h found E) (negℤ (grown m I u x e h found E)) (δ 0)) (weight m I u x e h found E) (h .tag .marker .id) (o m I u x e h found E .id)) (exprOf (I .sym) (keptTerms (h .demand .terms)) (val (neg x)))
+  as-moved : withExpr (edit (plus (expr m I u x e h found E) (negℤ (grown m I u x e h found E)) (δ 0)) (weight m I u x e h found E) (h .tag .marker .id) (o m I u x e h found E .id)) (exprOf (I .sym) (nonZeroTerms (h .demand .terms)) (val (neg x)))
       ≡ conOf (I .sym) (movedHeld u x h)
   unfolding conOf weight o otherId
   as-moved =
-      ap₂ (λ (f : Form) (q : ℕ). record { expr = exprOf (I .sym) (keptTerms (h .demand .terms)) (val (neg x)); form = f; weight = val (strengthOf (h .demand .relation)); marker = h .tag .marker .id; other = q }) (sym (soft m I u x e h found E)) (sym (ap otherId (shape m I u x e h found E .1 .1)))
+      ap₂ (λ (f : Form) (q : ℕ). record { expr = exprOf (I .sym) (nonZeroTerms (h .demand .terms)) (val (neg x)); form = f; weight = val (strengthOf (h .demand .relation)); marker = h .tag .marker .id; other = q }) (sym (soft m I u x e h found E)) (sym (ap otherId (shape m I u x e h found E .1 .1)))
       ∙ ap (conOf (I .sym)) (sym (moved-own u x h own))
 
   models : Models columns (I .kind) (Z .dragged .state .B) (Z .dragged .state .R) (Z .dragged .state .o) (map (conOf (I .sym)) (map (movedHeld u x) (I .held)))
@@ -139,16 +147,17 @@ module _ (m : Moment) (I : Inv m) (up : Rattle.keeps.specs.Lists.Up 0 (map (λ 
       models-back (conOf (I .sym)) (ofEdit u) columns (I .kind) (Z .dragged .state .B) (Z .dragged .state .R) (Z .dragged .state .o) (map (movedHeld u x) (I .held)) (movedHeld u x h) found-moved
       (subst (λ (l : List Held). Models columns (I .kind) (Z .dragged .state .B) (Z .dragged .state .R) (Z .dragged .state .o) (conOf (I .sym) (movedHeld u x h) ∷ map (conOf (I .sym)) l)) (sym (out-moved u x (I .held) (I .once)))
       (subst (λ (c : Con). Models columns (I .kind) (Z .dragged .state .B) (Z .dragged .state .R) (Z .dragged .state .o) (c ∷ map (conOf (I .sym)) (withoutHeld (ofEdit u) (I .held)))) as-moved
-      (models-expr columns (I .kind) (Z .dragged .state .B) (Z .dragged .state .R) (Z .dragged .state .o) _ (exprOf (I .sym) (keptTerms (h .demand .terms)) (val (neg x))) (map (conOf (I .sym)) (withoutHeld (ofEdit u) (I .held)))
-      (expr-less (I .sym) (keptTerms (h .demand .terms)) (val (h .demand .constant)) (val (neg x)) (grown m I u x e h found E) (new-constant m I u x e h found E (Z .input))) (Z .dragged .models))))
+      (models-expr columns (I .kind) (Z .dragged .state .B) (Z .dragged .state .R) (Z .dragged .state .o) _ (exprOf (I .sym) (nonZeroTerms (h .demand .terms)) (val (neg x))) (map (conOf (I .sym)) (withoutHeld (ofEdit u) (I .held)))
+      (expr-less (I .sym) (nonZeroTerms (h .demand .terms)) (val (h .demand .constant)) (val (neg x)) (grown m I u x e h found E) (new-constant m I u x e h found E (Z .input))) (Z .dragged .models))))
 
   -- ---- names
 
   stored-moved : (c : Constraint) (g : Held) → StoredAs c g → StoredAs c (movedHeld u x g)
   unfolding movedHeld
   stored-moved c g S = record {
+    group = S .group ∙ sym (moved-group u x (g .demand));
     strength = S .strength ∙ ap strengthOf (sym (moved-relation u x (g .demand)));
-    terms = S .terms ∙ ap keptTerms (sym (moved-terms u x (g .demand)));
+    terms = S .terms ∙ ap nonZeroTerms (sym (moved-terms u x (g .demand)));
     tag = S .tag;
   }
 
@@ -161,6 +170,7 @@ module _ (m : Moment) (I : Inv m) (up : Rattle.keeps.specs.Lists.Up 0 (map (λ 
   edited : EditedAs u e₁ (movedHeld u x h)
   unfolding e₁
   edited = subst (EditedAs u (record { variable = u; strength = e .strength; tag = e .tag; suggestion = x })) (sym (moved-own u x h own)) (record {
+    group = E .group;
     relation = E .relation;
     terms = E .terms;
     constant = refl;
@@ -240,6 +250,7 @@ module _ (m : Moment) (I : Inv m) (up : Rattle.keeps.specs.Lists.Up 0 (map (λ 
       rows = reads .rows;
       objective = reads .objective;
       beyond = reads .beyond;
+      cutoff = reads .cutoff;
       artificial = tt;
     };
     first = subst (λ (k : ℕ). 0 < k) (sym (Z .kept .nextId)) (I .first);
@@ -254,10 +265,10 @@ module _ (m : Moment) (I : Inv m) (up : Rattle.keeps.specs.Lists.Up 0 (map (λ 
     vars = λ v. at-same (I .kind) (y .tableau .symbols) (findVariable v (m .state .changes .variables)) (findVariable v (y .changes .variables)) (I .sym v) (same v)
         (subst (λ (xs : List Symbol). VarAt (I .kind) xs (findVariable v (m .state .changes .variables)) (I .sym v)) (sym (Z .kept .symbols)) (I .vars v));
     names = λ v k. I .names v (known-back (findVariable v (m .state .changes .variables)) (findVariable v (y .changes .variables)) (same v) k);
-    known = over-map (movedHeld u x) (λ (h : Held). All (λ (t : Term). findVariable (t .variable) (m .state .changes .variables) ≢ none) (keptTerms (h .demand .terms)))
-        (λ (h : Held). All (λ (t : Term). findVariable (t .variable) (y .changes .variables) ≢ none) (keptTerms (h .demand .terms)))
-        (λ g a. subst (λ (ts : List Term). All (λ (t : Term). findVariable (t .variable) (y .changes .variables) ≢ none) (keptTerms ts)) (sym (moved-terms u x (g .demand)))
-        (all-map (λ (t : Term) k. known-same (findVariable (t .variable) (m .state .changes .variables)) (findVariable (t .variable) (y .changes .variables)) (same (t .variable)) k) (keptTerms (g .demand .terms)) a)) (I .held) (I .known);
+    known = over-map (movedHeld u x) (λ (h : Held). All (λ (t : Term). findVariable (t .variable) (m .state .changes .variables) ≢ none) (nonZeroTerms (h .demand .terms)))
+        (λ (h : Held). All (λ (t : Term). findVariable (t .variable) (y .changes .variables) ≢ none) (nonZeroTerms (h .demand .terms)))
+        (λ g a. subst (λ (ts : List Term). All (λ (t : Term). findVariable (t .variable) (y .changes .variables) ≢ none) (nonZeroTerms ts)) (sym (moved-terms u x (g .demand)))
+        (all-map (λ (t : Term) k. known-same (findVariable (t .variable) (m .state .changes .variables)) (findVariable (t .variable) (y .changes .variables)) (same (t .variable)) k) (nonZeroTerms (g .demand .terms)) a)) (I .held) (I .known);
   }
 
 -- a whole answer's steps were all whole

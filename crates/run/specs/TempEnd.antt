@@ -23,10 +23,9 @@ use Rattle.simplex.specs.Gone.{tag-kind}
 use Rattle.steps.specs.State.{Term, Variable}
 use Rattle.steps.specs.Work.{Work}
 use Rattle.steps.specs.Changes.{findVariable}
-use Rattle.steps.specs.Tests.{keptTerms}
 use Rattle.steps.specs.CreateRow.{Created}
 use Rattle.run.specs.Demand.{Demand}
-use Rattle.run.specs.Inv.{Held, conOf, VarAt}
+use Rattle.run.specs.Inv.{nonZeroTerms, Held, conOf, VarAt}
 use Rattle.run.specs.Build.{KnownIn, newHeld, Built}
 use Rattle.run.specs.BuildCons.{expr-plain, PlainIn, sounds-on}
 use Rattle.run.specs.TempStart.{tid≢0, fresh, good₁}
@@ -66,7 +65,7 @@ module _ (n : ℕ) (old : ℕ → KindZ) (S : StateZ) (held : List Held) (d : De
   plain-each : (hs : List Held) → All (KnownIn (c .work)) hs → All (PlainIn kind) (map (conOf (Q .column)) hs)
   unfolding conOf
   plain-each [] a = tt
-  plain-each (h ∷ hs) a = (expr-plain kind (Q .column) (keptTerms (h .demand .terms)) _ (columns-kind (keptTerms (h .demand .terms)) (a .0)) zero₁, plain-each hs (a .1))
+  plain-each (h ∷ hs) a = (expr-plain kind (Q .column) (nonZeroTerms (h .demand .terms)) _ (columns-kind (nonZeroTerms (h .demand .terms)) (a .0)) zero₁, plain-each hs (a .1))
 
   plains : All (PlainIn kind) cs
   plains = plain-each (newHeld d c ∷ held) (Q .known)

@@ -50,9 +50,9 @@ good-to n kind other S h G = record {
   still-dummies = λ j e. G .still-dummies j (h j ∙ e);
 }
 
-pub table-to : (kind other : ℕ → KindZ) (xs : List Symbol) (bs : List Basic) (cs : List Float) (B C : Mask) (R : ℕ → Vec) (o a b : Vec) → ((j : ℕ) → kind j ≡ other j) → ((j : ℕ) → B j ≡ C j)
-    → ReadsTable kind xs bs cs none B R o a → ReadsTable other xs bs cs none C R o b
-table-to kind other xs bs cs B C R o a b h m H = record {
+pub table-to : (kind other : ℕ → KindZ) (cut : Float) (xs : List Symbol) (bs : List Basic) (cs : List Float) (B C : Mask) (R : ℕ → Vec) (o a b : Vec) → ((j : ℕ) → kind j ≡ other j) → ((j : ℕ) → B j ≡ C j)
+    → ReadsTable kind cut xs bs cs none B R o a → ReadsTable other cut xs bs cs none C R o b
+table-to kind other cut xs bs cs B C R o a b h m H = record {
   up = H .up;
   kinds = all-map (λ (x : Symbol) e. sym (h (x .id)) ∙ e) xs (H .kinds);
   unknown = λ i n q. sym (h i) ∙ H .unknown i n q;
@@ -61,6 +61,7 @@ table-to kind other xs bs cs B C R o a b h m H = record {
   rows = λ j. subst (λ (t : Bool). RowAt xs (Rattle.steps.specs.Work.findRow j bs) t (R j)) (m j) (H .rows j);
   objective = H .objective;
   beyond = H .beyond;
+  cutoff = H .cutoff;
   artificial = tt;
 }
 
@@ -132,7 +133,7 @@ module _ (n : ℕ) (old : ℕ → KindZ) (S : StateZ) (held : List Held) (d : De
   pub last-reads : (x : Work) (a : Vec) → x .artificial ≡ none → ReadsWork (at t slack (Q .kind)) x (T .B) (T .R) (T .o) a → ReadsWork (Q .kind) (purge t x) (T .B) (killed t (T .R)) (at t 0ℤ (T .o)) (λ _. 0ℤ)
   unfolding purge Rattle.steps.specs.Work.withTableau
   last-reads x a e H =
-      subst (λ (q : Option Row). ReadsTable (Q .kind) (purge t x .tableau .symbols) (purge t x .tableau .rows) (purge t x .tableau .objective) q (T .B) (killed t (T .R)) (at t 0ℤ (T .o)) (λ _. 0ℤ)) (sym e)
-      (table-to (at t external (at t slack (Q .kind))) (Q .kind) (purge t x .tableau .symbols) (purge t x .tableau .rows) (purge t x .tableau .objective) (at t false (T .B)) (T .B) (killed t (T .R)) (at t 0ℤ (T .o)) a (λ _. 0ℤ) kinds mask
-      (subst (λ (q : Option Row). ReadsTable (at t external (at t slack (Q .kind))) (purge t x .tableau .symbols) (purge t x .tableau .rows) (purge t x .tableau .objective) q (at t false (T .B)) (killed t (T .R)) (at t 0ℤ (T .o)) a) e
+      subst (λ (q : Option Row). ReadsTable (Q .kind) (purge t x .tableau .cutoff) (purge t x .tableau .symbols) (purge t x .tableau .rows) (purge t x .tableau .objective) q (T .B) (killed t (T .R)) (at t 0ℤ (T .o)) (λ _. 0ℤ)) (sym e)
+      (table-to (at t external (at t slack (Q .kind))) (Q .kind) (purge t x .tableau .cutoff) (purge t x .tableau .symbols) (purge t x .tableau .rows) (purge t x .tableau .objective) (at t false (T .B)) (T .B) (killed t (T .R)) (at t 0ℤ (T .o)) a (λ _. 0ℤ) kinds mask
+      (subst (λ (q : Option Row). ReadsTable (at t external (at t slack (Q .kind))) (purge t x .tableau .cutoff) (purge t x .tableau .symbols) (purge t x .tableau .rows) (purge t x .tableau .objective) q (at t false (T .B)) (killed t (T .R)) (at t 0ℤ (T .o)) a) e
       (purge-z (at t slack (Q .kind)) x (T .B) (T .R) (T .o) a H t t≢0 e)))

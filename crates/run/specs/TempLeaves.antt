@@ -106,6 +106,7 @@ module _ (n : ℕ) (old : ℕ → KindZ) (S : StateZ) (held : List Held) (d : De
     rows = P .reads .rows;
     objective = P .reads .objective;
     beyond = P .reads .beyond;
+    cutoff = P .reads .cutoff;
     artificial = tt;
   }
 

@@ -31,10 +31,10 @@ use Rattle.run.specs.Build.{Built}
 use Rattle.run.specs.Passes.{basic-in}
 
 -- ---- a row more, of a symbol that no row holds: nothing is substituted
-keep-table : (kind : ℕ → KindZ) (xs : List Symbol) (bs : List Basic) (cs : List Float) (B : Mask) (R : ℕ → Vec) (o a r : Vec) (t : Symbol) (row : Row) → ReadsTable kind xs bs cs none B R o a
+keep-table : (kind : ℕ → KindZ) (cut : Float) (xs : List Symbol) (bs : List Basic) (cs : List Float) (B : Mask) (R : ℕ → Vec) (o a r : Vec) (t : Symbol) (row : Row) → ReadsTable kind cut xs bs cs none B R o a
     → B (t .id) ≡ false → 0 < t .id → Live kind xs t → ReadsRow xs row r
-    → ReadsTable kind xs (keepRow (record { symbol = t; row = row }) bs) cs (some row) (at (t .id) true B) (at (t .id) r R) o r
-keep-table kind xs bs cs B R o a r t row H free above live reads = record {
+    → ReadsTable kind cut xs (keepRow (record { symbol = t; row = row }) bs) cs (some row) (at (t .id) true B) (at (t .id) r R) o r
+keep-table kind cut xs bs cs B R o a r t row H free above live reads = record {
   up = H .up;
   kinds = H .kinds;
   unknown = H .unknown;
@@ -43,6 +43,7 @@ keep-table kind xs bs cs B R o a r t row H free above live reads = record {
   rows = λ j. go j (at? (t .id) true B j);
   objective = H .objective;
   beyond = H .beyond;
+  cutoff = H .cutoff;
   artificial = reads;
 }
   where
@@ -124,8 +125,8 @@ module _ (n : ℕ) (old : ℕ → KindZ) (S : StateZ) (held : List Held) (d : De
   unfolding standTemporary appendTo withArtificial withRows withTableau appendSymbol newSymbol
   reads₁ =
       let grown : Work = appendSymbol (record { id = c .work .tableau .nextId; kind = Slack }) (c .work) in
-      keep-table (at (c .work .tableau .nextId) slack (Q .kind)) (grown .tableau .symbols) (grown .tableau .rows) (grown .tableau .objective) (S .B) (S .R) (Q .o) (λ _. 0ℤ) (Q .r) (record { id = c .work .tableau .nextId; kind = Slack }) (appendCell (c .row))
-      (subst (λ (q : Option Row). ReadsTable (at (c .work .tableau .nextId) slack (Q .kind)) (grown .tableau .symbols) (grown .tableau .rows) (grown .tableau .objective) q (S .B) (S .R) (Q .o) (λ _. 0ℤ)) (Q .artificial)
+      keep-table (at (c .work .tableau .nextId) slack (Q .kind)) (grown .tableau .cutoff) (grown .tableau .symbols) (grown .tableau .rows) (grown .tableau .objective) (S .B) (S .R) (Q .o) (λ _. 0ℤ) (Q .r) (record { id = c .work .tableau .nextId; kind = Slack }) (appendCell (c .row))
+      (subst (λ (q : Option Row). ReadsTable (at (c .work .tableau .nextId) slack (Q .kind)) (grown .tableau .cutoff) (grown .tableau .symbols) (grown .tableau .rows) (grown .tableau .objective) q (S .B) (S .R) (Q .o) (λ _. 0ℤ)) (Q .artificial)
       (append-z (Q .kind) (c .work) (S .B) (S .R) (Q .o) (λ _. 0ℤ) (Q .reads) (record { id = c .work .tableau .nextId; kind = Slack }) tid≢0 (Q .ids) (Q .artificial)))
       free (Q .first) (append-new (c .work .tableau .symbols) (record { id = c .work .tableau .nextId; kind = Slack }), at-here (c .work .tableau .nextId) slack (Q .kind))
       (append-row (c .work .tableau .symbols) (c .row) (Q .r) (record { id = c .work .tableau .nextId; kind = Slack }) tid≢0 (Q .ids) (Q .line))

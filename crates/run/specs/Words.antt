@@ -8,7 +8,7 @@ use native.Mathlib.Omega.{arith}
 use lib.Dec.{T}
 use lib.IntN.{ℤ, pos, negsuc, negℤ, natAbs, _+ℤ_, _*ℤ_}
 use lib.Ieee.{Float, lt}
-use Rattle.laws.specs.Z.{_≼_, at, _⊕_, eqZ, eqZb→}
+use Rattle.laws.specs.Z.{_≼_, at, _⊕_, eqZ}
 use Rattle.laws.specs.Ring.{ring, v, k, _⊞_, _⊠_}
 use Rattle.exact.specs.Whole.{IsZ, val, int, int-z}
 use Rattle.simplex.specs.Ord.{0ℤ}
@@ -17,14 +17,15 @@ use Rattle.simplex.specs.Choose.{All}
 use Rattle.simplex.specs.Form.{le!, eq!, ge!, le, eq, ge, Holds, viol, relu}
 use Rattle.simplex.specs.Problem.{error}
 use Rattle.simplex.specs.Steps.{dot-nil}
-use Rattle.steps.specs.Number.{isWhole, nearZero, cellBound, within}
+use Rattle.steps.specs.Number.{isWhole, cellBound, within, cutoffFits}
 use Rattle.steps.specs.Strength.{required}
+use Rattle.steps.specs.Symbol.{absent}
 use Rattle.steps.specs.State.{Term, Relation, atMost, equal, atLeast, strengthOf}
 use Rattle.steps.specs.Add.{wholeWithin, wholeTerms}
 use Rattle.steps.specs.Tests.{keptTerms}
-use Rattle.bridge.specs.Nums.{nearZero-z}
+use Rattle.bridge.specs.Nums.{absent-yes, nearZero-absent}
 use Rattle.run.specs.Demand.{sumOf, excess, isRequired, Related, Meets, above, errorOf, weighted}
-use Rattle.run.specs.Inv.{columns, Held, exprOf, formOf, conOf}
+use Rattle.run.specs.Inv.{nonZeroTerms, columns, Held, exprOf, formOf, conOf}
 
 -- ---- whole floats
 
@@ -35,18 +36,30 @@ whole-z x e = int-z x (subst T (sym (same x ∙ e)) tt)
     same : (x : Float) → int x ≡ isWhole x
     same x = refl
 
-and-left : (a b : Bool) → a && b ≡ true → a ≡ true
+pub and-left : (a b : Bool) → a && b ≡ true → a ≡ true
 and-left true b e = refl
 and-left false b e = absurd (true≢false (sym e))
 
-and-right : (a b : Bool) → a && b ≡ true → b ≡ true
+pub and-right : (a b : Bool) → a && b ≡ true → b ≡ true
 and-right true b e = e
 and-right false b e = absurd (true≢false (sym e))
 
--- a coefficient that is skipped is 0
-skipped : (t : Term) → wholeWithin cellBound (t .coefficient) ≡ true → nearZero (t .coefficient) ≡ true → val (t .coefficient) ≡ pos 0
+whole-coefficient : (t : Term) → wholeWithin cellBound (t .coefficient) ≡ true → IsZ (t .coefficient) (val (t .coefficient))
 unfolding wholeWithin
-skipped t w n = eqZb→ (val (t .coefficient)) (pos 0) (subst T (sym (sym (nearZero-z (whole-z (t .coefficient) (and-left (isWhole (t .coefficient)) (within cellBound (t .coefficient)) w))) ∙ n)) tt)
+whole-coefficient t w = whole-z (t .coefficient) (and-left (isWhole (t .coefficient)) (within cellBound (t .coefficient)) w)
+
+-- a coefficient that is skipped is 0
+skipped : (t : Term) → wholeWithin cellBound (t .coefficient) ≡ true → absent (t .coefficient) ≡ true → val (t .coefficient) ≡ pos 0
+skipped t w n = absent-yes (whole-coefficient t w) n
+
+-- "The whole run keeps its meaning, since the cutoff is below 1.": whole terms that count are those that are not 0
+pub kept-whole : (cut : Float) → cutoffFits cut ≡ true → (ts : List Term) → wholeTerms ts ≡ true → keptTerms cut ts ≡ nonZeroTerms ts
+unfolding keptTerms nonZeroTerms wholeTerms
+kept-whole cut fits [] w = refl
+kept-whole cut fits (t ∷ ts) w =
+    let a = nearZero-absent cut fits (whole-coefficient t (and-left (wholeWithin cellBound (t .coefficient)) (wholeTerms ts) w)) in
+    let ih = kept-whole cut fits ts (and-right (wholeWithin cellBound (t .coefficient)) (wholeTerms ts) w) in
+    ap₂ (λ (b : Bool) (us : List Term). elim b as (λ _. List Term) [ true ↦ us | false ↦ t ∷ us ]) a ih
 
 -- ---- sums
 
@@ -55,12 +68,12 @@ unfolding sumOf
 sum-cong [] x y a = refl
 sum-cong (t ∷ ts) x y a = ap₂ (λ (p q : ℤ). val (t .coefficient) *ℤ p +ℤ q) (a .0) (sum-cong ts x y (a .1))
 
-pub sum-kept : (ts : List Term) (x : ℕ → ℤ) → wholeTerms ts ≡ true → sumOf (keptTerms ts) x ≡ sumOf ts x
-unfolding sumOf keptTerms wholeTerms
+pub sum-kept : (ts : List Term) (x : ℕ → ℤ) → wholeTerms ts ≡ true → sumOf (nonZeroTerms ts) x ≡ sumOf ts x
+unfolding sumOf nonZeroTerms wholeTerms
 sum-kept [] x w = refl
-sum-kept (t ∷ ts) x w = go (nearZero (t .coefficient)) refl (sum-kept ts x (and-right (wholeWithin cellBound (t .coefficient)) (wholeTerms ts) w))
+sum-kept (t ∷ ts) x w = go (absent (t .coefficient)) refl (sum-kept ts x (and-right (wholeWithin cellBound (t .coefficient)) (wholeTerms ts) w))
   where
-    go : (b : Bool) → nearZero (t .coefficient) ≡ b → sumOf (keptTerms ts) x ≡ sumOf ts x → sumOf (elim b [ true ↦ keptTerms ts | false ↦ t ∷ keptTerms ts ]) x ≡ val (t .coefficient) *ℤ x (t .variable) +ℤ sumOf ts x
+    go : (b : Bool) → absent (t .coefficient) ≡ b → sumOf (nonZeroTerms ts) x ≡ sumOf ts x → sumOf (elim b [ true ↦ nonZeroTerms ts | false ↦ t ∷ nonZeroTerms ts ]) x ≡ val (t .coefficient) *ℤ x (t .variable) +ℤ sumOf ts x
     go true n ih =
         ih ∙ ring (x (t .variable) ∷ sumOf ts x ∷ []) (v 1) (k 0ℤ ⊠ v 0 ⊞ v 1) tt
         ∙ ap (λ (z : ℤ). z *ℤ x (t .variable) +ℤ sumOf ts x) (sym (skipped t (and-left (wholeWithin cellBound (t .coefficient)) (wholeTerms ts) w) n))
@@ -139,7 +152,7 @@ error-is (atLeast s) e y = go (lt s required)
 
 module _ (column : ℕ → ℕ) (σ : Vec) (x : ℕ → ℤ) where
   abbrev pub Agrees : Held → Type 0
-  Agrees h = All (λ (t : Term). (column (t .variable) < columns) × (σ (column (t .variable)) ≡ x (t .variable))) (keptTerms (h .demand .terms))
+  Agrees h = All (λ (t : Term). (column (t .variable) < columns) × (σ (column (t .variable)) ≡ x (t .variable))) (nonZeroTerms (h .demand .terms))
 
   abbrev pub WholeTerms : Held → Type 0
   WholeTerms h = wholeTerms (h .demand .terms) ≡ true
@@ -155,8 +168,8 @@ module _ (column : ℕ → ℕ) (σ : Vec) (x : ℕ → ℤ) where
   pub excess-is : (h : Held) → WholeTerms h → Agrees h → dot columns (conOf column h .expr) σ ≡ excess (h .demand) (σ 0) x
   unfolding conOf excess
   excess-is h w a =
-      dot-expr column (keptTerms (h .demand .terms)) (val (h .demand .constant)) σ (insides (keptTerms (h .demand .terms)) a)
-      ∙ ap (λ (z : ℤ). z +ℤ val (h .demand .constant) *ℤ σ 0) (sum-cong (keptTerms (h .demand .terms)) (λ u. σ (column u)) x (values-of (keptTerms (h .demand .terms)) a) ∙ sum-kept (h .demand .terms) x w)
+      dot-expr column (nonZeroTerms (h .demand .terms)) (val (h .demand .constant)) σ (insides (nonZeroTerms (h .demand .terms)) a)
+      ∙ ap (λ (z : ℤ). z +ℤ val (h .demand .constant) *ℤ σ 0) (sum-cong (nonZeroTerms (h .demand .terms)) (λ u. σ (column u)) x (values-of (nonZeroTerms (h .demand .terms)) a) ∙ sum-kept (h .demand .terms) x w)
 
   pub meets-to : (hs : List Held) → All WholeTerms hs → All Agrees hs → All (Rattle.simplex.specs.Problem.Meets columns σ) (map (conOf column) hs) → Meets (map (λ (h : Held). h .demand) hs) (σ 0) x
   unfolding conOf

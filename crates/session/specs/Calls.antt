@@ -55,7 +55,7 @@ saidBy c = said (answerText (c .answer .number) (c .answer .pivots) (c .answer .
 -- the answer to a call over the tables t; the steps' aids for tests are no calls of the format
 unfoldable pub replyOf : Option session.Call → Sparse → Said
 replyOf none t = said unreadText t
-replyOf (some resets) t = saidBy (resetOf t)
+replyOf (some (resets x)) t = saidBy (resetOf x t)
 replyOf (some (adds n ts k r b)) t = saidBy (callOf (add n ts k r b) room t)
 replyOf (some (removes n b)) t = saidBy (callOf (remove n b) room t)
 replyOf (some (addsEdit v x b)) t = saidBy (callOf (addEdit v x b) room t)
@@ -84,7 +84,7 @@ heldReply (some line) t = lineReply line t
 
 -- as the steps have it
 abbrev pub callFrom : Call → Pack → Option session.Call
-callFrom Reset p = some resets
+callFrom (Reset x) p = some (resets x)
 callFrom (Change (Add n k r) b) p = some (adds n (termsIn (listed p)) k (relationOf r) b)
 callFrom (Change (Remove n) b) p = some (removes n b)
 callFrom (Change (AddEdit v s) b) p = some (addsEdit v s b)
@@ -140,7 +140,7 @@ related (atLeast s) = refl
 line-reply : (o : Option session.Call) (t : Sparse) → replyOf o t ≡ replyOf (callFrom (lineOf o .call) (lineOf o .terms)) t
 unfolding replyOf
 line-reply none t = refl
-line-reply (some resets) t = refl
+line-reply (some (resets x)) t = refl
 line-reply (some (adds n ts k r b)) t = rw related (ap saidBy (rw back at (sym (listed-call n b k r room t (map asTerm ts) refl))))
 line-reply (some (removes n b)) t = refl
 line-reply (some (addsEdit v x b)) t = refl
@@ -166,9 +166,9 @@ module _ (call : Call) (p : Pack) (t : Sparse) (a b : List ℕ) (i j : ℕ) wher
   unfolding saidBy
   answer-said c r e f w = rw (e, ← f) (w, refl)
 
-  pub reset-said : {u : Sparse} (r : code.Answer) → call ≡ Reset → called (answerOf r) u ≡ resetOf t → Wrote a b i j (answerText (r .number) (r .pivots) (r .whole)) → Says u
+  pub reset-said : {u : Sparse} (r : code.Answer) {x : Float} → call ≡ Reset x → called (answerOf r) u ≡ resetOf x t → Wrote a b i j (answerText (r .number) (r .pivots) (r .whole)) → Says u
   unfolding replyOf
-  reset-said r e = answer-said (resetOf t) r (rw e refl)
+  reset-said r {x} e = answer-said (resetOf x t) r (rw e refl)
 
   pub change-said : {u : Sparse} (r : code.Answer) {c : changes.Change} {k : ℕ} → call ≡ Change c k → called (answerOf r) u ≡ callOf (made (changingOf c p k)) room t → Wrote a b i j (answerText (r .number) (r .pivots) (r .whole)) → Says u
   change-said r {c} {k} e = answer-said (callOf (made (changingOf c p k)) room t) r (rw e (change-reply c p k t))
@@ -199,7 +199,7 @@ flag-short b = omega (arith, flag-length b)
 reply-short : (o : Option session.Call) (t : Sparse) → length (replyOf o t .text) ≤ 1236
 unfolding replyOf
 reply-short none t = omega arith
-reply-short (some resets) t = by-short (resetOf t)
+reply-short (some (resets x)) t = by-short (resetOf x t)
 reply-short (some (adds n ts k r b)) t = by-short (callOf (add n ts k r b) room t)
 reply-short (some (removes n b)) t = by-short (callOf (remove n b) room t)
 reply-short (some (addsEdit v x b)) t = by-short (callOf (addEdit v x b) room t)

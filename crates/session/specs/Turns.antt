@@ -22,7 +22,7 @@ use Rattle.sparse_test.specs.Reads.{reads}
 use Rattle.sparse_test.specs.Meaning.{reads-form, reads-readable}
 use Rattle.sparse_test.specs.Asked.{asked}
 use Rattle.lending.specs.Lending.{callIn, callOf}
-use Rattle.lending.specs.Reset.{resetOf}
+use Rattle.lending.specs.Reset.{reset-read}
 use Rattle.fetches.specs.Fetch.{numbersOf, valuesOf, fetchOf, fetchIn, places}
 use Rattle.fetches.specs.Few.{fetch-room}
 use Rattle.text.specs.Answers.{listedAt, listedIn, replyText}
@@ -35,7 +35,7 @@ turnSaid c t = said (replyText (turn c (read t) .reply)) (write (turn c (read t)
 
 -- every call but the steps' three aids for tests
 unfoldable pub ofDocument : Call → Bool
-ofDocument resets = true
+ofDocument (resets x) = true
 ofDocument (adds n ts k r b) = true
 ofDocument (removes n b) = true
 ofDocument (addsEdit v x b) = true
@@ -86,8 +86,8 @@ module _ (t : Sparse) (ok : reads t ≡ true) where
   same = write-read t (reads-form t ok)
 
   pub reply-turn : (c : Call) → ofDocument c ≡ true → replyOf (some c) t ≡ turnSaid c t
-  unfolding replyOf turnSaid turn answered replyText saidBy resetOf callOf callIn asked fetchSaid fetchOf fetchIn ofDocument
-  reply-turn resets e = refl
+  unfolding replyOf turnSaid turn answered replyText saidBy callOf callIn asked fetchSaid fetchOf fetchIn ofDocument
+  reply-turn (resets x) e = rw (reset-read x t ok) refl
   reply-turn (adds n ts k r b) e = rw ok refl
   reply-turn (removes n b) e = rw ok refl
   reply-turn (addsEdit v x b) e = rw ok refl

@@ -133,8 +133,8 @@ fn answer(
     ensures { λ z. ⌜ Spoken (replyOf (callFrom call p) (lent (words .entry) (keys .entry) (bytes .entry) (reals .entry) (values .entry))) (now (out .entry)) (now (out .exit)) at z (lent (words .exit) (keys .exit) (bytes .exit) (reals .exit) (values .exit)) ⌝ }
 {
     match call {
-        Call::Reset => {
-            let a = lending::reset(words, keys, bytes, reals, values);
+        Call::Reset(cutoff) => {
+            let a = lending::reset(words, keys, bytes, reals, values, cutoff);
             writing::put_answer(out, at, a.number, a.pivots, a.whole)
         }
         Call::Change(c, b) => {

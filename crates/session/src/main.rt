@@ -19,7 +19,14 @@ fn main() {
     let mut piece = [0u8; 4096];
     let mut line = [0u8; 4096];
     let mut out = [0u8; 8192];
-    lending::reset(&mut words, &mut keys, &mut bytes, &mut reals, &mut values);
+    lending::reset(
+        &mut words,
+        &mut keys,
+        &mut bytes,
+        &mut reals,
+        &mut values,
+        text::calls::USUAL_CUTOFF,
+    );
     let mut p = stream::begin();
     let mut turns = u64::MAX;
     while turns > 0 && p.more {

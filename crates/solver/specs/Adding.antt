@@ -36,7 +36,7 @@ use Rattle.terms.specs.declared.Pack.{Pack}
 use Rattle.terms.specs.Terms.{packOf, keptOf, termsIn, termsOf}
 use Rattle.terms.specs.Packed.{pack-terms}
 use Rattle.terms.specs.Kept.{kept-terms}
-use Rattle.refusals.specs.Refusals.{addRefusal}
+use Rattle.refusals.specs.Refusals.{cutoffIn, addRefusal}
 use Rattle.refusals.specs.Tested.{few-terms}
 use Rattle.refusals.specs.Passed.{Room, add-refused, add-passes, add-passed}
 use Rattle.creation.specs.Created.{Opening}
@@ -62,23 +62,23 @@ unfolding add
 refused-by x budget k terms constant relation s e = rw (e, add) refl
 
 pub add-by-test : (x budget : ℕ) (p : Pack) (constant : Float) (relation : steps.Relation) (t w u : Sparse) (a : code.Answer) {k : ℕ}
-    → Entered t w → k ≡ addRefusal x p constant (strengthOf relation) (t .words) → (k ≡ 0 → ⊥) → answerOf a ≡ byTest k (t .words) → Adds x p constant relation budget a t u
+    → Entered t w → k ≡ addRefusal (cutoffIn (t .reals)) x p constant (strengthOf relation) (t .words) → (k ≡ 0 → ⊥) → answerOf a ≡ byTest k (t .words) → Adds x p constant relation budget a t u
 add-by-test x budget p constant relation t w u a {k} en q h says ts is =
-    let e : k ≡ addRefusal x (packOf ts) constant (strengthOf relation) (t .words) = q ∙ ap (λ (y : Pack). addRefusal x y constant (strengthOf relation) (t .words)) is in
+    let e : k ≡ addRefusal (cutoffIn (t .reals)) x (packOf ts) constant (strengthOf relation) (t .words) = q ∙ ap (λ (y : Pack). addRefusal (cutoffIn (t .reals)) x y constant (strengthOf relation) (t .words)) is in
     done-by-test (add x (termsIn ts) constant relation budget) a t u k (refused-by x budget k (termsIn ts) constant relation (read t) (add-refused t (en .reads) x ts constant relation (λ z. h (e ∙ z)) ∙ ap some (sym e))) h says
 
 -- ---- the tests passed
 
 passed-by : (x budget : ℕ) (terms : List steps.Term) (constant : Float) (relation : steps.Relation) (s : State) → firstRefusal (addTests x terms constant relation s) ≡ none
     → add x terms constant relation budget s
-    ≡ concludeAdd s (addSteps budget terms constant relation (begin s)) (λ a. finish (a .work) (keepConstraint (record { number = x; strength = strengthOf relation; terms = keptTerms terms; tag = a .tag }) (s .constraints)) (s .edits))
+    ≡ concludeAdd s (addSteps budget terms constant relation (begin s)) (λ a. finish (a .work) (keepConstraint (record { number = x; strength = strengthOf relation; terms = keptTerms (s .tableau .cutoff) terms; tag = a .tag }) (s .constraints)) (s .edits))
 unfolding add
 passed-by x budget terms constant relation s e = rw (e, add) refl
 
-module _ (x budget : ℕ) (p : Pack) (constant : Float) (relation : steps.Relation) (t w : Sparse) (en : Entered t w) (passes : addRefusal x p constant (strengthOf relation) (t .words) ≡ 0)
+module _ (x budget : ℕ) (p : Pack) (constant : Float) (relation : steps.Relation) (t w : Sparse) (en : Entered t w) (passes : addRefusal (cutoffIn (t .reals)) x p constant (strengthOf relation) (t .words) ≡ 0)
     (before : Wrote) (begun : markOf before ≡ storedMark (t .words)) where
-  tested : (p .finite && isFinite constant && isFinite (strengthOf relation) ≡ true) × (eqb (p .count) 17 ≡ false) × (Room (t .words) p)
-  tested = let q = add-passed x p constant (strengthOf relation) (t .words) passes in (q .0, q .2, q .4)
+  tested : (p .finite && isFinite constant && isFinite (strengthOf relation) ≡ true) × (eqb (p .count) 17 ≡ false) × (Room (cutoffIn (t .reals)) (t .words) p)
+  tested = let q = add-passed (cutoffIn (t .reals)) x p constant (strengthOf relation) (t .words) passes in (q .0, q .2, q .4)
 
   pub add-opens : Opening (markOf before) (termsOf p) constant w
   add-opens =
@@ -90,7 +90,7 @@ module _ (x budget : ℕ) (p : Pack) (constant : Float) (relation : steps.Relati
 
   -- the constraint that is stored
   abbrev pub record-of : Tag → Constraint
-  record-of tag = record { number = x; strength = strengthOf relation; terms = keptTerms (termsOf p); tag = tag }
+  record-of tag = record { number = x; strength = strengthOf relation; terms = keptTerms (cutoffIn (t .reals)) (termsOf p); tag = tag }
 
   abbrev stored : Tag → List Constraint
   stored tag = keepConstraint (record-of tag) (read t .constraints)
@@ -103,6 +103,7 @@ module _ (x budget : ℕ) (p : Pack) (constant : Float) (relation : steps.Relati
       in-list = ap termsOf is ∙ pack-terms ts (few-terms ts (rw is at (tested .1)))
 
       call-is : add x (termsIn ts) constant relation budget (read t) ≡ concludeAdd (read t) (addSteps budget (termsOf p) constant relation (begin (read t))) (λ a. finish (a .work) (stored (a .tag)) (read t .edits))
+      unfolding read
       call-is = passed-by x budget (termsIn ts) constant relation (read t) (add-passes t (en .reads) x ts constant relation (rw is at passes)) ∙ rw (← in-list) refl
 
       outcome : cond (eqb (e .number) 0) (going (record { work = workOf false (markOf (e .wrote)) (e .pivots) u; tag = tagAt u marker other })) (refused (e .number) (e .pivots) (markOf (e .wrote)))
@@ -113,12 +114,12 @@ module _ (x budget : ℕ) (p : Pack) (constant : Float) (relation : steps.Relati
       again = add-reads x (termsIn ts) constant relation budget (read t) (reads-readable t (en .reads))
 
       -- what is stored names the tag's symbols in the closed room, and the kept terms
-      record-is : (q : Pack) → q ≡ keptOf p → (strength : Float) → strength ≡ strengthOf relation → Standing false (markOf (e .wrote)) u
+      record-is : (q : Pack) → q ≡ keptOf (cutoffIn (t .reals)) p → (strength : Float) → strength ≡ strengthOf relation → Standing false (markOf (e .wrote)) u
           → record { number = x; strength = strength; terms = termsOf q; tag = tagAt (closed (e .wrote) u) marker other } ≡ record-of (tagAt u marker other)
-      record-is q k strength s st = rw (k, s, kept-terms p, closed-tag (e .wrote) u st marker other) refl
+      record-is q k strength s st = rw (k, s, kept-terms (cutoffIn (t .reals)) p, closed-tag (e .wrote) u st marker other) refl
 
     -- for the call that brings the record: of any list that the pack is of
-    pub addition-comes : (ts : List Term) → p ≡ packOf ts → Goes false e u → e .number ≡ 0 → (q : Pack) → q ≡ keptOf p → (strength : Float) → strength ≡ strengthOf relation
+    pub addition-comes : (ts : List Term) → p ≡ packOf ts → Goes false e u → e .number ≡ 0 → (q : Pack) → q ≡ keptOf (cutoffIn (t .reals)) p → (strength : Float) → strength ≡ strengthOf relation
         → (Comes t (closed (e .wrote) u)) × (readable (brought (keepConstraint (record { number = x; strength = strength; terms = termsOf q; tag = tagAt (closed (e .wrote) u) marker other }) (read t .constraints)) (read t .edits) (closed (e .wrote) u)) ≡ true)
     addition-comes ts is goes on q k strength s =
         let st = went e u goes on in
@@ -129,7 +130,7 @@ module _ (x budget : ℕ) (p : Pack) (constant : Float) (relation : steps.Relati
       addition-refused n v ts is =
           added-refused (add x (termsIn ts) constant relation budget) t v a e u says (tagAt u marker other) _ (λ a. finish (a .work) (stored (a .tag)) (read t .edits)) (call-is ts is) (outcome ts is) n
 
-      pub addition-accepted : Goes false e u → e .number ≡ 0 → (q : Pack) → q ≡ keptOf p → (strength : Float) → strength ≡ strengthOf relation → (v : Sparse)
+      pub addition-accepted : Goes false e u → e .number ≡ 0 → (q : Pack) → q ≡ keptOf (cutoffIn (t .reals)) p → (strength : Float) → strength ≡ strengthOf relation → (v : Sparse)
           → Ends (closed (e .wrote) u) (keepConstraint (record { number = x; strength = strength; terms = termsOf q; tag = tagAt (closed (e .wrote) u) marker other }) (read t .constraints)) (read t .edits) v → Adds x p constant relation budget a t v
       addition-accepted goes on q k strength s v h ts is =
           let st = went e u goes on in

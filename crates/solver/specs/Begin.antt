@@ -88,6 +88,10 @@ next-is : (t : Sparse) → read t .tableau .nextId ≡ getD (t .words) nextIdAt 
 unfolding read
 next-is t = refl
 
+cutoff-is : (t : Sparse) → read t .tableau .cutoff ≡ refusals.cutoffIn (t .reals)
+unfolding read
+cutoff-is t = refl
+
 -- ---- a held row has no absent cell
 
 ne-absent : (x : Float) → ne x zero64 ≡ true → absent x ≡ false
@@ -135,6 +139,9 @@ module _ (t w : Sparse) (en : Entered t w) where
 
   pub next-same : getD (w .words) nextIdAt 0 ≡ getD (t .words) nextIdAt 0
   next-same = sym (next-is w) ∙ ap (λ (b : Tableau). b .nextId) (en .tableau) ∙ next-is t
+
+  cutoff-same : refusals.cutoffIn (w .reals) ≡ refusals.cutoffIn (t .reals)
+  cutoff-same = sym (cutoff-is w) ∙ ap (λ (b : Tableau). b .cutoff) (en .tableau) ∙ cutoff-is t
 
   -- "rows are no more than constraints"
   pub rows-at-start : rowCount t ≤ constraintCount t + editCount t
@@ -244,7 +251,7 @@ module _ (t w : Sparse) (en : Entered t w) where
   -- ---- with the room that the tests of Add and of Add edit leave
 
   new-same : (terms : List Term) → newIn terms w ≡ newIn terms t
-  new-same terms = rw (en .changes) refl
+  new-same terms = rw (cutoff-same, en .changes) refl
 
   pub opening-at-start : (terms : List Term) (constant : Float) → isFinite constant ≡ true → length terms ≤ 16
       → constraintCount t + editCount t < 48 → variableCount t + newIn terms t ≤ 32 → getD (t .words) nextIdAt 0 ≤ 4_294_900_000
@@ -267,7 +274,8 @@ module _ (t w : Sparse) (en : Entered t w) where
   spare-at-start n = rw (en .changes) (uses-spare (read t) reads-at-start n)
 
   -- room for the terms of a pack
-  pub pack-opens : (p : Pack) (constant : Float) → isFinite constant ≡ true → Room (t .words) p → Opening (storedMark (t .words)) (termsOf p) constant w
+  pub pack-opens : (p : Pack) (constant : Float) → isFinite constant ≡ true → Room (refusals.cutoffIn (t .reals)) (t .words) p → Opening (storedMark (t .words)) (termsOf p) constant w
   pack-opens p constant finite room =
-      let new : newIn (termsOf p) t ≡ refusals.newIn (t .words) (variableCount t) (keptOf p) = ap (λ (l : List Term). length (newVariables (read t .changes .variables) [] l)) (sym (kept-terms p)) ∙ new-is t (keptOf p) in
+      let cutoff : Float = refusals.cutoffIn (t .reals) in
+      let new : newIn (termsOf p) t ≡ refusals.newIn (t .words) (variableCount t) (keptOf cutoff p) = ap (λ (l : List Term). length (newVariables (read t .changes .variables) [] l)) (sym (kept-terms cutoff p)) ∙ new-is t (keptOf cutoff p) in
       opening-at-start (termsOf p) constant finite (omega (arith, terms-length p, most-le (p .count))) (room .0) (rw new (room .1)) (room .2)

@@ -35,7 +35,7 @@ use Rattle.tags.specs.declared.Relation.the-variants.{Equal}
 use Rattle.tags.specs.Tags.{relationOf}
 use Rattle.terms.specs.declared.Pack.{Pack}
 use Rattle.terms.specs.Terms.{termsOf}
-use Rattle.refusals.specs.Refusals.{editPack, addEditRefusal}
+use Rattle.refusals.specs.Refusals.{cutoffIn, editPack, addEditRefusal}
 use Rattle.refusals.specs.Tested.{edit-terms}
 use Rattle.refusals.specs.Passed.{Room, add-edit-refused, add-edit-passes, add-edit-passed}
 use Rattle.creation.specs.Created.{Opening}
@@ -51,7 +51,7 @@ edit-refused : (x budget k : ℕ) (strength : Float) (s : State) → firstRefusa
 unfolding addEdit
 edit-refused x budget k strength s e = rw (e, addEdit) refl
 
-pub add-edit-by-test : (x budget : ℕ) (strength : Float) (t w u : Sparse) (a : code.Answer) {k : ℕ} → Entered t w → k ≡ addEditRefusal x (clip strength) (t .words) (t .bytes) → (k ≡ 0 → ⊥) → answerOf a ≡ byTest k (t .words)
+pub add-edit-by-test : (x budget : ℕ) (strength : Float) (t w u : Sparse) (a : code.Answer) {k : ℕ} → Entered t w → k ≡ addEditRefusal (cutoffIn (t .reals)) x (clip strength) (t .words) (t .bytes) → (k ≡ 0 → ⊥) → answerOf a ≡ byTest k (t .words)
     → Done (addEdit x strength budget) a t u
 add-edit-by-test x budget strength t w u a {k} en q h says =
     done-by-test (addEdit x strength budget) a t u k (edit-refused x budget k strength (read t) (add-edit-refused t (en .reads) x (clip strength) (λ z. h (q ∙ z)) ∙ ap some (sym q))) h says
@@ -64,10 +64,10 @@ edit-passed : (x budget : ℕ) (strength : Float) (s : State) → firstRefusal (
 unfolding addEdit addEditSteps
 edit-passed x budget strength s e = rw (e, addEdit) refl
 
-module _ (x budget : ℕ) (strength : Float) (t w : Sparse) (en : Entered t w) (passes : addEditRefusal x (clip strength) (t .words) (t .bytes) ≡ 0) (before : Wrote) (begun : markOf before ≡ storedMark (t .words))
+module _ (x budget : ℕ) (strength : Float) (t w : Sparse) (en : Entered t w) (passes : addEditRefusal (cutoffIn (t .reals)) x (clip strength) (t .words) (t .bytes) ≡ 0) (before : Wrote) (begun : markOf before ≡ storedMark (t .words))
     (p : Pack) (one : p ≡ editPack x) where
-  room : Room (t .words) (editPack x)
-  room = add-edit-passed x (clip strength) (t .words) (t .bytes) passes .2
+  room : Room (cutoffIn (t .reals)) (t .words) (editPack x)
+  room = add-edit-passed (cutoffIn (t .reals)) x (clip strength) (t .words) (t .bytes) passes .2
 
   pub edit-opens : Opening (markOf before) (termsOf p) zero64 w
   edit-opens = rw (begun, one) (pack-opens t w en (editPack x) zero64 zero-finite room)

@@ -133,9 +133,9 @@ module _ (t : Sparse) (good : reads t ≡ true) where
 
 -- ---- the kept terms of a pack are no more than sixteen
 
-kept-turn : (q : Pack) (t : Term) (n : ℕ) → q .count + suc n ≤ 16 → pushedKept q t .count + n ≤ 16
+kept-turn : (cutoff : Float) (q : Pack) (t : Term) (n : ℕ) → q .count + suc n ≤ 16 → pushedKept cutoff q t .count + n ≤ 16
 unfolding pushedKept
-kept-turn q t n h = go (nearZero (t .coefficient))
+kept-turn cutoff q t n h = go (nearZero cutoff (t .coefficient))
   where
     go : (b : Bool) → cond b q (pushed q t) .count + n ≤ 16
     go true = omega (arith, h)
@@ -143,11 +143,11 @@ kept-turn q t n h = go (nearZero (t .coefficient))
         let r : pushed q t .count ≡ q .count + 1 = ap (λ (z : Pack). z .count) (pushed-room q t (omega (arith, h))) in
         omega (arith, r, h)
 
-kept-from : (p : Pack) (n i : ℕ) (q : Pack) → q .count + n ≤ 16 → turns (λ j r. pushedKept r (termIn p j)) n i q .count ≤ 16
+kept-from : (cutoff : Float) (p : Pack) (n i : ℕ) (q : Pack) → q .count + n ≤ 16 → turns (λ j r. pushedKept cutoff r (termIn p j)) n i q .count ≤ 16
 unfolding turns
-kept-from p zero i q h = omega (arith, h)
-kept-from p (suc n) i q h = kept-from p n (suc i) (pushedKept q (termIn p i)) (kept-turn q (termIn p i) n h)
+kept-from cutoff p zero i q h = omega (arith, h)
+kept-from cutoff p (suc n) i q h = kept-from cutoff p n (suc i) (pushedKept cutoff q (termIn p i)) (kept-turn cutoff q (termIn p i) n h)
 
-pub kept-few : (p : Pack) {q : Pack} → q ≡ keptOf p → q .count ≤ 16
+pub kept-few : (cutoff : Float) (p : Pack) {q : Pack} → q ≡ keptOf cutoff p → q .count ≤ 16
 unfolding keptOf run
-kept-few p e = rw (e, sub-zero (most16 (p .count))) (kept-from p (most16 (p .count)) 0 noPack (few-none (most16 (p .count)) (most-le (p .count))))
+kept-few cutoff p e = rw (e, sub-zero (most16 (p .count))) (kept-from cutoff p (most16 (p .count)) 0 noPack (few-none (most16 (p .count)) (most-le (p .count))))

@@ -4,7 +4,7 @@ ghost use Rattle.steps.specs.State.{strengthOf};
 ghost use Rattle.steps.specs.Calls.{add};
 ghost use Rattle.tags.specs.Tags.{relationOf};
 ghost use Rattle.terms.specs.Terms.{termsIn, listed};
-ghost use Rattle.refusals.specs.Refusals.{addRefusal};
+ghost use Rattle.refusals.specs.Refusals.{cutoffIn, addRefusal};
 ghost use Rattle.solver.specs.Adding.{Packed, Adds};
 ghost use Rattle.solver.specs.Concluding.{Done};
 ghost use Rattle.waist.specs.Working.{lent};
@@ -17,6 +17,7 @@ use addition::add::add_steps;
 use addition::inputs::strength_of;
 use lending::Answer;
 use sparse::Bytes;
+use sparse::CUTOFF;
 use sparse::Keys;
 use sparse::Reals;
 use sparse::Values;
@@ -44,7 +45,7 @@ fn add_known(
 ) -> Answer
     requires { ⌜ Entered (lent words keys bytes reals values) (lent wwords wkeys wbytes wreals wvalues) ⌝ }
     requires { ⌜ Packed p ⌝ }
-    requires { ⌜ addRefusal n p constant (strengthOf (relationOf relation)) (now words) ≡ 0 ⌝ }
+    requires { ⌜ addRefusal (cutoffIn (now reals)) n p constant (strengthOf (relationOf relation)) (now words) ≡ 0 ⌝ }
     ensures { λ r. ⌜ Adds n p constant (relationOf relation) budget r (lent (words .entry) (keys .entry) (bytes .entry) (reals .entry) (values .entry)) (lent (wwords .exit) (wkeys .exit) (wbytes .exit) (wreals .exit) (wvalues .exit)) ⌝ }
 {
     let before = stored_mark(words);
@@ -66,7 +67,7 @@ fn add_known(
     }
     let wrote = e.wrote;
     let strength = strength_of(relation);
-    let kept = terms::kept(p);
+    let kept = terms::kept(reals[CUTOFF], p);
     close(wwords, wrote);
     crate::bringing::with_constraint(
         words,
@@ -111,7 +112,7 @@ pub fn add(
 {
     let q = terms::proper(p);
     let strength = strength_of(relation);
-    let number = refusals::add_tests(words, n, q, constant, strength);
+    let number = refusals::add_tests(words, reals[CUTOFF], n, q, constant, strength);
     if number != 0 {
         return by_test(words, number);
     }

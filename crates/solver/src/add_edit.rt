@@ -2,7 +2,7 @@
 ghost use mathlib.Core.Path.{_≡_};
 ghost use Rattle.steps.specs.Strength.{clip};
 ghost use Rattle.steps.specs.Calls.{addEdit};
-ghost use Rattle.refusals.specs.Refusals.{addEditRefusal};
+ghost use Rattle.refusals.specs.Refusals.{cutoffIn, addEditRefusal};
 ghost use Rattle.solver.specs.Concluding.{Done};
 ghost use Rattle.waist.specs.Working.{lent};
 ghost use Rattle.lending.specs.Entered.{Entered};
@@ -13,6 +13,7 @@ use crate::begin::stored_mark;
 use addition::add::add_steps;
 use lending::Answer;
 use sparse::Bytes;
+use sparse::CUTOFF;
 use sparse::Keys;
 use sparse::Reals;
 use sparse::Values;
@@ -36,7 +37,7 @@ fn add_edit_known(
     budget: u32,
 ) -> Answer
     requires { ⌜ Entered (lent words keys bytes reals values) (lent wwords wkeys wbytes wreals wvalues) ⌝ }
-    requires { ⌜ addEditRefusal n (clip strength) (now words) (now bytes) ≡ 0 ⌝ }
+    requires { ⌜ addEditRefusal (cutoffIn (now reals)) n (clip strength) (now words) (now bytes) ≡ 0 ⌝ }
     ensures { λ r. ⌜ Done (addEdit n strength budget) r (lent (words .entry) (keys .entry) (bytes .entry) (reals .entry) (values .entry)) (lent (wwords .exit) (wkeys .exit) (wbytes .exit) (wreals .exit) (wvalues .exit)) ⌝ }
 {
     let before = stored_mark(words);
@@ -100,7 +101,7 @@ pub fn add_edit(
     ensures { λ r. ⌜ Done (addEdit n strength budget) r (lent (words .entry) (keys .entry) (bytes .entry) (reals .entry) (values .entry)) (lent (wwords .exit) (wkeys .exit) (wbytes .exit) (wreals .exit) (wvalues .exit)) ⌝ }
 {
     let held = rows::strength::clip(strength);
-    let number = refusals::add_edit_tests(words, bytes, n, held);
+    let number = refusals::add_edit_tests(words, bytes, reals[CUTOFF], n, held);
     if number != 0 {
         return by_test(words, number);
     }

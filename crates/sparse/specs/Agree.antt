@@ -16,7 +16,7 @@ use Rattle.cells.specs.Names.{rowSpan}
 use Rattle.cells.specs.Cells.{Ascending, cellAt, rowOf}
 use Rattle.cells.specs.Seek.{first-within}
 use Rattle.cells.specs.Reads.{cell-within}
-use Rattle.sparse.specs.Places.{idsAt, variableNumbersAt, variableUsesAt, constraintNumbersAt, kindsAt, rowPlacesAt, variablePlacesAt, changedAt, constraintMarkersAt, constraintOthersAt, termCountsAt, editVariablesAt, editMarkersAt, editOthersAt, termsAt, constantsAt, oldValuesAt, objectiveAt, constraintStrengthsAt, editStrengthsAt, suggestionsAt, coefficientsAt, wordsSize, bytesSize, realsSize}
+use Rattle.sparse.specs.Places.{idsAt, variableNumbersAt, variableUsesAt, constraintNumbersAt, constraintGroupsAt, kindsAt, rowPlacesAt, variablePlacesAt, changedAt, constraintMarkersAt, constraintOthersAt, termCountsAt, editVariablesAt, editMarkersAt, editOthersAt, termsAt, constantsAt, oldValuesAt, objectiveAt, cutoffAt, constraintStrengthsAt, editStrengthsAt, suggestionsAt, coefficientsAt, wordsSize, bytesSize, realsSize}
 use Rattle.sparse.specs.Sparse.{Sparse, symbolCount, rowCount, cellCount, variableCount, constraintCount, editCount, symbolAt, otherAt, numberAt, variableOf, termsFrom, termOf, constraintOf, editOf, basicOf, symbolsOf, basicsOf, objectiveOf, read}
 use Rattle.sparse.specs.Concat.{sum-ext, sum-in, sum-le}
 use Rattle.sparse.specs.Repack.{Held}
@@ -29,6 +29,7 @@ pub record Agree (t u : Sparse) : Type 0 where
   pub numbers : (j : ℕ) → j < variableCount t → getD (u .words) (variableNumbersAt + j) 0 ≡ getD (t .words) (variableNumbersAt + j) 0
   pub uses : (j : ℕ) → j < variableCount t → getD (u .words) (variableUsesAt + j) 0 ≡ getD (t .words) (variableUsesAt + j) 0
   pub constraintNumbers : (j : ℕ) → j < constraintCount t → getD (u .words) (constraintNumbersAt + j) 0 ≡ getD (t .words) (constraintNumbersAt + j) 0
+  pub constraintGroups : (j : ℕ) → j < constraintCount t → getD (u .words) (constraintGroupsAt + j) 0 ≡ getD (t .words) (constraintGroupsAt + j) 0
   pub kinds : (p : ℕ) → 1 ≤ p → p ≤ symbolCount t → getD (u .bytes) (kindsAt + p) 0 ≡ getD (t .bytes) (kindsAt + p) 0
   pub rowPlaces : (p : ℕ) → 1 ≤ p → p ≤ rowCount t → getD (u .bytes) (rowPlacesAt + p) 0 ≡ getD (t .bytes) (rowPlacesAt + p) 0
   pub owners : (j : ℕ) → j < variableCount t → getD (u .bytes) (variablePlacesAt + j) 0 ≡ getD (t .bytes) (variablePlacesAt + j) 0
@@ -43,6 +44,7 @@ pub record Agree (t u : Sparse) : Type 0 where
   pub constants : (p : ℕ) → 1 ≤ p → p ≤ rowCount t → getD (u .reals) (constantsAt + p) nan ≡ getD (t .reals) (constantsAt + p) nan
   pub olds : (j : ℕ) → j < variableCount t → getD (u .reals) (oldValuesAt + j) nan ≡ getD (t .reals) (oldValuesAt + j) nan
   pub objective : (p : ℕ) → 1 ≤ p → p ≤ symbolCount t → getD (u .reals) (objectiveAt + p) nan ≡ getD (t .reals) (objectiveAt + p) nan
+  pub cutoff : getD (u .reals) cutoffAt nan ≡ getD (t .reals) cutoffAt nan
   pub strengths : (j : ℕ) → j < constraintCount t → getD (u .reals) (constraintStrengthsAt + j) nan ≡ getD (t .reals) (constraintStrengthsAt + j) nan
   pub editStrengths : (j : ℕ) → j < editCount t → getD (u .reals) (editStrengthsAt + j) nan ≡ getD (t .reals) (editStrengthsAt + j) nan
   pub suggestions : (j : ℕ) → j < editCount t → getD (u .reals) (suggestionsAt + j) nan ≡ getD (t .reals) (suggestionsAt + j) nan
@@ -108,7 +110,7 @@ module _ (t u : Sparse) (same : Agree t u) where
     unfolding constraintOf
     constraint-same i h =
         let ts : listOf (getD (t .bytes) (termCountsAt + i) 0) (termOf u (termsFrom t i)) ≡ listOf (getD (t .bytes) (termCountsAt + i) 0) (termOf t (termsFrom t i)) = list-ext _ _ _ λ j k. term-same i j h k in
-        rw (same .constraintNumbers i h, same .strengths i h, same .termCounts i h, terms-same i (omega arith), ts, same .markers i h, symbol-same (getD (t .bytes) (constraintMarkersAt + i) 0) (form .markers i h), same .others i h, other-same (getD (t .bytes) (constraintOthersAt + i) 0) (form .others i h)) refl
+        rw (same .constraintNumbers i h, same .constraintGroups i h, same .strengths i h, same .termCounts i h, terms-same i (omega arith), ts, same .markers i h, symbol-same (getD (t .bytes) (constraintMarkersAt + i) 0) (form .markers i h), same .others i h, other-same (getD (t .bytes) (constraintOthersAt + i) 0) (form .others i h)) refl
 
     edit-same : (i : ℕ) → i < editCount t → editOf u i ≡ editOf t i
     unfolding editOf
@@ -125,7 +127,7 @@ module _ (t u : Sparse) (same : Agree t u) where
         let vs : listOf (variableCount t) (variableOf u) ≡ listOf (variableCount t) (variableOf t) = list-ext _ _ _ variable-same in
         let cs : listOf (constraintCount t) (constraintOf u) ≡ listOf (constraintCount t) (constraintOf t) = list-ext _ _ _ constraint-same in
         let es : listOf (editCount t) (editOf u) ≡ listOf (editCount t) (editOf t) = list-ext _ _ _ edit-same in
-        rw (h 0 (omega arith), h 1 (omega arith), h 2 (omega arith), h 4 (omega arith), h 5 (omega arith), h 6 (omega arith), h 7 (omega arith), h 8 (omega arith), xs, bs, os, vs, cs, es) refl
+        rw (h 0 (omega arith), h 1 (omega arith), h 2 (omega arith), h 4 (omega arith), h 5 (omega arith), h 6 (omega arith), h 7 (omega arith), h 8 (omega arith), same .cutoff, xs, bs, os, vs, cs, es) refl
 
     at-same : (p : ℕ) → At t p → At u p
     at-same p l = (l .0, rw (same .heading 1 (omega arith)) (l .1))

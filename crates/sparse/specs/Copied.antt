@@ -8,7 +8,7 @@ use native.Mathlib.Omega.{arith}
 use lib.Ieee.{Float, nan}
 use lib.ListN.{length, getD}
 use Rattle.laws.specs.Lists.{tab, getD-tab, length-tab}
-use Rattle.sparse.specs.Places.{nextIdAt, idsAt, variableNumbersAt, variableUsesAt, constraintNumbersAt, kindsAt, rowPlacesAt, variablePlacesAt, changedAt, constraintMarkersAt, constraintOthersAt, termCountsAt, editVariablesAt, editMarkersAt, editOthersAt, termsAt, constantsAt, oldValuesAt, objectiveAt, constraintStrengthsAt, editStrengthsAt, suggestionsAt, coefficientsAt, wordsSize, bytesSize, realsSize}
+use Rattle.sparse.specs.Places.{nextIdAt, idsAt, variableNumbersAt, variableUsesAt, constraintNumbersAt, constraintGroupsAt, kindsAt, rowPlacesAt, variablePlacesAt, changedAt, constraintMarkersAt, constraintOthersAt, termCountsAt, editVariablesAt, editMarkersAt, editOthersAt, termsAt, constantsAt, oldValuesAt, objectiveAt, cutoffAt, constraintStrengthsAt, editStrengthsAt, suggestionsAt, coefficientsAt, wordsSize, bytesSize, realsSize}
 use Rattle.sparse.specs.Sparse.{Sparse, symbolCount, rowCount, cellCount, variableCount, constraintCount, editCount, termsFrom, read}
 use Rattle.sparse.specs.Stretches.{Stretch, Within, lay, lay-in, length-lay, copied-at, length-copied}
 use Rattle.sparse.specs.Fits.{Lengths}
@@ -27,7 +27,7 @@ module _ (t w : Sparse) (c : Counts t) (len : Lengths w) where
       let v = c .variables in
       let k = c .symbols in
       let m = c .constraints in
-      (omega (arith, l constraintNumbersAt (constraintCount t), m), (omega (arith, l variableUsesAt (variableCount t), v), (omega (arith, l variableNumbersAt (variableCount t), v), (omega (arith, l (idsAt + 1) (symbolCount t), k), (omega (arith, l 0 9), tt)))))
+      (omega (arith, l constraintGroupsAt (constraintCount t), m), (omega (arith, l constraintNumbersAt (constraintCount t), m), (omega (arith, l variableUsesAt (variableCount t), v), (omega (arith, l variableNumbersAt (variableCount t), v), (omega (arith, l (idsAt + 1) (symbolCount t), k), (omega (arith, l 0 9), tt))))))
 
   within-bytes : Within bytesSize (liveBytes t)
   unfolding liveBytes
@@ -51,14 +51,14 @@ module _ (t w : Sparse) (c : Counts t) (len : Lengths w) where
       let e = c .edits in
       let r = c .rows in
       let q = c .terms in
-      (omega (arith, l coefficientsAt (termsFrom t (constraintCount t)), q), (omega (arith, l suggestionsAt (editCount t), e), (omega (arith, l editStrengthsAt (editCount t), e), (omega (arith, l constraintStrengthsAt (constraintCount t), m), (omega (arith, l (objectiveAt + 1) (symbolCount t), k), (omega (arith, l oldValuesAt (variableCount t), v), (omega (arith, l (constantsAt + 1) (rowCount t), r), tt)))))))
+      (omega (arith, l coefficientsAt (termsFrom t (constraintCount t)), q), (omega (arith, l suggestionsAt (editCount t), e), (omega (arith, l editStrengthsAt (editCount t), e), (omega (arith, l constraintStrengthsAt (constraintCount t), m), (omega (arith, l cutoffAt 1), (omega (arith, l (objectiveAt + 1) (symbolCount t), k), (omega (arith, l oldValuesAt (variableCount t), v), (omega (arith, l (constantsAt + 1) (rowCount t), r), tt))))))))
 
   -- ---- a place of the i-th stretch, if it begins at a and has n places
 
   abbrev none : {A : Type 0} → Stretch A
   none = record { at = 0; list = [] }
 
-  word : (i a n j : ℕ) → i < 5 → getD (liveWords t) i none ≡ (record { at = a; list = tab (λ j. getD (t .words) j 0) a n }) → j < n → getD (u .words) (a + j) 0 ≡ getD (t .words) (a + j) 0
+  word : (i a n j : ℕ) → i < 6 → getD (liveWords t) i none ≡ (record { at = a; list = tab (λ j. getD (t .words) j 0) a n }) → j < n → getD (u .words) (a + j) 0 ≡ getD (t .words) (a + j) 0
   unfolding putOver
   word i a n j h q k =
       let g : ℕ → ℕ = λ j. getD (t .words) j 0 in
@@ -72,7 +72,7 @@ module _ (t w : Sparse) (c : Counts t) (len : Lengths w) where
       let x = lay-in bytesSize (liveBytes t) (w .bytes) within-bytes (omega (arith, len .2)) i j 0 (unfold liveBytes in h) (rw (q, length-tab g a n) k) in
       (rw q at x) ∙ getD-tab g a n j 0 k
 
-  real : (i a n j : ℕ) → i < 7 → getD (liveReals t) i none ≡ (record { at = a; list = tab (λ j. getD (t .reals) j nan) a n }) → j < n → getD (u .reals) (a + j) nan ≡ getD (t .reals) (a + j) nan
+  real : (i a n j : ℕ) → i < 8 → getD (liveReals t) i none ≡ (record { at = a; list = tab (λ j. getD (t .reals) j nan) a n }) → j < n → getD (u .reals) (a + j) nan ≡ getD (t .reals) (a + j) nan
   unfolding putOver
   real i a n j h q k =
       let g : ℕ → Float = λ j. getD (t .reals) j nan in
@@ -89,11 +89,12 @@ module _ (t w : Sparse) (c : Counts t) (len : Lengths w) where
   unfolding liveWords liveBytes liveReals
   copy-agrees =
       record {
-        heading = λ j h. rw (zero-add j) at (word 4 nextIdAt headingEnd j (omega arith) refl h);
-        ids = λ p a b. from-one (u .words) (t .words) 0 idsAt p a (word 3 (idsAt + 1) (symbolCount t) (p - 1) (omega arith) refl (omega (arith, a, b)));
-        numbers = λ j h. word 2 variableNumbersAt (variableCount t) j (omega arith) refl h;
-        uses = λ j h. word 1 variableUsesAt (variableCount t) j (omega arith) refl h;
-        constraintNumbers = λ j h. word 0 constraintNumbersAt (constraintCount t) j (omega arith) refl h;
+        heading = λ j h. rw (zero-add j) at (word 5 nextIdAt headingEnd j (omega arith) refl h);
+        ids = λ p a b. from-one (u .words) (t .words) 0 idsAt p a (word 4 (idsAt + 1) (symbolCount t) (p - 1) (omega arith) refl (omega (arith, a, b)));
+        numbers = λ j h. word 3 variableNumbersAt (variableCount t) j (omega arith) refl h;
+        uses = λ j h. word 2 variableUsesAt (variableCount t) j (omega arith) refl h;
+        constraintNumbers = λ j h. word 1 constraintNumbersAt (constraintCount t) j (omega arith) refl h;
+        constraintGroups = λ j h. word 0 constraintGroupsAt (constraintCount t) j (omega arith) refl h;
         kinds = λ p a b. from-one (u .bytes) (t .bytes) 0 kindsAt p a (byte 10 (kindsAt + 1) (symbolCount t) (p - 1) (omega arith) refl (omega (arith, a, b)));
         rowPlaces = λ p a b. from-one (u .bytes) (t .bytes) 0 rowPlacesAt p a (byte 9 (rowPlacesAt + 1) (rowCount t) (p - 1) (omega arith) refl (omega (arith, a, b)));
         owners = λ j h. byte 8 variablePlacesAt (variableCount t) j (omega arith) refl h;
@@ -105,9 +106,10 @@ module _ (t w : Sparse) (c : Counts t) (len : Lengths w) where
         pluses = λ j h. byte 2 editMarkersAt (editCount t) j (omega arith) refl h;
         minuses = λ j h. byte 1 editOthersAt (editCount t) j (omega arith) refl h;
         terms = λ j h. byte 0 termsAt (termsFrom t (constraintCount t)) j (omega arith) refl h;
-        constants = λ p a b. from-one (u .reals) (t .reals) nan constantsAt p a (real 6 (constantsAt + 1) (rowCount t) (p - 1) (omega arith) refl (omega (arith, a, b)));
-        olds = λ j h. real 5 oldValuesAt (variableCount t) j (omega arith) refl h;
-        objective = λ p a b. from-one (u .reals) (t .reals) nan objectiveAt p a (real 4 (objectiveAt + 1) (symbolCount t) (p - 1) (omega arith) refl (omega (arith, a, b)));
+        constants = λ p a b. from-one (u .reals) (t .reals) nan constantsAt p a (real 7 (constantsAt + 1) (rowCount t) (p - 1) (omega arith) refl (omega (arith, a, b)));
+        olds = λ j h. real 6 oldValuesAt (variableCount t) j (omega arith) refl h;
+        objective = λ p a b. from-one (u .reals) (t .reals) nan objectiveAt p a (real 5 (objectiveAt + 1) (symbolCount t) (p - 1) (omega arith) refl (omega (arith, a, b)));
+        cutoff = real 4 cutoffAt 1 0 (omega arith) refl (omega arith);
         strengths = λ j h. real 3 constraintStrengthsAt (constraintCount t) j (omega arith) refl h;
         editStrengths = λ j h. real 2 editStrengthsAt (editCount t) j (omega arith) refl h;
         suggestions = λ j h. real 1 suggestionsAt (editCount t) j (omega arith) refl h;

@@ -21,7 +21,7 @@ use Rattle.layout.specs.Laying.{getD-map, tab-from}
 use Rattle.layout.specs.Back.{bit-back}
 use Rattle.cells.specs.Cells.{rowOf}
 use Rattle.cells.specs.Seek.{first-elim, first-at}
-use Rattle.sparse.specs.Places.{idsAt, variableNumbersAt, variableUsesAt, constraintNumbersAt, kindsAt, rowPlacesAt, variablePlacesAt, changedAt, constraintMarkersAt, constraintOthersAt, termCountsAt, editVariablesAt, editMarkersAt, editOthersAt, termsAt, constantsAt, oldValuesAt, objectiveAt, constraintStrengthsAt, editStrengthsAt, suggestionsAt, coefficientsAt, wordsSize, bytesSize, realsSize}
+use Rattle.sparse.specs.Places.{idsAt, variableNumbersAt, variableUsesAt, constraintNumbersAt, constraintGroupsAt, kindsAt, rowPlacesAt, variablePlacesAt, changedAt, constraintMarkersAt, constraintOthersAt, termCountsAt, editVariablesAt, editMarkersAt, editOthersAt, termsAt, constantsAt, oldValuesAt, objectiveAt, cutoffAt, constraintStrengthsAt, editStrengthsAt, suggestionsAt, coefficientsAt, wordsSize, bytesSize, realsSize}
 use Rattle.sparse.specs.Sparse.{Sparse, symbolAt, otherAt, numberAt, variableOf, termsFrom, termOf, constraintOf, editOf, basicOf, symbolsOf, basicsOf, objectiveOf, read}
 use Rattle.sparse.specs.Stretches.{Stretch, Within, lay-in}
 use Rattle.sparse.specs.Concat.{sum-ext, sum-in, before, concat-at}
@@ -58,7 +58,8 @@ module _ (s : State) (t : Sparse) (fits : Fits s) (len : Lengths t) where
       let b = length-map vs (λ (v : Variable). v .uses) in
       let d = length-map vs (λ (v : Variable). v .number) in
       let e = length-map xs (λ (x : Symbol). x .id) in
-      (omega (arith, a, c), (omega (arith, b, v), (omega (arith, d, v), (omega (arith, e, k), (omega arith, tt)))))
+      let g = length-map (s .constraints) (λ (c : Constraint). c .group) in
+      (omega (arith, g, c), (omega (arith, a, c), (omega (arith, b, v), (omega (arith, d, v), (omega (arith, e, k), (omega arith, tt))))))
 
   within-bytes : Within bytesSize (bytesOf s)
   unfolding bytesOf
@@ -98,11 +99,11 @@ module _ (s : State) (t : Sparse) (fits : Fits s) (len : Lengths t) where
       let l₄ = length-map (s .constraints) (λ (c : Constraint). c .strength) in
       let l₆ = length-map vs (λ (v : Variable). v .old) in
       let l₇ = length-map (s .tableau .rows) (λ (r : Basic). r .row .constant) in
-      (omega (arith, l₁, m), (omega (arith, l₂, e), (omega (arith, l₃, e), (omega (arith, l₄, c), (omega (arith, o, k), (omega (arith, l₆, v), (omega (arith, l₇, r), tt)))))))
+      (omega (arith, l₁, m), (omega (arith, l₂, e), (omega (arith, l₃, e), (omega (arith, l₄, c), (omega arith, (omega (arith, o, k), (omega (arith, l₆, v), (omega (arith, l₇, r), tt))))))))
 
   -- ---- each element
 
-  word : (i j : ℕ) → i < 5 → j < length (getD (wordsOf s size) i (record { at = 0; list = [] }) .list) → getD (t' .words) (getD (wordsOf s size) i (record { at = 0; list = [] }) .at + j) 0 ≡ getD (getD (wordsOf s size) i (record { at = 0; list = [] }) .list) j 0
+  word : (i j : ℕ) → i < 6 → j < length (getD (wordsOf s size) i (record { at = 0; list = [] }) .list) → getD (t' .words) (getD (wordsOf s size) i (record { at = 0; list = [] }) .at + j) 0 ≡ getD (getD (wordsOf s size) i (record { at = 0; list = [] }) .list) j 0
   unfolding write wordsOf
   word i j h k = lay-in wordsSize (wordsOf s size) (t .words) within-words (omega (arith, len .0)) i j 0 h k
 
@@ -110,29 +111,33 @@ module _ (s : State) (t : Sparse) (fits : Fits s) (len : Lengths t) where
   unfolding write bytesOf
   byte i j h k = lay-in bytesSize (bytesOf s) (t .bytes) within-bytes (omega (arith, len .2)) i j 0 h k
 
-  real : (i j : ℕ) → i < 7 → j < length (getD (realsOf s) i (record { at = 0; list = [] }) .list) → getD (t' .reals) (getD (realsOf s) i (record { at = 0; list = [] }) .at + j) nan ≡ getD (getD (realsOf s) i (record { at = 0; list = [] }) .list) j nan
+  real : (i j : ℕ) → i < 8 → j < length (getD (realsOf s) i (record { at = 0; list = [] }) .list) → getD (t' .reals) (getD (realsOf s) i (record { at = 0; list = [] }) .at + j) nan ≡ getD (getD (realsOf s) i (record { at = 0; list = [] }) .list) j nan
   unfolding write realsOf
   real i j h k = lay-in realsSize (realsOf s) (t .reals) within-reals (omega (arith, len .3)) i j nan h k
 
   pub heading-back : (j : ℕ) → j < 9 → getD (t' .words) j 0 ≡ getD (headingOf s size) j 0
   unfolding wordsOf headingOf
-  heading-back j h = rw (zero-add j) at (word 4 j (omega arith) h)
+  heading-back j h = rw (zero-add j) at (word 5 j (omega arith) h)
 
   pub id-back : (j : ℕ) → j < length xs → getD (t' .words) (idsAt + 1 + j) 0 ≡ getD xs j noSymbol .id
   unfolding wordsOf
-  id-back j h = through (λ (x : Symbol). x .id) xs j 0 noSymbol h (word 3 j (omega arith))
+  id-back j h = through (λ (x : Symbol). x .id) xs j 0 noSymbol h (word 4 j (omega arith))
 
   pub number-back : (j : ℕ) → j < length vs → getD (t' .words) (variableNumbersAt + j) 0 ≡ getD vs j noVariable .number
   unfolding wordsOf
-  number-back j h = through (λ (v : Variable). v .number) vs j 0 noVariable h (word 2 j (omega arith))
+  number-back j h = through (λ (v : Variable). v .number) vs j 0 noVariable h (word 3 j (omega arith))
 
   pub uses-back : (j : ℕ) → j < length vs → getD (t' .words) (variableUsesAt + j) 0 ≡ getD vs j noVariable .uses
   unfolding wordsOf
-  uses-back j h = through (λ (v : Variable). v .uses) vs j 0 noVariable h (word 1 j (omega arith))
+  uses-back j h = through (λ (v : Variable). v .uses) vs j 0 noVariable h (word 2 j (omega arith))
 
   pub constraint-number : (j : ℕ) → j < length (s .constraints) → getD (t' .words) (constraintNumbersAt + j) 0 ≡ getD (s .constraints) j noConstraint .number
   unfolding wordsOf
-  constraint-number j h = through (λ (c : Constraint). c .number) (s .constraints) j 0 noConstraint h (word 0 j (omega arith))
+  constraint-number j h = through (λ (c : Constraint). c .number) (s .constraints) j 0 noConstraint h (word 1 j (omega arith))
+
+  pub group-back : (j : ℕ) → j < length (s .constraints) → getD (t' .words) (constraintGroupsAt + j) 0 ≡ getD (s .constraints) j noConstraint .group
+  unfolding wordsOf
+  group-back j h = through (λ (c : Constraint). c .group) (s .constraints) j 0 noConstraint h (word 0 j (omega arith))
 
   pub kind-laid : (j : ℕ) → j < length xs → getD (t' .bytes) (kindsAt + 1 + j) 0 ≡ kindCode (getD xs j noSymbol .kind)
   unfolding bytesOf
@@ -180,15 +185,19 @@ module _ (s : State) (t : Sparse) (fits : Fits s) (len : Lengths t) where
 
   pub constant-back : (j : ℕ) → j < length (s .tableau .rows) → getD (t' .reals) (constantsAt + 1 + j) nan ≡ getD (s .tableau .rows) j noBasic .row .constant
   unfolding realsOf
-  constant-back j h = through (λ (r : Basic). r .row .constant) (s .tableau .rows) j nan noBasic h (real 6 j (omega arith))
+  constant-back j h = through (λ (r : Basic). r .row .constant) (s .tableau .rows) j nan noBasic h (real 7 j (omega arith))
 
   pub old-back : (j : ℕ) → j < length vs → getD (t' .reals) (oldValuesAt + j) nan ≡ getD vs j noVariable .old
   unfolding realsOf
-  old-back j h = through (λ (v : Variable). v .old) vs j nan noVariable h (real 5 j (omega arith))
+  old-back j h = through (λ (v : Variable). v .old) vs j nan noVariable h (real 6 j (omega arith))
 
   pub cost-back : (j : ℕ) → j < length (s .tableau .objective) → getD (t' .reals) (objectiveAt + 1 + j) nan ≡ getD (s .tableau .objective) j nan
   unfolding realsOf
-  cost-back j h = real 4 j (omega arith) h
+  cost-back j h = real 5 j (omega arith) h
+
+  pub cutoff-back : getD (t' .reals) cutoffAt nan ≡ s .tableau .cutoff
+  unfolding realsOf
+  cutoff-back = real 4 0 (omega arith) (omega arith)
 
   pub strength-back : (j : ℕ) → j < length (s .constraints) → getD (t' .reals) (constraintStrengthsAt + j) nan ≡ getD (s .constraints) j noConstraint .strength
   unfolding realsOf

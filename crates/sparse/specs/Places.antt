@@ -16,7 +16,7 @@ mostConstraints = 48
 abbrev pub mostTerms : ℕ
 mostTerms = 768
 
--- ---- words: the next id, counts and flags; then the symbols' ids, the variables' numbers and uses, the constraints' numbers
+-- ---- words: the next id, counts and flags; then the symbols' ids, the variables' numbers and uses, the constraints' numbers and groups
 abbrev pub nextIdAt : ℕ
 nextIdAt = 0
 
@@ -56,8 +56,11 @@ variableUsesAt = 178
 abbrev pub constraintNumbersAt : ℕ
 constraintNumbersAt = 210
 
+abbrev pub constraintGroupsAt : ℕ
+constraintGroupsAt = 258
+
 abbrev pub wordsSize : ℕ
-wordsSize = 258
+wordsSize = 306
 
 -- ---- bytes: the symbols' kinds and the rows' symbols; the variables' symbols and changed flags; the constraints' marker, other, count of terms; the edits' variable, marker, other; the terms' variables
 abbrev pub kindsAt : ℕ
@@ -96,7 +99,7 @@ termsAt = 544
 abbrev pub bytesSize : ℕ
 bytesSize = 1312
 
--- ---- reals: the rows' constants, the variables' old values, the objective along the places; the constraints' strengths, the edits' strengths and suggestions; the terms' coefficients
+-- ---- reals: the rows' constants, the variables' old values, the objective along the places, the cutoff of near zero; the constraints' strengths, the edits' strengths and suggestions; the terms' coefficients
 abbrev pub constantsAt : ℕ
 constantsAt = 0
 
@@ -105,6 +108,9 @@ oldValuesAt = 56
 
 abbrev pub objectiveAt : ℕ
 objectiveAt = 87
+
+abbrev pub cutoffAt : ℕ
+cutoffAt = 219
 
 abbrev pub constraintStrengthsAt : ℕ
 constraintStrengthsAt = 220

@@ -18,13 +18,13 @@ use Rattle.layout.specs.Laying.{getD-map, tab-from}
 use Rattle.layout.specs.Back.{bit-back}
 use Rattle.cells.specs.Cells.{rowOf}
 use Rattle.cells.specs.Seek.{first-elim, first-at}
-use Rattle.sparse.specs.Places.{idsAt, variableNumbersAt, kindsAt, rowPlacesAt, variablePlacesAt, termCountsAt, termsAt, constantsAt, objectiveAt, coefficientsAt}
+use Rattle.sparse.specs.Places.{idsAt, variableNumbersAt, kindsAt, rowPlacesAt, variablePlacesAt, termCountsAt, termsAt, constantsAt, objectiveAt, cutoffAt, coefficientsAt}
 use Rattle.sparse.specs.Sparse.{Sparse, variableCount, symbolAt, otherAt, numberAt, variableOf, termsFrom, termOf, constraintOf, editOf, basicOf, symbolsOf, basicsOf, objectiveOf, read}
 use Rattle.sparse.specs.Concat.{sum-ext, sum-in, sum-le, before, concat-at, concat-length}
 use Rattle.sparse.specs.Laying.{rows-back}
 use Rattle.sparse.specs.Write.{noSymbol, noBasic, noVariable, noTerm, noConstraint, noEdit, placeOf, otherPlace, indexOf, numberPlace, allTerms, cellsOf, laidOf, headingOf, write}
 use Rattle.sparse.specs.Fits.{Lengths, Live, LiveOther, Fits}
-use Rattle.sparse.specs.Elements.{heading-back, id-back, number-back, uses-back, constraint-number, kind-laid, row-place, variable-place, changed-back, marker-place, other-place, count-back, edit-variable, plus-place, minus-place, term-place, constant-back, old-back, cost-back, strength-back, edit-strength, suggestion-back, coefficient-back}
+use Rattle.sparse.specs.Elements.{heading-back, id-back, number-back, uses-back, constraint-number, group-back, kind-laid, row-place, variable-place, changed-back, marker-place, other-place, count-back, edit-variable, plus-place, minus-place, term-place, constant-back, old-back, cost-back, cutoff-back, strength-back, edit-strength, suggestion-back, coefficient-back}
 
 kind-back : (k : Kind) → kindOf (kindCode k) ≡ k
 unfolding kindOf kindCode
@@ -160,7 +160,7 @@ module _ (s : State) (t : Sparse) (fits : Fits s) (len : Lengths t) where
   constraint-back i h =
       let c : Constraint = getD (s .constraints) i noConstraint in
       let ts : listOf (length (c .terms)) (termOf t' (termsFrom t' i)) ≡ c .terms = listOf-is (termOf t' (termsFrom t' i)) (c .terms) noTerm λ j k. term-back i j h k in
-      rw (constraint-number s t fits len i h, strength-back s t fits len i h, count-back s t fits len i h, ts, marker-place s t fits len i h, live-back (c .tag .marker) (fits .markers i h), other-place s t fits len i h, other-back (c .tag .other) (fits .others i h)) refl
+      rw (constraint-number s t fits len i h, group-back s t fits len i h, strength-back s t fits len i h, count-back s t fits len i h, ts, marker-place s t fits len i h, live-back (c .tag .marker) (fits .markers i h), other-place s t fits len i h, other-back (c .tag .other) (fits .others i h)) refl
 
   edit-back : (i : ℕ) → i < length (s .edits) → editOf t' i ≡ getD (s .edits) i noEdit
   unfolding editOf
@@ -176,4 +176,4 @@ module _ (s : State) (t : Sparse) (fits : Fits s) (len : Lengths t) where
       let v : listOf (length vs) (variableOf t') ≡ vs = listOf-is (variableOf t') vs noVariable variable-back in
       let c : listOf (length (s .constraints)) (constraintOf t') ≡ s .constraints = listOf-is (constraintOf t') (s .constraints) noConstraint constraint-back in
       let e : listOf (length (s .edits)) (editOf t') ≡ s .edits = listOf-is (editOf t') (s .edits) noEdit edit-back in
-      rw (symbols-back, head 0 (omega arith), basics-back, objective-back, head 4 (omega arith), v, head 7 (omega arith), bit-back (s .changes .shouldClear), head 5 (omega arith), c, head 6 (omega arith), e, head 8 (omega arith), bit-back (s .whole)) refl
+      rw (cutoff-back s t fits len, symbols-back, head 0 (omega arith), basics-back, objective-back, head 4 (omega arith), v, head 7 (omega arith), bit-back (s .changes .shouldClear), head 5 (omega arith), c, head 6 (omega arith), e, head 8 (omega arith), bit-back (s .whole)) refl

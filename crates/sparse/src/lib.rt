@@ -21,7 +21,7 @@ pub const MOST_ROWS: usize = 50;
 
 pub const MOST_VARIABLES: usize = 32;
 
-// ---- words: the next id, counts and flags; then the symbols' ids, the variables' numbers and uses, the constraints' numbers
+// ---- words: the next id, counts and flags; then the symbols' ids, the variables' numbers and uses, the constraints' numbers and groups
 pub const NEXT_ID: usize = 0;
 
 pub const SYMBOL_COUNT: usize = 1;
@@ -48,7 +48,9 @@ pub const VARIABLE_USES: usize = 178;
 
 pub const CONSTRAINT_NUMBERS: usize = 210;
 
-pub const WORDS_SIZE: usize = 258;
+pub const CONSTRAINT_GROUPS: usize = 258;
+
+pub const WORDS_SIZE: usize = 306;
 
 // ---- bytes: the symbols' kinds and the rows' symbols; the variables' symbols and changed flags; the constraints' marker, other, count of terms; the edits' variable, marker, other; the terms' variables
 pub const KINDS: usize = 0;
@@ -75,12 +77,14 @@ pub const TERMS: usize = 544;
 
 pub const BYTES_SIZE: usize = 1312;
 
-// ---- reals: the rows' constants, the variables' old values, the objective along the places; the constraints' strengths, the edits' strengths and suggestions; the terms' coefficients
+// ---- reals: the rows' constants, the variables' old values, the objective along the places, the cutoff of near zero; the constraints' strengths, the edits' strengths and suggestions; the terms' coefficients
 pub const CONSTANTS: usize = 0;
 
 pub const OLD_VALUES: usize = 56;
 
 pub const OBJECTIVE: usize = 87;
+
+pub const CUTOFF: usize = 219;
 
 pub const CONSTRAINT_STRENGTHS: usize = 220;
 

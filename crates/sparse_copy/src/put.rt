@@ -80,6 +80,7 @@ pub fn put_words(to: &mut Words, from: &Words, k: usize, v: usize, c: usize)
     words_part(to, from, sparse::VARIABLE_NUMBERS, v);
     words_part(to, from, sparse::VARIABLE_USES, v);
     words_part(to, from, sparse::CONSTRAINT_NUMBERS, c);
+    words_part(to, from, sparse::CONSTRAINT_GROUPS, c);
 }
 
 pub fn put_names(to: &mut Bytes, from: &Bytes, k: usize, r: usize, v: usize)
@@ -130,6 +131,7 @@ pub fn put_reals(
     reals_part(to, from, sparse::CONSTANTS + 1, r);
     reals_part(to, from, sparse::OLD_VALUES, v);
     reals_part(to, from, sparse::OBJECTIVE + 1, k);
+    reals_part(to, from, sparse::CUTOFF, 1);
     reals_part(to, from, sparse::CONSTRAINT_STRENGTHS, c);
     reals_part(to, from, sparse::EDIT_STRENGTHS, e);
     reals_part(to, from, sparse::SUGGESTIONS, e);

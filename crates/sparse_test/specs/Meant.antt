@@ -6,13 +6,13 @@ use mathlib.Core.Bool.{Bool, true, _&&_, _||_, cond}
 use mathlib.Core.List.{List, map}
 use native.Mathlib.Omega.{arith}
 use lib.Dec.{leb, ltb}
-use lib.Ieee.{isNan}
+use lib.Ieee.{nan, isNan}
 use lib.ListN.{length, getD}
 use borrow.Author.Tests.{leb-true, le-leb, ltb-true, lt-ltb}
 use Rattle.laws.specs.Lists.{listOf, allIn, length-tab}
 use Rattle.layout.specs.Rooms.{both}
 use Rattle.layout.specs.Copied.{length-listOf}
-use Rattle.steps.specs.Number.{isFinite}
+use Rattle.steps.specs.Number.{isFinite, cutoffFits}
 use Rattle.steps.specs.Symbol.{isExternal}
 use Rattle.steps.specs.State.{Variable, Constraint, Edit}
 use Rattle.steps.specs.Readable as steps
@@ -21,7 +21,7 @@ use Rattle.keeps.specs.Clauses.{and3, and4, Clauses, clauses-in, clauses-out}
 use Rattle.places.specs.Finding.{at-all, Apart}
 use Rattle.places.specs.Listed.{join, same, ascend-list}
 use Rattle.places.specs.Shares.{finiteIn}
-use Rattle.sparse.specs.Places.{nextIdAt, idsAt, variableNumbersAt, constraintNumbersAt, kindsAt, rowPlacesAt, variablePlacesAt, changedAt, constraintMarkersAt, constraintOthersAt, termCountsAt, editVariablesAt, editMarkersAt, editOthersAt, termsAt, constantsAt, objectiveAt, constraintStrengthsAt, editStrengthsAt, suggestionsAt, coefficientsAt}
+use Rattle.sparse.specs.Places.{nextIdAt, idsAt, variableNumbersAt, constraintNumbersAt, kindsAt, rowPlacesAt, variablePlacesAt, changedAt, constraintMarkersAt, constraintOthersAt, termCountsAt, editVariablesAt, editMarkersAt, editOthersAt, termsAt, constantsAt, objectiveAt, cutoffAt, constraintStrengthsAt, editStrengthsAt, suggestionsAt, coefficientsAt}
 use Rattle.sparse.specs.Lookup.{Ascends}
 use Rattle.sparse.specs.Sparse.{Sparse, symbolCount, rowCount, cellCount, variableCount, constraintCount, editCount, numberAt, termsFrom, basicOf, basicsOf, variableOf, read}
 use Rattle.sparse.specs.Form.{indexAt, index-named, At}
@@ -34,7 +34,7 @@ use Rattle.sparse_test.specs.Parts.{Parts, parts, joined}
 use Rattle.sparse_test.specs.Injective.{each-list, list-each, both-lists, first-list, second-list, distinct-apart}
 use Rattle.sparse_test.specs.Owners.{IdsUp, Owns, fit-owns, owns-fit, owns-distinct, Placed, placed, all-placed}
 use Rattle.sparse_test.specs.Uses.{NumbersUp, number-is, uses-counted, counted-uses}
-use Rattle.sparse_test.specs.Records.{all-ext, externals-are, constraint-kinds-are, edit-kinds-are, olds-are, constraints-finite-are, edits-finite-are}
+use Rattle.sparse_test.specs.Records.{all-ext, externals-are, constraint-kinds-are, groups-are, edit-kinds-are, olds-are, constraints-finite-are, edits-finite-are}
 use Rattle.sparse_test.specs.Tableau.{ids-in, ordered, orderly, RowsLive, rows-up, rows-live, Clear, no-basic, basic-no}
 use Rattle.sparse_test.specs.Cells.{cells-form, cells-clear, cells-finite, finite-cells, form-keys, form-costs, form-values}
 
@@ -100,6 +100,10 @@ module _ (t : Sparse) where
 
   places-apart : steps.distinct (owners t) ≡ true → Apart (λ j. byte (variablePlacesAt + j)) (variableCount t)
   places-apart h = distinct-apart (λ j. byte (variablePlacesAt + j)) (variableCount t) _ h
+
+  cutoff-is : steps.cutoffInRange (read t) ≡ cutoffFits (getD (t .reals) cutoffAt nan)
+  unfolding steps.cutoffInRange read
+  cutoff-is = refl
 
   -- ---- the code's test gives the state's
 
@@ -194,6 +198,8 @@ module _ (t : Sparse) where
           uses = used .0;
           finite = finite-clause;
           kinds = kinds-clause;
+          cutoff = cutoff-is ∙ p .cutoff;
+          groups = groups-are t ∙ p .groups;
         }))
 
   -- ---- and the state's gives the code's
@@ -293,6 +299,7 @@ module _ (t : Sparse) where
           numbers = f .numbers;
           constraintsUp = sym constraints-up ∙ u .1;
           constraints = f .constraints;
+          groups = sym (groups-are t) ∙ c .groups;
           kinds = f .kinds;
           changed = f .changed;
           termCounts = in-most (t .bytes) termCountsAt (constraintCount t) 16 (few-in t few-of);
@@ -310,6 +317,7 @@ module _ (t : Sparse) where
           editStrengths = ef .0;
           suggestions = ef .1;
           coefficients = cf .1;
+          cutoff = sym cutoff-is ∙ c .cutoff;
           edits = sym edits-up ∙ u .2;
           uses = counted-uses t (numbers-rise numbers) apart (f .counts .variables) named-of (c .uses);
           costs = form-costs t (f .cells) clear;

@@ -9,7 +9,7 @@ use lib.ListN.{getD, replicate}
 use Rattle.laws.specs.Loops.{run}
 use Rattle.laws.specs.Lists.{listOf, allIn, sumIn}
 use Rattle.layout.specs.Layout.{kindOf}
-use Rattle.steps.specs.Number.{isFinite}
+use Rattle.steps.specs.Number.{isFinite, cutoffFits}
 use Rattle.steps.specs.Symbol.{Symbol, absent}
 use Rattle.steps.specs.State.{Tag}
 use Rattle.steps.specs.Tests.{member}
@@ -18,12 +18,12 @@ use Rattle.cells.specs.Names.{rowSpan}
 use Rattle.cells.specs.Cells.{ascendsOf, presentOf}
 use Rattle.places.specs.Finding.{placeIn}
 use Rattle.places.specs.Shares.{Shares, shares, take, noneLeft, stock, finiteIn}
-use Rattle.sparse.specs.Places.{nextIdAt, idsAt, variableNumbersAt, variableUsesAt, constraintNumbersAt, kindsAt, rowPlacesAt, variablePlacesAt, changedAt, constraintMarkersAt, constraintOthersAt, termCountsAt, editVariablesAt, editMarkersAt, editOthersAt, termsAt, constantsAt, oldValuesAt, objectiveAt, constraintStrengthsAt, editStrengthsAt, suggestionsAt, coefficientsAt}
+use Rattle.sparse.specs.Places.{nextIdAt, idsAt, variableNumbersAt, variableUsesAt, constraintNumbersAt, constraintGroupsAt, kindsAt, rowPlacesAt, variablePlacesAt, changedAt, constraintMarkersAt, constraintOthersAt, termCountsAt, editVariablesAt, editMarkersAt, editOthersAt, termsAt, constantsAt, oldValuesAt, objectiveAt, cutoffAt, constraintStrengthsAt, editStrengthsAt, suggestionsAt, coefficientsAt}
 use Rattle.sparse.specs.Sparse.{Sparse, symbolCount, rowCount, cellCount, variableCount, constraintCount, editCount}
-use Rattle.sparse_test.specs.Stretch.{ascendIn, betweenIn, mostIn}
+use Rattle.sparse_test.specs.Stretch.{ascendIn, betweenIn, mostIn, aboveZeroIn}
 use Rattle.sparse_test.specs.Reads.{greatestU32, countsFit}
 
--- ---- words: ids and numbers in order
+-- ---- words: ids and numbers in order, groups
 
 unfoldable pub wordsFit : List ℕ → ℕ → ℕ → ℕ → Bool
 wordsFit w k v c =
@@ -33,6 +33,7 @@ wordsFit w k v c =
     && mostIn w variableNumbersAt v greatestU32
     && ascendIn w constraintNumbersAt c
     && mostIn w constraintNumbersAt c greatestU32
+    && aboveZeroIn w constraintGroupsAt c
 
 -- ---- bytes: kinds, flags, counts of terms; rows' symbols in order
 
@@ -99,7 +100,7 @@ unfoldable pub kindsFit : List ℕ → List Float → ℕ → ℕ → ℕ → Bo
 kindsFit b r v c e =
     externalsIn b v && tagsFit b r constraintStrengthsAt constraintMarkersAt constraintOthersAt c && errorsIn b e && tagsFit b r editStrengthsAt editMarkersAt editOthersAt e
 
--- ---- finite numbers
+-- ---- finite numbers, and a cutoff that reset takes
 
 unfoldable pub oldsFit : List Float → ℕ → Bool
 oldsFit r v = allIn (λ i. isFinite (getD r (oldValuesAt + i) nan) || isNan (getD r (oldValuesAt + i) nan)) 0 v
@@ -114,6 +115,7 @@ realsFit f k r v c e m =
     && finiteIn f editStrengthsAt e
     && finiteIn f suggestionsAt e
     && finiteIn f coefficientsAt m
+    && cutoffFits (getD f cutoffAt nan)
 
 -- ---- variables by the places of their symbols
 

@@ -1,6 +1,7 @@
-// The records' part of the test: kinds, and finite numbers.
+// The records' part of the test: kinds, finite numbers, the cutoff.
 ghost use mathlib.Core.Path.{_≡_};
 ghost use Prim.Native.Nat.{_+_, _≤_};
+ghost use Rattle.steps.specs.Number.{cutoffFits};
 ghost use Rattle.steps.specs.Readable.{tagKinds};
 ghost use Rattle.cells.specs.Names.{lastPlace};
 ghost use Rattle.sparse.specs.Places.{mostRows, mostVariables, mostConstraints, mostTerms, bytesSize, realsSize};
@@ -10,6 +11,9 @@ use crate::stretch::wide;
 use places::old_fits;
 use sparse::Bytes;
 use sparse::Reals;
+
+// The greatest cutoff that reset takes.
+const GREATEST_CUTOFF: f64 = 0.000001;
 
 // The kind of the symbol at a place, of any place that a byte can name.
 fn kind_at(bytes: &Bytes, p: u8) -> u8
@@ -117,6 +121,13 @@ fn olds_fit(reals: &Reals, v: usize) -> bool
     ok
 }
 
+// "above 0 and at most 1E-6": the cutoffs that reset takes. Neither NaN nor an infinity is one.
+pub fn cutoff_fits(cutoff: f64) -> bool
+    ensures { λ r. ⌜ r ≡ cutoffFits cutoff ⌝ }
+{
+    (0.0 < cutoff) & (cutoff <= GREATEST_CUTOFF)
+}
+
 // m terms.
 pub fn reals_fit(reals: &Reals, k: usize, r: usize, v: usize, c: usize, e: usize, m: usize) -> bool
     requires { ⌜ k ≤ lastPlace ⌝ }
@@ -134,4 +145,5 @@ pub fn reals_fit(reals: &Reals, k: usize, r: usize, v: usize, c: usize, e: usize
         & reals_finite(reals, sparse::EDIT_STRENGTHS, e)
         & reals_finite(reals, sparse::SUGGESTIONS, e)
         & reals_finite(reals, sparse::COEFFICIENTS, m)
+        & cutoff_fits(reals[sparse::CUTOFF])
 }

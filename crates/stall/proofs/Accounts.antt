@@ -118,9 +118,9 @@ created b c z = go (chooseSubject c)
 
     without : (n : Bool)
         → Told b (elim n [ true ↦ [] | false ↦ start b c ∷ [] ])
-        (elim n [ false ↦ addWithArtificialVariable b c | true ↦ elim (nearZero (c .row .constant)) [ false ↦ refuse 12 (c .work) | true ↦ addWithSubject (c .tag .marker) c ] ])
+        (elim n [ false ↦ addWithArtificialVariable b c | true ↦ elim (nearZero (c .work .tableau .cutoff) (c .row .constant)) [ false ↦ refuse 12 (c .work) | true ↦ addWithSubject (c .tag .marker) c ] ])
     without false = artificial b c z
-    without true = zeroed (nearZero (c .row .constant))
+    without true = zeroed (nearZero (c .work .tableau .cutoff) (c .row .constant))
 
     go : (o : Option Symbol)
         → Told b (elim o [ some s ↦ [] | none ↦ elim (allDummies c) [ true ↦ [] | false ↦ start b c ∷ [] ] ])
@@ -128,7 +128,7 @@ created b c z = go (chooseSubject c)
           | some s ↦ addWithSubject s c
           | none ↦
               elim (allDummies c)
-              [ false ↦ addWithArtificialVariable b c | true ↦ elim (nearZero (c .row .constant)) [ false ↦ refuse 12 (c .work) | true ↦ addWithSubject (c .tag .marker) c ] ]
+              [ false ↦ addWithArtificialVariable b c | true ↦ elim (nearZero (c .work .tableau .cutoff) (c .row .constant)) [ false ↦ refuse 12 (c .work) | true ↦ addWithSubject (c .tag .marker) c ] ]
         ])
     go (some s) = none-yet b (c .work) (addWithSubject s c) z (subject-quiet s c)
     go none = without (allDummies c)

@@ -37,7 +37,7 @@ into-after s k b = written-after _ (b .work)
 
 pub variables-after : (vs : List Variable) (w : Work) → After w (withVariables vs w)
 unfolding withVariables withChanges
-variables-after vs w = same w (withVariables vs w) refl refl
+variables-after vs w = same w (withVariables vs w) refl refl refl
 
 addVariable-after : (n : ℕ) (b : Building) → After (b .work) (addVariable n b .work)
 unfolding addVariable
@@ -75,10 +75,10 @@ term-after : (t : Term) (b : Building) (skipped : Bool) → Builds b (elim skipp
 term-after t b true = after-refl (b .work)
 term-after t b false = insertTerm-after t b
 
-insertTerms-after : (ts : List Term) (b : Building) → After (b .work) (insertTerms ts b .work)
+insertTerms-after : (cutoff : Float) (ts : List Term) (b : Building) → After (b .work) (insertTerms cutoff ts b .work)
 unfolding insertTerms
-insertTerms-after [] b = after-refl (b .work)
-insertTerms-after (t ∷ ts) b = after-trans (term-after t b (nearZero (t .coefficient))) (insertTerms-after ts _)
+insertTerms-after cutoff [] b = after-refl (b .work)
+insertTerms-after cutoff (t ∷ ts) b = after-trans (term-after t b (nearZero cutoff (t .coefficient))) (insertTerms-after cutoff ts _)
 
 addSymbol-after : (s : Symbol) (k : Float) (b : Building) → After (b .work) (addSymbol s k b .work)
 unfolding addSymbol
@@ -86,7 +86,7 @@ addSymbol-after s k b = after-trans (appendTo-after s b) (into-after (s .id) k _
 
 pub objective-after : (s : ℕ) (k : Float) (w : Work) → After w (insertInObjective s k w)
 unfolding insertInObjective withObjective withTableau marking
-objective-after s k w = record { pivots = refl; mark = worse-first (w .mark) _ }
+objective-after s k w = record { pivots = refl; mark = worse-first (w .mark) _; cutoff = refl }
 
 addError-after : (s : Symbol) (k strength : Float) (b : Building) → After (b .work) (addError s k strength b .work)
 unfolding addError
@@ -113,7 +113,7 @@ addTag-after (equal s) b = equality-after s b (lt s required)
 
 pub createRow-after : (ts : List Term) (k : Float) (r : Relation) (w : Work) → After w (createRow ts k r w .work)
 unfolding createRow
-createRow-after ts k r w = after-trans (after-trans (insertTerms-after ts _) (addTag-after r _)) (reversed _ (belowZero _))
+createRow-after ts k r w = after-trans (after-trans (insertTerms-after (w .tableau .cutoff) ts _) (addTag-after r _)) (reversed _ (belowZero _))
   where
     reversed : (c : Created) (o : Bool) → Creates (c .work) (elim o [ false ↦ c | true ↦ record { work = c .work; row = reverseSign (c .row); tag = c .tag } ])
     reversed c false = after-refl (c .work)

@@ -18,7 +18,7 @@ use Rattle.steps.proofs.AfterAdd.{objective-after, variables-after}
 
 rowObjective-after : (r : Row) (k : Float) (w : Work) → After w (insertRowInObjective r k w)
 unfolding insertRowInObjective withObjective withTableau marking
-rowObjective-after r k w = record { pivots = refl; mark = worse-first (w .mark) _ }
+rowObjective-after r k w = record { pivots = refl; mark = worse-first (w .mark) _; cutoff = refl }
 
 effects-after : (s : Symbol) (strength : Float) (w : Work) → After w (removeMarkerEffects s strength w)
 unfolding removeMarkerEffects
@@ -71,4 +71,4 @@ dropUses-after (t ∷ ts) w = after-trans (dropUse-after t w) (dropUses-after ts
 
 pub shift-after : (tag : Tag) (delta : Float) (w : Work) → After w (shiftConstants tag delta w)
 unfolding shiftConstants marking withChanges withRows withTableau
-shift-after tag delta w = record { pivots = refl; mark = worse-first (w .mark) _ }
+shift-after tag delta w = record { pivots = refl; mark = worse-first (w .mark) _; cutoff = refl }

@@ -82,16 +82,16 @@ addsCreated {lim} g12 g13 g14 g15 c h = go (chooseSubject c)
     zeroed true = addsSubject g13 (c .tag .marker) c h
 
     without : (b : Bool)
-        → Ends lim (Within lim) (elim b [ false ↦ addWithArtificialVariable (lim .budget) c | true ↦ elim (nearZero (c .row .constant)) [ false ↦ refuse 12 (c .work) | true ↦ addWithSubject (c .tag .marker) c ] ])
+        → Ends lim (Within lim) (elim b [ false ↦ addWithArtificialVariable (lim .budget) c | true ↦ elim (nearZero (c .work .tableau .cutoff) (c .row .constant)) [ false ↦ refuse 12 (c .work) | true ↦ addWithSubject (c .tag .marker) c ] ])
     without false = addsArtificial g12 g13 g14 g15 c h
-    without true = zeroed (nearZero (c .row .constant))
+    without true = zeroed (nearZero (c .work .tableau .cutoff) (c .row .constant))
 
     go : (o : Option Symbol)
         → Ends lim (Within lim) (elim o [
           | some s ↦ addWithSubject s c
           | none ↦
               elim (allDummies c)
-              [ false ↦ addWithArtificialVariable (lim .budget) c | true ↦ elim (nearZero (c .row .constant)) [ false ↦ refuse 12 (c .work) | true ↦ addWithSubject (c .tag .marker) c ] ]
+              [ false ↦ addWithArtificialVariable (lim .budget) c | true ↦ elim (nearZero (c .work .tableau .cutoff) (c .row .constant)) [ false ↦ refuse 12 (c .work) | true ↦ addWithSubject (c .tag .marker) c ] ]
         ])
     go (some s) = addsSubject g13 s c h
     go none = without (allDummies c)

@@ -11,7 +11,7 @@ use Rattle.laws.specs.Lists.{tab, tab-ext, listOf}
 use Rattle.layout.specs.Laying.{list-ext}
 use Rattle.cells.specs.Names.{lastPlace, cellRoom}
 use Rattle.cells.specs.Seek.{first-within, first-at}
-use Rattle.sparse.specs.Places.{mostRows, mostVariables, nextIdAt, symbolCountAt, rowCountAt, cellCountAt, variableCountAt, constraintCountAt, editCountAt, shouldClearAt, wholeAt, idsAt, variableNumbersAt, variableUsesAt, constraintNumbersAt, kindsAt, rowPlacesAt, variablePlacesAt, changedAt, constraintMarkersAt, constantsAt, oldValuesAt, objectiveAt, constraintStrengthsAt}
+use Rattle.sparse.specs.Places.{mostRows, mostVariables, nextIdAt, symbolCountAt, rowCountAt, cellCountAt, variableCountAt, constraintCountAt, editCountAt, shouldClearAt, wholeAt, idsAt, variableNumbersAt, variableUsesAt, constraintNumbersAt, kindsAt, rowPlacesAt, variablePlacesAt, changedAt, constraintMarkersAt, constantsAt, oldValuesAt, objectiveAt, cutoffAt, constraintStrengthsAt}
 use Rattle.sparse.specs.Sparse.{Sparse, symbolCount, rowCount, cellCount, variableCount, symbolAt, otherAt, numberAt, variableOf, basicOf, symbolsOf, basicsOf, objectiveOf, read}
 use Rattle.sparse.specs.Repack.{Held}
 use Rattle.sparse.specs.Form.{indexAt, At, Form}
@@ -170,7 +170,7 @@ module _ (w u : Sparse) (o : Own w) (b : Beside w u) where
       let xs : tab (symbolAt u) 1 (symbolCount w) ≡ tab (symbolAt w) 1 (symbolCount w) = tab-ext _ _ 1 (symbolCount w) λ p a c. symbol-beside p (omega (arith, c)) in
       let bs : tab (basicOf u) 1 (rowCount w) ≡ tab (basicOf w) 1 (rowCount w) = tab-ext _ _ 1 (rowCount w) λ p a c. basic-beside p a (omega (arith, c)) in
       let os : tab (λ p. getD (u .reals) (objectiveAt + p) nan) 1 (symbolCount w) ≡ tab (λ p. getD (w .reals) (objectiveAt + p) nan) 1 (symbolCount w) = tab-ext _ _ 1 (symbolCount w) λ p a c. b .reals (objectiveAt + p) (omega (arith, c, k)) in
-      rw (n, s, r, xs, bs, os) refl
+      rw (b .reals cutoffAt (omega arith), n, s, r, xs, bs, os) refl
 
   pub changes-beside : read u .changes ≡ read w .changes
   unfolding read

@@ -27,16 +27,16 @@ abbrev pub lines : List ℕ → List Float → ℕ → List Float → Mark → L
 lines ks vs n rs a = record { keys = ks; vals = vs; size = n; reals = rs; mark = a }
 
 -- the symbol stands at place `at`; the row that is inserted has the constant y and is loose
-module _ (at m : ℕ) (y : Float) (cols : List ℕ) (others : List Float) where
+module _ (cutoff : Float) (at m : ℕ) (y : Float) (cols : List ℕ) (others : List Float) where
   unfoldable pub totalOf : Float → ℕ → List Float → Float
   totalOf k i reals = getD reals (constantsAt + i) nan +₆₄ (y *₆₄ k)
 
   -- line i holds the symbol with k
   unfoldable pub lineWith : Float → ℕ → Lines → Lines
   lineWith k i s =
-      let t : Cells = mergedInto (s .size) i at m k (s .keys) (s .vals) cols others in
+      let t : Cells = mergedInto cutoff (s .size) i at m k (s .keys) (s .vals) cols others in
       lines (t .keys) (t .vals) (t .size) (set (s .reals) (constantsAt + i) (totalOf k i (s .reals)))
-      (worse (s .mark) (worse (markWrite constantBound (totalOf k i (s .reals))) (mergedIntoMark (s .size) i at m cellBound k (s .keys) (s .vals) cols others)))
+      (worse (s .mark) (worse (markWrite constantBound (totalOf k i (s .reals))) (mergedIntoMark cutoff (s .size) i at m cellBound k (s .keys) (s .vals) cols others)))
 
   unfoldable pub heldBy : ℕ → Lines → Float
   heldBy i s = cellAt (s .keys) (s .vals) (s .size) (i * rowSpan + at)
@@ -49,15 +49,15 @@ module _ (at m : ℕ) (y : Float) (cols : List ℕ) (others : List Float) where
 
 -- ---- a turn of the code, over variables
 
-module _ (at m : ℕ) (y : Float) (cols : List ℕ) (others : List Float) (i : ℕ) (ks : List ℕ) (vs : List Float) (n : ℕ) (rs : List Float) (a : Mark) {k : Float} where
-  pub line-none : k ≡ cellAt ks vs n (i * rowSpan + at) → absent k ≡ true → lines ks vs n rs a ≡ lineIn at m y cols others i (lines ks vs n rs a)
+module _ (cutoff : Float) (at m : ℕ) (y : Float) (cols : List ℕ) (others : List Float) (i : ℕ) (ks : List ℕ) (vs : List Float) (n : ℕ) (rs : List Float) (a : Mark) {k : Float} where
+  pub line-none : k ≡ cellAt ks vs n (i * rowSpan + at) → absent k ≡ true → lines ks vs n rs a ≡ lineIn cutoff at m y cols others i (lines ks vs n rs a)
   unfolding lineIn heldBy
   line-none e h = rw (← e, h)
 
   pub line-some : {ks' : List ℕ} {vs' rs' : List Float} {z : ℕ} {w b : Mark} {x : Float} → k ≡ cellAt ks vs n (i * rowSpan + at) → absent k ≡ false → x ≡ getD rs (constantsAt + i) nan +₆₄ (y *₆₄ k)
-      → record { keys = ks'; vals = vs'; size = z } ≡ mergedInto n i at m k ks vs cols others
-      → w ≡ mergedIntoMark n i at m cellBound k ks vs cols others → rs' ≡ set rs (constantsAt + i) x → b ≡ worse a (worse (markWrite constantBound x) w)
-      → lines ks' vs' z rs' b ≡ lineIn at m y cols others i (lines ks vs n rs a)
+      → record { keys = ks'; vals = vs'; size = z } ≡ mergedInto cutoff n i at m k ks vs cols others
+      → w ≡ mergedIntoMark cutoff n i at m cellBound k ks vs cols others → rs' ≡ set rs (constantsAt + i) x → b ≡ worse a (worse (markWrite constantBound x) w)
+      → lines ks' vs' z rs' b ≡ lineIn cutoff at m y cols others i (lines ks vs n rs a)
   unfolding lineIn heldBy lineWith totalOf
   line-some e h q c p r d = rw (← e, h, ← c, ← p, ← q, r, d)
 
@@ -66,14 +66,14 @@ module _ (at m : ℕ) (y : Float) (cols : List ℕ) (others : List Float) (i : �
 abbrev pub HeldIn : ℕ → Lines → Type 0
 HeldIn count s = Held count (s .size) (s .keys) (s .vals)
 
-module _ (at m : ℕ) (y : Float) (cols : List ℕ) (others : List Float) (count i : ℕ) (few : count ≤ mostRows) (first : 1 ≤ i) (last : i ≤ count) where
-  pub held-line : (s : Lines) → HeldIn count s → HeldIn count (lineIn at m y cols others i s)
+module _ (cutoff : Float) (at m : ℕ) (y : Float) (cols : List ℕ) (others : List Float) (count i : ℕ) (few : count ≤ mostRows) (first : 1 ≤ i) (last : i ≤ count) where
+  pub held-line : (s : Lines) → HeldIn count s → HeldIn count (lineIn cutoff at m y cols others i s)
   unfolding lineIn lineWith mergedInto
-  held-line s h = go (absent (heldBy at m y cols others i s))
+  held-line s h = go (absent (heldBy cutoff at m y cols others i s))
     where
-      go : (b : Bool) → HeldIn count (cond b s (lineWith at m y cols others (heldBy at m y cols others i s) i s))
+      go : (b : Bool) → HeldIn count (cond b s (lineWith cutoff at m y cols others (heldBy cutoff at m y cols others i s) i s))
       go true = h
       go false = held-replaced count (s .size) i lastPlace _ (s .keys) (s .vals) h first last (omega arith) (held-room count (s .size) (s .keys) (s .vals) h few)
 
-  pub held-turn : (s : Lines) {t : Lines} → t ≡ lineIn at m y cols others i s → HeldIn count s → HeldIn count t
+  pub held-turn : (s : Lines) {t : Lines} → t ≡ lineIn cutoff at m y cols others i s → HeldIn count s → HeldIn count t
   held-turn s e h = subst (λ (z : Lines). HeldIn count z) (sym e) (held-line s h)

@@ -33,32 +33,32 @@ use Rattle.substituting.specs.Lines.{Lines, heldBy, totalOf, lineWith, l
 unfoldable pub lineOf : ℕ → Lines → ℕ → Row
 lineOf w t q = record { constant = getD (t .reals) (constantsAt + q) nan; cells = rowOf (t .keys) (t .vals) (t .size) w q }
 
-substitute-none : (s : ℕ) (symbols : List Symbol) (other mine : Row) → absent (coefficientFor s symbols (mine .cells)) ≡ true → substituteInRow s symbols other mine ≡ untouched mine
+substitute-none : (cutoff : Float) (s : ℕ) (symbols : List Symbol) (other mine : Row) → absent (coefficientFor s symbols (mine .cells)) ≡ true → substituteInRow cutoff s symbols other mine ≡ untouched mine
 unfolding substituteInRow
-substitute-none s symbols other mine h = rw (h, substituteInRow) refl
+substitute-none cutoff s symbols other mine h = rw (h, substituteInRow) refl
 
 -- s stands at place 1 + j of w; the row that is inserted is loose, and has no cell past them
-module _ (s : ℕ) (symbols : List Symbol) (j w m : ℕ) (y : Float) (cols : List ℕ) (others : List Float) (place : PlaceOf s symbols j) (ls : length symbols ≡ w) (lw : w ≤ lastPlace)
+module _ (cutoff : Float) (s : ℕ) (symbols : List Symbol) (j w m : ℕ) (y : Float) (cols : List ℕ) (others : List Float) (place : PlaceOf s symbols j) (ls : length symbols ≡ w) (lw : w ≤ lastPlace)
     (none : (p : ℕ) → w < p → p ≤ lastPlace → otherCell cols others m p ≡ zero64) where
   abbrev loose : Row
   loose = record { constant = y; cells = rowOf cols others m w 0 }
 
   -- the step on line q
   abbrev pub stepOf : Lines → ℕ → Written
-  stepOf t q = substituteInRow s symbols loose (lineOf w t q)
+  stepOf t q = substituteInRow cutoff s symbols loose (lineOf w t q)
 
   abbrev turn : ℕ → Lines → Lines
-  turn = lineIn (1 + j) m y cols others
+  turn = lineIn cutoff (1 + j) m y cols others
 
   below : j < w
   below = rw ls at (place-below s symbols j place)
 
   module _ (count i : ℕ) (t : Lines) (h : HeldIn count t) (few : count ≤ mostRows) (first : 1 ≤ i) (last : i ≤ count) (long : length (t .reals) ≡ realsSize) where
     abbrev k : Float
-    k = heldBy (1 + j) m y cols others i t
+    k = heldBy cutoff (1 + j) m y cols others i t
 
     abbrev with-k : Lines
-    with-k = lineWith (1 + j) m y cols others k i t
+    with-k = lineWith cutoff (1 + j) m y cols others k i t
 
     held-is : k ≡ coefficientFor s symbols (rowOf (t .keys) (t .vals) (t .size) w i)
     unfolding heldBy rowOf
@@ -79,13 +79,13 @@ module _ (s : ℕ) (symbols : List Symbol) (j w m : ℕ) (y : Float) (cols : Lis
     step-held : absent k ≡ false → (lineOf w with-k i ≡ stepOf t i .row) × (with-k .mark ≡ worse (t .mark) (stepOf t i .mark))
     unfolding lineOf lineWith totalOf
     step-held a =
-        let q = substituted (t .size) i j m w k (t .keys) (t .vals) cols others (h .up) (h .present) room rooms lw s symbols place ls (getD (t .reals) (constantsAt + i) nan) y held-is a none in
-        let c = getD-set-same (t .reals) (constantsAt + i) (totalOf (1 + j) m y cols others k i (t .reals)) nan in-reals in
+        let q = substituted cutoff (t .size) i j m w k (t .keys) (t .vals) cols others (h .up) (h .present) room rooms lw s symbols place ls (getD (t .reals) (constantsAt + i) nan) y held-is a none in
+        let c = getD-set-same (t .reals) (constantsAt + i) (totalOf cutoff (1 + j) m y cols others k i (t .reals)) nan in-reals in
         (rw c (ap (λ (z : Written). z .row) q), ap (λ (z : Written). worse (t .mark) (z .mark)) q)
 
     step-none : absent k ≡ true → stepOf t i ≡ untouched (lineOf w t i)
     unfolding lineOf
-    step-none a = substitute-none s symbols loose (lineOf w t i) (subst (λ (x : Float). absent x ≡ true) held-is a)
+    step-none a = substitute-none cutoff s symbols loose (lineOf w t i) (subst (λ (x : Float). absent x ≡ true) held-is a)
 
     pub line-row : lineOf w (turn i t) i ≡ stepOf t i .row
     unfolding lineIn untouched
@@ -110,7 +110,7 @@ module _ (s : ℕ) (symbols : List Symbol) (j w m : ℕ) (y : Float) (cols : Lis
       where
         go : (b : Bool) → absent k ≡ b → stepOf t i .constantChanged ≡ cond b false (ne (y *₆₄ k) zero64)
         go true a = ap (λ (z : Written). z .constantChanged) (step-none a)
-        go false a = sym (ap (λ (z : Written). z .constantChanged) (substituted (t .size) i j m w k (t .keys) (t .vals) cols others (h .up) (h .present) room rooms lw s symbols place ls (getD (t .reals) (constantsAt + i) nan) y held-is a none))
+        go false a = sym (ap (λ (z : Written). z .constantChanged) (substituted cutoff (t .size) i j m w k (t .keys) (t .vals) cols others (h .up) (h .present) room rooms lw s symbols place ls (getD (t .reals) (constantsAt + i) nan) y held-is a none))
 
     pub line-reals : (q : ℕ) → (q ≡ constantsAt + i → ⊥) → getD (turn i t .reals) q nan ≡ getD (t .reals) q nan
     unfolding lineIn lineWith
@@ -118,7 +118,7 @@ module _ (s : ℕ) (symbols : List Symbol) (j w m : ℕ) (y : Float) (cols : Lis
       where
         go : (b : Bool) → getD (cond b t with-k .reals) q nan ≡ getD (t .reals) q nan
         go true = refl
-        go false = getD-set-other (t .reals) (constantsAt + i) q (totalOf (1 + j) m y cols others k i (t .reals)) nan d
+        go false = getD-set-other (t .reals) (constantsAt + i) q (totalOf cutoff (1 + j) m y cols others k i (t .reals)) nan d
 
     pub line-long : length (turn i t .reals) ≡ realsSize
     unfolding lineIn lineWith
@@ -126,7 +126,7 @@ module _ (s : ℕ) (symbols : List Symbol) (j w m : ℕ) (y : Float) (cols : Lis
       where
         go : (b : Bool) → length (cond b t with-k .reals) ≡ realsSize
         go true = long
-        go false = length-set (t .reals) (constantsAt + i) (totalOf (1 + j) m y cols others k i (t .reals)) ∙ long
+        go false = length-set (t .reals) (constantsAt + i) (totalOf cutoff (1 + j) m y cols others k i (t .reals)) ∙ long
 
     other-cells : (q : ℕ) → (q ≡ i → ⊥) → rowOf (turn i t .keys) (turn i t .vals) (turn i t .size) w q ≡ rowOf (t .keys) (t .vals) (t .size) w q
     unfolding lineIn lineWith mergedInto
@@ -134,7 +134,7 @@ module _ (s : ℕ) (symbols : List Symbol) (j w m : ℕ) (y : Float) (cols : Lis
       where
         go : (b : Bool) → rowOf (cond b t with-k .keys) (cond b t with-k .vals) (cond b t with-k .size) w q ≡ rowOf (t .keys) (t .vals) (t .size) w q
         go true = refl
-        go false = replaced-other (t .size) i lastPlace (mergedRow k (ownIn (t .size) i (1 + j) (t .keys) (t .vals)) (otherCell cols others m)) (t .keys) (t .vals) q w d (omega (arith, lw)) (h .up, omega arith, room, rooms)
+        go false = replaced-other (t .size) i lastPlace (mergedRow cutoff k (ownIn (t .size) i (1 + j) (t .keys) (t .vals)) (otherCell cols others m)) (t .keys) (t .vals) q w d (omega (arith, lw)) (h .up, omega arith, room, rooms)
 
     pub line-other : (q : ℕ) → (q ≡ i → ⊥) → lineOf w (turn i t) q ≡ lineOf w t q
     unfolding lineOf
@@ -160,11 +160,11 @@ module _ (s : ℕ) (symbols : List Symbol) (j w m : ℕ) (y : Float) (cols : Lis
         let o : i + 1 ≡ suc i = omega arith in
         let same : lineOf w t i ≡ lineOf w t₀ i = g .rest i (omega arith) in
         record {
-          held = held-line (1 + j) m y cols others count i few u last t (g .held);
+          held = held-line cutoff (1 + j) m y cols others count i few u last t (g .held);
           done = λ q a b. done q a b (ltb q i) refl;
           rest = λ q b. line-other count i t (g .held) few u last (g .long) q (λ e. omega (arith, e, b)) ∙ g .rest q (omega (arith, b));
           marks = subst (λ (z : ℕ). run marked z (count + 1) (turn i t .mark) ≡ run marked 1 (count + 1) (t₀ .mark)) o
-              (run-next marked i (count + 1) (t .mark) v (line-mark count i t (g .held) few u last (g .long) ∙ ap (λ (r : Row). worse (t .mark) (substituteInRow s symbols loose r .mark)) same) (g .marks));
+              (run-next marked i (count + 1) (t .mark) v (line-mark count i t (g .held) few u last (g .long) ∙ ap (λ (r : Row). worse (t .mark) (substituteInRow cutoff s symbols loose r .mark)) same) (g .marks));
           beyond = λ q b. line-reals count i t (g .held) few u last (g .long) q (λ e. omega (arith, e, b, last)) ∙ g .beyond q b;
           long = line-long count i t (g .held) few u last (g .long);
         }
@@ -176,11 +176,11 @@ module _ (s : ℕ) (symbols : List Symbol) (j w m : ℕ) (y : Float) (cols : Lis
         done q a b false e =
             let z : i ≡ q = omega (arith, b, ltb-false q i e) in
             subst (λ (x : ℕ). lineOf w (turn i t) x ≡ stepOf t₀ x .row) z
-            (line-row count i t (g .held) few u (omega (arith, v)) (g .long) ∙ ap (λ (r : Row). substituteInRow s symbols loose r .row) (g .rest i (omega arith)))
+            (line-row count i t (g .held) few u (omega (arith, v)) (g .long) ∙ ap (λ (r : Row). substituteInRow cutoff s symbols loose r .row) (g .rest i (omega arith)))
 
     module _ (h : HeldIn count t₀) (long₀ : length (t₀ .reals) ≡ realsSize) where
       abbrev t₁ : Lines
-      t₁ = linesIn (1 + j) m y cols others count t₀
+      t₁ = linesIn cutoff (1 + j) m y cols others count t₀
 
       going : Going (count + 1) t₁
       unfolding linesIn

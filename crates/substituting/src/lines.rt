@@ -25,6 +25,7 @@ use sparse::Values;
 
 // The cells of line i, and its constant, which gets y times the line's cell.
 fn substitute_line(
+    cutoff: f64,
     keys: &mut Keys,
     values: &mut Values,
     n: usize,
@@ -47,7 +48,7 @@ fn substitute_line(
     requires { ⌜ m ≤ rowRoom ⌝ }
     requires { ⌜ Held count n (now keys) (now values) ⌝ }
     requires { ⌜ RunOf (now cols) 0 0 m ⌝ }
-    ensures { λ r. ⌜ lines (now (keys .exit)) (now (values .exit)) (r .size) (now (reals .exit)) (markOf (r .wrote)) ≡ lineIn at m y (now (cols .entry)) (now (others .entry)) i (lines (now (keys .entry)) (now (values .entry)) n (now (reals .entry)) (markOf before)) ⌝ }
+    ensures { λ r. ⌜ lines (now (keys .exit)) (now (values .exit)) (r .size) (now (reals .exit)) (markOf (r .wrote)) ≡ lineIn cutoff at m y (now (cols .entry)) (now (others .entry)) i (lines (now (keys .entry)) (now (values .entry)) n (now (reals .entry)) (markOf before)) ⌝ }
 {
     let k = cell(keys, values, n, i as u16 * ROW_SPAN + at as u16);
     if k == 0.0 {
@@ -59,7 +60,20 @@ fn substitute_line(
     let place = CONSTANTS + i as usize;
     let total = reals[place] + y * k;
     reals[place] = total;
-    let r = merge_row(keys, values, n, i, at, cols, others, m, k, fresh, sums);
+    let r = merge_row(
+        cutoff,
+        keys,
+        values,
+        n,
+        i,
+        at,
+        cols,
+        others,
+        m,
+        k,
+        fresh,
+        sums,
+    );
     let size = r.size;
     let w = r.wrote;
     let c = mark_write(CONSTANT_BOUND, total);
@@ -71,6 +85,7 @@ fn substitute_line(
 
 // In the lines 1 to `count`.
 pub fn substitute_lines(
+    cutoff: f64,
     keys: &mut Keys,
     values: &mut Values,
     n: usize,
@@ -89,13 +104,14 @@ pub fn substitute_lines(
     requires { ⌜ m ≤ rowRoom ⌝ }
     requires { ⌜ Held count n (now keys) (now values) ⌝ }
     requires { ⌜ RunOf (now cols) 0 0 m ⌝ }
-    ensures { λ r. ⌜ lines (now (keys .exit)) (now (values .exit)) (r .size) (now (reals .exit)) (markOf (r .wrote)) ≡ linesIn at m y (now (cols .entry)) (now (others .entry)) count (lines (now (keys .entry)) (now (values .entry)) n (now (reals .entry)) allWhole) ⌝ }
+    ensures { λ r. ⌜ lines (now (keys .exit)) (now (values .exit)) (r .size) (now (reals .exit)) (markOf (r .wrote)) ≡ linesIn cutoff at m y (now (cols .entry)) (now (others .entry)) count (lines (now (keys .entry)) (now (values .entry)) n (now (reals .entry)) allWhole) ⌝ }
 {
     let mut size = n;
     let mut w = nothing();
     let mut i: u8 = 1;
     while i <= count {
         let r = substitute_line(
+            cutoff,
             keys,
             values,
             size,

@@ -20,21 +20,22 @@ use sparse::OBJECTIVE;
 use sparse::Reals;
 
 // The cell at place p gets o times k; an absent o is passed over.
-pub fn insert_at(reals: &mut Reals, p: usize, o: f64, k: f64, before: Wrote) -> Wrote
+pub fn insert_at(cutoff: f64, reals: &mut Reals, p: usize, o: f64, k: f64, before: Wrote) -> Wrote
     requires { ⌜ p ≤ lastPlace ⌝ }
-    ensures { λ r. ⌜ markOf r ≡ insertedMark objectiveBound k (markOf before) (getD (now (reals .entry)) (objectiveAt + p) nan) o ⌝ }
-    ensures { λ _. ⌜ now (reals .exit) ≡ set (now (reals .entry)) (objectiveAt + p) (insertedValue k (getD (now (reals .entry)) (objectiveAt + p) nan) o) ⌝ }
+    ensures { λ r. ⌜ markOf r ≡ insertedMark cutoff objectiveBound k (markOf before) (getD (now (reals .entry)) (objectiveAt + p) nan) o ⌝ }
+    ensures { λ _. ⌜ now (reals .exit) ≡ set (now (reals .entry)) (objectiveAt + p) (insertedValue cutoff k (getD (now (reals .entry)) (objectiveAt + p) nan) o) ⌝ }
 {
     if o == 0.0 {
         return before;
     }
-    let c = insert_cell(reals[OBJECTIVE + p], o * k);
+    let c = insert_cell(cutoff, reals[OBJECTIVE + p], o * k);
     reals[OBJECTIVE + p] = cell_value(c);
     mark_cell(OBJECTIVE_BOUND, before, c)
 }
 
 // "Substitute s: s's cell k goes, then insert row times k.": s stands at place `at`, the row is dense along `width` places.
 pub fn substitute_objective(
+    cutoff: f64,
     reals: &mut Reals,
     at: usize,
     row: &[f64; ROW_ROOM],
@@ -42,7 +43,7 @@ pub fn substitute_objective(
 ) -> Wrote
     requires { ⌜ at ≤ lastPlace ⌝ }
     requires { ⌜ width ≤ lastPlace ⌝ }
-    ensures { λ r. ⌜ aim (now (reals .exit)) (markOf r) ≡ objectiveIn at width (now (row .entry)) (now (reals .entry)) ⌝ }
+    ensures { λ r. ⌜ aim (now (reals .exit)) (markOf r) ≡ objectiveIn cutoff at width (now (row .entry)) (now (reals .entry)) ⌝ }
 {
     let k = reals[OBJECTIVE + at];
     if k == 0.0 {
@@ -52,7 +53,7 @@ pub fn substitute_objective(
     let mut w = nothing();
     let mut p = 1;
     while p <= width {
-        w = insert_at(reals, p, row[p], k, w);
+        w = insert_at(cutoff, reals, p, row[p], k, w);
         p += 1;
     }
     w

@@ -21,7 +21,7 @@ use Rattle.keeps.specs.Fits.{FitsW}
 use Rattle.keeps.specs.Suggest.{shift-fits}
 use Rattle.rows.specs.Marks.{markOf, worse-unit}
 use Rattle.rows.specs.declared.number.Wrote.{Wrote}
-use Rattle.sparse.specs.Places.{nextIdAt, symbolCountAt, rowCountAt, cellCountAt, variableCountAt, shouldClearAt, rowPlacesAt, constantsAt, oldValuesAt, objectiveAt}
+use Rattle.sparse.specs.Places.{nextIdAt, symbolCountAt, rowCountAt, cellCountAt, variableCountAt, shouldClearAt, rowPlacesAt, constantsAt, oldValuesAt, objectiveAt, cutoffAt}
 use Rattle.sparse.specs.Sparse.{Sparse, symbolCount, rowCount, cellCount, variableCount, symbolAt, variableOf, basicOf, symbolsOf, basicsOf, objectiveOf, read}
 use Rattle.cells.specs.Names.{lastPlace}
 use Rattle.substituting.specs.Notes.{noted}
@@ -136,6 +136,9 @@ module _ (art : Bool) (d : Drag) (t : Sparse) (so : Sound art t) (a : Mark) wher
   unfolding objectiveOf
   objective-is = let f = so .few in rw symbol-count (tab-ext _ (λ p. getD (t .reals) (objectiveAt + p) nan) 1 (symbolCount t) λ p b c. real (objectiveAt + p) (omega (arith, f)))
 
+  cutoff-is : getD (u .reals) cutoffAt nan ≡ getD (t .reals) cutoffAt nan
+  cutoff-is = let f = so .few in real cutoffAt (omega (arith, f))
+
   artificial-is : artificialOf art u ≡ artificialOf art t
   unfolding artificialOf
   artificial-is =
@@ -168,7 +171,7 @@ module _ (art : Bool) (d : Drag) (t : Sparse) (so : Sound art t) (a : Mark) wher
   unfolding marking withChanges withRows withTableau
   shift-reads v =
       work-parts art (s .mark) v u
-      ∙ rw (symbols-are, word nextIdAt (λ e. omega (arith, e)), rows-are, objective-is, changes-are, artificial-is, mark-is) refl
+      ∙ rw (cutoff-is, symbols-are, word nextIdAt (λ e. omega (arith, e)), rows-are, objective-is, changes-are, artificial-is, mark-is) refl
       ∙ sym (ap (λ (w : Work). marking (marksOf rows) (withChanges (allChanged (notedOf rows) (read t .changes)) (withRows (rowsOf rows) w))) (work-parts art a v t))
 
   shift-sound : Sound art u

@@ -7,6 +7,7 @@ use mathlib.Core.List.{List, [], _∷_, _++_, append-assoc, append-nil}
 use native.Mathlib.Nat.{sub-zero}
 use native.Mathlib.Omega.{arith}
 use lib.Dec.{leb}
+use lib.Ieee.{Float}
 use lib.ListN.{length}
 use borrow.Author.Tests.{leb-true}
 use Rattle.steps.specs.Number.{nearZero}
@@ -31,32 +32,32 @@ pub terms-length : (p : Pack) → length (termsOf p) ≡ most16 (p .count)
 unfolding termsOf listOf
 terms-length p = length-tab (λ j. termOf (termIn p j)) 0 (most16 (p .count))
 
-none-kept : keptTerms [] ≡ []
+none-kept : (cutoff : Float) → keptTerms cutoff [] ≡ []
 unfolding keptTerms
-none-kept = refl
+none-kept cutoff = refl
 
-kept-cons : (t : steps.Term) (ts : List steps.Term) → keptTerms (t ∷ ts) ≡ keptTerms (t ∷ []) ++ keptTerms ts
+kept-cons : (cutoff : Float) (t : steps.Term) (ts : List steps.Term) → keptTerms cutoff (t ∷ ts) ≡ keptTerms cutoff (t ∷ []) ++ keptTerms cutoff ts
 unfolding keptTerms
-kept-cons t ts = go (nearZero (t .coefficient))
+kept-cons cutoff t ts = go (nearZero cutoff (t .coefficient))
   where
-    go : (b : Bool) → elim b [ true ↦ keptTerms ts | false ↦ t ∷ keptTerms ts ] ≡ elim b [ true ↦ [] | false ↦ t ∷ [] ] ++ keptTerms ts
+    go : (b : Bool) → elim b [ true ↦ keptTerms cutoff ts | false ↦ t ∷ keptTerms cutoff ts ] ≡ elim b [ true ↦ [] | false ↦ t ∷ [] ] ++ keptTerms cutoff ts
     go true = refl
     go false = refl
 
-module _ (p : Pack) where
+module _ (cutoff : Float) (p : Pack) where
   abbrev term : ℕ → steps.Term
   term j = termOf (termIn p j)
 
   abbrev keeps : ℕ → Pack → Pack
-  keeps j q = pushedKept q (termIn p j)
+  keeps j q = pushedKept cutoff q (termIn p j)
 
   -- what a turn gives: a pack with room for n terms more, which reads as the list
   abbrev Holds : ℕ → List steps.Term → Pack → Type 0
   Holds n l q = (Sized q) × (q .count + n ≤ 16) × (termsOf q ≡ l)
 
-  kept-turn : (j n : ℕ) (q : Pack) (l : List steps.Term) → Holds (suc n) l q → Holds n (l ++ keptTerms (term j ∷ [])) (keeps j q)
+  kept-turn : (j n : ℕ) (q : Pack) (l : List steps.Term) → Holds (suc n) l q → Holds n (l ++ keptTerms cutoff (term j ∷ [])) (keeps j q)
   unfolding pushedKept keptTerms termOf
-  kept-turn j n q l (s, c, e) = go (nearZero (termIn p j .coefficient))
+  kept-turn j n q l (s, c, e) = go (nearZero cutoff (termIn p j .coefficient))
     where
       go : (b : Bool) → Holds n (l ++ (elim b [ true ↦ [] | false ↦ term j ∷ [] ])) (cond b q (pushed q (termIn p j)))
       go true = (s, omega arith, e ∙ sym (append-nil l))
@@ -67,16 +68,16 @@ module _ (p : Pack) where
             terms-pushed q (termIn p j) (omega arith) s ∙ ap (λ (m : List steps.Term). m ++ (term j ∷ [])) e,
           )
 
-  kept-from : (n i : ℕ) (q : Pack) (l : List steps.Term) → Holds n l q → Holds 0 (l ++ keptTerms (tab term i n)) (turns keeps n i q)
+  kept-from : (n i : ℕ) (q : Pack) (l : List steps.Term) → Holds n l q → Holds 0 (l ++ keptTerms cutoff (tab term i n)) (turns keeps n i q)
   unfolding turns tab
-  kept-from zero i q l h = rw (none-kept, append-nil l) h
+  kept-from zero i q l h = rw (none-kept cutoff, append-nil l) h
   kept-from (suc n) i q l h =
-      rw (kept-cons (term i) (tab term (suc i) n), ← append-assoc l (keptTerms (term i ∷ [])) (keptTerms (tab term (suc i) n)))
-      (kept-from n (suc i) (keeps i q) (l ++ keptTerms (term i ∷ [])) (kept-turn i n q l h))
+      rw (kept-cons cutoff (term i) (tab term (suc i) n), ← append-assoc l (keptTerms cutoff (term i ∷ [])) (keptTerms cutoff (tab term (suc i) n)))
+      (kept-from n (suc i) (keeps i q) (l ++ keptTerms cutoff (term i ∷ [])) (kept-turn i n q l h))
 
-  kept-holds : Holds 0 (keptTerms (termsOf p)) (keptOf p)
+  kept-holds : Holds 0 (keptTerms cutoff (termsOf p)) (keptOf cutoff p)
   unfolding keptOf run termsOf listOf
   kept-holds = rw (sub-zero (most16 (p .count))) (kept-from (most16 (p .count)) 0 noPack [] (none-sized, few-none (most16 (p .count)) (most-le (p .count)), none-terms))
 
-  pub kept-terms : termsOf (keptOf p) ≡ keptTerms (termsOf p)
+  pub kept-terms : termsOf (keptOf cutoff p) ≡ keptTerms cutoff (termsOf p)
   kept-terms = kept-holds .2

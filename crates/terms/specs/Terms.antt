@@ -4,7 +4,7 @@ use mathlib.Core.Bool.{Bool, true, _&&_, cond}
 use mathlib.Core.List.{List, [], _∷_, _++_, map}
 use lib.Dec.{leb, ltb}
 use lib.ListN.{getD, set, replicate}
-use lib.Ieee.{nan}
+use lib.Ieee.{Float, nan}
 use Rattle.steps.specs.Number.{zero64, nearZero, isFinite}
 use Rattle.steps.specs.State as steps
 use Rattle.laws.specs.Loops.{run}
@@ -56,12 +56,12 @@ termsOf p = listOf (most16 (p .count)) λ j. termOf (termIn p j)
 -- ---- over a pack
 
 -- one term more, if it is "not near zero"
-unfoldable pub pushedKept : Pack → Term → Pack
-pushedKept p t = cond (nearZero (t .coefficient)) p (pushed p t)
+unfoldable pub pushedKept : Float → Pack → Term → Pack
+pushedKept cutoff p t = cond (nearZero cutoff (t .coefficient)) p (pushed p t)
 
 -- the terms of a pack that are not near zero
-unfoldable pub keptOf : Pack → Pack
-keptOf p = run (λ j q. pushedKept q (termIn p j)) 0 (most16 (p .count)) noPack
+unfoldable pub keptOf : Float → Pack → Pack
+keptOf cutoff p = run (λ j q. pushedKept cutoff q (termIn p j)) 0 (most16 (p .count)) noPack
 
 -- ---- the list that any pack stands for, one filled by hand too
 

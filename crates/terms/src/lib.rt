@@ -93,10 +93,10 @@ pub fn shown(p: Pack) -> usize
     if n <= 16 { n } else { 16 }
 }
 
-fn push_kept(p: Pack, t: Term) -> Pack
-    ensures { λ r. ⌜ r ≡ pushedKept p t ⌝ }
+fn push_kept(cutoff: f64, p: Pack, t: Term) -> Pack
+    ensures { λ r. ⌜ r ≡ pushedKept cutoff p t ⌝ }
 {
-    if rows::number::near_zero(t.coefficient) {
+    if rows::number::near_zero(cutoff, t.coefficient) {
         p
     } else {
         push(p, t)
@@ -104,15 +104,15 @@ fn push_kept(p: Pack, t: Term) -> Pack
 }
 
 // The terms that are not near zero.
-pub fn kept(p: Pack) -> Pack
-    ensures { λ r. ⌜ r ≡ keptOf p ⌝ }
+pub fn kept(cutoff: f64, p: Pack) -> Pack
+    ensures { λ r. ⌜ r ≡ keptOf cutoff p ⌝ }
 {
     let n = shown(p);
     let mut q = none();
     let mut i = 0;
     while i < n {
         let t = packed(p, i);
-        q = push_kept(q, t);
+        q = push_kept(cutoff, q, t);
         i += 1;
     }
     q

@@ -6,6 +6,7 @@ use mathlib.Core.Option.{Option, none, some}
 use lib.Dec.{eqb}
 use lib.Ieee.{Float}
 use lib.ListN.{length}
+use Rattle.steps.specs.Number.{usualCutoff}
 use Rattle.steps.specs.State.{Term, Relation, atMost, equal, atLeast}
 use Rattle.steps.specs.Session.{Call, resets, adds, removes, addsEdit, removesEdit, suggests, valueOf, fetches, hasConstraints, hasEdits, creates, clips}
 use Rattle.text.specs.declared.digits.Whole.{Whole}
@@ -50,16 +51,17 @@ ofReals NoReal b c w = none
 
 -- ---- lines of one word to five
 
--- "reset", "fetch"
+-- "`reset` alone takes 1E-8", "fetch"
 unfoldable pub oneWord : List ℕ → Option Call
-oneWord name = cond (sameBytes name resetName) (some resets) (cond (sameBytes name fetchName) (some fetches) none)
+oneWord name = cond (sameBytes name resetName) (some (resets usualCutoff)) (cond (sameBytes name fetchName) (some fetches) none)
 
--- "value V        hascon C        hasedit V", "clip S"
+-- "value V        hascon C        hasedit V", "clip S", "reset CUTOFF"
 unfoldable pub twoWords : List ℕ → List ℕ → Option Call
 twoWords name a =
     cond (sameBytes name valueName) (ofId valueOf (idOf a))
     (cond (sameBytes name hasconName) (ofId hasConstraints (idOf a))
-    (cond (sameBytes name haseditName) (ofId hasEdits (idOf a)) (cond (sameBytes name clipName) (ofReal clips (floatOf a)) none)))
+    (cond (sameBytes name haseditName) (ofId hasEdits (idOf a))
+    (cond (sameBytes name clipName) (ofReal clips (floatOf a)) (cond (sameBytes name resetName) (ofReal resets (floatOf a)) none))))
 
 -- "remove C BUDGET", "removeedit V BUDGET"
 unfoldable pub threeWords : List ℕ → List ℕ → List ℕ → Option Call

@@ -8,7 +8,7 @@ use native.Mathlib.Omega.{arith}
 use lib.ListN.{length, drop}
 use lib.Ieee.{Float}
 use Rattle.steps.specs.State as steps
-use Rattle.steps.specs.Session.{Call, valueOf, hasConstraints, hasEdits, clips, removes, removesEdit, addsEdit, suggests}
+use Rattle.steps.specs.Session.{Call, resets, valueOf, hasConstraints, hasEdits, clips, removes, removesEdit, addsEdit, suggests}
 use Rattle.steps.specs.State.{Term}
 use Rattle.text.specs.declared.floats.Id.{Id}
 use Rattle.text.specs.declared.floats.Id.the-variants.{Is32, No32}
@@ -130,9 +130,9 @@ module _ where
   of-id f h (Is32 n) = h n
   of-id f h No32 = refl
 
-  of-clip : (x : Real) → asTerms (ofReal clips x) ≡ noPack
-  of-clip (Number x) = refl
-  of-clip NoReal = refl
+  of-real : (f : Float → Call) → ((x : Float) → asTerms (some (f x)) ≡ noPack) → (x : Real) → asTerms (ofReal f x) ≡ noPack
+  of-real f h (Number x) = h x
+  of-real f h NoReal = refl
 
   of-id-budget : (f : ℕ → ℕ → Call) → ((n b : ℕ) → asTerms (some (f n b)) ≡ noPack) → (i : Id) (b : Budget) → asTerms (ofIdBudget f i b) ≡ noPack
   of-id-budget f h (Is32 n) (Is16 b) = h n b
@@ -159,7 +159,8 @@ no-terms (name ∷ []) h = either (sameBytes name resetName) _ _ refl (either (s
 no-terms (name ∷ a ∷ []) h =
     either (sameBytes name valueName) _ _ (of-id valueOf (λ n. refl) (idOf a))
     (either (sameBytes name hasconName) _ _ (of-id hasConstraints (λ n. refl) (idOf a))
-    (either (sameBytes name haseditName) _ _ (of-id hasEdits (λ n. refl) (idOf a)) (either (sameBytes name clipName) _ _ (of-clip (floatOf a)) refl)))
+    (either (sameBytes name haseditName) _ _ (of-id hasEdits (λ n. refl) (idOf a))
+    (either (sameBytes name clipName) _ _ (of-real clips (λ x. refl) (floatOf a)) (either (sameBytes name resetName) _ _ (of-real resets (λ x. refl) (floatOf a)) refl))))
 no-terms (name ∷ a ∷ b ∷ []) h =
     either (sameBytes name removeName) _ _ (of-id-budget removes (λ n b. refl) (idOf a) (budgetOf b))
     (either (sameBytes name removeeditName) _ _ (of-id-budget removesEdit (λ n b. refl) (idOf a) (budgetOf b)) refl)

@@ -43,7 +43,7 @@ asRelated none = NoRelation
 
 abbrev pub asCall : Option session.Call → Call
 asCall none = Bad
-asCall (some resets) = Reset
+asCall (some (resets x)) = Reset x
 asCall (some (adds n ts k r b)) = Change (Add n k (asRelation r)) b
 asCall (some (removes n b)) = Change (Remove n) b
 asCall (some (addsEdit v x b)) = Change (AddEdit v x) b
@@ -83,7 +83,7 @@ packedFrom t (some ts) = packed true (packFrom t (map asTerm ts))
 
 abbrev pub asTerms : Option session.Call → Pack
 asTerms none = noPack
-asTerms (some resets) = noPack
+asTerms (some (resets x)) = noPack
 asTerms (some (adds n ts k r b)) = packOf (map asTerm ts)
 asTerms (some (removes n b)) = noPack
 asTerms (some (addsEdit v x b)) = noPack

@@ -1,6 +1,6 @@
 // What the words of a line must be for each call.
 ghost use mathlib.Core.Path.{_≡_};
-ghost use Rattle.steps.specs.Session.{valueOf, hasConstraints, hasEdits, clips, removes, removesEdit, addsEdit, suggests};
+ghost use Rattle.steps.specs.Session.{resets, valueOf, hasConstraints, hasEdits, clips, removes, removesEdit, addsEdit, suggests};
 ghost use Rattle.text.specs.Format.{ofId, ofReal, ofIdBudget, ofEdit, ofReals, relationOf};
 ghost use Rattle.text.specs.Lines.{asCall, asRelated, headOf};
 use crate::digits;
@@ -10,6 +10,9 @@ use crate::floats::Real;
 use changes::Change;
 use tags::Relation;
 use terms::Pack;
+
+// 1E-8: what `reset` alone takes.
+pub const USUAL_CUTOFF: f64 = 0.00000001;
 
 pub enum Related {
     By(Relation),
@@ -27,7 +30,8 @@ pub enum Query {
 
 // Every call of document 01. Bad is a line that is no call.
 pub enum Call {
-    Reset,
+    // the cutoff
+    Reset(f64),
     // the budget
     Change(Change, u16),
     Ask(Query),
@@ -45,6 +49,15 @@ pub enum Head {
 pub struct Line {
     pub call: Call,
     pub terms: Pack,
+}
+
+pub fn reset_call(cutoff: Real) -> Call
+    ensures { λ r. ⌜ r ≡ asCall (ofReal resets cutoff) ⌝ }
+{
+    match cutoff {
+        Real::Number(x) => Call::Reset(x),
+        Real::NoReal => Call::Bad,
+    }
 }
 
 pub fn value_call(v: Id) -> Call

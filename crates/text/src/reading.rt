@@ -22,7 +22,7 @@ fn read_one(s: &[u8]) -> Call
 {
     let name = words::word_at(s, 0);
     if digits::same(name, b"reset") {
-        return Call::Reset;
+        return Call::Reset(calls::USUAL_CUTOFF);
     }
     if digits::same(name, b"fetch") {
         return Call::Fetch;
@@ -46,6 +46,9 @@ fn read_two(s: &[u8]) -> Call
     }
     if digits::same(name, b"clip") {
         return calls::clip_call(floats::float_word(a));
+    }
+    if digits::same(name, b"reset") {
+        return calls::reset_call(floats::float_word(a));
     }
     Call::Bad
 }

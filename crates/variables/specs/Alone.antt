@@ -13,7 +13,7 @@ use Rattle.steps.specs.State.{Variable, Changes}
 use Rattle.steps.specs.Work.{Work, withChanges}
 use Rattle.steps.specs.CreateRow.{withVariables}
 use Rattle.keeps.specs.Fits.{FitsW}
-use Rattle.sparse.specs.Places.{mostRows, mostVariables, nextIdAt, symbolCountAt, rowCountAt, cellCountAt, variableCountAt, shouldClearAt, idsAt, variableNumbersAt, kindsAt, rowPlacesAt, variablePlacesAt, constantsAt, oldValuesAt, objectiveAt}
+use Rattle.sparse.specs.Places.{mostRows, mostVariables, nextIdAt, symbolCountAt, rowCountAt, cellCountAt, variableCountAt, shouldClearAt, idsAt, variableNumbersAt, kindsAt, rowPlacesAt, variablePlacesAt, constantsAt, oldValuesAt, objectiveAt, cutoffAt}
 use Rattle.sparse.specs.Sparse.{Sparse, symbolCount, rowCount, cellCount, variableCount, symbolAt, basicOf, symbolsOf, basicsOf, objectiveOf, read}
 use Rattle.cells.specs.Names.{lastPlace}
 use Rattle.substituting.specs.Named.{Named}
@@ -90,7 +90,7 @@ module _ (t u : Sparse) (k : VariablesAlone t u) where
     unfolding withChanges
     work-alone a v =
         work-parts art a v u
-        ∙ rw (symbols-same, k .words nextIdAt (omega arith) (λ e. omega (arith, e)), basics-same, objective-same, artificial-same) refl
+        ∙ rw (k .high cutoffAt (omega arith), symbols-same, k .words nextIdAt (omega arith) (λ e. omega (arith, e)), basics-same, objective-same, artificial-same) refl
         ∙ sym (ap (withChanges (read u .changes)) (work-parts art a v t))
 
     named-after : Live u → Named (u .words) (u .bytes)

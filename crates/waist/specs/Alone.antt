@@ -12,7 +12,7 @@ use Rattle.laws.specs.Lists.{listOf, tab-ext}
 use Rattle.steps.specs.Number.{Mark}
 use Rattle.steps.specs.State.{Basic, Variable}
 use Rattle.steps.specs.Work.{withTableau, withRows}
-use Rattle.sparse.specs.Places.{nextIdAt, symbolCountAt, rowCountAt, cellCountAt, variableCountAt, shouldClearAt, idsAt, variableNumbersAt, variableUsesAt, kindsAt, rowPlacesAt, variablePlacesAt, changedAt, oldValuesAt, objectiveAt}
+use Rattle.sparse.specs.Places.{nextIdAt, symbolCountAt, rowCountAt, cellCountAt, variableCountAt, shouldClearAt, idsAt, variableNumbersAt, variableUsesAt, kindsAt, rowPlacesAt, variablePlacesAt, changedAt, oldValuesAt, objectiveAt, cutoffAt}
 use Rattle.sparse.specs.Sparse.{Sparse, symbolCount, variableCount, symbolAt, variableOf, symbolsOf, basicsOf, objectiveOf, read}
 use Rattle.cells.specs.Names.{lastPlace}
 use Rattle.substituting.specs.Notes.{noted}
@@ -85,5 +85,5 @@ module _ (t u : Sparse) (n : Named (t .words) (t .bytes)) (k : RowsAlone t u) wh
   unfolding withRows withTableau
   work-alone art a v e f =
       work-parts art a v u
-      ∙ rw (symbols-alone, k .words nextIdAt (λ e. omega (arith, e)) (λ e. omega (arith, e)), f, objective-alone, changes-alone, e) refl
+      ∙ rw (k .reals cutoffAt (omega arith), symbols-alone, k .words nextIdAt (λ e. omega (arith, e)) (λ e. omega (arith, e)), f, objective-alone, changes-alone, e) refl
       ∙ sym (ap (withRows _) (work-parts art a v t))

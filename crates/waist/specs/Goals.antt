@@ -27,14 +27,14 @@ use Rattle.keeps.specs.Leaving.{fits-objective, symbol-objective}
 use Rattle.rows.specs.declared.number.Wrote.{Wrote}
 use Rattle.rows.specs.Marks.{markOf, join, joined-mark}
 use Rattle.rows.specs.Place.{PlaceOf, insert-values, insert-marks}
-use Rattle.sparse.specs.Places.{constantsAt, oldValuesAt, objectiveAt, realsSize}
+use Rattle.sparse.specs.Places.{constantsAt, oldValuesAt, objectiveAt, cutoffAt, realsSize}
 use Rattle.sparse.specs.Sparse.{Sparse, symbolCount, rowCount, cellCount, variableCount, symbolAt, variableOf, basicOf, symbolsOf, basicsOf, objectiveOf, read}
 use Rattle.sparse.specs.Widths.{objective-wide}
 use Rattle.cells.specs.Names.{rowRoom}
 use Rattle.cells.specs.Cells.{loaded, rowOf}
 use Rattle.cells.specs.Load.{loaded-reads}
 use Rattle.substituting.specs.Objective.{Aim, aim, aimTurn, objectiveAlong, aim-cells, aim-marks, aim-beyond, aim-long}
-use Rattle.waist.specs.Working.{sparse, artificialOf, workOf, work-parts, linesOf, Sound, live-place}
+use Rattle.waist.specs.Working.{sparse, artificialOf, workOf, cutoffOf, work-parts, linesOf, Sound, live-place}
 use Rattle.waist.specs.Owning.{Owners}
 use Rattle.waist.specs.Dropping.{Free}
 use Rattle.waist.specs.LivePlaces.{not-basic}
@@ -43,6 +43,7 @@ use Rattle.waist.specs.Standing.{Standing, Makes}
 -- the reals but for the objective stay
 pub record GoalAlone (r s : List Float) : Type 0 where
   pub below : (q : ℕ) → q ≤ objectiveAt → getD s q nan ≡ getD r q nan
+  pub cutoff : getD s cutoffAt nan ≡ getD r cutoffAt nan
   pub long : length s ≡ realsSize
 
 module _ (art : Bool) (t : Sparse) (so : Sound art t) (s : List Float) (k : GoalAlone (t .reals) s) where
@@ -77,7 +78,7 @@ module _ (art : Bool) (t : Sparse) (so : Sound art t) (s : List Float) (k : Goal
   unfolding marking withObjective withTableau
   goal-reads a m v {o} e =
       work-parts art (worse a m) v u
-      ∙ rw (symbols-are, rows-are, changes-are, artificial-is, e) refl
+      ∙ rw (k .cutoff, symbols-are, rows-are, changes-are, artificial-is, e) refl
       ∙ sym (ap (λ (w : Work). marking m (withObjective o w)) (work-parts art a v t))
 
   goal-sound : Sound art u
@@ -105,13 +106,13 @@ set-tab g h x (suc n) i (suc j) l e f =
 
 -- the cell at place p gets k
 unfoldable pub symbolGoal : ℕ → Float → List Float → List Float
-symbolGoal p k r = set r (objectiveAt + p) (cellValue (insertCell (getD r (objectiveAt + p) nan) k))
+symbolGoal p k r = set r (objectiveAt + p) (cellValue (insertCell (getD r cutoffAt nan) (getD r (objectiveAt + p) nan) k))
 
 unfoldable pub symbolGoalMark : ℕ → Float → List Float → Mark
-symbolGoalMark p k r = cellMark objectiveBound (insertCell (getD r (objectiveAt + p) nan) k)
+symbolGoalMark p k r = cellMark objectiveBound (insertCell (getD r cutoffAt nan) (getD r (objectiveAt + p) nan) k)
 
 -- the calls of the code, over variables
-pub symbol-by : (p : ℕ) (k : Float) (r : List Float) (m : Mark) {l : Cell} {x : Float} {n : Mark} → l ≡ insertCell (getD r (objectiveAt + p) nan) k → x ≡ cellValue l → n ≡ worse m (cellMark objectiveBound l)
+pub symbol-by : (p : ℕ) (k : Float) (r : List Float) (m : Mark) {l : Cell} {x : Float} {n : Mark} → l ≡ insertCell (getD r cutoffAt nan) (getD r (objectiveAt + p) nan) k → x ≡ cellValue l → n ≡ worse m (cellMark objectiveBound l)
     → (n ≡ worse m (symbolGoalMark p k r)) × (set r (objectiveAt + p) x ≡ symbolGoal p k r)
 unfolding symbolGoal symbolGoalMark
 symbol-by p k r m e f g = (g ∙ rw e refl, rw (f, e) refl)
@@ -120,11 +121,14 @@ module _ (art : Bool) (t : Sparse) (so : Sound art t) (j : ℕ) (live : j < symb
   abbrev id : ℕ
   id = symbolAt t (1 + j) .id
 
+  abbrev cutoff : Float
+  cutoff = cutoffOf t
+
   abbrev r : List Float
   r = symbolGoal (1 + j) k (t .reals)
 
   abbrev cells : List Cell
-  cells = insertSymbol id k (symbolsOf t) (objectiveOf t)
+  cells = insertSymbol cutoff id k (symbolsOf t) (objectiveOf t)
 
   place : PlaceOf id (symbolsOf t) j
   place = live-place t (so .named) j live
@@ -137,6 +141,7 @@ module _ (art : Bool) (t : Sparse) (so : Sound art t) (j : ℕ) (live : j < symb
   unfolding symbolGoal
   alone = record {
     below = λ q a. getD-set-other (t .reals) (objectiveAt + (1 + j)) q _ nan (λ e. omega (arith, e, a));
+    cutoff = let f = so .named .few-symbols in getD-set-other (t .reals) (objectiveAt + (1 + j)) cutoffAt _ nan (λ e. omega (arith, e, live, f));
     long = length-set (t .reals) (objectiveAt + (1 + j)) _ ∙ so .long;
   }
 
@@ -145,14 +150,14 @@ module _ (art : Bool) (t : Sparse) (so : Sound art t) (j : ℕ) (live : j < symb
   objective-is =
       let l = so .long in
       let f = so .named .few-symbols in
-      set-tab (λ p. getD (t .reals) (objectiveAt + p) nan) (λ p. getD r (objectiveAt + p) nan) (cellValue (insertCell (getD (t .reals) (objectiveAt + (1 + j)) nan) k)) (symbolCount t) 1 j live
+      set-tab (λ p. getD (t .reals) (objectiveAt + p) nan) (λ p. getD r (objectiveAt + p) nan) (cellValue (insertCell cutoff (getD (t .reals) (objectiveAt + (1 + j)) nan) k)) (symbolCount t) 1 j live
       (getD-set-same (t .reals) (objectiveAt + (1 + j)) _ nan (omega (arith, l, f, live)))
       (λ q d. getD-set-other (t .reals) (objectiveAt + (1 + j)) (objectiveAt + q) _ nan (λ z. d (omega (arith, z))))
-      ∙ sym (insert-values id k (symbolsOf t) j (objectiveOf t) nan place (objective-wide t) ∙ rw old refl)
+      ∙ sym (insert-values cutoff id k (symbolsOf t) j (objectiveOf t) nan place (objective-wide t) ∙ rw old refl)
 
   mark-is : symbolGoalMark (1 + j) k (t .reals) ≡ cellMarks objectiveBound cells
   unfolding symbolGoalMark
-  mark-is = sym (insert-marks id k objectiveBound (symbolsOf t) j (objectiveOf t) nan place (objective-wide t) ∙ rw old refl)
+  mark-is = sym (insert-marks cutoff id k objectiveBound (symbolsOf t) j (objectiveOf t) nan place (objective-wide t) ∙ rw old refl)
 
   step-is : (a : Mark) (v : ℕ) → insertInObjective id k (workOf art a v t) ≡ marking (cellMarks objectiveBound cells) (withObjective (cellValues cells) (workOf art a v t))
   unfolding insertInObjective workOf read
@@ -178,7 +183,7 @@ symbol-in-objective art t p k before r s low high free e m =
 
 -- the cells of a dense row times k
 unfoldable pub rowGoal : ℕ → Float → List Float → List Float → Aim
-rowGoal w k row r = run (aimTurn k row) 1 (w + 1) (aim r allWhole)
+rowGoal w k row r = run (aimTurn (getD r cutoffAt nan) k row) 1 (w + 1) (aim r allWhole)
 
 all-tab : {A : Type 0} (P : A → Type 0) (g : ℕ → A) (k m i : ℕ) → m ≤ i → i < m + k → All P (tab g m k) → P (g i)
 unfolding tab
@@ -193,33 +198,34 @@ row-fits : (row : Row) (k : Float) (w : Work) → FitsW w → RowOk (IsBasic (w 
 unfolding insertRowInObjective marking withObjective withTableau
 row-fits row k w f h =
     fits-objective f (cellValues cells) (cellMarks objectiveBound cells)
-    (cells-inserted (IsBasic (w .tableau .rows)) (Fine (w .mark)) (Fine (worse (w .mark) (cellMarks objectiveBound cells))) (fine-l (w .mark) _)
+    (cells-inserted (w .tableau .cutoff) (IsBasic (w .tableau .rows)) (Fine (w .mark)) (Fine (worse (w .mark) (cellMarks objectiveBound cells))) (fine-l (w .mark) _)
     (w .tableau .symbols) objectiveBound k (row .cells) (w .tableau .objective) (h .1) (f .objective) (fine-r (w .mark) _))
   where
     cells : List Cell
-    cells = insertCells k (row .cells) (w .tableau .objective)
+    cells = insertCells (w .tableau .cutoff) k (row .cells) (w .tableau .objective)
 
 module _ (art : Bool) (t : Sparse) (so : Sound art t) (i : ℕ) (low : 1 ≤ i) (high : i ≤ rowCount t) (k : Float) (row : List Float) (loads : tab (λ p. getD row p nan) 1 (symbolCount t) ≡ rowOf (t .keys) (t .values) (cellCount t) (symbolCount t) i) where
   abbrev g : Aim
   g = rowGoal (symbolCount t) k row (t .reals)
 
   abbrev sums : List Cell
-  sums = insertCells k (basicOf t i .row .cells) (objectiveOf t)
+  sums = insertCells (cutoffOf t) k (basicOf t i .row .cells) (objectiveOf t)
 
   row-alone : GoalAlone (t .reals) (g .reals)
   unfolding rowGoal
   row-alone = record {
-    below = λ q a. aim-beyond k (symbolCount t) row (t .reals) (so .named .few-symbols) (so .long) q (λ p b c e. omega (arith, a, b, e));
-    long = aim-long k (symbolCount t) row (t .reals) (so .named .few-symbols) (so .long);
+    below = λ q a. aim-beyond (cutoffOf t) k (symbolCount t) row (t .reals) (so .named .few-symbols) (so .long) q (λ p b c e. omega (arith, a, b, e));
+    cutoff = let f = so .named .few-symbols in aim-beyond (cutoffOf t) k (symbolCount t) row (t .reals) f (so .long) cutoffAt (λ p b c e. omega (arith, c, e, f));
+    long = aim-long (cutoffOf t) k (symbolCount t) row (t .reals) (so .named .few-symbols) (so .long);
   }
 
   row-objective-is : objectiveOf (u art t so (g .reals) row-alone) ≡ cellValues sums
   unfolding objectiveOf rowGoal objectiveAlong basicOf
-  row-objective-is = aim-cells k (symbolCount t) row (t .reals) (so .named .few-symbols) (so .long) ∙ rw loads refl
+  row-objective-is = aim-cells (cutoffOf t) k (symbolCount t) row (t .reals) (so .named .few-symbols) (so .long) ∙ rw loads refl
 
   row-mark-is : g .mark ≡ cellMarks objectiveBound sums
   unfolding objectiveOf rowGoal basicOf
-  row-mark-is = aim-marks k (symbolCount t) row (t .reals) (so .named .few-symbols) (so .long) ∙ rw loads refl
+  row-mark-is = aim-marks (cutoffOf t) k (symbolCount t) row (t .reals) (so .named .few-symbols) (so .long) ∙ rw loads refl
 
   row-step-is : (a : Mark) (v : ℕ) → insertRowInObjective (basicOf t i .row) k (workOf art a v t) ≡ marking (cellMarks objectiveBound sums) (withObjective (cellValues sums) (workOf art a v t))
   unfolding insertRowInObjective workOf read

@@ -21,7 +21,7 @@ use Rattle.keeps.specs.Fits.{FitsW}
 use Rattle.keeps.specs.Building.{append-fits}
 use Rattle.layout.specs.Layout.{kindOf}
 use Rattle.choose.specs.Walk.{tab-snoc}
-use Rattle.sparse.specs.Places.{nextIdAt, symbolCountAt, rowCountAt, cellCountAt, variableCountAt, shouldClearAt, idsAt, variableNumbersAt, variableUsesAt, kindsAt, rowPlacesAt, variablePlacesAt, changedAt, constantsAt, oldValuesAt, objectiveAt}
+use Rattle.sparse.specs.Places.{nextIdAt, symbolCountAt, rowCountAt, cellCountAt, variableCountAt, shouldClearAt, idsAt, variableNumbersAt, variableUsesAt, kindsAt, rowPlacesAt, variablePlacesAt, changedAt, constantsAt, oldValuesAt, objectiveAt, cutoffAt}
 use Rattle.sparse.specs.Sparse.{Sparse, symbolCount, rowCount, cellCount, variableCount, symbolAt, variableOf, basicOf, symbolsOf, basicsOf, objectiveOf, read}
 use Rattle.cells.specs.Names.{rowSpan, lastPlace}
 use Rattle.cells.specs.Cells.{cellAt, rowOf}
@@ -243,7 +243,7 @@ module _ (kind : ℕ) (t : Sparse) (so : Sound false t) (fit : symbolCount t < l
     grow-reads a v =
         let s : 1 + nextId t ≡ suc (nextId t) = omega arith in
         work-parts false a v u
-        ∙ rw (symbols-are, next-is, s, basics-are, objective-is, changes-are, no-artificial) refl
+        ∙ rw (real cutoffAt (λ e. omega (arith, e, fit)), symbols-are, next-is, s, basics-are, objective-is, changes-are, no-artificial) refl
         ∙ sym (ap (λ (w : Work). appendSymbol (newSymbol (kindOf kind) w) w) (work-parts false a v t))
 
   -- ---- the tables stand

@@ -34,7 +34,7 @@ use Rattle.cells.specs.Load.{loaded-reads}
 use Rattle.merging.specs.Merge.{Placed}
 use Rattle.merging.specs.Substituted.{settled-absent, settled-stored, settled-insert, cell-settled}
 use Rattle.substituting.specs.Loose.{SettledRow}
-use Rattle.waist.specs.Working.{workOf, dense-cells, Sound, live-place, id-at, basic-symbol}
+use Rattle.waist.specs.Working.{workOf, cutoffOf, dense-cells, Sound, live-place, id-at, basic-symbol}
 use Rattle.waist.specs.Owning.{Kept, kept-then}
 use Rattle.waist.specs.Dropping.{Free, Drops}
 use Rattle.waist.specs.Entering.{Later, later-then, later-alone, later-symbol, later-count, Enters}
@@ -67,19 +67,19 @@ clear-fine s (x ∷ xs) (c ∷ cs) h = go (isSymbol s x) (clear-fine s xs cs (h 
     go true r = (settled-absent zero64 zero-absent, h .1)
     go false r = (h .0, r)
 
-insert-fine : (s : ℕ) (k : Float) (xs : List Symbol) (cs : List Float) → Every Fine cs → Every Fine (cellValues (insertSymbol s k xs cs))
+insert-fine : (cutoff : Float) (s : ℕ) (k : Float) (xs : List Symbol) (cs : List Float) → Every Fine cs → Every Fine (cellValues (insertSymbol cutoff s k xs cs))
 unfolding Every insertSymbol cellValues cellValue
-insert-fine s k [] cs h = tt
-insert-fine s k (x ∷ xs) [] h = tt
-insert-fine s k (x ∷ xs) (c ∷ cs) h = (go (isSymbol s x), insert-fine s k xs cs (h .1))
+insert-fine cutoff s k [] cs h = tt
+insert-fine cutoff s k (x ∷ xs) [] h = tt
+insert-fine cutoff s k (x ∷ xs) (c ∷ cs) h = (go (isSymbol s x), insert-fine cutoff s k xs cs (h .1))
   where
-    go : (b : Bool) → Fine (cellValue (elim b [ true ↦ insertCell c k | false ↦ kept c ]))
-    go true = settled-insert c k (h .0)
+    go : (b : Bool) → Fine (cellValue (elim b [ true ↦ insertCell cutoff c k | false ↦ kept c ]))
+    go true = settled-insert cutoff c k (h .0)
     go false = h .0
 
-solved-fine : (l e : ℕ) (symbols : List Symbol) (r : Row) → Every Fine (r .cells) → Every Fine (solveForSymbols l e symbols r .row .cells)
+solved-fine : (cutoff : Float) (l e : ℕ) (symbols : List Symbol) (r : Row) → Every Fine (r .cells) → Every Fine (solveForSymbols cutoff l e symbols r .row .cells)
 unfolding solveForSymbols solveForSymbol insertSymbolInRow
-solved-fine l e symbols r h = scale-fine _ _ (clear-fine e symbols _ (insert-fine l minusOne64 symbols (r .cells) h))
+solved-fine cutoff l e symbols r h = scale-fine _ _ (clear-fine e symbols _ (insert-fine cutoff l minusOne64 symbols (r .cells) h))
 
 -- ---- the row of a basic symbol is found
 
@@ -97,11 +97,11 @@ find-at s g i t (suc k) m a b f = go (ltb m i) refl (λ l. find-at s g i t k (su
 pub loaded-set : (x : Float) {z l : List Float} → z ≡ l → set z 0 x ≡ set l 0 x
 loaded-set x e = ap (λ (y : List Float). set y 0 x) e
 
-pub placed-row : (x y q p w : ℕ) (row r : List Float) → x ≡ q → y ≡ p → r ≡ solveForSymbolsIn x y w row → r ≡ solveForSymbolsIn q p w row
-placed-row x y q p w row r e f h = rw (← e, ← f) h
+pub placed-row : (cutoff : Float) (x y q p w : ℕ) (row r : List Float) → x ≡ q → y ≡ p → r ≡ solveForSymbolsIn cutoff x y w row → r ≡ solveForSymbolsIn cutoff q p w row
+placed-row cutoff x y q p w row r e f h = rw (← e, ← f) h
 
-pub placed-mark : (x y q p w : ℕ) (row : List Float) (m : Mark) → x ≡ q → y ≡ p → m ≡ solveForSymbolsMark x y w row → m ≡ solveForSymbolsMark q p w row
-placed-mark x y q p w row m e f h = rw (← e, ← f) h
+pub placed-mark : (cutoff : Float) (x y q p w : ℕ) (row : List Float) (m : Mark) → x ≡ q → y ≡ p → m ≡ solveForSymbolsMark cutoff x y w row → m ≡ solveForSymbolsMark cutoff q p w row
+placed-mark cutoff x y q p w row m e f h = rw (← e, ← f) h
 
 -- "Pivot": row i leaves, the symbol at place p enters
 pub record Pivots (art : Bool) (i p : ℕ) (t u : Sparse) (m : Mark) : Type 0 where
@@ -119,6 +119,9 @@ module _ (art : Bool) (i p : ℕ) (t : Sparse) (so : Sound art t) (low : 1 ≤ i
     (row₀ row₁ row₂ : List Float) (lr : length row₀ ≡ rowRoom) (m₁ : Mark) (e₁ : row₁ ≡ set (loaded (cellCount t) i (symbolCount t) (t .keys) (t .values) row₀) 0 (getD (t .reals) (constantsAt + i) nan)) (l₁ : length row₁ ≡ rowRoom) where
   abbrev w : ℕ
   w = symbolCount t
+
+  abbrev cutoff : Float
+  cutoff = cutoffOf t
 
   abbrev q : ℕ
   q = getD (t .bytes) (rowPlacesAt + i) 0
@@ -155,17 +158,17 @@ module _ (art : Bool) (i p : ℕ) (t : Sparse) (so : Sound art t) (low : 1 ≤ i
       subst (λ (z : ℕ). PlaceOf (symbolAt t z .id) symbols (x - 1)) o (live-place t (so .named) (x - 1) (omega (arith, a, b)))
 
   abbrev solved : Written
-  solved = solveForSymbols l (symbolAt t p .id) symbols (basicOf t i .row)
+  solved = solveForSymbols cutoff l (symbolAt t p .id) symbols (basicOf t i .row)
 
-  module _ (e₂ : row₂ ≡ solveForSymbolsIn q p w row₁) (f₂ : m₁ ≡ solveForSymbolsMark q p w row₁) where
+  module _ (e₂ : row₂ ≡ solveForSymbolsIn cutoff q p w row₁) (f₂ : m₁ ≡ solveForSymbolsMark cutoff q p w row₁) where
     solved-is : dense.writtenOf (dense.rowOf w row₂) false m₁ ≡ solved
     solved-is =
         let v = live in
         let n = narrow in
         let a : 1 + (q - 1) ≡ q = omega (arith, v) in
         let b : 1 + (p - 1) ≡ p = omega (arith, low₁) in
-        let s : dense.writtenOf (dense.rowOf w (solveForSymbolsIn (1 + (q - 1)) (1 + (p - 1)) w row₁)) false (solveForSymbolsMark (1 + (q - 1)) (1 + (p - 1)) w row₁) ≡ solveForSymbols l (symbolAt t p .id) symbols (dense.rowOf w row₁) =
-        dense.solve-both-read l (symbolAt t p .id) symbols (q - 1) (p - 1) w row₁ (place q (v .0) (v .1)) (place p low₁ high₁) (symbols-read t) (omega (arith, n, l₁)) in
+        let s : dense.writtenOf (dense.rowOf w (solveForSymbolsIn cutoff (1 + (q - 1)) (1 + (p - 1)) w row₁)) false (solveForSymbolsMark cutoff (1 + (q - 1)) (1 + (p - 1)) w row₁) ≡ solveForSymbols cutoff l (symbolAt t p .id) symbols (dense.rowOf w row₁) =
+        dense.solve-both-read cutoff l (symbolAt t p .id) symbols (q - 1) (p - 1) w row₁ (place q (v .0) (v .1)) (place p low₁ high₁) (symbols-read t) (omega (arith, n, l₁)) in
         rw (e₂, f₂) ((rw (a, b) at s) ∙ rw row-is refl)
 
     before-fine : Every Fine (basicOf t i .row .cells)
@@ -177,7 +180,7 @@ module _ (art : Bool) (i p : ℕ) (t : Sparse) (so : Sound art t) (low : 1 ≤ i
 
     after-fine : Every Fine (cellsOf w row₂)
     unfolding dense.rowOf
-    after-fine = subst (λ (z : Written). Every Fine (z .row .cells)) (sym solved-is) (solved-fine l (symbolAt t p .id) symbols (basicOf t i .row) before-fine)
+    after-fine = subst (λ (z : Written). Every Fine (z .row .cells)) (sym solved-is) (solved-fine cutoff l (symbolAt t p .id) symbols (basicOf t i .row) before-fine)
 
     pub solved-settled : SettledRow w row₂
     solved-settled x a b =

@@ -248,7 +248,7 @@ module _ (p : ℕ) (t u : Sparse) (gl : Closing p t u) (so : Sound false t) (low
   unfolding withTableau
   reads a v =
       work-parts false a v u
-      ∙ rw (symbols-are, gl .head nextIdAt (λ e. omega (arith, e)) (λ e. omega (arith, e)) (omega arith), basics-are, objective-is, changes-are, no-artificial) refl
+      ∙ rw (gl .cutoff, symbols-are, gl .head nextIdAt (λ e. omega (arith, e)) (λ e. omega (arith, e)) (omega arith), basics-are, objective-is, changes-are, no-artificial) refl
       ∙ sym (ap (cutWork id) (work-parts false a v t))
 
   -- ---- the tables can be worked on further

@@ -12,7 +12,7 @@ use Rattle.laws.specs.Loops.{mapIn}
 use Rattle.laws.specs.Places.{length-mapIn, mapIn-at, mapIn-before, mapIn-after}
 use Rattle.moves.specs.Close.{closed}
 use Rattle.moves.specs.Moved.{closed-before, closed-inside, closed-after, length-closed}
-use Rattle.sparse.specs.Places.{symbolCountAt, cellCountAt, idsAt, variableNumbersAt, kindsAt, rowPlacesAt, variablePlacesAt, changedAt, objectiveAt}
+use Rattle.sparse.specs.Places.{symbolCountAt, cellCountAt, idsAt, variableNumbersAt, kindsAt, rowPlacesAt, variablePlacesAt, changedAt, objectiveAt, cutoffAt}
 use Rattle.sparse.specs.Sparse.{Sparse, symbolCount, rowCount, cellCount, variableCount}
 use Rattle.cells.specs.Names.{lastPlace}
 use Rattle.cells.specs.Cells.{Cells}
@@ -46,6 +46,7 @@ pub record Closing (p : ℕ) (t u : Sparse) : Type 0 where
   pub wide : length (u .bytes) ≡ length (t .bytes)
   pub reals : (q : ℕ) → q < objectiveAt + p → getD (u .reals) q nan ≡ getD (t .reals) q nan
   pub objective : (q : ℕ) → p ≤ q → q < symbolCount t → getD (u .reals) (objectiveAt + q) nan ≡ getD (t .reals) (objectiveAt + suc q) nan
+  pub cutoff : getD (u .reals) cutoffAt nan ≡ getD (t .reals) cutoffAt nan
   pub reals-long : length (u .reals) ≡ length (t .reals)
 
 module _ (p : ℕ) (t : Sparse) (so : Sound false t) (low : 1 ≤ p) (high : p ≤ symbolCount t) where
@@ -191,6 +192,10 @@ module _ (p : ℕ) (t : Sparse) (so : Sound false t) (low : 1 ≤ p) (high : p �
       let e : suc (objectiveAt + q) ≡ objectiveAt + suc q = omega arith in
       rw e at (closed-inside nan (objectiveAt + p) (objectiveAt + k) (t .reals) (omega (arith, high)) reals-room nan (objectiveAt + q) (omega (arith, a)) (omega (arith, b)))
 
+  cutoff-after : getD (u .reals) cutoffAt nan ≡ getD (t .reals) cutoffAt nan
+  unfolding closedIn
+  cutoff-after = let h = narrow in closed-after nan (objectiveAt + p) (objectiveAt + k) (t .reals) (omega (arith, high)) reals-room nan cutoffAt (omega (arith, h))
+
   words-long : length (u .words) ≡ length (t .words)
   unfolding closedIn
   words-long = length-set (set w₁ symbolCountAt (k - 1)) cellCountAt (c .size) ∙ long₂
@@ -229,5 +234,6 @@ module _ (p : ℕ) (t : Sparse) (so : Sound false t) (low : 1 ≤ p) (high : p �
     wide = bytes-wide;
     reals = real-before;
     objective = real-inside;
+    cutoff = cutoff-after;
     reals-long = reals-same;
   }

@@ -68,21 +68,21 @@ pub row-line-count : (t : Sparse) → linesOf false t ≡ rowCount t
 unfolding linesOf
 row-line-count t = refl
 
-pub rows-tab : (s : ℕ) (symbols : List Symbol) (other : Row) (g : ℕ → Basic) (f : ℕ → Substituted) → ((i : ℕ) → f i ≡ record { symbol = g i .symbol; written = substituteInRow s symbols other (g i .row) })
-    → (k i : ℕ) → substituteInRows s symbols other (tab g i k) ≡ tab f i k
+pub rows-tab : (cutoff : Float) (s : ℕ) (symbols : List Symbol) (other : Row) (g : ℕ → Basic) (f : ℕ → Substituted) → ((i : ℕ) → f i ≡ record { symbol = g i .symbol; written = substituteInRow cutoff s symbols other (g i .row) })
+    → (k i : ℕ) → substituteInRows cutoff s symbols other (tab g i k) ≡ tab f i k
 unfolding substituteInRows tab
-rows-tab s symbols other g f e zero i = refl
-rows-tab s symbols other g f e (suc k) i = rw (e i) (ap (λ (x : List Substituted). record { symbol = g i .symbol; written = substituteInRow s symbols other (g i .row) } ∷ x) (rows-tab s symbols other g f e k (suc i)))
+rows-tab cutoff s symbols other g f e zero i = refl
+rows-tab cutoff s symbols other g f e (suc k) i = rw (e i) (ap (λ (x : List Substituted). record { symbol = g i .symbol; written = substituteInRow cutoff s symbols other (g i .row) } ∷ x) (rows-tab cutoff s symbols other g f e k (suc i)))
 
 pub marks-whole : (m n o : Mark) (b : Bool) → worse (cond b (worse m n) m) o ≡ worse m (worse o (cond b n allWhole))
 marks-whole m n o true = worse-assoc m n o ∙ ap (worse m) (worse-comm n o)
 marks-whole m n o false = ap (worse m) (sym (worse-unit o))
 
-pub steps-whole : (s : ℕ) (symbols : List Symbol) (other : Row) (next : ℕ) (rows : List Basic) (objective : List Float) (c : Changes) (x : Row) (a : Mark) (v : ℕ) (b : Bool)
-    → substitute s other (work symbols next rows objective c (cond b (some x) none) a v)
-    ≡ work symbols next (rowsOf (substituteInRows s symbols other rows)) (cellValues (substituteInCells s symbols (other .cells) objective)) (allChanged (notedOf (substituteInRows s symbols other rows)) c)
-    (cond b (some (substituteInRow s symbols other x .row)) none)
-    (worse a (worse (marksOf (substituteInRows s symbols other rows)) (worse (cellMarks objectiveBound (substituteInCells s symbols (other .cells) objective)) (cond b (substituteInRow s symbols other x .mark) allWhole)))) v
+pub steps-whole : (cutoff : Float) (s : ℕ) (symbols : List Symbol) (other : Row) (next : ℕ) (rows : List Basic) (objective : List Float) (c : Changes) (x : Row) (a : Mark) (v : ℕ) (b : Bool)
+    → substitute s other (work cutoff symbols next rows objective c (cond b (some x) none) a v)
+    ≡ work cutoff symbols next (rowsOf (substituteInRows cutoff s symbols other rows)) (cellValues (substituteInCells cutoff s symbols (other .cells) objective)) (allChanged (notedOf (substituteInRows cutoff s symbols other rows)) c)
+    (cond b (some (substituteInRow cutoff s symbols other x .row)) none)
+    (worse a (worse (marksOf (substituteInRows cutoff s symbols other rows)) (worse (cellMarks objectiveBound (substituteInCells cutoff s symbols (other .cells) objective)) (cond b (substituteInRow cutoff s symbols other x .mark) allWhole)))) v
 unfolding substitute withTableau withRows withObjective withArtificial withChanges marking
-steps-whole s symbols other next rows objective c x a v true = refl
-steps-whole s symbols other next rows objective c x a v false = refl
+steps-whole cutoff s symbols other next rows objective c x a v true = refl
+steps-whole cutoff s symbols other next rows objective c x a v false = refl

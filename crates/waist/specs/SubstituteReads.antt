@@ -21,7 +21,7 @@ use Rattle.steps.specs.Changes.{allChanged}
 use Rattle.steps.specs.Substitute.{substituteInRow, substituteInCells, Substituted, substituteInRows, rowsOf, marksOf, notedOf, substitute}
 use Rattle.rows.specs.Place.{PlaceOf}
 use Rattle.rows.specs.Reading as dense
-use Rattle.sparse.specs.Places.{mostRows, mostVariables, nextIdAt, symbolCountAt, rowCountAt, cellCountAt, variableCountAt, shouldClearAt, idsAt, variableNumbersAt, variableUsesAt, kindsAt, rowPlacesAt, variablePlacesAt, changedAt, constantsAt, oldValuesAt, objectiveAt, constraintStrengthsAt, realsSize}
+use Rattle.sparse.specs.Places.{mostRows, mostVariables, nextIdAt, symbolCountAt, rowCountAt, cellCountAt, variableCountAt, shouldClearAt, idsAt, variableNumbersAt, variableUsesAt, kindsAt, rowPlacesAt, variablePlacesAt, changedAt, constantsAt, oldValuesAt, objectiveAt, cutoffAt, constraintStrengthsAt, realsSize}
 use Rattle.sparse.specs.Sparse.{Sparse, symbolCount, rowCount, cellCount, variableCount, symbolAt, variableOf, basicOf, symbolsOf, basicsOf, objectiveOf, read}
 use Rattle.sparse.specs.Widths.{symbols-read}
 use Rattle.cells.specs.Names.{rowSpan, lastPlace}
@@ -34,7 +34,7 @@ use Rattle.substituting.specs.Notes.{Noted, noted, changes, noteRows}
 use Rattle.substituting.specs.Named.{Named, NotesKept, named-kept}
 use Rattle.substituting.specs.NotesRead.{noteIn, steppedRow, notes-read, notes-kept}
 use Rattle.substituting.specs.Held.{Held}
-use Rattle.waist.specs.Working.{artificialOf, workOf, work, work-parts, linesOf, lines-same, dense-cells, Sound, named-words, lines-few, rows-lines, live-place, basic-symbol}
+use Rattle.waist.specs.Working.{artificialOf, workOf, cutoffOf, work, work-parts, linesOf, lines-same, dense-cells, Sound, named-words, lines-few, rows-lines, live-place, basic-symbol}
 use Rattle.waist.specs.Owning.{Inside, Kept, Low, owners-by, low-rows}
 use Rattle.waist.specs.Within.{lines-within}
 use Rattle.waist.specs.Stepping.{marks-from, marks-last, line-count, row-line-count, rows-tab, marks-whole, steps-whole}
@@ -53,6 +53,9 @@ module _ (art : Bool) (j : ℕ) (row : List Float) (t : Sparse) (so : Sound art 
   abbrev y : Float
   y = getD row 0 nan
 
+  abbrev cutoff : Float
+  cutoff = cutoffOf t
+
   abbrev id : ℕ
   id = symbolAt t (1 + j) .id
 
@@ -63,10 +66,10 @@ module _ (art : Bool) (j : ℕ) (row : List Float) (t : Sparse) (so : Sound art 
   l₀ = lines (t .keys) (t .values) (cellCount t) (t .reals) allWhole
 
   abbrev l₁ : Lines
-  l₁ = linesIn (1 + j) m y cols others count l₀
+  l₁ = linesIn cutoff (1 + j) m y cols others count l₀
 
   abbrev o : Aim
-  o = objectiveIn (1 + j) w row (l₁ .reals)
+  o = objectiveIn cutoff (1 + j) w row (l₁ .reals)
 
   abbrev s : Noted
   s = noteRows (1 + j) y (cellCount t) (t .keys) (t .values) r (noted (t .words) (t .bytes))
@@ -91,11 +94,11 @@ module _ (art : Bool) (j : ℕ) (row : List Float) (t : Sparse) (so : Sound art 
   few = lines-few art t so
 
   step : ℕ → Written
-  step = stepOf id symbols j w m y cols others place (symbols-read t) narrow past l₀
+  step = stepOf cutoff id symbols j w m y cols others place (symbols-read t) narrow past l₀
 
   changed : (i : ℕ) → 1 ≤ i → i ≤ r → step i .constantChanged ≡ changes (cellAt (t .keys) (t .values) (cellCount t) (i * rowSpan + (1 + j))) y
   unfolding step heldBy
-  changed i a b = let c = rows-lines art t in step-changed id symbols j w m y cols others place (symbols-read t) narrow past count i l₀ (so .held) few a (omega (arith, b, c)) (so .long)
+  changed i a b = let c = rows-lines art t in step-changed cutoff id symbols j w m y cols others place (symbols-read t) narrow past count i l₀ (so .held) few a (omega (arith, b, c)) (so .long)
 
   rows-short : rowPlacesAt + r < changedAt
   rows-short = let f = so .few in omega (arith, f)
@@ -126,11 +129,21 @@ module _ (art : Bool) (j : ℕ) (row : List Float) (t : Sparse) (so : Sound art 
   -- ---- lines
 
   long₁ : length (l₁ .reals) ≡ realsSize
-  long₁ = lines-long id symbols j w m y cols others place (symbols-read t) narrow past count l₀ few (so .held) (so .long)
+  long₁ = lines-long cutoff id symbols j w m y cols others place (symbols-read t) narrow past count l₀ few (so .held) (so .long)
 
   real : (q : ℕ) → q < objectiveAt + 1 → getD (u .reals) q nan ≡ getD (l₁ .reals) q nan
   unfolding substitutedIn
-  real q h = objective-beyond id symbols j w row (l₁ .reals) place (symbols-read t) narrow long₁ q (λ p a b e. omega (arith, a, e, h))
+  real q h = objective-beyond cutoff id symbols j w row (l₁ .reals) place (symbols-read t) narrow long₁ q (λ p a b e. omega (arith, a, e, h))
+
+  -- past the objective, the cutoff among them, the reals stay
+  past-real : (q : ℕ) → cutoffAt ≤ q → getD (u .reals) q nan ≡ getD (t .reals) q nan
+  unfolding substitutedIn
+  past-real q h =
+      objective-beyond cutoff id symbols j w row (l₁ .reals) place (symbols-read t) narrow long₁ q (λ p a b e. omega (arith, b, e, h, narrow))
+      ∙ lines-beyond cutoff id symbols j w m y cols others place (symbols-read t) narrow past count l₀ few (so .held) (so .long) q (omega (arith, h, few))
+
+  cutoff-is : cutoffOf u ≡ cutoff
+  cutoff-is = past-real cutoffAt (omega arith)
 
   lined : (i : ℕ) → record { constant = getD (l₁ .reals) (constantsAt + i) nan; cells = rowOf (u .keys) (u .values) (l₁ .size) w i } ≡ lineOf w l₁ i
   unfolding lineOf substitutedIn
@@ -140,7 +153,7 @@ module _ (art : Bool) (j : ℕ) (row : List Float) (t : Sparse) (so : Sound art 
   unfolding basicOf step
   line i a b =
       rw (word symbolCountAt (λ e. omega (arith, e)) (λ e. omega (arith, e)), size-is, real (constantsAt + i) (omega (arith, b, few)))
-      (lined i ∙ lines-row id symbols j w m y cols others place (symbols-read t) narrow past count l₀ few (so .held) (so .long) i a b)
+      (lined i ∙ lines-row cutoff id symbols j w m y cols others place (symbols-read t) narrow past count l₀ few (so .held) (so .long) i a b)
 
   abbrev sub : ℕ → Substituted
   sub = steppedRow (1 + j) y (cellCount t) (t .keys) (t .values) r t (so .named) (so .rows) rows-short step changed
@@ -173,9 +186,9 @@ module _ (art : Bool) (j : ℕ) (row : List Float) (t : Sparse) (so : Sound art 
   unfolding basicOf lineOf
   line-before i = refl
 
-  rows-step : substituteInRows id symbols other (basicsOf t) ≡ tab sub 1 r
+  rows-step : substituteInRows cutoff id symbols other (basicsOf t) ≡ tab sub 1 r
   unfolding basicsOf steppedRow step
-  rows-step = rows-tab id symbols other (basicOf t) sub (λ i. sub-by (basic-symbol t i) (ap (substituteInRow id symbols other) (line-before i))) r 1
+  rows-step = rows-tab cutoff id symbols other (basicOf t) sub (λ i. sub-by (basic-symbol t i) (ap (substituteInRow cutoff id symbols other) (line-before i))) r 1
     where
       sub-by : {a b : Symbol} {p q : Written} → a ≡ b → p ≡ q → _≡_ {A = Substituted} (record { symbol = b; written = q }) (record { symbol = a; written = p })
       sub-by e f = rw (e, f) refl
@@ -207,21 +220,21 @@ module _ (art : Bool) (j : ℕ) (row : List Float) (t : Sparse) (so : Sound art 
 
   before-along : objectiveAlong w (l₁ .reals) ≡ objectiveOf t
   unfolding objectiveAlong objectiveOf
-  before-along = tab-ext _ (λ p. getD (t .reals) (objectiveAt + p) nan) 1 w λ p a b. lines-beyond id symbols j w m y cols others place (symbols-read t) narrow past count l₀ few (so .held) (so .long) (objectiveAt + p) (omega (arith, few))
+  before-along = tab-ext _ (λ p. getD (t .reals) (objectiveAt + p) nan) 1 w λ p a b. lines-beyond cutoff id symbols j w m y cols others place (symbols-read t) narrow past count l₀ few (so .held) (so .long) (objectiveAt + p) (omega (arith, few))
 
   after-along : objectiveOf u ≡ objectiveAlong w (o .reals)
   unfolding objectiveAlong objectiveOf substitutedIn
   after-along = rw (word symbolCountAt (λ e. omega (arith, e)) (λ e. omega (arith, e))) refl
 
   abbrev aimed : List Cell
-  aimed = substituteInCells id symbols (rowOf cols others m w 0) (objectiveOf t)
+  aimed = substituteInCells cutoff id symbols (rowOf cols others m w 0) (objectiveOf t)
 
   objective-is : objectiveOf u ≡ cellValues aimed
   objective-is =
-      after-along ∙ objective-cells id symbols j w row (l₁ .reals) place (symbols-read t) narrow long₁ ∙ rw (before-along, ← same) refl
+      after-along ∙ objective-cells cutoff id symbols j w row (l₁ .reals) place (symbols-read t) narrow long₁ ∙ rw (before-along, ← same) refl
 
   objective-marked : o .mark ≡ cellMarks objectiveBound aimed
-  objective-marked = objective-mark id symbols j w row (l₁ .reals) place (symbols-read t) narrow long₁ ∙ rw (before-along, ← same) refl
+  objective-marked = objective-mark cutoff id symbols j w row (l₁ .reals) place (symbols-read t) narrow long₁ ∙ rw (before-along, ← same) refl
 
   -- ---- the changed set
 
@@ -230,7 +243,7 @@ module _ (art : Bool) (j : ℕ) (row : List Float) (t : Sparse) (so : Sound art 
   noted-word q b = getD-set-other (s .words) cellCountAt q (l₁ .size) 0 b
 
   old-real : (v : ℕ) → v < mostVariables → getD (u .reals) (oldValuesAt + v) nan ≡ getD (t .reals) (oldValuesAt + v) nan
-  old-real v h = real (oldValuesAt + v) (omega (arith, h)) ∙ lines-beyond id symbols j w m y cols others place (symbols-read t) narrow past count l₀ few (so .held) (so .long) (oldValuesAt + v) (omega (arith, few))
+  old-real v h = real (oldValuesAt + v) (omega (arith, h)) ∙ lines-beyond cutoff id symbols j w m y cols others place (symbols-read t) narrow past count l₀ few (so .held) (so .long) (oldValuesAt + v) (omega (arith, few))
 
   noted-symbol : (p : ℕ) → symbolAt u p ≡ symbolAt (noteIn s t) p
   unfolding symbolAt substitutedIn
@@ -269,7 +282,7 @@ module _ (art : Bool) (j : ℕ) (row : List Float) (t : Sparse) (so : Sound art 
 
   lines-marked : l₁ .mark ≡ cond art (worse marks (step (1 + r) .mark)) marks
   unfolding step
-  lines-marked = lines-mark id symbols j w m y cols others place (symbols-read t) narrow past count l₀ few (so .held) (so .long) ∙ by art
+  lines-marked = lines-mark cutoff id symbols j w m y cols others place (symbols-read t) narrow past count l₀ few (so .held) (so .long) ∙ by art
     where
       by : (b : Bool) → run (λ q a. worse a (step q .mark)) 1 (linesOf b t + 1) allWhole ≡ cond b (worse marks (step (1 + r) .mark)) marks
       by true =
@@ -291,17 +304,17 @@ module _ (art : Bool) (j : ℕ) (row : List Float) (t : Sparse) (so : Sound art 
 
   abbrev result : Mark → ℕ → Work
   result a v =
-      work symbols (getD (t .words) nextIdAt 0) (rowsOf (tab sub 1 r)) (cellValues aimed) (allChanged (notedOf (tab sub 1 r)) (read t .changes)) (cond art (some (step (1 + r) .row)) none)
+      work cutoff symbols (getD (t .words) nextIdAt 0) (rowsOf (tab sub 1 r)) (cellValues aimed) (allChanged (notedOf (tab sub 1 r)) (read t .changes)) (cond art (some (step (1 + r) .row)) none)
       (worse a (worse marks (worse (cellMarks objectiveBound aimed) (cond art (step (1 + r) .mark) allWhole)))) v
 
   after-is : (a : Mark) (v : ℕ) → workOf art (worse a substitutedMark) v u ≡ result a v
   after-is a v =
       work-parts art (worse a substitutedMark) v u
-      ∙ rw (symbols-are, word nextIdAt (λ e. omega (arith, e)) (λ e. omega (arith, e)), rows-are, objective-is, changes-are, artificial-is, marked) refl
+      ∙ rw (cutoff-is, symbols-are, word nextIdAt (λ e. omega (arith, e)) (λ e. omega (arith, e)), rows-are, objective-is, changes-are, artificial-is, marked) refl
 
-  steps-are : (a : Mark) (v : ℕ) → substitute id other (work symbols (getD (t .words) nextIdAt 0) (basicsOf t) (objectiveOf t) (read t .changes) (artificialOf art t) a v) ≡ result a v
+  steps-are : (a : Mark) (v : ℕ) → substitute id other (work cutoff symbols (getD (t .words) nextIdAt 0) (basicsOf t) (objectiveOf t) (read t .changes) (artificialOf art t) a v) ≡ result a v
   unfolding step
-  steps-are a v = rw artificial-before (steps-whole id symbols other (getD (t .words) nextIdAt 0) (basicsOf t) (objectiveOf t) (read t .changes) (lineOf w l₀ (1 + r)) a v art ∙ rw rows-step refl)
+  steps-are a v = rw artificial-before (steps-whole cutoff id symbols other (getD (t .words) nextIdAt 0) (basicsOf t) (objectiveOf t) (read t .changes) (lineOf w l₀ (1 + r)) a v art ∙ rw rows-step refl)
 
   pub substitute-reads : (a : Mark) (v : ℕ) → workOf art (worse a substitutedMark) v u ≡ substitute id (dense.rowOf w row) (workOf art a v t)
   substitute-reads a v = after-is a v ∙ sym (ap (substitute id (dense.rowOf w row)) (work-parts art a v t) ∙ rw (← loose-is) (steps-are a v))
@@ -314,25 +327,22 @@ module _ (art : Bool) (j : ℕ) (row : List Float) (t : Sparse) (so : Sound art 
 
   cells-held : Held count (l₁ .size) (u .keys) (u .values)
   unfolding substitutedIn
-  cells-held = lines-held id symbols j w m y cols others place (symbols-read t) narrow past count l₀ few (so .held) (so .long)
+  cells-held = lines-held cutoff id symbols j w m y cols others place (symbols-read t) narrow past count l₀ few (so .held) (so .long)
 
   reals-long : length (u .reals) ≡ realsSize
   unfolding substitutedIn
-  reals-long = objective-long id symbols j w row (l₁ .reals) place (symbols-read t) narrow long₁
+  reals-long = objective-long cutoff id symbols j w row (l₁ .reals) place (symbols-read t) narrow long₁
 
   pub later-byte : (q : ℕ) → changedAt + mostVariables ≤ q → getD (u .bytes) q 0 ≡ getD (t .bytes) q 0
   unfolding substitutedIn
   later-byte q h = kept .after q h
 
   pub later-real : (q : ℕ) → constraintStrengthsAt ≤ q → getD (u .reals) q nan ≡ getD (t .reals) q nan
-  unfolding substitutedIn
-  later-real q h =
-      objective-beyond id symbols j w row (l₁ .reals) place (symbols-read t) narrow long₁ q (λ p a b e. omega (arith, b, e, h, narrow))
-      ∙ lines-beyond id symbols j w m y cols others place (symbols-read t) narrow past count l₀ few (so .held) (so .long) q (omega (arith, h, few))
+  later-real q h = past-real q (omega (arith, h))
 
   keys-within : Inside t → (i : ℕ) → i < l₁ .size → getD (u .keys) i 0 % rowSpan ≤ w
   unfolding substitutedIn
-  keys-within h = lines-within w (1 + j) m y cols others past count few l₀ (so .held) h
+  keys-within h = lines-within cutoff w (1 + j) m y cols others past count few l₀ (so .held) h
 
   flags-low : Low (noted (t .words) (t .bytes)) → Low (noted (u .words) (u .bytes))
   flags-low l =

@@ -20,7 +20,7 @@ use Rattle.substituting.specs.Lines.{lines, linesIn}
 use Rattle.substituting.specs.Loose.{SettledRow, loose-none, loose-reads}
 use Rattle.substituting.specs.Objective.{aim, objectiveIn}
 use Rattle.substituting.specs.Notes.{noted, noteRows}
-use Rattle.waist.specs.Working.{sparse, workOf, linesOf, Sound}
+use Rattle.waist.specs.Working.{sparse, workOf, cutoffOf, linesOf, Sound}
 use Rattle.waist.specs.Owning.{Kept}
 use Rattle.waist.specs.SubstituteReads.{substitutedIn, substitutedMark, word, byte, later-byte, later-real, substitute-reads, substitute-keeps, substitute-sound}
 
@@ -80,10 +80,10 @@ module _ (art : Bool) (at : ℕ) (row : List Float) (t : Sparse) (so : Sound art
   Notes ws bs = noted ws bs ≡ noteRows at y (cellCount t) (t .keys) (t .values) (rowCount t) (noted (t .words) (t .bytes))
 
   abbrev Merges : List ℕ → List Float → ℕ → List Float → Mark → Type 0
-  Merges ks vs size rs a = lines ks vs size rs a ≡ linesIn at m y cols others (linesOf art t) (lines (t .keys) (t .values) (cellCount t) (t .reals) allWhole)
+  Merges ks vs size rs a = lines ks vs size rs a ≡ linesIn (cutoffOf t) at m y cols others (linesOf art t) (lines (t .keys) (t .values) (cellCount t) (t .reals) allWhole)
 
   abbrev Aims : List Float → List Float → Mark → Type 0
-  Aims rs rs' b = aim rs' b ≡ objectiveIn at (symbolCount t) row rs
+  Aims rs rs' b = aim rs' b ≡ objectiveIn (cutoffOf t) at (symbolCount t) row rs
 
   tables-are : (ws ws' ks bs : List ℕ) (rs rs' vs : List Float) (size : ℕ) (a b : Mark) → Notes ws bs → Merges ks vs size rs a → Aims rs rs' b → ws' ≡ set ws cellCountAt size → sparse ws' ks bs rs' vs ≡ u
   unfolding substitutedIn
@@ -94,8 +94,8 @@ module _ (art : Bool) (at : ℕ) (row : List Float) (t : Sparse) (so : Sound art
   mark-is ks rs rs' vs size a b l o = rw (from-1, ← l, ← o) refl
 
   pub substitute-calls : (count : ℕ) (ws ws' ks bs : List ℕ) (rs rs' vs : List Float) (size : ℕ) (a b : Mark) {c : Mark} → count ≡ linesOf art t → Notes ws bs
-      → lines ks vs size rs a ≡ linesIn at m y cols others count (lines (t .keys) (t .values) (cellCount t) (t .reals) allWhole) → Aims rs rs' b → ws' ≡ set ws cellCountAt size → c ≡ worse a b → Substitutes art at row t (sparse ws' ks bs rs' vs) c
+      → lines ks vs size rs a ≡ linesIn (cutoffOf t) at m y cols others count (lines (t .keys) (t .values) (cellCount t) (t .reals) allWhole) → Aims rs rs' b → ws' ≡ set ws cellCountAt size → c ≡ worse a b → Substitutes art at row t (sparse ws' ks bs rs' vs) c
   substitute-calls count ws ws' ks bs rs rs' vs size a b f n g o h q =
-      let l : Merges ks vs size rs a = subst (λ (z : ℕ). lines ks vs size rs a ≡ linesIn at m y cols others z (lines (t .keys) (t .values) (cellCount t) (t .reals) allWhole)) f g in
+      let l : Merges ks vs size rs a = subst (λ (z : ℕ). lines ks vs size rs a ≡ linesIn (cutoffOf t) at m y cols others z (lines (t .keys) (t .values) (cellCount t) (t .reals) allWhole)) f g in
       subst (λ (z : Mark). Substitutes art at row t (sparse ws' ks bs rs' vs) z) (sym (q ∙ mark-is ks rs rs' vs size a b l o))
       (subst (λ (z : Sparse). Substitutes art at row t z (substitutedMark art j row t so live m cols others past same)) (sym (tables-are ws ws' ks bs rs rs' vs size a b n l o h)) done)

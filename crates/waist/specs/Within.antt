@@ -62,7 +62,7 @@ cell-of keys vals n i p a b =
 
 -- ---- merged lines
 
-module _ (w at m : ℕ) (y : Float) (cols : List ℕ) (others : List Float) (past : (p : ℕ) → w < p → p ≤ lastPlace → otherCell cols others m p ≡ zero64) (count : ℕ) (few : count ≤ mostRows) where
+module _ (cutoff : Float) (w at m : ℕ) (y : Float) (cols : List ℕ) (others : List Float) (past : (p : ℕ) → w < p → p ≤ lastPlace → otherCell cols others m p ≡ zero64) (count : ℕ) (few : count ≤ mostRows) where
   abbrev BareIn : Lines → Type 0
   BareIn s = Bare w (s .keys) (s .vals) (s .size)
 
@@ -81,7 +81,7 @@ module _ (w at m : ℕ) (y : Float) (cols : List ℕ) (others : List Float) (pas
         both false = refl
 
     abbrev c : Cells
-    c = mergedInto (s .size) i at m k (s .keys) (s .vals) cols others
+    c = mergedInto cutoff (s .size) i at m k (s .keys) (s .vals) cols others
 
     room : s .size + lastPlace ≤ length (s .keys)
     room = let f = held-room count (s .size) (s .keys) (s .vals) h few in let v = h .wide in omega (arith, f, v)
@@ -103,29 +103,29 @@ module _ (w at m : ℕ) (y : Float) (cols : List ℕ) (others : List Float) (pas
             let f : 1 + (p - 1) ≡ p = omega (arith, low) in
             subst (λ (z : ℕ). cellAt (c .keys) (c .vals) (c .size) (z * rowSpan + p) ≡ zero64) (sym o)
             (sym (cell-of (c .keys) (c .vals) (c .size) i p low v)
-            ∙ ap (λ (l : List Float). getD l (p - 1) nan) (replaced-own (s .size) i lastPlace (mergedRow k own (otherCell cols others m)) (s .keys) (s .vals) (h .up, omega arith, room, rooms))
-            ∙ getD-tab (λ x. settled (getD (mergedRow k own (otherCell cols others m)) x nan)) 1 lastPlace (p - 1) nan x
-            ∙ ap (λ (x : ℕ). settled (getD (mergedRow k own (otherCell cols others m)) x nan)) f
-            ∙ ap settled (row-at k own (otherCell cols others m) p low v ∙ rw (past p u v, own-none p u v) (inserted-none k zero64))
+            ∙ ap (λ (l : List Float). getD l (p - 1) nan) (replaced-own (s .size) i lastPlace (mergedRow cutoff k own (otherCell cols others m)) (s .keys) (s .vals) (h .up, omega arith, room, rooms))
+            ∙ getD-tab (λ x. settled (getD (mergedRow cutoff k own (otherCell cols others m)) x nan)) 1 lastPlace (p - 1) nan x
+            ∙ ap (λ (x : ℕ). settled (getD (mergedRow cutoff k own (otherCell cols others m)) x nan)) f
+            ∙ ap settled (row-at cutoff k own (otherCell cols others m) p low v ∙ rw (past p u v, own-none p u v) (inserted-none cutoff k zero64))
             ∙ settled-absent zero64 zero-absent)
         go false e =
             sym (cell-of (c .keys) (c .vals) (c .size) q p low v)
-            ∙ ap (λ (l : List Float). getD l (p - 1) nan) (replaced-other (s .size) i lastPlace (mergedRow k own (otherCell cols others m)) (s .keys) (s .vals) q lastPlace (eqb-false q i e) (omega arith) (h .up, omega arith, room, rooms))
+            ∙ ap (λ (l : List Float). getD l (p - 1) nan) (replaced-other (s .size) i lastPlace (mergedRow cutoff k own (otherCell cols others m)) (s .keys) (s .vals) q lastPlace (eqb-false q i e) (omega arith) (h .up, omega arith, room, rooms))
             ∙ cell-of (s .keys) (s .vals) (s .size) q p low v
             ∙ b q p u v
 
-  line-bare : (s : Lines) → HeldIn count s → BareIn s → (i : ℕ) → BareIn (lineIn at m y cols others i s)
+  line-bare : (s : Lines) → HeldIn count s → BareIn s → (i : ℕ) → BareIn (lineIn cutoff at m y cols others i s)
   unfolding lineIn lineWith
-  line-bare s h b i = go (absent (heldBy at m y cols others i s))
+  line-bare s h b i = go (absent (heldBy cutoff at m y cols others i s))
     where
-      go : (z : Bool) → BareIn (cond z s (lineWith at m y cols others (heldBy at m y cols others i s) i s))
+      go : (z : Bool) → BareIn (cond z s (lineWith cutoff at m y cols others (heldBy cutoff at m y cols others i s) i s))
       go true = b
-      go false = merged-bare s h b i (heldBy at m y cols others i s)
+      go false = merged-bare s h b i (heldBy cutoff at m y cols others i s)
 
-  pub lines-within : (s : Lines) → HeldIn count s → Within w (s .keys) (s .size) → Within w (linesIn at m y cols others count s .keys) (linesIn at m y cols others count s .size)
+  pub lines-within : (s : Lines) → HeldIn count s → Within w (s .keys) (s .size) → Within w (linesIn cutoff at m y cols others count s .keys) (linesIn cutoff at m y cols others count s .size)
   unfolding linesIn
   lines-within s h b =
-      let r = run-inv (λ (i : ℕ) (t : Lines). HeldIn count t × BareIn t) (lineIn at m y cols others) 1 (count + 1) s (omega arith) (λ i t u v g. (held-line at m y cols others count i few u (omega (arith, v)) t (g .0), line-bare t (g .0) (g .1) i)) (h, bare-of w (s .keys) (s .vals) (s .size) b) in
+      let r = run-inv (λ (i : ℕ) (t : Lines). HeldIn count t × BareIn t) (lineIn cutoff at m y cols others) 1 (count + 1) s (omega arith) (λ i t u v g. (held-line cutoff at m y cols others count i few u (omega (arith, v)) t (g .0), line-bare t (g .0) (g .1) i)) (h, bare-of w (s .keys) (s .vals) (s .size) b) in
       within-of w count _ _ _ (r .0) (r .1)
 
 -- ---- a line laid down anew, k places wide

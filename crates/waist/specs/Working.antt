@@ -21,7 +21,7 @@ use Rattle.steps.specs.Work.{Work}
 use Rattle.layout.specs.Layout.{cellsOf}
 use Rattle.layout.specs.Laying.{tab-from}
 use Rattle.rows.specs.Place.{PlaceOf, place-from}
-use Rattle.sparse.specs.Places.{mostRows, nextIdAt, symbolCountAt, rowCountAt, cellCountAt, variableCountAt, idsAt, rowPlacesAt, realsSize}
+use Rattle.sparse.specs.Places.{mostRows, nextIdAt, symbolCountAt, rowCountAt, cellCountAt, variableCountAt, idsAt, rowPlacesAt, cutoffAt, realsSize}
 use Rattle.sparse.specs.Sparse.{Sparse, symbolCount, rowCount, cellCount, symbolAt, basicOf, symbolsOf, basicsOf, objectiveOf, read}
 use Rattle.sparse.specs.Widths.{symbols-read}
 use Rattle.substituting.specs.Held.{Held}
@@ -41,17 +41,21 @@ artificialOf art t = cond art (some (basicOf t (1 + rowCount t) .row)) none
 unfoldable pub workOf : Bool → Mark → ℕ → Sparse → Work
 workOf art a v t = record { tableau = read t .tableau; changes = read t .changes; artificial = artificialOf art t; mark = a; pivots = v }
 
-abbrev pub work : List Symbol → ℕ → List Basic → List Float → Changes → Option Row → Mark → ℕ → Work
-work symbols next rows objective changes artificial mark pivots =
+-- the cutoff of near zero, which no step changes
+abbrev pub cutoffOf : Sparse → Float
+cutoffOf t = getD (t .reals) cutoffAt nan
+
+abbrev pub work : Float → List Symbol → ℕ → List Basic → List Float → Changes → Option Row → Mark → ℕ → Work
+work cutoff symbols next rows objective changes artificial mark pivots =
     record {
-      tableau = record { symbols = symbols; nextId = next; rows = rows; objective = objective };
+      tableau = record { cutoff = cutoff; symbols = symbols; nextId = next; rows = rows; objective = objective };
       changes = changes;
       artificial = artificial;
       mark = mark;
       pivots = pivots;
     }
 
-pub work-parts : (art : Bool) (a : Mark) (v : ℕ) (t : Sparse) → workOf art a v t ≡ work (symbolsOf t) (getD (t .words) nextIdAt 0) (basicsOf t) (objectiveOf t) (read t .changes) (artificialOf art t) a v
+pub work-parts : (art : Bool) (a : Mark) (v : ℕ) (t : Sparse) → workOf art a v t ≡ work (cutoffOf t) (symbolsOf t) (getD (t .words) nextIdAt 0) (basicsOf t) (objectiveOf t) (read t .changes) (artificialOf art t) a v
 unfolding workOf read
 work-parts art a v t = refl
 

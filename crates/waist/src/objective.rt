@@ -27,6 +27,7 @@ use rows::number::nothing;
 use rows::row::wide;
 use sparse::Bytes;
 use sparse::CELL_COUNT;
+use sparse::CUTOFF;
 use sparse::Keys;
 use sparse::OBJECTIVE;
 use sparse::Reals;
@@ -40,8 +41,9 @@ fn insert_symbol(reals: &mut Reals, p: u8, k: f64, before: Wrote) -> Wrote
     ensures { λ r. ⌜ markOf r ≡ worse (markOf before) (symbolGoalMark p k (now (reals .entry))) ⌝ }
     ensures { λ _. ⌜ now (reals .exit) ≡ symbolGoal p k (now (reals .entry)) ⌝ }
 {
+    let cutoff = reals[CUTOFF];
     let at = OBJECTIVE + p as usize;
-    let c = insert_cell(reals[at], k);
+    let c = insert_cell(cutoff, reals[at], k);
     reals[at] = cell_value(c);
     mark_cell(OBJECTIVE_BOUND, before, c)
 }
@@ -71,10 +73,11 @@ fn insert_cells(reals: &mut Reals, row: &[f64; ROW_ROOM], width: usize, k: f64) 
     requires { ⌜ width ≤ lastPlace ⌝ }
     ensures { λ r. ⌜ aim (now (reals .exit)) (markOf r) ≡ rowGoal width k (now (row .entry)) (now (reals .entry)) ⌝ }
 {
+    let cutoff = reals[CUTOFF];
     let mut w = nothing();
     let mut p = 1;
     while p <= width {
-        w = insert_at(reals, p, row[p], k, w);
+        w = insert_at(cutoff, reals, p, row[p], k, w);
         p += 1;
     }
     w

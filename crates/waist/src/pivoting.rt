@@ -25,6 +25,7 @@ use rows::row::wide;
 use sparse::Bytes;
 use sparse::CELL_COUNT;
 use sparse::CONSTANTS;
+use sparse::CUTOFF;
 use sparse::Keys;
 use sparse::ROW_PLACES;
 use sparse::Reals;
@@ -94,6 +95,7 @@ fn pivot_with(
     requires { ⌜ Free entering (sparse (now words) (now keys) (now bytes) (now reals) (now values)) ⌝ }
     ensures { λ r. ⌜ Pivots art i entering (sparse (now (words .entry)) (now (keys .entry)) (now (bytes .entry)) (now (reals .entry)) (now (values .entry))) (sparse (now (words .exit)) (now (keys .exit)) (now (bytes .exit)) (now (reals .exit)) (now (values .exit))) (markOf r) ⌝ }
 {
+    let cutoff = reals[CUTOFF];
     wide(row);
     let width = words[SYMBOL_COUNT] as usize;
     let n = words[CELL_COUNT] as usize;
@@ -101,7 +103,7 @@ fn pivot_with(
     load_row(keys, values, n, i, width, row);
     row[0] = reals[CONSTANTS + i as usize];
     wide(row);
-    let u = solve_for_symbols(row, leaving, index(entering), width);
+    let u = solve_for_symbols(cutoff, row, leaving, index(entering), width);
     drop_row(art, words, keys, bytes, reals, values, i);
     let v = enter_basis(art, words, keys, bytes, reals, values, entering, row);
     joined(u, v)

@@ -15,6 +15,7 @@ use rows::number::joined;
 use rows::row::wide;
 use sparse::Bytes;
 use sparse::CELL_COUNT;
+use sparse::CUTOFF;
 use sparse::Keys;
 use sparse::ROW_COUNT;
 use sparse::Reals;
@@ -69,6 +70,7 @@ fn substitute_with(
     requires { ⌜ SettledRow (getD (now words) symbolCountAt 0) (now row) ⌝ }
     ensures { λ r. ⌜ Substitutes art at (now (row .entry)) (sparse (now (words .entry)) (now (keys .entry)) (now (bytes .entry)) (now (reals .entry)) (now (values .entry))) (sparse (now (words .exit)) (now (keys .exit)) (now (bytes .exit)) (now (reals .exit)) (now (values .exit))) (markOf r) ⌝ }
 {
+    let cutoff = reals[CUTOFF];
     loose_wide(cols);
     wide(others);
     let width = words[SYMBOL_COUNT] as usize;
@@ -79,6 +81,7 @@ fn substitute_with(
     note_rows(words, bytes, keys, values, n, lines, count, at, y);
     let m = loose_run(row, width, cols, others);
     let r = substitute_lines(
+        cutoff,
         keys,
         values,
         n,
@@ -94,7 +97,7 @@ fn substitute_with(
     );
     let w = r.wrote;
     words[CELL_COUNT] = r.size as u64;
-    let v = substitute_objective(reals, at as usize, row, width);
+    let v = substitute_objective(cutoff, reals, at as usize, row, width);
     joined(w, v)
 }
 

@@ -36,22 +36,22 @@ pub zero-plain : Plain zero64
 unfolding stored
 zero-plain = rw zero-absent refl
 
-insert-plain : (c k : Float) → Plain c → Plain (cellValue (insertCell c k))
+insert-plain : (u c k : Float) → Plain c → Plain (cellValue (insertCell u c k))
 unfolding insertCell cellValue
-insert-plain c k h = go (absent c) (nearZero k)
+insert-plain u c k h = go (absent c) (nearZero u k)
   where
-    go : (a z : Bool) → Plain (cellValue (elim a [ true ↦ elim z [ true ↦ kept c | false ↦ wrote k ] | false ↦ wrote (goesIfNearZero (c +₆₄ k)) ]))
+    go : (a z : Bool) → Plain (cellValue (elim a [ true ↦ elim z [ true ↦ kept c | false ↦ wrote k ] | false ↦ wrote (goesIfNearZero u (c +₆₄ k)) ]))
     go true true = h
     go true false = stored-plain k
-    go false z = stored-plain (goesIfNearZero (c +₆₄ k))
+    go false z = stored-plain (goesIfNearZero u (c +₆₄ k))
 
-times-plain : (k o c : Float) → Plain c → Plain (cellValue (insertTimes k o c))
+times-plain : (u k o c : Float) → Plain c → Plain (cellValue (insertTimes u k o c))
 unfolding insertTimes cellValue
-times-plain k o c h = go (absent o)
+times-plain u k o c h = go (absent o)
   where
-    go : (a : Bool) → Plain (cellValue (elim a [ true ↦ kept c | false ↦ insertCell c (o *₆₄ k) ]))
+    go : (a : Bool) → Plain (cellValue (elim a [ true ↦ kept c | false ↦ insertCell u c (o *₆₄ k) ]))
     go true = h
-    go false = insert-plain c (o *₆₄ k) h
+    go false = insert-plain u c (o *₆₄ k) h
 
 scale-plain : (k c : Float) → Plain c → Plain (cellValue (scaleCell k c))
 unfolding scaleCell cellValue
@@ -61,21 +61,21 @@ scale-plain k c h = go (absent c)
     go true = h
     go false = stored-plain (c *₆₄ k)
 
-symbol-plain : (s : ℕ) (k : Float) (xs : List Symbol) (cs : List Float) → All Plain cs → All Plain (cellValues (insertSymbol s k xs cs))
+symbol-plain : (u : Float) (s : ℕ) (k : Float) (xs : List Symbol) (cs : List Float) → All Plain cs → All Plain (cellValues (insertSymbol u s k xs cs))
 unfolding insertSymbol cellValues cellValue
-symbol-plain s k [] cs h = tt
-symbol-plain s k (x ∷ xs) [] h = tt
-symbol-plain s k (x ∷ xs) (c ∷ cs) h = (go (isSymbol s x), symbol-plain s k xs cs (h .1))
+symbol-plain u s k [] cs h = tt
+symbol-plain u s k (x ∷ xs) [] h = tt
+symbol-plain u s k (x ∷ xs) (c ∷ cs) h = (go (isSymbol s x), symbol-plain u s k xs cs (h .1))
   where
-    go : (b : Bool) → Plain (cellValue (elim b [ true ↦ insertCell c k | false ↦ kept c ]))
-    go true = insert-plain c k (h .0)
+    go : (b : Bool) → Plain (cellValue (elim b [ true ↦ insertCell u c k | false ↦ kept c ]))
+    go true = insert-plain u c k (h .0)
     go false = h .0
 
-cells-plain : (k : Float) (os cs : List Float) → All Plain cs → All Plain (cellValues (insertCells k os cs))
+cells-plain : (u k : Float) (os cs : List Float) → All Plain cs → All Plain (cellValues (insertCells u k os cs))
 unfolding insertCells cellValues
-cells-plain k [] cs h = tt
-cells-plain k (o ∷ os) [] h = tt
-cells-plain k (o ∷ os) (c ∷ cs) h = (times-plain k o c (h .0), cells-plain k os cs (h .1))
+cells-plain u k [] cs h = tt
+cells-plain u k (o ∷ os) [] h = tt
+cells-plain u k (o ∷ os) (c ∷ cs) h = (times-plain u k o c (h .0), cells-plain u k os cs (h .1))
 
 scaled-plain : (k : Float) (cs : List Float) → All Plain cs → All Plain (cellValues (scaleCells k cs))
 unfolding scaleCells cellValues
@@ -115,32 +115,32 @@ zeros-plain (x ∷ xs) = (zero-plain, zeros-plain xs)
 abbrev pub PlainRow : Row → Type 0
 PlainRow r = All Plain (r .cells)
 
-pub symbol-in-plain : (s : ℕ) (k : Float) (xs : List Symbol) (r : Row) → PlainRow r → PlainRow (insertSymbolInRow s k xs r .row)
+pub symbol-in-plain : (u : Float) (s : ℕ) (k : Float) (xs : List Symbol) (r : Row) → PlainRow r → PlainRow (insertSymbolInRow u s k xs r .row)
 unfolding insertSymbolInRow
-symbol-in-plain s k xs r h = symbol-plain s k xs (r .cells) h
+symbol-in-plain u s k xs r h = symbol-plain u s k xs (r .cells) h
 
-pub insert-row-plain : (o : Row) (k : Float) (r : Row) → PlainRow r → PlainRow (insertRow o k r .row)
+pub insert-row-plain : (u : Float) (o : Row) (k : Float) (r : Row) → PlainRow r → PlainRow (insertRow u o k r .row)
 unfolding insertRow
-insert-row-plain o k r h = cells-plain k (o .cells) (r .cells) h
+insert-row-plain u o k r h = cells-plain u k (o .cells) (r .cells) h
 
 pub solve-plain : (s : ℕ) (xs : List Symbol) (r : Row) → PlainRow r → PlainRow (solveForSymbol s xs r .row)
 unfolding solveForSymbol
 solve-plain s xs r h = scaled-plain (minusOne64 /₆₄ coefficientFor s xs (r .cells)) (clearCell s xs (r .cells)) (clear-plain s xs (r .cells) h)
 
-solve-both-plain : (l e : ℕ) (xs : List Symbol) (r : Row) → PlainRow r → PlainRow (solveForSymbols l e xs r .row)
+solve-both-plain : (u : Float) (l e : ℕ) (xs : List Symbol) (r : Row) → PlainRow r → PlainRow (solveForSymbols u l e xs r .row)
 unfolding solveForSymbols
-solve-both-plain l e xs r h = solve-plain e xs (insertSymbolInRow l minusOne64 xs r .row) (symbol-in-plain l minusOne64 xs r h)
+solve-both-plain u l e xs r h = solve-plain e xs (insertSymbolInRow u l minusOne64 xs r .row) (symbol-in-plain u l minusOne64 xs r h)
 
-substitute-in-plain : (s : ℕ) (xs : List Symbol) (o r : Row) → PlainRow r → PlainRow (substituteInRow s xs o r .row)
+substitute-in-plain : (u : Float) (s : ℕ) (xs : List Symbol) (o r : Row) → PlainRow r → PlainRow (substituteInRow u s xs o r .row)
 unfolding substituteInRow
-substitute-in-plain s xs o r h = go (absent (coefficientFor s xs (r .cells)))
+substitute-in-plain u s xs o r h = go (absent (coefficientFor s xs (r .cells)))
   where
     k : Float
     k = coefficientFor s xs (r .cells)
 
-    go : (b : Bool) → PlainRow (elim b as (λ _. Written) [ true ↦ untouched r | false ↦ insertRow o k (record { constant = r .constant; cells = clearCell s xs (r .cells) }) ] .row)
+    go : (b : Bool) → PlainRow (elim b as (λ _. Written) [ true ↦ untouched r | false ↦ insertRow u o k (record { constant = r .constant; cells = clearCell s xs (r .cells) }) ] .row)
     go true = unfold untouched in h
-    go false = insert-row-plain o k (record { constant = r .constant; cells = clearCell s xs (r .cells) }) (clear-plain s xs (r .cells) h)
+    go false = insert-row-plain u o k (record { constant = r .constant; cells = clearCell s xs (r .cells) }) (clear-plain s xs (r .cells) h)
 
 pub append-plain : (r : Row) → PlainRow r → PlainRow (appendCell r)
 unfolding appendCell
@@ -178,19 +178,19 @@ drop-plain s bs h = rw dropRow-is (drop-all rowId (λ (b : Basic). PlainRow (b .
 pub keep-plain : (r : Basic) (bs : List Basic) → PlainRow (r .row) → PlainRows bs → PlainRows (keepRow r bs)
 keep-plain r bs p h = rw keepRow-is (keep-all rowId (λ (b : Basic). PlainRow (b .row)) r bs p h)
 
-rows-plain : (s : ℕ) (xs : List Symbol) (o : Row) (bs : List Basic) → PlainRows bs → PlainRows (rowsOf (substituteInRows s xs o bs))
+rows-plain : (u : Float) (s : ℕ) (xs : List Symbol) (o : Row) (bs : List Basic) → PlainRows bs → PlainRows (rowsOf (substituteInRows u s xs o bs))
 unfolding rowsOf substituteInRows
-rows-plain s xs o [] h = tt
-rows-plain s xs o (b ∷ bs) h = (substitute-in-plain s xs o (b .row) (h .0), rows-plain s xs o bs (h .1))
+rows-plain u s xs o [] h = tt
+rows-plain u s xs o (b ∷ bs) h = (substitute-in-plain u s xs o (b .row) (h .0), rows-plain u s xs o bs (h .1))
 
 substitute-plain : (s : ℕ) (o : Row) (w : Work) → PlainWork w → PlainWork (substitute s o w)
 unfolding substitute marking withArtificial withChanges withObjective withRows withTableau
-substitute-plain s o w h = record { rows = rows-plain s (w .tableau .symbols) o (w .tableau .rows) (h .rows); artificial = go (w .artificial) (h .artificial) }
+substitute-plain s o w h = record { rows = rows-plain (w .tableau .cutoff) s (w .tableau .symbols) o (w .tableau .rows) (h .rows); artificial = go (w .artificial) (h .artificial) }
   where
     go : (a : Option Row) → PlainIn a
-        → PlainIn (elim (elim a as (λ _. Option Written) [ none ↦ none | some r ↦ some (substituteInRow s (w .tableau .symbols) o r) ]) [ none ↦ none | some a ↦ some (a .row) ])
+        → PlainIn (elim (elim a as (λ _. Option Written) [ none ↦ none | some r ↦ some (substituteInRow (w .tableau .cutoff) s (w .tableau .symbols) o r) ]) [ none ↦ none | some a ↦ some (a .row) ])
     go none p = tt
-    go (some r) p = substitute-in-plain s (w .tableau .symbols) o r p
+    go (some r) p = substitute-in-plain (w .tableau .cutoff) s (w .tableau .symbols) o r p
 
 pub noted-plain : (on : Bool) (s : ℕ) (w : Work) → PlainWork w → PlainWork (cond on (note s w) w)
 unfolding note withChanges
@@ -208,12 +208,12 @@ unfolding pivot
 pivot-plain l e w h = go (findRow l (w .tableau .rows)) (found-plain l (w .tableau .rows) (h .rows))
   where
     solved : Row → Written
-    solved r = solveForSymbols l (e .id) (w .tableau .symbols) r
+    solved r = solveForSymbols (w .tableau .cutoff) l (e .id) (w .tableau .symbols) r
 
     go : (o : Option Row) → PlainIn o → PlainWork (elim o [ none ↦ w | some row ↦ enterBasis e (solved row .row) (marking (solved row .mark) (withRows (dropRow l (w .tableau .rows)) w)) ])
     go none p = h
     go (some r) p =
-        enter-plain e (solved r .row) (marking (solved r .mark) (withRows (dropRow l (w .tableau .rows)) w)) (solve-both-plain l (e .id) (w .tableau .symbols) r p)
+        enter-plain e (solved r .row) (marking (solved r .mark) (withRows (dropRow l (w .tableau .rows)) w)) (solve-both-plain (w .tableau .cutoff) l (e .id) (w .tableau .symbols) r p)
         (unfold marking withRows withTableau in record { rows = drop-plain l (w .tableau .rows) (h .rows); artificial = h .artificial })
 
 pub append-work-plain : (s : Symbol) (w : Work) → PlainWork w → PlainWork (appendSymbol s w)

@@ -54,7 +54,7 @@ append-to-plain s b h = record { work = append-work-plain s (b .work) (h .work);
 
 insert-into-plain : (s : ℕ) (k : Float) (b : Building) → PlainBuilding b → PlainBuilding (insertInto s k b)
 unfolding insertInto
-insert-into-plain s k b h = written-plain (insertSymbolInRow s k (b .work .tableau .symbols) (b .row)) (b .work) (symbol-in-plain s k (b .work .tableau .symbols) (b .row) (h .row)) (h .work)
+insert-into-plain s k b h = written-plain (insertSymbolInRow (b .work .tableau .cutoff) s k (b .work .tableau .symbols) (b .row)) (b .work) (symbol-in-plain (b .work .tableau .cutoff) s k (b .work .tableau .symbols) (b .row) (h .row)) (h .work)
 
 add-variable-plain : (n : ℕ) (b : Building) → PlainBuilding b → PlainBuilding (addVariable n b)
 unfolding addVariable
@@ -70,9 +70,9 @@ insert-variable-plain : (s : Symbol) (k : Float) (b : Building) → PlainBuildin
 unfolding insertVariable
 insert-variable-plain s k b h = go (findRow (s .id) (b .work .tableau .rows))
   where
-    go : (o : Option Row) → PlainBuilding (elim o [ none ↦ insertInto (s .id) k b | some r ↦ written (insertRow r k (b .row)) (b .work) ])
+    go : (o : Option Row) → PlainBuilding (elim o [ none ↦ insertInto (s .id) k b | some r ↦ written (insertRow (b .work .tableau .cutoff) r k (b .row)) (b .work) ])
     go none = insert-into-plain (s .id) k b h
-    go (some r) = written-plain (insertRow r k (b .row)) (b .work) (insert-row-plain r k (b .row) (h .row)) (h .work)
+    go (some r) = written-plain (insertRow (b .work .tableau .cutoff) r k (b .row)) (b .work) (insert-row-plain (b .work .tableau .cutoff) r k (b .row) (h .row)) (h .work)
 
 insert-term-plain : (t : Term) (b : Building) → PlainBuilding b → PlainBuilding (insertTerm t b)
 unfolding insertTerm
@@ -101,10 +101,10 @@ insert-term-plain t b h = by (findVariable n (used .work .changes .variables))
     by none = used-plain
     by (some v) = insert-variable-plain (v .symbol) (t .coefficient) used used-plain
 
-insert-terms-plain : (ts : List Term) (b : Building) → PlainBuilding b → PlainBuilding (insertTerms ts b)
+insert-terms-plain : (u : Float) (ts : List Term) (b : Building) → PlainBuilding b → PlainBuilding (insertTerms u ts b)
 unfolding insertTerms
-insert-terms-plain [] b h = h
-insert-terms-plain (t ∷ ts) b h = insert-terms-plain ts (elim (nearZero (t .coefficient)) [ true ↦ b | false ↦ insertTerm t b ]) (go (nearZero (t .coefficient)))
+insert-terms-plain u [] b h = h
+insert-terms-plain u (t ∷ ts) b h = insert-terms-plain u ts (elim (nearZero u (t .coefficient)) [ true ↦ b | false ↦ insertTerm t b ]) (go (nearZero u (t .coefficient)))
   where
     go : (z : Bool) → PlainBuilding (elim z [ true ↦ b | false ↦ insertTerm t b ])
     go true = h
@@ -176,10 +176,10 @@ create-plain ts k r w h = go (belowZero (c .row .constant))
     bare = record { constant = k; cells = map (λ _. zero64) (w .tableau .symbols) }
 
     c : Created
-    c = addTag r (insertTerms ts (record { work = w; row = bare }))
+    c = addTag r (insertTerms (w .tableau .cutoff) ts (record { work = w; row = bare }))
 
     p : PlainCreated c
-    p = add-tag-plain r (insertTerms ts (record { work = w; row = bare })) (insert-terms-plain ts (record { work = w; row = bare }) (record { work = h; row = zeros-plain (w .tableau .symbols) }))
+    p = add-tag-plain r (insertTerms (w .tableau .cutoff) ts (record { work = w; row = bare })) (insert-terms-plain (w .tableau .cutoff) ts (record { work = w; row = bare }) (record { work = h; row = zeros-plain (w .tableau .symbols) }))
 
     go : (z : Bool) → PlainCreated (elim z [ false ↦ c | true ↦ record { work = c .work; row = reverseSign (c .row); tag = c .tag } ])
     go false = p
@@ -247,12 +247,12 @@ created-plain budget c h = go (chooseSubject c)
     near false = unfold refuse in tt
     near true = subject-plain (c .tag .marker) c h
 
-    by : (z : Bool) → Ends PlainWork (elim z [ false ↦ addWithArtificialVariable budget c | true ↦ elim (nearZero (c .row .constant)) [ false ↦ refuse 12 (c .work) | true ↦ addWithSubject (c .tag .marker) c ] ])
+    by : (z : Bool) → Ends PlainWork (elim z [ false ↦ addWithArtificialVariable budget c | true ↦ elim (nearZero (c .work .tableau .cutoff) (c .row .constant)) [ false ↦ refuse 12 (c .work) | true ↦ addWithSubject (c .tag .marker) c ] ])
     by false = artificial-plain budget c h
-    by true = near (nearZero (c .row .constant))
+    by true = near (nearZero (c .work .tableau .cutoff) (c .row .constant))
 
     go : (o : Option Symbol)
-        → Ends PlainWork (elim o [ some s ↦ addWithSubject s c | none ↦ elim (allDummies c) [ false ↦ addWithArtificialVariable budget c | true ↦ elim (nearZero (c .row .constant)) [ false ↦ refuse 12 (c .work) | true ↦ addWithSubject (c .tag .marker) c ] ] ])
+        → Ends PlainWork (elim o [ some s ↦ addWithSubject s c | none ↦ elim (allDummies c) [ false ↦ addWithArtificialVariable budget c | true ↦ elim (nearZero (c .work .tableau .cutoff) (c .row .constant)) [ false ↦ refuse 12 (c .work) | true ↦ addWithSubject (c .tag .marker) c ] ] ])
     go (some s) = subject-plain s c h
     go none = by (allDummies c)
 

@@ -4,6 +4,7 @@ use mathlib.Core.Path.{_≡_, refl}
 use mathlib.Core.List.{List}
 use native.Mathlib.Omega.{arith}
 use lib.Dec.{ltb}
+use lib.Ieee.{Float}
 use Rattle.sparse.specs.Places.{mostVariables}
 use Rattle.terms.specs.declared.Pack.{Pack}
 use Rattle.terms.specs.Terms.{keptOf}
@@ -12,9 +13,9 @@ use borrow.Author.Needs.{needs}
 use Rattle.refusals.proofs.variables_full.Statement.{statement}
 use Rattle.refusals.proofs.variables_full.Tie as tie
 
-says : (w : List ℕ) (p : Pack) {k : Pack} {r : ℕ} → k ≡ keptOf p → r ≡ newIn w (variablesIn w) k → ltb mostVariables (variablesIn w + r) ≡ variablesFullIn w p
+says : (u : Float) (w : List ℕ) (p : Pack) {k : Pack} {r : ℕ} → k ≡ keptOf u p → r ≡ newIn w (variablesIn w) k → ltb mostVariables (variablesIn w + r) ≡ variablesFullIn u w p
 unfolding variablesFullIn
-says w p h₁ h₂ = rw (h₂, h₁) refl
+says u w p h₁ h₂ = rw (h₂, h₁) refl
 
 new-variables-requires : tie.Need-new-variables-requires
 new-variables-requires c κs = (omega arith, search needs)
@@ -23,7 +24,7 @@ add-result : tie.Need-add-result
 add-result c = omega (arith, c .new-variables .ensures .1)
 
 returns : tie.Need-returns
-returns c = says (c .before .before .before .args .words .now) (c .before .before .before .args .p) (c .before .kept .ensures) (c .new-variables .ensures .0)
+returns c = says (c .before .before .before .args .cutoff) (c .before .before .before .args .words .now) (c .before .before .before .args .p) (c .before .kept .ensures) (c .new-variables .ensures .0)
 
 pub variables-full-spec : {M : Type 1} → statement M
 variables-full-spec = tie.close (tie.spec (λ c. search needs) (λ c κs. search needs) new-variables-requires add-result returns)

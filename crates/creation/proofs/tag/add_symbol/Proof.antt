@@ -14,11 +14,11 @@ element-write-row : tie.Need-element-write-row
 element-write-row c = omega (arith, c .index .ensures, c .before .append-symbol .ensures .0, c .before .before .before .before .before .before .before .pre .1 .0)
 
 insert-symbol-requires : tie.Need-insert-symbol-requires
-insert-symbol-requires c κs = omega (arith, c .before .index .ensures, c .before .before .append-symbol .ensures .0, c .before .before .before .before .before .before .before .before .pre .1 .0)
+insert-symbol-requires c κs = omega (arith, c .before .before .index .ensures, c .before .before .before .append-symbol .ensures .0, c .before .before .before .before .before .before .before .before .before .pre .1 .0)
 
 returns : tie.Need-returns
 unfolding cellBound zero64
-returns c = (grows (c .before .before .before .before .append-symbol .ensures .1 .0), symbol-calls _ _ _ _ _ _ (c .before .before .before .before .before .before .before .before .before .before .args .row .now) _ _ (c .before .before .before .index .ensures) (c .before .before .before .before .append-symbol .ensures .0) (c .before .before .before .before .before .before .before .before .before .before .pre .0) (c .before .before .before .before .before .before .before .before .before .before .pre .1 .0) (c .before .before .before .before .append-symbol .ensures .1 .0) (c .before .before .before .before .append-symbol .ensures .1 .1) (c .before .before .before .before .before .before .before .before .wide .ensures) (c .before .insert-symbol .ensures .0) (c .before .insert-symbol .ensures .1) (c .joined .ensures))
+returns c = (grows (c .before .before .before .before .before .append-symbol .ensures .1 .0), symbol-calls _ _ _ _ _ _ (c .before .before .before .before .before .before .before .before .before .before .before .args .row .now) _ _ (c .before .before .before .before .index .ensures) (c .before .before .before .before .before .append-symbol .ensures .0) (c .before .before .before .before .before .before .before .before .before .before .before .pre .0) (c .before .before .before .before .before .before .before .before .before .before .before .pre .1 .0) (c .before .before .before .before .before .append-symbol .ensures .1 .0) (c .before .before .before .before .before .append-symbol .ensures .1 .1) (c .before .before .before .before .before .before .before .before .before .wide .ensures) (c .before .insert-symbol .ensures .0) (c .before .insert-symbol .ensures .1) (c .joined .ensures))
 
 pub add-symbol-spec : {M : Type 1} → statement M
 add-symbol-spec =
@@ -29,6 +29,7 @@ add-symbol-spec =
     (λ c κs. search needs)
     (λ c. search needs)
     element-write-row
+    (λ c. search needs)
     insert-symbol-requires
     (λ c κs. search needs)
     returns)

@@ -21,10 +21,10 @@ element-copy-out-other : tie.Need-element-copy-out-other
 element-copy-out-other c = omega (arith, c .index .ensures, c .before .before .before .before .before .before .before .before .before .pre .0 .sound .few, c .before .before .before .before .before .before .before .before .before .pre .1 .1)
 
 insert-row-requires : tie.Need-insert-row-requires
-insert-row-requires c κs = omega (arith, c .before .before .before .before .before .before .before .before .before .before .before .before .before .before .pre .0 .sound .named .few-symbols)
+insert-row-requires c κs = omega (arith, c .before .before .before .before .before .before .before .before .before .before .before .before .before .before .before .pre .0 .sound .named .few-symbols)
 
 returns : tie.Need-returns
-returns c = row-inserted _ _ _ (c .before .before .before .before .before .before .before .before .before .before .before .before .before .before .before .before .args .row .now) _ _ _ (c .before .before .before .before .before .before .before .before .before .before .before .before .before .before .before .before .pre .0) (c .before .before .before .before .before .before .before .before .before .before .before .before .before .before .wide .ensures) (c .before .before .before .before .wide3 .ensures) (loaded-row false _ _ (c .before .before .before .before .before .before .before .before .before .before .before .before .before .before .before .before .pre .0 .sound) (c .before .before .before .before .before .before .before .before .before .before .before .before .before .before .before .before .args .other .now) _ (c .before .before .before .before .before .before .before .before .before .before .before .before .wide2 .ensures) (c .before .before .before .before .wide3 .ensures) (loaded-set (c .before .before .before .before .before .before .before .before .before .before .before .before .before .before .before .before .args .reals .now) _ _ (c .before .before .before .before .before .before .before .before .load-row .ensures) (c .before .before .before .before .before .before .before .index .ensures))) (c .before .insert-row .ensures .1 .0) (c .before .insert-row .ensures .1 .1) (c .joined .ensures)
+returns c = row-inserted _ _ _ (c .before .before .before .before .before .before .before .before .before .before .before .before .before .before .before .before .before .args .row .now) _ _ _ (c .before .before .before .before .before .before .before .before .before .before .before .before .before .before .before .before .before .pre .0) (c .before .before .before .before .before .before .before .before .before .before .before .before .before .before .before .wide .ensures) (c .before .before .before .before .before .wide3 .ensures) (loaded-row false _ _ (c .before .before .before .before .before .before .before .before .before .before .before .before .before .before .before .before .before .pre .0 .sound) (c .before .before .before .before .before .before .before .before .before .before .before .before .before .before .before .before .before .args .other .now) _ (c .before .before .before .before .before .before .before .before .before .before .before .before .before .wide2 .ensures) (c .before .before .before .before .before .wide3 .ensures) (loaded-set (c .before .before .before .before .before .before .before .before .before .before .before .before .before .before .before .before .before .args .reals .now) _ _ (c .before .before .before .before .before .before .before .before .before .load-row .ensures) (c .before .before .before .before .before .before .before .before .index .ensures))) (c .before .insert-row .ensures .1 .0) (c .before .insert-row .ensures .1 .1) (c .joined .ensures)
 
 pub insert-loaded-spec : {M : Type 1} → statement M
 insert-loaded-spec =
@@ -41,6 +41,7 @@ insert-loaded-spec =
     element-copy-out-other
     (λ c. search needs)
     (λ c κs. search needs)
+    (λ c. search needs)
     insert-row-requires
     (λ c κs. search needs)
     returns)

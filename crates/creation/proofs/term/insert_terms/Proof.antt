@@ -2,7 +2,11 @@
 -- Assumes nothing.
 use native.Mathlib.Omega.{arith}
 use Prim.Native.Nat.{_-_}
+use mathlib.Core.Path.{_≡_, refl}
+use lib.Ieee.{nan}
+use lib.ListN.{getD}
 use Rattle.rows.specs.Marks.{markOf}
+use Rattle.sparse.specs.Places.{cutoffAt}
 use Rattle.waist.specs.Working.{sparse}
 use Rattle.creation.specs.Going.{Going, terms-of, ready-by, builds-by, going-start, going-end, going-few, going-turn, going-room-by, going-spare}
 use borrow.Author.Needs.{needs}
@@ -10,28 +14,28 @@ use Rattle.creation.proofs.term.insert_terms.Statement.{statement}
 use Rattle.creation.proofs.term.insert_terms.Tie as tie
 
 abbrev Inv-loop : tie.InvT-loop
-Inv-loop words₀ keys bytes₀ reals₀ values row₀ e vars coefs w₀ j₀ words bytes reals row w j = Going e vars coefs (markOf w₀) (sparse words₀ keys bytes₀ reals₀ values) row₀ j (markOf w) (sparse words keys bytes reals values) row
+Inv-loop words₀ keys bytes₀ reals₀ values row₀ e vars coefs cutoff w₀ j₀ words bytes reals row w j = (cutoff ≡ getD reals₀ cutoffAt nan) × Going e vars coefs (markOf w₀) (sparse words₀ keys bytes₀ reals₀ values) row₀ j (markOf w) (sparse words keys bytes reals values) row
 
 abbrev μ-loop : tie.MeasureT-loop
-μ-loop words₀ keys bytes₀ reals₀ values row₀ e vars coefs w₀ j₀ words bytes reals row w j = e - j
+μ-loop words₀ keys bytes₀ reals₀ values row₀ e vars coefs cutoff w₀ j₀ words bytes reals row w j = e - j
 
 loop-holds : tie.Need-loop-holds Inv-loop μ-loop
-loop-holds c = going-start _ _ _ _ _ _ (c .before .before .before .pre .standing)
+loop-holds c = (refl, going-start _ _ _ _ _ _ (c .before .before .before .before .pre .standing))
 
 array-read-number : tie.Need-array-read-number Inv-loop μ-loop
-array-read-number c = omega (arith, c .before .before .before .before .before .before .before .before .shown .ensures .1, c .before .before .before .before .loop-test .taken)
+array-read-number c = omega (arith, c .before .before .before .before .before .before .before .before .before .shown .ensures .1, c .before .before .before .before .loop-test .taken)
 
 array-read-insert-kept : tie.Need-array-read-insert-kept Inv-loop μ-loop
-array-read-insert-kept c = omega (arith, c .before .before .before .before .before .before .before .before .before .shown .ensures .1, c .before .before .before .before .before .loop-test .taken)
+array-read-insert-kept c = omega (arith, c .before .before .before .before .before .before .before .before .before .before .shown .ensures .1, c .before .before .before .before .before .loop-test .taken)
 
 insert-kept-requires : tie.Need-insert-kept-requires Inv-loop μ-loop
-insert-kept-requires c κs = let g = c .before .before .before .before .before .before .loop .inv in let m = c .before .before .before .before .before .loop-test .taken in let r = (ready-by _ (terms-of _ _ (c .before .before .before .before .before .before .before .before .before .shown .ensures .0)) (c .before .before .before .before .before .before .before .before .before .before .pre)) in (g .stands, (going-room-by _ _ _ _ _ _ _ _ _ _ g m (c .before .before .before .before .before .before .before .before .before .shown .ensures .1) r (c .number .ensures), going-spare _ _ _ _ _ _ _ _ _ _ g m (c .before .before .before .before .before .before .before .before .before .shown .ensures .1) r))
+insert-kept-requires c κs = let g = c .before .before .before .before .before .before .loop .inv .1 in let m = c .before .before .before .before .before .loop-test .taken in let r = (ready-by _ (terms-of _ _ (c .before .before .before .before .before .before .before .before .before .before .shown .ensures .0)) (c .before .before .before .before .before .before .before .before .before .before .before .pre)) in (g .stands, (going-room-by _ _ _ _ _ _ _ _ _ _ g m (c .before .before .before .before .before .before .before .before .before .before .shown .ensures .1) r (c .number .ensures) (c .before .before .before .before .before .before .loop .inv .0), going-spare _ _ _ _ _ _ _ _ _ _ g m (c .before .before .before .before .before .before .before .before .before .before .shown .ensures .1) r))
 
 loop-again : tie.Need-loop-again Inv-loop μ-loop
-loop-again c = going-turn _ _ _ _ _ _ _ _ _ _ (c .before .before .before .before .before .before .before .loop .inv) (c .before .before .before .before .before .before .loop-test .taken) _ _ _ (c .before .number .ensures) (c .insert-kept .ensures .0) (c .insert-kept .ensures .1)
+loop-again c = (c .before .before .before .before .before .before .before .loop .inv .0, going-turn _ _ _ _ _ _ _ _ _ _ (c .before .before .before .before .before .before .before .loop .inv .1) (c .before .before .before .before .before .before .loop-test .taken) _ _ _ (c .before .number .ensures) (c .before .before .before .before .before .before .before .loop .inv .0) (c .insert-kept .ensures .0) (c .insert-kept .ensures .1))
 
 returns : tie.Need-returns Inv-loop μ-loop
-returns c = let g = c .before .loop .inv in let r = (ready-by _ (terms-of _ _ (c .before .before .before .before .shown .ensures .0)) (c .before .before .before .before .before .pre)) in (builds-by _ (terms-of _ _ (c .before .before .before .before .shown .ensures .0)) (going-end _ _ _ _ _ _ _ _ _ _ g (c .loop-test .left)), going-few _ _ _ _ _ _ _ _ _ _ g (c .loop-test .left) (c .before .before .before .before .shown .ensures .1) r)
+returns c = let g = c .before .loop .inv .1 in let r = (ready-by _ (terms-of _ _ (c .before .before .before .before .before .shown .ensures .0)) (c .before .before .before .before .before .before .pre)) in (builds-by _ (terms-of _ _ (c .before .before .before .before .before .shown .ensures .0)) (going-end _ _ _ _ _ _ _ _ _ _ g (c .loop-test .left)), going-few _ _ _ _ _ _ _ _ _ _ g (c .loop-test .left) (c .before .before .before .before .before .shown .ensures .1) r)
 
 pub insert-terms-spec : {M : Type 1} → statement M
 insert-terms-spec =
@@ -40,6 +44,7 @@ insert-terms-spec =
     Inv-loop
     μ-loop
     (λ c κs. search needs)
+    (λ c. search needs)
     loop-holds
     (λ c. search needs)
     array-read-number

@@ -14,11 +14,11 @@ row-of-requires : tie.Need-row-of-requires
 row-of-requires c κs = c .before .before .pre .0 .sound .few
 
 insert-symbol-requires : tie.Need-insert-symbol-requires
-insert-symbol-requires c κs = omega (arith, c .index .ensures, c .before .before .before .before .before .before .before .pre .1 .1, c .before .before .before .before .before .before .before .pre .0 .sound .named .few-symbols)
+insert-symbol-requires c κs = omega (arith, c .index .ensures, c .before .before .before .before .before .before .before .before .pre .1 .1, c .before .before .before .before .before .before .before .before .pre .0 .sound .named .few-symbols)
 
 returns : tie.Need-returns
 unfolding cellBound
-returns c = variable-symbol _ _ _ _ _ _ (row-found false _ (c .before .before .before .before .before .before .before .before .before .pre .0 .sound) _ (c .before .before .before .before .before .before .before .before .before .pre .1 .0) (c .before .before .before .before .before .before .before .before .before .pre .1 .1)) (sym (c .before .before .before .before .before .before .row-of .ensures .0) ∙ c .before .before .before .before .enum-told .given .1) (symbol-inserted _ _ _ (c .before .before .before .before .before .before .before .before .before .args .row .now) _ _ _ (c .before .before .before .before .before .before .before .before .before .pre .0) (c .before .before .before .before .before .before .before .wide .ensures) (c .before .before .before .before .before .before .before .before .before .pre .1 .0) (c .before .before .before .before .before .before .before .before .before .pre .1 .1) (c .before .before .index .ensures) (c .before .insert-symbol .ensures .0) (c .before .insert-symbol .ensures .1) (c .joined .ensures))
+returns c = variable-symbol _ _ _ _ _ _ (row-found false _ (c .before .before .before .before .before .before .before .before .before .before .pre .0 .sound) _ (c .before .before .before .before .before .before .before .before .before .before .pre .1 .0) (c .before .before .before .before .before .before .before .before .before .before .pre .1 .1)) (sym (c .before .before .before .before .before .before .before .row-of .ensures .0) ∙ c .before .before .before .before .before .enum-told .given .1) (symbol-inserted _ _ _ (c .before .before .before .before .before .before .before .before .before .before .args .row .now) _ _ _ (c .before .before .before .before .before .before .before .before .before .before .pre .0) (c .before .before .before .before .before .before .before .before .wide .ensures) (c .before .before .before .before .before .before .before .before .before .before .pre .1 .0) (c .before .before .before .before .before .before .before .before .before .before .pre .1 .1) (c .before .before .index .ensures) (c .before .insert-symbol .ensures .0) (c .before .insert-symbol .ensures .1) (c .joined .ensures))
 
 cast-insert-basic : tie.Need-cast-insert-basic
 cast-insert-basic c = let l = within-at (c .before .before .before .before .row-of .ensures .1) (c .before .before .f .given .1) in omega (arith, l, c .before .before .before .before .before .before .before .pre .0 .sound .few)
@@ -35,6 +35,7 @@ insert-variable-spec =
     (tie.spec
     (λ c κs. search needs)
     row-of-requires
+    (λ c. search needs)
     (λ c. search needs)
     (λ c. search needs)
     (λ c κs. search needs)

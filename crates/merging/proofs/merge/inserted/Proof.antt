@@ -10,11 +10,11 @@ use Rattle.merging.proofs.merge.inserted.Tie as tie
 
 returns : tie.Need-returns
 unfolding cellOf absent zero64
-returns c = rw (insertTimes-is, c .if1 .taken)
+returns c = rw (insertTimes-is _, c .if1 .taken)
 
 returns-2 : tie.Need-returns-2
 unfolding absent zero64
-returns-2 c = there-is _ _ _ (c .before .if1 .left) (c .insert-cell .ensures)
+returns-2 c = there-is _ _ _ _ (c .before .if1 .left) (c .insert-cell .ensures)
 
 pub inserted-spec : {M : Type 1} → statement M
 inserted-spec = tie.close (tie.spec returns (λ c κs. search needs) returns-2)

@@ -10,8 +10,8 @@ use Rattle.merging.proofs.merge.put_sum.Tie as tie
 
 returns : tie.Need-returns
 returns c = (
-  put-value _ _ _ (cells _ _ _) (c .before .put .ensures .0) (inserted-value _ _ _ (c .before .before .cell-value .ensures) (c .before .before .before .before .before .inserted .ensures)),
-  (inserted-mark _ _ _ _ _ (c .mark-cell .ensures) (c .before .before .before .before .before .inserted .ensures), omega arith),
+  put-value _ _ _ (cells _ _ _) (c .before .put .ensures .0) (inserted-value _ _ _ _ (c .before .before .cell-value .ensures) (c .before .before .before .before .before .inserted .ensures)),
+  (inserted-mark _ _ _ _ _ _ (c .mark-cell .ensures) (c .before .before .before .before .before .inserted .ensures), omega arith),
 )
 
 pub put-sum-spec : {M : Type 1} → statement M

@@ -23,8 +23,8 @@ paste-requires c κs = omega (arith, c .before .before .before .before .before .
 returns : tie.Need-returns
 unfolding cellBound
 returns c = (
-  merged-is _ _ _ _ _ _ _ _ _ _ _ _ _ _ _ _ _ _ _ _ (c .before .before .before .before .before .before .before .before .before .before .before .before .before .before .before .before .before .before .before .before .before .loose-wide .ensures) (c .before .before .before .before .before .before .before .before .before .before .before .before .before .before .before .before .before .before .before .wide .ensures) (c .before .before .before .before .before .before .before .before .before .before .before .before .before .before .before .before .before .find .ensures .0) (c .before .before .before .before .before .before .before .before .before .before .before .before .before .before .before .find2 .ensures .0) (c .before .before .before .before .before .before .before .before .before .before .merge-run .ensures .0) (c .before .before .before .before .before .slide .ensures .0) (c .before .before .before .before .before .slide .ensures .1) (c .paste .ensures .0) (c .paste .ensures .1),
-  marked-is _ _ _ _ _ _ _ _ _ _ _ _ (c .before .before .before .before .before .before .before .before .before .before .before .before .before .before .before .before .before .find .ensures .0) (c .before .before .before .before .before .before .before .before .before .before .before .before .before .before .before .find2 .ensures .0) (c .before .before .before .before .before .before .before .before .before .before .merge-run .ensures .1 .0),
+  merged-is _ _ _ _ _ _ _ _ _ _ _ _ _ _ _ _ _ _ _ _ _ (c .before .before .before .before .before .before .before .before .before .before .before .before .before .before .before .before .before .before .before .before .before .loose-wide .ensures) (c .before .before .before .before .before .before .before .before .before .before .before .before .before .before .before .before .before .before .before .wide .ensures) (c .before .before .before .before .before .before .before .before .before .before .before .before .before .before .before .before .before .find .ensures .0) (c .before .before .before .before .before .before .before .before .before .before .before .before .before .before .before .find2 .ensures .0) (c .before .before .before .before .before .before .before .before .before .before .merge-run .ensures .0) (c .before .before .before .before .before .slide .ensures .0) (c .before .before .before .before .before .slide .ensures .1) (c .paste .ensures .0) (c .paste .ensures .1),
+  marked-is _ _ _ _ _ _ _ _ _ _ _ _ _ (c .before .before .before .before .before .before .before .before .before .before .before .before .before .before .before .before .before .find .ensures .0) (c .before .before .before .before .before .before .before .before .before .before .before .before .before .before .before .find2 .ensures .0) (c .before .before .before .before .before .before .before .before .before .before .merge-run .ensures .1 .0),
 )
 
 pub merge-row-spec : {M : Type 1} → statement M

@@ -9,15 +9,15 @@ use Rattle.rows.proofs.cell.insert_cell.Tie as tie
 
 returns : tie.Need-returns
 unfolding cellOf absent zero64
-returns c = rw (insertCell-is, c .before .before .if1 .taken, ← c .before .near-zero .ensures, c .if2 .taken)
+returns c = rw (insertCell-is _, c .before .before .if1 .taken, ← c .before .near-zero .ensures, c .if2 .taken)
 
 returns-2 : tie.Need-returns-2
 unfolding cellOf absent zero64
-returns-2 c = rw (insertCell-is, c .before .before .if1 .taken, ← c .before .near-zero .ensures, c .if2 .left)
+returns-2 c = rw (insertCell-is _, c .before .before .if1 .taken, ← c .before .near-zero .ensures, c .if2 .left)
 
 returns-3 : tie.Need-returns-3
 unfolding cellOf absent zero64
-returns-3 c = rw (insertCell-is, c .before .if1 .left, c .goes-if-near-zero .ensures)
+returns-3 c = rw (insertCell-is _, c .before .if1 .left, c .goes-if-near-zero .ensures)
 
 pub insert-cell-spec : {M : Type 1} → statement M
 insert-cell-spec =

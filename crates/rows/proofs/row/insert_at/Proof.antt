@@ -10,13 +10,13 @@ use Rattle.rows.proofs.row.insert_at.Tie as tie
 
 returns : tie.Need-returns
 unfolding absent zero64
-returns c = (passed-mark _ _ _ _ _ (c .if1 .taken), passed-over _ _ _ _ (c .if1 .taken))
+returns c = (passed-mark _ _ _ _ _ _ (c .if1 .taken), passed-over _ _ _ _ _ (c .if1 .taken))
 
 returns-2 : tie.Need-returns-2
 unfolding absent zero64
 returns-2 c = (
-  inserted-mark _ _ _ _ _ (c .mark-cell .ensures) (there-is _ _ _ (c .before .before .before .before .if1 .left) (c .before .before .insert-cell .ensures)),
-  rw (inserted-value _ _ _ (c .before .cell-value .ensures) (there-is _ _ _ (c .before .before .before .before .if1 .left) (c .before .before .insert-cell .ensures))) refl,
+  inserted-mark _ _ _ _ _ _ (c .mark-cell .ensures) (there-is _ _ _ _ (c .before .before .before .before .if1 .left) (c .before .before .insert-cell .ensures)),
+  rw (inserted-value _ _ _ _ (c .before .cell-value .ensures) (there-is _ _ _ _ (c .before .before .before .before .if1 .left) (c .before .before .insert-cell .ensures))) refl,
 )
 
 pub insert-at-spec : {M : Type 1} → statement M

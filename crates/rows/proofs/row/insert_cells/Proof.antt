@@ -13,10 +13,10 @@ use Rattle.rows.proofs.row.insert_cells.Statement.{statement}
 use Rattle.rows.proofs.row.insert_cells.Tie as tie
 
 abbrev Inv-loop : tie.InvT-loop
-Inv-loop row₀ other k width bound w₀ i₀ row w i = (zipIn (insertedValue k) i (1 + width) row other ≡ zipIn (insertedValue k) i₀ (1 + width) row₀ other) × (fold2In (insertedMark bound k) i (1 + width) row other (markOf w) ≡ fold2In (insertedMark bound k) i₀ (1 + width) row₀ other (markOf w₀)) × (length row ≡ 130) × (length other ≡ 130) × (i ≤ 1 + width)
+Inv-loop cutoff row₀ other k width bound w₀ i₀ row w i = (zipIn (insertedValue cutoff k) i (1 + width) row other ≡ zipIn (insertedValue cutoff k) i₀ (1 + width) row₀ other) × (fold2In (insertedMark cutoff bound k) i (1 + width) row other (markOf w) ≡ fold2In (insertedMark cutoff bound k) i₀ (1 + width) row₀ other (markOf w₀)) × (length row ≡ 130) × (length other ≡ 130) × (i ≤ 1 + width)
 
 abbrev μ-loop : tie.MeasureT-loop
-μ-loop row₀ other k width bound w₀ i₀ row w i = 1 + width - i
+μ-loop cutoff row₀ other k width bound w₀ i₀ row w i = 1 + width - i
 
 loop-holds : tie.Need-loop-holds Inv-loop μ-loop
 loop-holds c = (refl, refl, search needs, search needs, search needs)

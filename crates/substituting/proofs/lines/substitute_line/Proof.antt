@@ -19,7 +19,7 @@ cell-requires c κs =
 
 returns : tie.Need-returns
 unfolding absent zero64
-returns c = line-none _ _ _ _ _ _ _ _ _ _ _ (c .before .cell .ensures) (c .if1 .taken)
+returns c = line-none _ _ _ _ _ _ _ _ _ _ _ _ (c .before .cell .ensures) (c .if1 .taken)
 
 merge-row-requires : tie.Need-merge-row-requires
 merge-row-requires c κs =
@@ -30,7 +30,7 @@ merge-row-requires c κs =
 returns-2 : tie.Need-returns-2
 unfolding absent zero64 constantBound
 returns-2 c =
-    line-some _ _ _ _ _ _ _ _ _ _ _ (c .before .before .before .before .before .before .before .before .before .before .before .cell .ensures) (c .before .before .before .before .before .before .before .before .before .before .if1 .left) refl (c .before .before .before .before .merge-row .ensures .0) (c .before .before .before .before .merge-row .ensures .1) refl
+    line-some _ _ _ _ _ _ _ _ _ _ _ _ (c .before .before .before .before .before .before .before .before .before .before .before .cell .ensures) (c .before .before .before .before .before .before .before .before .before .before .if1 .left) refl (c .before .before .before .before .merge-row .ensures .0) (c .before .before .before .before .merge-row .ensures .1) refl
     (joined-mark _ _ (c .joined2 .ensures) refl (joined-mark _ _ (c .before .joined .ensures) (c .before .before .mark-write .ensures) refl))
 
 pub substitute-line-spec : {M : Type 1} → statement M

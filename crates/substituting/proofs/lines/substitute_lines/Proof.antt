@@ -13,11 +13,11 @@ use Rattle.substituting.proofs.lines.substitute_lines.Statement.{statem
 use Rattle.substituting.proofs.lines.substitute_lines.Tie as tie
 
 abbrev Inv-loop : tie.InvT-loop
-Inv-loop keys₀ values₀ n reals₀ count at cols others m y fresh₀ sums₀ size₀ w₀ i₀ keys values reals fresh sums size w i =
-    (run (lineIn at m y cols others) i (count + 1) (lines keys values size reals (markOf w)) ≡ linesIn at m y cols others count (lines keys₀ values₀ n reals₀ allWhole)) × Held count size keys values × (1 ≤ i) × (i ≤ count + 1)
+Inv-loop cutoff keys₀ values₀ n reals₀ count at cols others m y fresh₀ sums₀ size₀ w₀ i₀ keys values reals fresh sums size w i =
+    (run (lineIn cutoff at m y cols others) i (count + 1) (lines keys values size reals (markOf w)) ≡ linesIn cutoff at m y cols others count (lines keys₀ values₀ n reals₀ allWhole)) × Held count size keys values × (1 ≤ i) × (i ≤ count + 1)
 
 abbrev μ-loop : tie.MeasureT-loop
-μ-loop keys₀ values₀ n reals₀ count at cols others m y fresh₀ sums₀ size₀ w₀ i₀ keys values reals fresh sums size w i = count + 1 - i
+μ-loop cutoff keys₀ values₀ n reals₀ count at cols others m y fresh₀ sums₀ size₀ w₀ i₀ keys values reals fresh sums size w i = count + 1 - i
 
 loop-holds : tie.Need-loop-holds Inv-loop μ-loop
 unfolding linesIn
@@ -33,7 +33,7 @@ loop-again : tie.Need-loop-again Inv-loop μ-loop
 loop-again c =
     let i = c .before .before .before .before .before .before .before .before .loop .inv in
     let l = c .before .before .before .before .before .before .before .loop-test .taken in
-    (run-next _ _ _ _ (omega (arith, l)) (c .before .substitute-line .ensures) (i .0), held-turn _ _ _ _ _ _ _ (c .before .before .before .before .before .before .before .before .before .before .pre .0) (i .2) (omega (arith, l)) (lines _ _ _ _ _) (c .before .substitute-line .ensures) (i .1), omega arith, omega (arith, l))
+    (run-next _ _ _ _ (omega (arith, l)) (c .before .substitute-line .ensures) (i .0), held-turn _ _ _ _ _ _ _ _ (c .before .before .before .before .before .before .before .before .before .before .pre .0) (i .2) (omega (arith, l)) (lines _ _ _ _ _) (c .before .substitute-line .ensures) (i .1), omega arith, omega (arith, l))
 
 returns : tie.Need-returns Inv-loop μ-loop
 returns c = run-last _ _ _ _ (omega (arith, c .loop-test .left)) (c .before .loop .inv .0)

@@ -13,10 +13,10 @@ use Rattle.substituting.proofs.objective.substitute_objective.Statement
 use Rattle.substituting.proofs.objective.substitute_objective.Tie as tie
 
 abbrev Inv-loop : tie.InvT-loop
-Inv-loop reals₀ at row width k w₀ p₀ reals w p = (run (aimTurn k row) p (width + 1) (aim reals (markOf w)) ≡ run (aimTurn k row) 1 (width + 1) (aim reals₀ allWhole)) × (1 ≤ p) × (p ≤ width + 1)
+Inv-loop cutoff reals₀ at row width k w₀ p₀ reals w p = (run (aimTurn cutoff k row) p (width + 1) (aim reals (markOf w)) ≡ run (aimTurn cutoff k row) 1 (width + 1) (aim reals₀ allWhole)) × (1 ≤ p) × (p ≤ width + 1)
 
 abbrev μ-loop : tie.MeasureT-loop
-μ-loop reals₀ at row width k w₀ p₀ reals w p = width + 1 - p
+μ-loop cutoff reals₀ at row width k w₀ p₀ reals w p = width + 1 - p
 
 returns : tie.Need-returns Inv-loop μ-loop
 unfolding objectiveIn absent zero64
@@ -28,7 +28,7 @@ loop-holds c = (rw (c .nothing2 .ensures, mark-clean) refl, omega arith, omega a
 loop-again : tie.Need-loop-again Inv-loop μ-loop
 loop-again c =
     let i = c .before .before .before .before .loop .inv in
-    (run-next _ _ _ _ (omega arith) (aim-turn _ _ _ _ _ (c .insert-at .ensures .0) (c .insert-at .ensures .1)) (i .0), omega arith, omega arith)
+    (run-next _ _ _ _ (omega arith) (aim-turn _ _ _ _ _ _ (c .insert-at .ensures .0) (c .insert-at .ensures .1)) (i .0), omega arith, omega arith)
 
 returns-2 : tie.Need-returns-2 Inv-loop μ-loop
 unfolding objectiveIn aimWith absent zero64

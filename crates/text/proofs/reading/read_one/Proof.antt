@@ -4,6 +4,7 @@ use borrow.Author.Needs.{needs}
 use Prim.Native.Nat.{ℕ}
 use mathlib.Core.Path.{refl, sym, ap, _∙_}
 use mathlib.Core.List.{List}
+use Rattle.steps.specs.Number.{usualCutoff}
 use Rattle.text.specs.Choices.{yes-in, no-in}
 use Rattle.text.specs.Digits.{sameBytes}
 use Rattle.text.specs.Names.{resetName, fetchName}
@@ -13,7 +14,7 @@ use Rattle.text.proofs.reading.read_one.Statement.{statement}
 use Rattle.text.proofs.reading.read_one.Tie as tie
 
 returns : tie.Need-returns
-unfolding oneWord
+unfolding oneWord usualCutoff
 returns c =
     (yes-in asCall _ _ (sym (ap (λ (w : List ℕ). sameBytes w resetName) (c .before .before .before .word-at .ensures)) ∙ sym (c .before .same .ensures) ∙ c .if1 .taken) refl)
 

@@ -4,13 +4,13 @@ use borrow.Author.Needs.{needs}
 use Prim.Native.Nat.{ℕ}
 use mathlib.Core.Path.{refl, sym, ap, _∙_}
 use mathlib.Core.List.{List}
-use Rattle.steps.specs.Session.{valueOf, hasConstraints, hasEdits, clips}
+use Rattle.steps.specs.Session.{resets, valueOf, hasConstraints, hasEdits, clips}
 use Rattle.text.specs.declared.floats.Id.{Id}
 use Rattle.text.specs.declared.floats.Real.{Real}
 use Rattle.text.specs.Choices.{yes-in, no-in}
 use Rattle.text.specs.Digits.{sameBytes}
 use Rattle.text.specs.Floats.{idOf, floatOf}
-use Rattle.text.specs.Names.{valueName, hasconName, haseditName, clipName}
+use Rattle.text.specs.Names.{valueName, hasconName, haseditName, clipName, resetName}
 use Rattle.text.specs.Format.{twoWords, ofId, ofReal}
 use Rattle.text.specs.Lines.{asCall}
 use Rattle.text.proofs.reading.read_two.Statement.{statement}
@@ -45,10 +45,20 @@ returns-4 c =
 returns-5 : tie.Need-returns-5
 unfolding twoWords
 returns-5 c =
-    (no-in asCall _ _ (sym (ap (λ (w : List ℕ). sameBytes w valueName) (c .before .before .before .before .before .before .before .before .before .before .before .before .before .word-at .ensures)) ∙ sym (c .before .before .before .before .before .before .before .before .before .before .same .ensures) ∙ c .before .before .before .before .before .before .before .before .before .if1 .left)
-    (no-in asCall _ _ (sym (ap (λ (w : List ℕ). sameBytes w hasconName) (c .before .before .before .before .before .before .before .before .before .before .before .before .before .word-at .ensures)) ∙ sym (c .before .before .before .before .before .before .before .same2 .ensures) ∙ c .before .before .before .before .before .before .if2 .left)
-    (no-in asCall _ _ (sym (ap (λ (w : List ℕ). sameBytes w haseditName) (c .before .before .before .before .before .before .before .before .before .before .before .before .before .word-at .ensures)) ∙ sym (c .before .before .before .before .same3 .ensures) ∙ c .before .before .before .if3 .left)
-    (no-in asCall _ _ (sym (ap (λ (w : List ℕ). sameBytes w clipName) (c .before .before .before .before .before .before .before .before .before .before .before .before .before .word-at .ensures)) ∙ sym (c .before .same4 .ensures) ∙ c .if4 .left) refl))))
+    (no-in asCall _ _ (sym (ap (λ (w : List ℕ). sameBytes w valueName) (c .before .before .before .before .before .before .before .before .before .before .before .before .before .before .before .before .before .before .word-at .ensures)) ∙ sym (c .before .before .before .before .before .before .before .before .before .before .before .before .before .before .before .same .ensures) ∙ c .before .before .before .before .before .before .before .before .before .before .before .before .before .before .if1 .left)
+    (no-in asCall _ _ (sym (ap (λ (w : List ℕ). sameBytes w hasconName) (c .before .before .before .before .before .before .before .before .before .before .before .before .before .before .before .before .before .before .word-at .ensures)) ∙ sym (c .before .before .before .before .before .before .before .before .before .before .before .before .same2 .ensures) ∙ c .before .before .before .before .before .before .before .before .before .before .before .if2 .left)
+    (no-in asCall _ _ (sym (ap (λ (w : List ℕ). sameBytes w haseditName) (c .before .before .before .before .before .before .before .before .before .before .before .before .before .before .before .before .before .before .word-at .ensures)) ∙ sym (c .before .before .before .before .before .before .before .before .before .same3 .ensures) ∙ c .before .before .before .before .before .before .before .before .if3 .left)
+    (no-in asCall _ _ (sym (ap (λ (w : List ℕ). sameBytes w clipName) (c .before .before .before .before .before .before .before .before .before .before .before .before .before .before .before .before .before .before .word-at .ensures)) ∙ sym (c .before .before .before .before .before .before .same4 .ensures) ∙ c .before .before .before .before .before .if4 .left)
+    (yes-in asCall _ _ (sym (ap (λ (w : List ℕ). sameBytes w resetName) (c .before .before .before .before .before .before .before .before .before .before .before .before .before .before .before .before .before .before .word-at .ensures)) ∙ sym (c .before .before .before .same5 .ensures) ∙ c .before .before .if5 .taken) (c .reset-call .ensures ∙ ap (λ (x : Real). asCall (ofReal resets x)) (c .before .float-word2 .ensures ∙ ap floatOf (c .before .before .before .before .before .before .before .before .before .before .before .before .before .before .before .before .before .word-at2 .ensures))))))))
+
+returns-6 : tie.Need-returns-6
+unfolding twoWords
+returns-6 c =
+    (no-in asCall _ _ (sym (ap (λ (w : List ℕ). sameBytes w valueName) (c .before .before .before .before .before .before .before .before .before .before .before .before .before .before .before .before .word-at .ensures)) ∙ sym (c .before .before .before .before .before .before .before .before .before .before .before .before .before .same .ensures) ∙ c .before .before .before .before .before .before .before .before .before .before .before .before .if1 .left)
+    (no-in asCall _ _ (sym (ap (λ (w : List ℕ). sameBytes w hasconName) (c .before .before .before .before .before .before .before .before .before .before .before .before .before .before .before .before .word-at .ensures)) ∙ sym (c .before .before .before .before .before .before .before .before .before .before .same2 .ensures) ∙ c .before .before .before .before .before .before .before .before .before .if2 .left)
+    (no-in asCall _ _ (sym (ap (λ (w : List ℕ). sameBytes w haseditName) (c .before .before .before .before .before .before .before .before .before .before .before .before .before .before .before .before .word-at .ensures)) ∙ sym (c .before .before .before .before .before .before .before .same3 .ensures) ∙ c .before .before .before .before .before .before .if3 .left)
+    (no-in asCall _ _ (sym (ap (λ (w : List ℕ). sameBytes w clipName) (c .before .before .before .before .before .before .before .before .before .before .before .before .before .before .before .before .word-at .ensures)) ∙ sym (c .before .before .before .before .same4 .ensures) ∙ c .before .before .before .if4 .left)
+    (no-in asCall _ _ (sym (ap (λ (w : List ℕ). sameBytes w resetName) (c .before .before .before .before .before .before .before .before .before .before .before .before .before .before .before .before .word-at .ensures)) ∙ sym (c .before .same5 .ensures) ∙ c .if5 .left) refl)))))
 
 pub read-two-spec : {M : Type 1} → statement M
-read-two-spec = tie.close (tie.spec (λ c κs. search needs) (λ c κs. search needs) (λ c. search needs) (λ c κs. search needs) (λ c κs. search needs) (λ c κs. search needs) returns (λ c. search needs) (λ c κs. search needs) (λ c κs. search needs) (λ c κs. search needs) returns-2 (λ c. search needs) (λ c κs. search needs) (λ c κs. search needs) (λ c κs. search needs) returns-3 (λ c. search needs) (λ c κs. search needs) (λ c κs. search needs) (λ c κs. search needs) returns-4 returns-5)
+read-two-spec = tie.close (tie.spec (λ c κs. search needs) (λ c κs. search needs) (λ c. search needs) (λ c κs. search needs) (λ c κs. search needs) (λ c κs. search needs) returns (λ c. search needs) (λ c κs. search needs) (λ c κs. search needs) (λ c κs. search needs) returns-2 (λ c. search needs) (λ c κs. search needs) (λ c κs. search needs) (λ c κs. search needs) returns-3 (λ c. search needs) (λ c κs. search needs) (λ c κs. search needs) (λ c κs. search needs) returns-4 (λ c. search needs) (λ c κs. search needs) (λ c κs. search needs) (λ c κs. search needs) returns-5 returns-6)

@@ -12,10 +12,10 @@ use Rattle.waist.proofs.objective.insert_cells.Statement.{statement}
 use Rattle.waist.proofs.objective.insert_cells.Tie as tie
 
 abbrev Inv-loop : tie.InvT-loop
-Inv-loop reals₀ row width k w₀ p₀ reals w p = (run (aimTurn k row) p (width + 1) (aim reals (markOf w)) ≡ rowGoal width k row reals₀) × (1 ≤ p) × (p ≤ width + 1)
+Inv-loop reals₀ row width k cutoff w₀ p₀ reals w p = (run (aimTurn cutoff k row) p (width + 1) (aim reals (markOf w)) ≡ rowGoal width k row reals₀) × (1 ≤ p) × (p ≤ width + 1)
 
 abbrev μ-loop : tie.MeasureT-loop
-μ-loop reals₀ row width k w₀ p₀ reals w p = width + 1 - p
+μ-loop reals₀ row width k cutoff w₀ p₀ reals w p = width + 1 - p
 
 loop-holds : tie.Need-loop-holds Inv-loop μ-loop
 unfolding rowGoal
@@ -24,7 +24,7 @@ loop-holds c = (rw (c .nothing .ensures, mark-clean) refl, omega arith, omega ar
 loop-again : tie.Need-loop-again Inv-loop μ-loop
 loop-again c =
     let i = c .before .before .before .before .loop .inv in
-    (run-next _ _ _ _ (omega arith) (aim-turn _ _ _ _ _ (c .insert-at .ensures .0) (c .insert-at .ensures .1)) (i .0), omega arith, omega arith)
+    (run-next _ _ _ _ (omega arith) (aim-turn _ _ _ _ _ _ (c .insert-at .ensures .0) (c .insert-at .ensures .1)) (i .0), omega arith, omega arith)
 
 returns : tie.Need-returns Inv-loop μ-loop
 returns c = run-last _ _ _ _ (omega arith) (c .before .loop .inv .0)
@@ -35,6 +35,7 @@ insert-cells-spec =
     (tie.spec
     Inv-loop
     μ-loop
+    (λ c. search needs)
     (λ c κs. search needs)
     loop-holds
     (λ c. search needs)
