@@ -5,3 +5,4 @@ pub mod Tested
 pub mod Passed
 pub mod Known
 pub mod Numbers
+pub mod Groups
