@@ -5,4 +5,3 @@ pub mod Tested
 pub mod Passed
 pub mod Known
 pub mod Numbers
-pub mod Groups

@@ -12,7 +12,7 @@ use Rattle.sparse.specs.Places.{constraintNumbersAt}
 use Rattle.terms.specs.declared.Pack.{Pack}
 use Rattle.refusals.specs.Refusals.{constraintsIn, liveIn, editedIn, constraintsFullIn, variablesFullIn, idsUsedIn, roomRefusal, inputRefusal, addRefusal, editPack, addEditRefusal, suggestRefusal, removeRefusal, removeEditRefusal}
 
-pub low : (b : Bool) (k y : ℕ) → k ≤ 27 → y ≤ 27 → cond b k y ≤ 27
+low : (b : Bool) (k y : ℕ) → k ≤ 27 → y ≤ 27 → cond b k y ≤ 27
 low true k y h q = h
 low false k y h q = q
 

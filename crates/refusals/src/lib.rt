@@ -5,15 +5,12 @@ ghost use Prim.Native.Nat.{_+_, _<_, _≤_};
 ghost use Rattle.sparse.specs.Places.{mostVariables, mostConstraints, variableNumbersAt, constraintNumbersAt, wordsSize};
 ghost use Rattle.sparse.specs.Lookup.{Ascends};
 ghost use Rattle.refusals.specs.Refusals.{variablesIn, constraintsIn, editsIn, liveIn, editedIn, firstOf, newAt, newIn, constraintsFullIn, variablesFullIn, idsUsedIn, roomRefusal, inputRefusal, addRefusal, editPack, addEditRefusal, suggestRefusal, removeRefusal, removeEditRefusal};
-
-pub mod groups;
-
 use sparse::Bytes;
 use sparse::Words;
 use sparse::lookup::look_up;
 
 // A test that fails gives its number, one that passes what the tests after it give.
-pub fn refusal(fails: bool, number: u64, rest: u64) -> u64
+fn refusal(fails: bool, number: u64, rest: u64) -> u64
     ensures { λ r. ⌜ r ≡ cond fails number rest ⌝ }
 {
     if fails { number } else { rest }
