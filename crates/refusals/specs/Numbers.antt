@@ -10,7 +10,7 @@ use Rattle.steps.specs.Number.{belowZero, isFinite}
 use Rattle.steps.specs.Strength.{required}
 use Rattle.sparse.specs.Places.{constraintNumbersAt}
 use Rattle.terms.specs.declared.Pack.{Pack}
-use Rattle.refusals.specs.Refusals.{constraintsIn, liveIn, editedIn, constraintsFullIn, variablesFullIn, idsUsedIn, roomRefusal, inputRefusal, addRefusal, editPack, addEditRefusal, suggestRefusal, removeRefusal, removeEditRefusal}
+use Rattle.refusals.specs.Refusals.{constraintsIn, liveIn, editedIn, groupIn, constraintsFullIn, variablesFullIn, idsUsedIn, roomRefusal, inputRefusal, addRefusal, editPack, addEditRefusal, suggestRefusal, removeRefusal, removeEditRefusal, dropRefusal}
 
 low : (b : Bool) (k y : ℕ) → k ≤ 27 → y ≤ 27 → cond b k y ≤ 27
 low true k y h q = h
@@ -42,3 +42,7 @@ remove-low x w = low (not (liveIn w constraintNumbersAt (constraintsIn w) x)) 5 
 pub remove-edit-low : (x : ℕ) (w b : List ℕ) → removeEditRefusal x w b ≤ 27
 unfolding removeEditRefusal
 remove-edit-low x w b = low (not (editedIn w b x)) 8 0 (omega arith) (omega arith)
+
+pub drop-low : (g : ℕ) (w : List ℕ) → dropRefusal g w ≤ 27
+unfolding dropRefusal
+drop-low g w = low (eqb g 0) 26 _ (omega arith) (low (not (groupIn w (constraintsIn w) g)) 27 0 (omega arith) (omega arith))

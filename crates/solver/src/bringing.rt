@@ -56,6 +56,7 @@ pub fn with_constraint(
     wreals: &mut Reals,
     wvalues: &mut Values,
     n: u32,
+    g: u16,
     strength: f64,
     marker: u8,
     other: u8,
@@ -67,8 +68,8 @@ pub fn with_constraint(
     requires { ⌜ other ≤ symbolCount (lent wwords wkeys wbytes wreals wvalues) ⌝ }
     requires { ⌜ constraintCount (lent words keys bytes reals values) + editCount (lent words keys bytes reals values) < mostConstraints ⌝ }
     requires { ⌜ p .count ≤ 16 ⌝ }
-    requires { ⌜ readable (brought (keepConstraint (record { number = n; strength = strength; terms = termsOf p; tag = tagAt (lent wwords wkeys wbytes wreals wvalues) marker other }) (read (lent words keys bytes reals values) .constraints)) (read (lent words keys bytes reals values) .edits) (lent wwords wkeys wbytes wreals wvalues)) ≡ true ⌝ }
-    ensures { λ _. ⌜ Ends (lent (wwords .entry) (wkeys .entry) (wbytes .entry) (wreals .entry) (wvalues .entry)) (keepConstraint (record { number = n; strength = strength; terms = termsOf p; tag = tagAt (lent (wwords .entry) (wkeys .entry) (wbytes .entry) (wreals .entry) (wvalues .entry)) marker other }) (read (lent (words .entry) (keys .entry) (bytes .entry) (reals .entry) (values .entry)) .constraints)) (read (lent (words .entry) (keys .entry) (bytes .entry) (reals .entry) (values .entry)) .edits) (lent (wwords .exit) (wkeys .exit) (wbytes .exit) (wreals .exit) (wvalues .exit)) ⌝ }
+    requires { ⌜ readable (brought (keepConstraint (record { number = n; group = g; strength = strength; terms = termsOf p; tag = tagAt (lent wwords wkeys wbytes wreals wvalues) marker other }) (read (lent words keys bytes reals values) .constraints)) (read (lent words keys bytes reals values) .edits) (lent wwords wkeys wbytes wreals wvalues)) ≡ true ⌝ }
+    ensures { λ _. ⌜ Ends (lent (wwords .entry) (wkeys .entry) (wbytes .entry) (wreals .entry) (wvalues .entry)) (keepConstraint (record { number = n; group = g; strength = strength; terms = termsOf p; tag = tagAt (lent (wwords .entry) (wkeys .entry) (wbytes .entry) (wreals .entry) (wvalues .entry)) marker other }) (read (lent (words .entry) (keys .entry) (bytes .entry) (reals .entry) (values .entry)) .constraints)) (read (lent (words .entry) (keys .entry) (bytes .entry) (reals .entry) (values .entry)) .edits) (lent (wwords .exit) (wkeys .exit) (wbytes .exit) (wreals .exit) (wvalues .exit)) ⌝ }
 {
     new::keep_constraint(
         wwords,
@@ -78,6 +79,7 @@ pub fn with_constraint(
         bytes,
         reals,
         n as u64,
+        g,
         marker,
         other,
         strength,
