@@ -17,3 +17,5 @@ pub mod EditAdding
 pub mod Change
 pub mod Listed
 pub mod Again
+pub mod Dropping
+pub mod Dropped
