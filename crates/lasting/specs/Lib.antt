@@ -1,5 +1,6 @@
 -- A call leaves tables that the next call reads.
 pub mod Promises
 pub mod Again
+pub mod Drops
 pub mod Public
 pub mod Runs
