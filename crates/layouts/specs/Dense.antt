@@ -1,4 +1,4 @@
--- The calls over the four dense tables: the test for 18, a changing call, a reset, a fetch. They are older than the choice of a cutoff: theirs is the usual one.
+-- The calls over the four dense tables: the test for 18, a changing call, a reset, a fetch. They are older than the choice of a cutoff and than groups: their cutoff is the usual one, and their constraints are in group 1.
 use Prim.Native.Nat.{ℕ, _+_}
 use mathlib.Core.Bool.{Bool, true, _&&_, cond}
 use mathlib.Core.List.{List, []}
