@@ -11,7 +11,7 @@ use lib.ListN.{getD}
 use Rattle.steps.specs.State.{Tag, Constraint, State}
 use Rattle.steps.specs.Remove.{removeSteps}
 use Rattle.steps.specs.Tests.{findConstraint, dropConstraint}
-use Rattle.steps.specs.Calls.{begin, finish, conclude, remove}
+use Rattle.steps.specs.Calls.{begin, finish, conclude, removeStored, remove}
 use Rattle.steps.specs.Readable.{readable, tagKinds}
 use Rattle.keeps.specs.Lists.{times}
 use Rattle.keeps.specs.Keys.{drop-total, findConstraint-is}
@@ -61,7 +61,7 @@ remove-by-test x budget t w u a {k} en q h says = done-by-test (remove x budget)
 
 remove-known : (x budget : ℕ) (s : State) (c : Constraint) → findConstraint x (s .constraints) ≡ some c
     → remove x budget s ≡ conclude s (removeSteps budget (c .tag) (c .strength) (c .terms) (begin s)) (λ w. finish w (dropConstraint x (s .constraints)) (s .edits))
-unfolding remove
+unfolding remove removeStored
 remove-known x budget s c a = rw (a, remove) refl
 
 module _ (x budget : ℕ) (t w : Sparse) (en : Entered t w) (k : ℕ) (live : liveIn (t .words) constraintNumbersAt (constraintCount t) x ≡ true) (placed : k ≡ placeFrom (t .words) constraintNumbersAt (constraintCount t) x) where
