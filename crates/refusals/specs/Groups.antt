@@ -49,7 +49,7 @@ module _ (g : ℕ) (f : ℕ → Constraint) (k : ℕ) where
   none-is = rw (sub-zero k) (none-from k 0 (omega arith))
 
 module _ (t : Sparse) (g : ℕ) where
-  no-group : empty g (read t .constraints) ≡ not (groupIn (t .words) (constraintCount t) g)
+  pub no-group : eqb (length (groupOf g (read t .constraints))) 0 ≡ not (groupIn (t .words) (constraintCount t) g)
   unfolding read constraintOf liveIn placeFrom
   no-group = none-is g (constraintOf t) (constraintCount t)
 

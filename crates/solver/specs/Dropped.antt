@@ -2,14 +2,14 @@
 -- Assumes nothing.
 use Prim.Native.Nat.{ℕ, _+_, _-_, _≤_, _<_}
 use mathlib.Core.Path.{_≡_, refl, sym, ap, _∙_}
-use mathlib.Core.Bool.{Bool, true, false, false≢true}
+use mathlib.Core.Bool.{Bool, true, false, not, false≢true}
 use mathlib.Core.List.{List, [], _∷_}
 use mathlib.Core.Option.{none}
 use native.Mathlib.Nat.{zero-add, sub-zero}
 use native.Mathlib.Omega.{arith}
-use lib.Dec.{eqb, ltb}
+use lib.Dec.{eqb, eqb·suc-zero}
 use lib.ListN.{length, getD}
-use borrow.Author.Tests.{ltb-true, ltb-false, lt-ltb, eq-eqb, ne-eqb, eqb-true}
+use borrow.Author.Tests.{ltb-true, lt-ltb, eq-eqb, ne-eqb}
 use Rattle.laws.specs.Given.{Then, then-given}
 use Rattle.laws.specs.Lists.{tab, listOf}
 use Rattle.steps.specs.State.{Constraint, State}
@@ -17,26 +17,29 @@ use Rattle.steps.specs.Tests.{groupOf, firstRefusal, dropTests}
 use Rattle.steps.specs.Calls.{Answer, Result, remove, dropGroup}
 use Rattle.keeps.specs.Reads.{Reads}
 use Rattle.keeps.specs.Tested.{reads-in}
-use Rattle.places.specs.Finding.{placeIn, place-is, place-live}
+use Rattle.places.specs.Finding.{placeIn, place-live}
 use Rattle.cells.specs.Seek.{first-elim}
 use Rattle.sparse.specs.Places.{wholeAt, constraintNumbersAt, constraintGroupsAt}
 use Rattle.sparse.specs.Lookup.{placeFrom}
 use Rattle.sparse.specs.Sparse.{Sparse, constraintCount, constraintOf, read}
-use Rattle.sparse.specs.Form.{Form}
 use Rattle.sparse_test.specs.Stretch.{most}
 use Rattle.sparse_test.specs.Reads.{greatestU32, reads}
 use Rattle.sparse_test.specs.Meaning.{reads-form, reads-readable, reads-parts}
 use Rattle.lending.specs.declared.Answer as code
 use Rattle.lending.specs.Lending.{answerOf}
 use Rattle.refusals.specs.Refusals.{liveIn, groupPlace, groupIn, dropRefusal}
-use Rattle.refusals.specs.Groups.{drop-refused}
+use Rattle.refusals.specs.Groups.{no-group, drop-refused}
 use Rattle.solver.specs.Begin.{constraints-count}
 use Rattle.solver.specs.Concluding.{Done, byTest, done-by-test}
-use Rattle.solver.specs.Dropping.{dropping, later, turn-refused, turn-accepted, turn-fewer, turn-spent, dropping-ended, group-none, group-first, drop-accepted, drop-answers}
+use Rattle.solver.specs.Dropping.{dropping, later, turn-refused, turn-accepted, turn-fewer, turn-spent, dropping-ended, group-first, drop-accepted, drop-answers}
 
 -- the number of the group's first constraint
 abbrev pub number-first : Sparse → ℕ → ℕ
 number-first t g = getD (t .words) (constraintNumbersAt + groupPlace (t .words) (constraintCount t) g) 0
+
+nil-of : (cs : List Constraint) → eqb (length cs) 0 ≡ true → cs ≡ []
+nil-of [] e = refl
+nil-of (c ∷ cs) e = absurd (false≢true (sym (eqb·suc-zero (length cs)) ∙ e))
 
 module _ (t : Sparse) (g : ℕ) where
   abbrev in-group : ℕ → Bool
@@ -71,14 +74,8 @@ module _ (t : Sparse) (g : ℕ) where
         let f = first-in place-in in
         rw constraints-are (group-first g (constraintOf t) 0 (constraintCount t) (groupPlace (t .words) (constraintCount t) g) (omega arith) (omega (arith, place-in)) (λ k a b. group-is k ∙ f .1 k b) (group-is _ ∙ f .0))
 
-  pub none-of : groupIn (t .words) (constraintCount t) g ≡ false → groupOf g (read t .constraints) ≡ []
-  none-of gone = rw constraints-are (group-none g (constraintOf t) 0 (constraintCount t) (λ k a b. group-is k ∙ out k (omega (arith, b)) (in-group k) refl))
-    where
-      out : (k : ℕ) → k < constraintCount t → (b : Bool) → in-group k ≡ b → in-group k ≡ false
-      out k h false e = e
-      out k h true e =
-          let l : groupPlace (t .words) (constraintCount t) g < constraintCount t = unfold placeFrom in place-live (λ j. getD (t .words) (constraintGroupsAt + j) 0) (constraintCount t) g k h (sym (eqb-true g _ e)) in
-          absurd (false≢true (sym gone ∙ (unfold liveIn in lt-ltb _ _ l)))
+  none-of : groupIn (t .words) (constraintCount t) g ≡ false → groupOf g (read t .constraints) ≡ []
+  none-of gone = nil-of (groupOf g (read t .constraints)) (no-group t g ∙ ap not gone)
 
 -- ---- the group's first constraint goes
 

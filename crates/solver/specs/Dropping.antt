@@ -1,26 +1,26 @@
 -- The removals of a drop, over states: each takes the first constraint of the group in the state that the one before it left.
 -- Assumes nothing.
 use Prim.Native.Nat.{ℕ, zero, suc, _+_, _-_, _≤_, _<_}
-use mathlib.Core.Path.{_≡_, refl, sym, ap, _∙_, subst}
+use mathlib.Core.Path.{_≡_, refl, sym, ap, _∙_}
 use mathlib.Core.Logic.{_≢_}
 use mathlib.Core.Bool.{Bool, true, false, false≢true}
 use mathlib.Core.List.{List, [], _∷_, map}
-use mathlib.Core.Option.{Option, none, some}
+use mathlib.Core.Option.{none}
 use native.Mathlib.Omega.{arith}
 use lib.Dec.{eqb}
 use lib.ListN.{length}
 use borrow.Author.Tests.{eqb-true}
 use Rattle.laws.specs.Lists.{tab}
 use Rattle.steps.specs.State.{Constraint, State}
-use Rattle.steps.specs.Tests.{groupOf, findConstraint, dropConstraint, dropTests, firstRefusal}
-use Rattle.steps.specs.Calls.{Answer, Result, refusedBy, remove, removeStored, onward, removeAll, allOrNone, dropGroup}
+use Rattle.steps.specs.Tests.{groupOf, dropConstraint, dropTests, firstRefusal}
+use Rattle.steps.specs.Calls.{Result, refusedBy, remove, removeStored, onward, removeAll, allOrNone, dropGroup}
 use Rattle.steps.specs.Changing.{removes}
 use Rattle.steps.proofs.Budgets.{within-budget}
 use Rattle.keeps.specs.Lists.{Same?, is, isnt, same?, Up}
 use Rattle.keeps.specs.Keys.{drop-length, dropConstraint-is, findConstraint-is}
 use Rattle.keeps.specs.Lookup.{eq-no, eq-yes}
 use Rattle.keeps.specs.Reads.{conNumber}
-use Rattle.keeps.specs.Groups.{Found, Apart, group-all, group-found, remove-found, removed-constraints}
+use Rattle.keeps.specs.Groups.{Found, group-found, remove-found, removed-constraints}
 
 -- the whole removals of the group's constraints
 abbrev pub dropping : ℕ → ℕ → State → Result
@@ -128,11 +128,6 @@ dropping-ended g b s e = rw e (unfold removeAll in refl)
 -- ---- the group in a list that is read place by place
 
 module _ (g : ℕ) (f : ℕ → Constraint) where
-  pub group-none : (i n : ℕ) → ((j : ℕ) → i ≤ j → j < i + n → eqb g (f j .group) ≡ false) → groupOf g (tab f i n) ≡ []
-  unfolding tab
-  group-none i zero h = unfold groupOf in refl
-  group-none i (suc n) h = group-out g (f i) (tab f (suc i) n) (h i (omega arith) (omega arith)) ∙ group-none (suc i) n (λ j a b. h j (omega arith) (omega arith))
-
   pub group-first : (i n j : ℕ) → i ≤ j → j < i + n → ((k : ℕ) → i ≤ k → k < j → eqb g (f k .group) ≡ false) → eqb g (f j .group) ≡ true → (ds : List Constraint) × (groupOf g (tab f i n) ≡ f j ∷ ds)
   unfolding tab
   group-first i zero j a b h e = absurd (omega (arith, a, b))

@@ -5,7 +5,6 @@ use Rattle.refusals.specs.Groups.{drop-passes}
 use Rattle.refusals.specs.Numbers.{drop-low}
 use Rattle.solver.specs.Begin.{counts-at-start}
 use Rattle.solver.specs.Dropped.{drop-by-test, drop-done}
-use borrow.Author.Needs.{needs}
 use Rattle.solver.proofs.drop.drop.Statement.{statement}
 use Rattle.solver.proofs.drop.drop.Tie as tie
 
