@@ -17,7 +17,7 @@ eq-no m n h = go (eqb m n) refl
     go true e = absurd (h (eqb→eq m n (subst T (sym e) tt)))
     go false e = e
 
-eq-yes : (n : ℕ) → eqb n n ≡ true
+pub eq-yes : (n : ℕ) → eqb n n ≡ true
 eq-yes n = go (eqb n n) (eqb-refl n)
   where
     go : (b : Bool) → T b → b ≡ true
