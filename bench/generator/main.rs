@@ -9,13 +9,13 @@ mod mixed;
 mod random;
 mod special;
 
-use mixed::{cutoffs, mixed, KINDS};
+use mixed::{cutoffs, grouped, mixed, KINDS};
 use random::Random;
-use special::{ids, layouts, limits, malformed, redundant, refusals, trolley};
+use special::{ids, layouts, limits, malformed, panes, redundant, refusals, trolley};
 
 const OTHERS: &[&str] = &["redundant", "refusals", "limits", "trolley", "ids", "malformed", "layouts"];
 /// Of document 02's calls. With `all` they come after the others, which stay as they were without them.
-const LATER: &[&str] = &["cutoffs"];
+const LATER: &[&str] = &["cutoffs", "groups", "panes"];
 
 fn session(name: &str, calls: u64, r: &mut Random) -> Vec<String> {
     match name {
@@ -27,6 +27,8 @@ fn session(name: &str, calls: u64, r: &mut Random) -> Vec<String> {
         "layouts" => layouts(calls, r),
         "malformed" => malformed(calls, r),
         "cutoffs" => cutoffs(calls, r),
+        "groups" => grouped(calls, r),
+        "panes" => panes(calls, r),
         _ => match KINDS.iter().find(|k| k.name == name) {
             Some(kind) => mixed(kind, calls, r),
             None => usage(),
