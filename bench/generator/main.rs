@@ -52,18 +52,16 @@ fn main() {
         (Ok(a), Ok(b), Ok(c)) => (a, b, c),
         _ => usage(),
     };
+    // the definitions have no answer to a line that is no call and are slow on large layouts, and a plain program has no setnext
+    let left_out: &[&str] = if plain { &["ids"] } else { &["malformed", "layouts", "panes"] };
     let kinds: Vec<&str> = match args[0].as_str() {
-        // the definitions have no answer to a line that is no call and are slow on large layouts, and a plain program has no setnext
-        "all" => {
-            let left_out: &[&str] = if plain { &["ids"] } else { &["malformed", "layouts"] };
-            KINDS.iter().map(|k| k.name).chain(OTHERS.iter().cloned()).filter(|k| !left_out.contains(k)).collect()
-        }
+        "all" => KINDS.iter().map(|k| k.name).chain(OTHERS.iter().cloned()).filter(|k| !left_out.contains(k)).collect(),
         names => names.split(',').collect(),
     };
     let mut places: Vec<(u64, &str)> = (0..sessions).map(|i| (i, kinds[(i % kinds.len() as u64) as usize])).collect();
     if args[0] == "all" {
         let each = (sessions + kinds.len() as u64 - 1) / kinds.len() as u64;
-        for (k, kind) in LATER.iter().enumerate() {
+        for (k, kind) in LATER.iter().enumerate().filter(|(_, kind)| !left_out.contains(kind)) {
             let first = (k as u64 + 1) << 32;
             places.extend((first..first + each).map(|i| (i, *kind)));
         }
