@@ -8,6 +8,7 @@ pub const MOST_VARIABLES: usize = 32;
 pub const MOST_TAGS: usize = 48;
 pub const MOST_TERMS: usize = 16;
 pub const LARGEST: u64 = u32::MAX as u64;
+pub const LARGEST_GROUP: u64 = u16::MAX as u64;
 pub const LAST_ID: u64 = 4_294_900_000;
 
 fn number(g: &mut Random, wild: bool) -> f64 {
@@ -66,7 +67,8 @@ fn owners(g: &mut Random, w: &mut Words, wild: bool, (variables, constraints, ed
         w.variables.push(VariableWords { number, symbol: take(EXTERNAL), uses: 0, changed: g.word() % 2, old });
     }
     for (number, (marker, other, strength)) in ascending(g, constraints, LARGEST).into_iter().zip(tags) {
-        w.constraints.push(ConstraintWords { number, marker: take(marker), other: other.map_or(NONE, &mut take), strength, terms: Vec::new() });
+        let group = u64::from(g.some_group());
+        w.constraints.push(ConstraintWords { number, group, marker: take(marker), other: other.map_or(NONE, &mut take), strength, terms: Vec::new() });
     }
     let mut edited: Vec<u64> = w.variables.iter().map(|v| v.number).collect();
     while edited.len() > edits {

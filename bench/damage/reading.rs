@@ -8,6 +8,7 @@ const MOST_VARIABLES: u64 = 32;
 const MOST_CONSTRAINTS: u64 = 48;
 const MOST_TERMS: u8 = 16;
 const LARGEST: u64 = u32::MAX as u64;
+const LARGEST_GROUP: u64 = u16::MAX as u64;
 const REQUIRED: f64 = 1_001_001_000.0;
 const GREATEST_CUTOFF: f64 = 1e-6;
 
@@ -66,10 +67,13 @@ pub const CLAUSES: &[Clause] = &[
     ("the cutoff is above 0", |h| !(h.cutoff <= 0.0)),
     ("the cutoff is at most 1E-6", |h| !(h.cutoff > GREATEST_CUTOFF)),
     ("the cutoff is a number", |h| !h.cutoff.is_nan()),
+    // "no constraint with a number is in group 0"
+    ("no constraint is in group 0", |h| h.constraints.iter().all(|c| c.group > 0)),
     // numbers fit their types
     ("the next id is a u32", |h| h.next <= LARGEST),
     ("variable numbers are u32", |h| h.variables.iter().all(|v| v.number <= LARGEST)),
     ("constraint numbers are u32", |h| h.constraints.iter().all(|c| c.number <= LARGEST)),
+    ("groups are u16", |h| h.constraints.iter().all(|c| c.group <= LARGEST_GROUP)),
     ("the toggle is 0 or 1", |h| h.clear <= 1),
     ("the mark is 0 or 1", |h| h.whole <= 1),
     ("changed flags are 0 or 1", |h| h.variables.iter().all(|v| v.changed <= 1)),
