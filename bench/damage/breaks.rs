@@ -1,5 +1,5 @@
 //! States in which one thing is wrong and all else fits to it, so that the one clause that forbids it must be what refuses them.
-use crate::craft::{count_uses, state, LARGEST, LARGEST_GROUP, MOST_TAGS, MOST_TERMS, MOST_VARIABLES, REQUIRED};
+use crate::craft::{count_uses, state, LARGEST, MOST_TAGS, MOST_TERMS, MOST_VARIABLES, REQUIRED};
 use crate::layout::{code, id_of, kind_of, Held, CELLS, DUMMY, ERROR, EXTERNAL, NONE, SLACK, SPAN, SYMBOL_ROOM};
 use crate::random::Random;
 use crate::state::{RowWords, Words};
@@ -206,10 +206,6 @@ const NUMBERS: &[Break] = &[
     },
     |_, w| Some(w.constraints.last_mut()?.number += LARGEST + 1),
     |g, w| Some(some(g, &mut w.constraints)?.group = 0),
-    |g, w| {
-        let c = some(g, &mut w.constraints)?;
-        Some(c.group += LARGEST_GROUP + 1)
-    },
     |g, w| Some(w.cutoff = g.bad_cutoff()),
     |g, w| Some(w.cutoff = g.bad_cutoff()),
     |g, w| Some(w.clear = 2 + g.word() % 9),

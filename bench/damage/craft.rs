@@ -8,7 +8,6 @@ pub const MOST_VARIABLES: usize = 32;
 pub const MOST_TAGS: usize = 48;
 pub const MOST_TERMS: usize = 16;
 pub const LARGEST: u64 = u32::MAX as u64;
-pub const LARGEST_GROUP: u64 = u16::MAX as u64;
 pub const LAST_ID: u64 = 4_294_900_000;
 
 fn number(g: &mut Random, wild: bool) -> f64 {

@@ -50,7 +50,7 @@ pub fn state(w: &Words) -> State {
             .iter()
             .map(|c| ConstraintState {
                 number: c.number as u32,
-                group: c.group as u16,
+                group: c.group,
                 strength: c.strength,
                 terms: c.terms.iter().map(|&(v, k)| (v as u32, k)).collect(),
                 marker: symbol(c.marker),
@@ -68,7 +68,7 @@ pub fn words(s: &State) -> Words {
     let along = |cells: &[(Symbol, f64)]| -> Vec<f64> { live.iter().map(|x| cells.iter().find(|c| c.0 == *x).map_or(0.0, |c| c.1)).collect() };
     let constraint = |c: &ConstraintState| ConstraintWords {
         number: c.number.into(),
-        group: c.group.into(),
+        group: c.group,
         marker: word(c.marker),
         other: word(c.other),
         strength: c.strength,
@@ -104,7 +104,7 @@ fn made(solver: &mut Solver, call: &Call) -> Answer {
         Call::Add { group, number, vars, coefs, constant, kind, strength, budget } => {
             let terms = vars.iter().zip(coefs).map(|(v, k)| Term::new(Variable(*v), *k)).collect();
             let constraint = Constraint::new(Name::Number(*number), Expression::new(terms, *constant), relation(*kind), *strength);
-            solver.add_constraint(constraint.in_group(*group), *budget)
+            solver.add_constraint(constraint.in_group((*group).into()), *budget)
         }
         Call::Remove { number, budget } => solver.remove_constraint(*number, *budget),
         Call::Drop { group, budget } => solver.drop_group(*group, *budget),

@@ -8,7 +8,6 @@ const MOST_VARIABLES: u64 = 32;
 const MOST_CONSTRAINTS: u64 = 48;
 const MOST_TERMS: u8 = 16;
 const LARGEST: u64 = u32::MAX as u64;
-const LARGEST_GROUP: u64 = u16::MAX as u64;
 const REQUIRED: f64 = 1_001_001_000.0;
 const GREATEST_CUTOFF: f64 = 1e-6;
 
@@ -73,7 +72,6 @@ pub const CLAUSES: &[Clause] = &[
     ("the next id is a u32", |h| h.next <= LARGEST),
     ("variable numbers are u32", |h| h.variables.iter().all(|v| v.number <= LARGEST)),
     ("constraint numbers are u32", |h| h.constraints.iter().all(|c| c.number <= LARGEST)),
-    ("groups are u16", |h| h.constraints.iter().all(|c| c.group <= LARGEST_GROUP)),
     ("the toggle is 0 or 1", |h| h.clear <= 1),
     ("the mark is 0 or 1", |h| h.whole <= 1),
     ("changed flags are 0 or 1", |h| h.variables.iter().all(|v| v.changed <= 1)),

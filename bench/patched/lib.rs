@@ -134,7 +134,7 @@ pub enum Name {
 #[derive(Clone, Debug)]
 pub struct Constraint {
     name: Name,
-    group: u16, // EDIT 23
+    group: u64, // EDIT 23
     expression: Expression,
     strength: f64,
     op: RelationalOperator
@@ -167,11 +167,11 @@ impl Constraint {
         self.strength
     }
     // EDIT 23
-    pub fn in_group(mut self, group: u16) -> Constraint {
+    pub fn in_group(mut self, group: u64) -> Constraint {
         self.group = group;
         self
     }
-    pub fn group(&self) -> u16 {
+    pub fn group(&self) -> u64 {
         self.group
     }
     // EDIT 21, 22: as it is stored

@@ -19,7 +19,7 @@ fn add(solver: &mut Solver, group: u16, number: u32, relation: Relation, strengt
     };
     let terms = terms.iter().map(|&(v, k)| Term::new(Variable(v), k)).collect();
     let constraint = Constraint::new(Name::Number(number), Expression::new(terms, constant), op, strength);
-    solver.add_constraint(constraint.in_group(group), budget)
+    solver.add_constraint(constraint.in_group(group.into()), budget)
 }
 
 fn fetched(changes: &[(Variable, f64)]) -> String {

@@ -19,7 +19,7 @@ pub struct VariableState {
 #[derive(Clone, Debug)]
 pub struct ConstraintState {
     pub number: u32,
-    pub group: u16,
+    pub group: u64,
     pub strength: f64,
     pub terms: Vec<(u32, f64)>,
     pub marker: Symbol,

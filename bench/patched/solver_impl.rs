@@ -253,7 +253,7 @@ impl Solver {
         if group == 0 {
             return self.refused(26);
         }
-        let names: Vec<Name> = self.cns.iter().filter(|&(_, c)| c.0.group() == group).map(|(name, _)| *name).collect();
+        let names: Vec<Name> = self.cns.iter().filter(|&(_, c)| c.0.group() == u64::from(group)).map(|(name, _)| *name).collect();
         if names.is_empty() {
             return self.refused(27);
         }
