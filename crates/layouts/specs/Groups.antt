@@ -4,7 +4,7 @@ use mathlib.Core.Path.{_≡_, refl, subst, sym}
 use mathlib.Core.List.{List, [], _∷_}
 use native.Mathlib.Omega.{arith}
 use Rattle.laws.specs.Lists.{tab, listOf}
-use Rattle.steps.specs.State.{Tag, Constraint, Edit, State, strengthOf}
+use Rattle.steps.specs.State.{Constraint, Edit, State, strengthOf}
 use Rattle.steps.specs.Tests.{groupOf, keptTerms}
 use Rattle.steps.specs.Changing.{Changing, adds, removes, drops, addsEdit, removesEdit, suggests, made, dropEach, Stores}
 use Rattle.steps.proofs.Refusals.{refusal-keeps}
