@@ -4,7 +4,7 @@ use mathlib.Core.Path.{_≡_, refl, subst, sym}
 use mathlib.Core.List.{List, [], _∷_}
 use native.Mathlib.Omega.{arith}
 use Rattle.laws.specs.Lists.{tab, listOf}
-use Rattle.steps.specs.State.{Tag, Constraint, Edit, State, strengthOf}
+use Rattle.steps.specs.State.{Constraint, Edit, State, strengthOf}
 use Rattle.steps.specs.Tests.{groupOf, keptTerms}
 use Rattle.steps.specs.Changing.{Changing, adds, removes, drops, addsEdit, removesEdit, suggests, made, dropEach, Stores}
 use Rattle.steps.proofs.Refusals.{refusal-keeps}
@@ -14,13 +14,14 @@ use Rattle.keeps.specs.Keys.{keep-all, drop-all, keepConstraint-is, dropConstra
 use Rattle.keeps.specs.Reads.{conNumber}
 use Rattle.layouts.specs.Written.{OneGroup}
 
+all-from : {A : Type 0} (P : A → Type 0) (f : ℕ → A) → ((j : ℕ) → P (f j)) → (i m : ℕ) → All P (tab f i m)
+unfolding tab
+all-from P f h i zero = tt
+all-from P f h i (suc m) = (h i, all-from P f h (suc i) m)
+
 pub all-listed : {A : Type 0} (P : A → Type 0) (n : ℕ) (f : ℕ → A) → ((j : ℕ) → P (f j)) → All P (listOf n f)
 unfolding listOf
-all-listed P n f h = go 0 n
-  where
-    go : (i m : ℕ) → All P (tab f i m)
-    go i zero = unfold tab in tt
-    go i (suc m) = unfold tab in (h i, go (suc i) m)
+all-listed P n f h = all-from P f h 0 n
 
 -- an add names group 1; a drop may name any
 abbrev pub NamesOne : Changing → Type 0
@@ -40,13 +41,13 @@ each-dropped [] cs h = h
 each-dropped (d ∷ ds) cs h = each-dropped ds _ (rw dropConstraint-is (drop-all conNumber InOne (d .number) cs h))
 
 stored : (c : Changing) (s : State) (cs : List Constraint) (es : List Edit) → NamesOne c → OneGroup s → Stores c s cs es → All InOne cs
-stored (adds g n terms constant relation budget) s cs es one h (tag, (e, _)) =
+stored (adds g n terms constant relation budget) s cs es one h (tag, e, _) =
     rw (e, keepConstraint-is) (keep-all conNumber InOne (record { number = n; group = g; strength = strengthOf relation; terms = keptTerms (s .tableau .cutoff) terms; tag = tag }) (s .constraints) one h)
 stored (removes n budget) s cs es one h (e, _) = rw (e, dropConstraint-is) (drop-all conNumber InOne n (s .constraints) h)
 stored (drops g budget) s cs es one h (e, _) = rw e (each-dropped (groupOf g (s .constraints)) (s .constraints) h)
-stored (addsEdit n strength budget) s cs es one h (tag, (e, _)) = rw e h
+stored (addsEdit n strength budget) s cs es one h (tag, e, _) = rw e h
 stored (removesEdit n budget) s cs es one h (e, _) = rw e h
-stored (suggests n new budget) s cs es one h (x, (f, (e, _))) = rw e h
+stored (suggests n new budget) s cs es one h (x, f, e, _) = rw e h
 
 pub group-stays : (c : Changing) (s : State) → NamesOne c → OneGroup s → OneGroup (made c s .state)
 group-stays c s one h = go (made c s .answer .number) refl

@@ -1,6 +1,6 @@
 -- One relation that every call keeps: dense and sparse tables that read as the same state, or neither as one. Dense tables have no place for a cutoff or a group, so both have the usual cutoff and constraints of group 1 alone.
 -- Assumes nothing.
-use Prim.Native.Nat.{ℕ}
+use Prim.Native.Nat.{_+_}
 use mathlib.Core.Path.{_≡_, refl, sym, ap, _∙_, subst}
 use mathlib.Core.Bool.{Bool, true, false, _&&_, cond}
 use mathlib.Core.List.{[]}
