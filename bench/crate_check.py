@@ -11,15 +11,15 @@ import collections
 import subprocess
 import sys
 
-CHANGING = ('add', 'remove', 'addedit', 'removeedit', 'suggest')
+CHANGING = ('add', 'addg', 'remove', 'drop', 'addedit', 'removeedit', 'suggest')
 SHOWN = 3
 
 
 def ample(line):
     w = line.split(' ')
-    if w[0] in ('add', 'remove', 'removeedit') and len(w) > 2:
+    if w[0] in ('add', 'remove', 'drop', 'removeedit') and len(w) > 2:
         w[2] = '65535'
-    elif w[0] in ('addedit', 'suggest') and len(w) > 3:
+    elif w[0] in ('addedit', 'suggest', 'addg') and len(w) > 3:
         w[3] = '65535'
     return ' '.join(w)
 
@@ -40,6 +40,8 @@ def bare(line, answer):
 def cause(line, crate, ours, seen):
     if line.startswith('reset '):
         return 'a reset with another cutoff than 1E-8, which the crate does not take (21)'
+    if line.startswith('drop ') or ours == '26':
+        return 'a group, which the crate does not have (22)'
     if ours in ('1', '2', '3', '9', '10', '11', '13') and line.split(' ')[0] in CHANGING:
         return 'refused for its numbers or sizes by ours alone (3, 4, 13, 15)'
     if 'refusal' in seen:

@@ -13,7 +13,7 @@ import subprocess
 import sys
 
 CUTOFFS = (5e-324, 1e-300, 1e-16, 1e-8, 5e-7, 1e-6)
-CHANGING = ('add', 'remove', 'addedit', 'removeedit', 'suggest')
+CHANGING = ('add', 'addg', 'remove', 'drop', 'addedit', 'removeedit', 'suggest')
 SHOWN = 5
 
 

@@ -8,6 +8,7 @@ After each changing call of a run that is still whole the values of the live var
   - the weighted error of the rest is the least that fractions allow (linear programming, all numbers whole);
   - 12 is answered only if the required constraints, the new one among them, can't be met by fractions;
   - 13, 15, 16 and 17 are never answered.
+Of a drop all this holds at its end.
 With --glpk, every EVERY-th problem is also put to `glpsol --exact`, and the two least errors compared.
 """
 import os
@@ -17,7 +18,7 @@ import sys
 import tempfile
 
 REQUIRED = 1001001000
-CHANGING = ('add', 'remove', 'addedit', 'removeedit', 'suggest', 'reset')
+CHANGING = ('add', 'remove', 'drop', 'addedit', 'removeedit', 'suggest', 'reset')
 
 
 # ---- linear programming over the whole numbers: a tableau of integers over one common denominator (Bareiss)
@@ -162,9 +163,17 @@ def whole(word):
     return int(word)
 
 
+def words(line):
+    """a call's words; of an add also its group, behind the others"""
+    w = line.split()
+    if w[0] == 'addg':
+        return ['add'] + w[2:] + [w[1]]
+    return w + ['1'] if w[0] == 'add' else w
+
+
 class Run:
     def __init__(self):
-        self.constraints, self.edits = {}, {}
+        self.constraints, self.edits, self.groups = {}, {}, {}
 
     def problem(self):
         out = list(self.constraints.values())
@@ -177,11 +186,13 @@ class Run:
 
     def accepted(self, w):
         if w[0] == 'add':
-            self.constraints[w[1]] = self.new(w)
+            self.constraints[w[1]], self.groups[w[1]] = self.new(w), w[-1]
         elif w[0] == 'reset':
             self.__init__()
         elif w[0] == 'remove':
             del self.constraints[w[1]]
+        elif w[0] == 'drop':
+            self.constraints = {c: x for c, x in self.constraints.items() if self.groups[c] != w[1]}
         elif w[0] == 'addedit':
             self.edits[int(w[1])] = (max(whole_strength(w[2]), 0), 0)
         elif w[0] == 'removeedit':
@@ -245,7 +256,7 @@ class Check:
         run, whole, checked = Run(), True, False
         answers = ask(session)
         for i, line in enumerate(session):
-            w = line.split()
+            w = words(line)
             if w[0] not in CHANGING:
                 continue
             refusal, _, mark = answers[i][0].split()
@@ -272,16 +283,16 @@ def asker(program):
     def ask(session):
         variables = set()
         for line in session:
-            w = line.split()
-            variables |= {int(v) for v in w[7::2]} if w[0] == 'add' else {int(w[1])} if w[0] in ('addedit', 'suggest') else set()
+            w = words(line)
+            variables |= {int(v) for v in w[7:-1:2]} if w[0] == 'add' else {int(w[1])} if w[0] in ('addedit', 'suggest') else set()
         variables = sorted(variables)
         script = []
         for line in session:
-            script += [line] + (['value %d' % v for v in variables] if line.split()[0] in CHANGING else [])
+            script += [line] + (['value %d' % v for v in variables] if words(line)[0] in CHANGING else [])
         out = subprocess.run([program], input='\n'.join(script) + '\n', capture_output=True, text=True).stdout.split('\n')
         answers, k = [], 0
         for line in session:
-            n = len(variables) if line.split()[0] in CHANGING else 0
+            n = len(variables) if words(line)[0] in CHANGING else 0
             values = {v: struct.unpack('>d', bytes.fromhex(a))[0] for v, a in zip(variables, out[k + 1:k + 1 + n])}
             answers.append((out[k], values))
             k += 1 + n

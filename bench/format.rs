@@ -11,8 +11,9 @@ pub enum Relation {
 pub enum Call {
     /// by this cutoff
     Reset(f64),
-    Add { number: u32, budget: u16, relation: Relation, strength: f64, constant: f64, terms: Vec<(u32, f64)> },
+    Add { group: u16, number: u32, budget: u16, relation: Relation, strength: f64, constant: f64, terms: Vec<(u32, f64)> },
     Remove { number: u32, budget: u16 },
+    Drop { group: u16, budget: u16 },
     AddEdit { variable: u32, strength: f64, budget: u16 },
     RemoveEdit { variable: u32, budget: u16 },
     Suggest { variable: u32, value: f64, budget: u16 },
@@ -32,6 +33,8 @@ pub enum Call {
 
 /// `reset` without one takes this
 pub const USUAL_CUTOFF: f64 = 1e-8;
+/// `add` without one takes this
+const USUAL_GROUP: u16 = 1;
 const LARGEST_WHOLE: u64 = 9_007_199_254_740_992;
 const LONGEST_LINE: usize = 4096;
 
@@ -104,14 +107,14 @@ impl Words<'_> {
     }
 }
 
-fn add(w: &mut Words) -> Option<Call> {
+fn add(group: u16, w: &mut Words) -> Option<Call> {
     let (number, budget, relation, strength, constant) = (w.u32()?, w.u16()?, w.relation()?, w.f64()?, w.f64()?);
     let count = w.u32()?;
     let mut terms = Vec::new();
     for _ in 0..count {
         terms.push((w.u32()?, w.f64()?));
     }
-    Some(Call::Add { number, budget, relation, strength, constant, terms })
+    Some(Call::Add { group, number, budget, relation, strength, constant, terms })
 }
 
 pub fn read(line: &str, decimals: bool) -> Option<Call> {
@@ -122,7 +125,12 @@ pub fn read(line: &str, decimals: bool) -> Option<Call> {
     let mut w = Words { words: words.into_iter(), decimals };
     let call = match w.word()? {
         "reset" => Call::Reset(w.cutoff()?),
-        "add" => add(&mut w)?,
+        "add" => add(USUAL_GROUP, &mut w)?,
+        "addg" => {
+            let group = w.u16()?;
+            add(group, &mut w)?
+        }
+        "drop" => Call::Drop { group: w.u16()?, budget: w.u16()? },
         "remove" => Call::Remove { number: w.u32()?, budget: w.u16()? },
         "addedit" => Call::AddEdit { variable: w.u32()?, strength: w.f64()?, budget: w.u16()? },
         "removeedit" => Call::RemoveEdit { variable: w.u32()?, budget: w.u16()? },

@@ -8,14 +8,22 @@ def main():
     lines, answers = ([l.rstrip('\n') for l in open(f)] for f in sys.argv[1:3])
     calls, total, most, rows = (collections.Counter() for _ in range(4))
     whole = collections.Counter()
-    live, edits = set(), set()
+    live, edits = {}, set()
     for line, a in zip(lines, answers):
         w = line.split()
         if w[0] == 'reset' and a.split()[0] == '0':
-            live, edits = set(), set()
-        if w[0] not in ('add', 'remove', 'addedit', 'removeedit', 'suggest') or a.split()[0] != '0':
+            live, edits = {}, set()
+        w = ['add'] + w[2:] + [w[1]] if w[0] == 'addg' else w + ['1']
+        if w[0] not in ('add', 'remove', 'drop', 'addedit', 'removeedit', 'suggest') or a.split()[0] != '0':
             continue
-        {'add': live.add, 'remove': live.discard, 'addedit': edits.add, 'removeedit': edits.discard, 'suggest': lambda _: None}[w[0]](w[1])
+        if w[0] == 'add':
+            live[w[1]] = w[-1]
+        elif w[0] == 'remove':
+            del live[w[1]]
+        elif w[0] == 'drop':
+            live = {c: g for c, g in live.items() if g != w[1]}
+        elif w[0] != 'suggest':
+            (edits.add if w[0] == 'addedit' else edits.discard)(w[1])
         pivots, mark = int(a.split()[1]), a.split()[2]
         for what in (w[0],) + ((w[0] + ', whole',) if mark == '1' else ()):
             calls[what] += 1

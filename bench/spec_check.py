@@ -26,7 +26,7 @@ use lib.Dec.{T, eqb}
 use lib.Ieee.{binary64, ofBits}
 use Rattle.steps.specs.State.{Term, atMost, equal, atLeast}
 use Rattle.steps.specs.Changes.{Change}
-use Rattle.steps.specs.Session.{resets, adds, removes, addsEdit, removesEdit, suggests, valueOf, fetches, hasConstraints, hasEdits, creates, clips, reads, dumps, setsNext, answer, is, list, says, numbers, Expected, _gives_, firstBad, openSession}
+use Rattle.steps.specs.Session.{resets, adds, removes, drops, addsEdit, removesEdit, suggests, valueOf, fetches, hasConstraints, hasEdits, creates, clips, reads, dumps, setsNext, answer, is, list, says, numbers, Expected, _gives_, firstBad, openSession}
 """
 RELATION = {'le': 'atMost', 'eq': 'equal', 'ge': 'atLeast'}
 USUAL_CUTOFF = '1e-8'
@@ -49,11 +49,17 @@ def listed(items):
     return '(' + ' ∷ '.join(items + ['[]']) + ')'
 
 
+def adds(group, w):
+    terms = ['record { variable = %s; coefficient = %s }' % (w[7 + 2 * i], number(w[8 + 2 * i])) for i in range(int(w[6]))]
+    return 'adds %s %s %s %s (%s %s) %s' % (group, w[1], listed(terms), number(w[5]), RELATION[w[3]], number(w[4]), w[2])
+
+
 def call(w):
     op = w[0]
+    if op == 'addg':
+        return adds(w[1], w[1:])
     if op == 'add':
-        terms = ['record { variable = %s; coefficient = %s }' % (w[7 + 2 * i], number(w[8 + 2 * i])) for i in range(int(w[6]))]
-        return 'adds %s %s %s (%s %s) %s' % (w[1], listed(terms), number(w[5]), RELATION[w[3]], number(w[4]), w[2])
+        return adds('1', w)
     if op in ('addedit', 'suggest'):
         return '%s %s %s %s' % ({'addedit': 'addsEdit', 'suggest': 'suggests'}[op], w[1], number(w[2]), w[3])
     if op in ('reset', 'create', 'clip'):
@@ -62,7 +68,7 @@ def call(w):
     return ' '.join([PLAIN[op]] + w[1:])
 
 
-PLAIN = {'remove': 'removes', 'removeedit': 'removesEdit', 'value': 'valueOf', 'fetch': 'fetches',
+PLAIN = {'remove': 'removes', 'drop': 'drops', 'removeedit': 'removesEdit', 'value': 'valueOf', 'fetch': 'fetches',
          'hascon': 'hasConstraints', 'hasedit': 'hasEdits', 'check': 'reads', 'dump': 'dumps', 'setnext': 'setsNext'}
 
 

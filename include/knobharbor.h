@@ -31,14 +31,14 @@ extern "C" {
 
 /* of this header and the archive that was built with it; a state kept by one version is not promised to read in another */
 #define KNOBHARBOR_VERSION_MAJOR 0
-#define KNOBHARBOR_VERSION_MINOR 3
+#define KNOBHARBOR_VERSION_MINOR 4
 #define KNOBHARBOR_VERSION_PATCH 0
-#define KNOBHARBOR_VERSION "0.3.0"
+#define KNOBHARBOR_VERSION "0.4.0"
 
 /* ---- sizes */
 
 /* the lengths that tables have */
-#define KNOBHARBOR_WORDS 258
+#define KNOBHARBOR_WORDS 306
 #define KNOBHARBOR_CELLS 6579
 #define KNOBHARBOR_BYTES 1312
 #define KNOBHARBOR_REALS 1132
@@ -64,6 +64,9 @@ extern "C" {
 #define KNOBHARBOR_MEDIUM 1000.0
 #define KNOBHARBOR_WEAK 1.0
 
+/* the group of a constraint whose line of text names none; any from 1 to 65,535 will do */
+#define KNOBHARBOR_USUAL_GROUP 1
+
 /* the largest budget */
 #define KNOBHARBOR_LARGEST_BUDGET 65535
 
@@ -73,7 +76,7 @@ extern "C" {
 
 /* ---- tables */
 
-/* Five tables of the right lengths, 78,224 bytes: one to keep, and one as working room. Both may start with any content: reset
+/* Five tables of the right lengths, 78,608 bytes: one to keep, and one as working room. Both may start with any content: reset
    makes a state of the first, and every call leaves the second all zero. */
 typedef struct knobharbor_tables {
     uint64_t words[KNOBHARBOR_WORDS];
@@ -109,7 +112,9 @@ typedef enum knobharbor_number {
     KNOBHARBOR_NO_ENTERING = 16,      /* a dual pass finds no entering symbol */
     KNOBHARBOR_NO_ROW = 17,           /* a removal finds no leaving row */
     KNOBHARBOR_NOT_A_STATE = 18,      /* a lent table doesn't read as a state (in C a table has the length of its type) */
-    KNOBHARBOR_BAD_CUTOFF = 24        /* a reset's cutoff is not above 0 and at most 1E-6 */
+    KNOBHARBOR_BAD_CUTOFF = 24,       /* a reset's cutoff is not above 0 and at most 1E-6 */
+    KNOBHARBOR_GROUP_ZERO = 26,       /* an add or a drop naming group 0 */
+    KNOBHARBOR_EMPTY_GROUP = 27       /* no constraint in the group */
 } knobharbor_number;
 
 /* What a changing call answers, in the three places that it is lent: here as the functions at the end hand them on. A refusal answers the stored mark, or no on 18 or if the steps taken weren't all whole. */
@@ -172,12 +177,13 @@ void knobharbor_reset(
     double reals[KNOBHARBOR_REALS], double values[KNOBHARBOR_CELLS], double cutoff, uint32_t answer[KNOBHARBOR_ANSWER]);
 
 /* Adds the constraint of this number: the sum of the terms, plus the constant, is at most, equal to or at least zero, with this
-   strength. Tests 18, 1, 2, 3, 4, 10, 9, 11; steps 12 to 15. A kind that is none of the three is answered 18 too. */
+   strength. It is in this group, from 1 to 65,535, by which knobharbor_drop knows it; a number is one constraint's, whatever its group.
+   Tests 18, 26, 1, 2, 3, 4, 10, 9, 11; steps 12 to 15. A kind that is none of the three is answered 18 too. */
 void knobharbor_add(
     uint64_t words[KNOBHARBOR_WORDS], uint16_t keys[KNOBHARBOR_CELLS], uint8_t bytes[KNOBHARBOR_BYTES],
     double reals[KNOBHARBOR_REALS], double values[KNOBHARBOR_CELLS],
     uint64_t wwords[KNOBHARBOR_WORDS], uint16_t wkeys[KNOBHARBOR_CELLS], uint8_t wbytes[KNOBHARBOR_BYTES],
-    double wreals[KNOBHARBOR_REALS], double wvalues[KNOBHARBOR_CELLS], uint32_t answer[KNOBHARBOR_ANSWER],
+    double wreals[KNOBHARBOR_REALS], double wvalues[KNOBHARBOR_CELLS], uint32_t answer[KNOBHARBOR_ANSWER], uint16_t group,
     uint32_t number, const knobharbor_term *terms, uint64_t term_count, double constant, uint32_t kind, double strength, uint16_t budget);
 
 /* The same, with the terms as two lists: vars[i] times coefs[i]. Lists of different lengths are answered 18 too. */
@@ -185,11 +191,11 @@ void knobharbor_add_lists(
     uint64_t words[KNOBHARBOR_WORDS], uint16_t keys[KNOBHARBOR_CELLS], uint8_t bytes[KNOBHARBOR_BYTES],
     double reals[KNOBHARBOR_REALS], double values[KNOBHARBOR_CELLS],
     uint64_t wwords[KNOBHARBOR_WORDS], uint16_t wkeys[KNOBHARBOR_CELLS], uint8_t wbytes[KNOBHARBOR_BYTES],
-    double wreals[KNOBHARBOR_REALS], double wvalues[KNOBHARBOR_CELLS], uint32_t answer[KNOBHARBOR_ANSWER],
+    double wreals[KNOBHARBOR_REALS], double wvalues[KNOBHARBOR_CELLS], uint32_t answer[KNOBHARBOR_ANSWER], uint16_t group,
     uint32_t number, const uint32_t *vars, uint64_t var_count, const double *coefs, uint64_t coef_count, double constant, uint32_t kind,
     double strength, uint16_t budget);
 
-/* The same of a line of text, without a newline: `2*(v1 + 3) <= v2` adds 2 v1 - v2 + 6 at most zero, required. The line's own
+/* The same of a line of text, without a newline: `2*(v1 + 3) <= v2` adds 2 v1 - v2 + 6 at most zero, required, in group 1. The line's own
    refusals, 19 to 23, come first and touch no table; then those of knobharbor_add. Beside 20 the offset is that of the first byte
    with which no line can go on; else it is 0. */
 void knobharbor_add_text(
@@ -206,6 +212,16 @@ void knobharbor_remove(
     uint64_t wwords[KNOBHARBOR_WORDS], uint16_t wkeys[KNOBHARBOR_CELLS], uint8_t wbytes[KNOBHARBOR_BYTES],
     double wreals[KNOBHARBOR_REALS], double wvalues[KNOBHARBOR_CELLS], uint32_t answer[KNOBHARBOR_ANSWER],
     uint32_t number, uint16_t budget);
+
+/* Removes every constraint of this group, by ascending number, all or none, under one budget: whole removals one after the other. If one
+   of them is refused, the drop is, by that number, with the pivots made so far, and every constraint stays. Edits are in no such group:
+   they stay, those of a pane's splitters too (knobharbor_remove_edit removes one). Tests 18, 26, 27; steps 13, 14, 15, 17. */
+void knobharbor_drop(
+    uint64_t words[KNOBHARBOR_WORDS], uint16_t keys[KNOBHARBOR_CELLS], uint8_t bytes[KNOBHARBOR_BYTES],
+    double reals[KNOBHARBOR_REALS], double values[KNOBHARBOR_CELLS],
+    uint64_t wwords[KNOBHARBOR_WORDS], uint16_t wkeys[KNOBHARBOR_CELLS], uint8_t wbytes[KNOBHARBOR_BYTES],
+    double wreals[KNOBHARBOR_REALS], double wvalues[KNOBHARBOR_CELLS], uint32_t answer[KNOBHARBOR_ANSWER],
+    uint16_t group, uint16_t budget);
 
 /* Makes the variable one that can be dragged: an equality with 0, at this strength clipped. Tests 18, 6, 7, 10, 9, 11; steps 12
    to 15. */
@@ -321,21 +337,22 @@ static inline knobharbor_answer kh_reset_with_cutoff(knobharbor_tables *t, doubl
     return kh_answered(answer);
 }
 
-static inline knobharbor_answer kh_add(knobharbor_tables *t, knobharbor_tables *room, uint32_t number, const knobharbor_term *terms,
-                                       size_t count, double constant, knobharbor_kind kind, double strength, uint16_t budget)
+static inline knobharbor_answer kh_add(knobharbor_tables *t, knobharbor_tables *room, uint16_t group, uint32_t number,
+                                       const knobharbor_term *terms, size_t count, double constant, knobharbor_kind kind,
+                                       double strength, uint16_t budget)
 {
     uint32_t answer[KNOBHARBOR_ANSWER];
-    knobharbor_add(KNOBHARBOR_LEND(t), KNOBHARBOR_LEND(room), answer, number, terms, count, constant, (uint32_t)kind, strength, budget);
+    knobharbor_add(KNOBHARBOR_LEND(t), KNOBHARBOR_LEND(room), answer, group, number, terms, count, constant, (uint32_t)kind, strength, budget);
     return kh_answered(answer);
 }
 
 /* the same of two lists of `count` each */
-static inline knobharbor_answer kh_add_lists(knobharbor_tables *t, knobharbor_tables *room, uint32_t number, const uint32_t *vars,
-                                             const double *coefs, size_t count, double constant, knobharbor_kind kind, double strength,
-                                             uint16_t budget)
+static inline knobharbor_answer kh_add_lists(knobharbor_tables *t, knobharbor_tables *room, uint16_t group, uint32_t number,
+                                             const uint32_t *vars, const double *coefs, size_t count, double constant,
+                                             knobharbor_kind kind, double strength, uint16_t budget)
 {
     uint32_t answer[KNOBHARBOR_ANSWER];
-    knobharbor_add_lists(KNOBHARBOR_LEND(t), KNOBHARBOR_LEND(room), answer, number, vars, count, coefs, count, constant,
+    knobharbor_add_lists(KNOBHARBOR_LEND(t), KNOBHARBOR_LEND(room), answer, group, number, vars, count, coefs, count, constant,
                          (uint32_t)kind, strength, budget);
     return kh_answered(answer);
 }
@@ -358,6 +375,13 @@ static inline knobharbor_answer kh_remove(knobharbor_tables *t, knobharbor_table
 {
     uint32_t answer[KNOBHARBOR_ANSWER];
     knobharbor_remove(KNOBHARBOR_LEND(t), KNOBHARBOR_LEND(room), answer, number, budget);
+    return kh_answered(answer);
+}
+
+static inline knobharbor_answer kh_drop(knobharbor_tables *t, knobharbor_tables *room, uint16_t group, uint16_t budget)
+{
+    uint32_t answer[KNOBHARBOR_ANSWER];
+    knobharbor_drop(KNOBHARBOR_LEND(t), KNOBHARBOR_LEND(room), answer, group, budget);
     return kh_answered(answer);
 }
 
@@ -463,12 +487,12 @@ static inline bool kh_cable_close(knobharbor_cable *cable, knobharbor_line *line
     return begun;
 }
 
-/* Adds the constraint of a line that reads, under this number. */
+/* Adds the constraint of a line that reads, under this number, in group 1. */
 static inline knobharbor_answer kh_add_line(knobharbor_tables *t, knobharbor_tables *room, uint32_t number, const knobharbor_line *line,
                                             uint16_t budget)
 {
-    return kh_add_lists(t, room, number, line->variables, line->coefficients, line->count, line->constant, line->kind, line->strength,
-                        budget);
+    return kh_add_lists(t, room, KNOBHARBOR_USUAL_GROUP, number, line->variables, line->coefficients, line->count, line->constant,
+                        line->kind, line->strength, budget);
 }
 
 /* An answer's number in words. */
@@ -501,6 +525,10 @@ static inline const char *kh_words(uint32_t number)
         "the line has more than 16 variables",
         "the cutoff is not above 0 and at most 1E-6",
     };
+    if (number == KNOBHARBOR_GROUP_ZERO)
+        return "group 0 is the edits' own";
+    if (number == KNOBHARBOR_EMPTY_GROUP)
+        return "there is no constraint in the group";
     if (number == KNOBHARBOR_LINE_OVER)
         return "the line has more than 200 bytes";
     if (number == KNOBHARBOR_LINE_UNENDED)

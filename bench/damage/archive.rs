@@ -44,9 +44,10 @@ macro_rules! changing {
 }
 
 changing! {
-    knobharbor_add(number: u32, terms: *const Term, term_count: u64, constant: f64, kind: u32, strength: f64, budget: u16);
-    knobharbor_add_lists(number: u32, vars: *const u32, var_count: u64, coefs: *const f64, coef_count: u64, constant: f64, kind: u32, strength: f64, budget: u16);
+    knobharbor_add(group: u16, number: u32, terms: *const Term, term_count: u64, constant: f64, kind: u32, strength: f64, budget: u16);
+    knobharbor_add_lists(group: u16, number: u32, vars: *const u32, var_count: u64, coefs: *const f64, coef_count: u64, constant: f64, kind: u32, strength: f64, budget: u16);
     knobharbor_remove(number: u32, budget: u16);
+    knobharbor_drop(group: u16, budget: u16);
     knobharbor_add_edit(variable: u32, strength: f64, budget: u16);
     knobharbor_remove_edit(variable: u32, budget: u16);
     knobharbor_suggest(variable: u32, suggestion: f64, budget: u16);
@@ -77,8 +78,9 @@ pub struct Lent<'a> {
 #[derive(Clone, Debug)]
 pub enum Call {
     Reset { cutoff: f64 },
-    Add { number: u32, vars: Vec<u32>, coefs: Vec<f64>, constant: f64, kind: u32, strength: f64, budget: u16 },
+    Add { group: u16, number: u32, vars: Vec<u32>, coefs: Vec<f64>, constant: f64, kind: u32, strength: f64, budget: u16 },
     Remove { number: u32, budget: u16 },
+    Drop { group: u16, budget: u16 },
     AddEdit { variable: u32, strength: f64, budget: u16 },
     RemoveEdit { variable: u32, budget: u16 },
     Suggest { variable: u32, suggestion: f64, budget: u16 },
@@ -104,11 +106,12 @@ impl Call {
         unsafe {
             match *self {
                 Call::Reset { cutoff } => knobharbor_reset(t.words, t.keys, t.bytes, t.reals, t.values, cutoff, answer),
-                Call::Add { number, constant, kind, strength, budget, .. } => match records {
-                    Some(terms) if number % 2 == 0 => lend!(knobharbor_add, number, terms.as_ptr(), terms.len() as u64, constant, kind, strength, budget),
-                    _ => lend!(knobharbor_add_lists, number, vars.as_ptr(), vars.len() as u64, coefs.as_ptr(), coefs.len() as u64, constant, kind, strength, budget),
+                Call::Add { group, number, constant, kind, strength, budget, .. } => match records {
+                    Some(terms) if number % 2 == 0 => lend!(knobharbor_add, group, number, terms.as_ptr(), terms.len() as u64, constant, kind, strength, budget),
+                    _ => lend!(knobharbor_add_lists, group, number, vars.as_ptr(), vars.len() as u64, coefs.as_ptr(), coefs.len() as u64, constant, kind, strength, budget),
                 },
                 Call::Remove { number, budget } => lend!(knobharbor_remove, number, budget),
+                Call::Drop { group, budget } => lend!(knobharbor_drop, group, budget),
                 Call::AddEdit { variable, strength, budget } => lend!(knobharbor_add_edit, variable, strength, budget),
                 Call::RemoveEdit { variable, budget } => lend!(knobharbor_remove_edit, variable, budget),
                 Call::Suggest { variable, suggestion, budget } => lend!(knobharbor_suggest, variable, suggestion, budget),

@@ -205,6 +205,7 @@ const NUMBERS: &[Break] = &[
         Some(())
     },
     |_, w| Some(w.constraints.last_mut()?.number += LARGEST + 1),
+    |g, w| Some(some(g, &mut w.constraints)?.group = 0),
     |g, w| Some(w.cutoff = g.bad_cutoff()),
     |g, w| Some(w.cutoff = g.bad_cutoff()),
     |g, w| Some(w.clear = 2 + g.word() % 9),

@@ -66,7 +66,8 @@ fn owners(g: &mut Random, w: &mut Words, wild: bool, (variables, constraints, ed
         w.variables.push(VariableWords { number, symbol: take(EXTERNAL), uses: 0, changed: g.word() % 2, old });
     }
     for (number, (marker, other, strength)) in ascending(g, constraints, LARGEST).into_iter().zip(tags) {
-        w.constraints.push(ConstraintWords { number, marker: take(marker), other: other.map_or(NONE, &mut take), strength, terms: Vec::new() });
+        let group = u64::from(g.some_group());
+        w.constraints.push(ConstraintWords { number, group, marker: take(marker), other: other.map_or(NONE, &mut take), strength, terms: Vec::new() });
     }
     let mut edited: Vec<u64> = w.variables.iter().map(|v| v.number).collect();
     while edited.len() > edits {

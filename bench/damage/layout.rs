@@ -3,7 +3,7 @@
 
 // ---- lengths and places
 
-pub const WORDS: usize = 258;
+pub const WORDS: usize = 306;
 pub const CELLS: usize = 6579;
 pub const BYTES: usize = 1312;
 pub const REALS: usize = 1132;
@@ -28,6 +28,7 @@ const IDS: usize = 16;
 const NUMBERS: usize = 146;
 const USES: usize = 178;
 const CONSTRAINTS: usize = 210;
+const GROUPS: usize = 258;
 
 // of bytes
 const KINDS: usize = 1;
@@ -56,7 +57,7 @@ const COEFFICIENTS: usize = 364;
 pub const SYMBOL_ROOM: usize = 129;
 const ROW_ROOM: usize = 50;
 const VARIABLE_ROOM: usize = USES - NUMBERS;
-const RECORD_ROOM: usize = WORDS - CONSTRAINTS;
+const RECORD_ROOM: usize = GROUPS - CONSTRAINTS;
 const TERM_ROOM: usize = BYTES - TERMS;
 
 /// How far the keys of one row lie from those of the next.
@@ -163,6 +164,7 @@ impl Tables {
             (NUMBERS, v),
             (USES, v),
             (CONSTRAINTS, c),
+            (GROUPS, c),
             (keys, n),
             (bytes + KINDS, k),
             (bytes + BASICS, r),
@@ -219,6 +221,7 @@ pub struct HeldTag {
 #[derive(Clone, Debug, Default)]
 pub struct HeldConstraint {
     pub number: u64,
+    pub group: u64,
     pub tag: HeldTag,
     pub count: u8,
 }
@@ -298,7 +301,7 @@ impl Held {
         self.constraints = (0..held(self.constraint_count, RECORD_ROOM))
             .map(|i| {
                 let tag = HeldTag { marker: b[MARKERS + i], other: b[OTHERS + i], strength: f[STRENGTHS + i] };
-                HeldConstraint { number: w[CONSTRAINTS + i], tag, count: b[TERM_COUNTS + i] }
+                HeldConstraint { number: w[CONSTRAINTS + i], group: w[GROUPS + i], tag, count: b[TERM_COUNTS + i] }
             })
             .collect();
         let terms = self.constraints.iter().map(|c| usize::from(c.count)).sum::<usize>().min(TERM_ROOM);
@@ -357,7 +360,7 @@ impl Held {
 
     fn lay_records(&self, t: &mut Tables) {
         for (i, c) in self.constraints.iter().enumerate() {
-            (t.words[CONSTRAINTS + i], t.bytes[TERM_COUNTS + i]) = (c.number, c.count);
+            (t.words[CONSTRAINTS + i], t.words[GROUPS + i], t.bytes[TERM_COUNTS + i]) = (c.number, c.group, c.count);
             (t.bytes[MARKERS + i], t.bytes[OTHERS + i], t.reals[STRENGTHS + i]) = (c.tag.marker, c.tag.other, c.tag.strength);
         }
         for (j, &(place, coefficient)) in self.terms.iter().enumerate() {

@@ -84,11 +84,12 @@ impl Program {
             }
             format::Call::SetCell(row, cell, value) => return self.change(|s| s.set_cell(row as usize, cell as usize, value)),
             format::Call::Reset(cutoff) => Call::Reset { cutoff },
-            format::Call::Add { number, budget, relation, strength, constant, terms } => {
+            format::Call::Add { group, number, budget, relation, strength, constant, terms } => {
                 let (vars, coefs) = terms.into_iter().unzip();
-                Call::Add { number, vars, coefs, constant, kind: kind(relation), strength, budget }
+                Call::Add { group, number, vars, coefs, constant, kind: kind(relation), strength, budget }
             }
             format::Call::Remove { number, budget } => Call::Remove { number, budget },
+            format::Call::Drop { group, budget } => Call::Drop { group, budget },
             format::Call::AddEdit { variable, strength, budget } => Call::AddEdit { variable, strength, budget },
             format::Call::RemoveEdit { variable, budget } => Call::RemoveEdit { variable, budget },
             format::Call::Suggest { variable, value, budget } => Call::Suggest { variable, suggestion: value, budget },

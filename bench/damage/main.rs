@@ -20,7 +20,7 @@ use std::sync::atomic::Ordering;
 
 #[derive(Default)]
 struct Counts {
-    answers: [u64; 25],
+    answers: [u64; 28],
     fetches: [u64; 2],
     kinds: [[u64; 2]; KINDS.len()],
 }
@@ -109,7 +109,8 @@ impl Run {
         let variables = numbers(h.variables.iter().map(|v| v.number).collect());
         let constraints = numbers(h.constraints.iter().map(|c| c.number).collect());
         let edits = numbers(h.edits.iter().map(|e| h.variables.iter().find(|v| v.place == e.variable).map_or(0, |v| v.number)).collect());
-        let call = self.g.call(&variables, &constraints, &edits);
+        let groups: Vec<u16> = h.constraints.iter().map(|c| c.group as u16).collect();
+        let call = self.g.call(&variables, &constraints, &edits, &groups);
         let (room, last) = (any_tables(&mut self.g), self.g.one_in(2));
         let (answer, after) = self.checker.call(&call, t, &room, last)?;
         self.counts.answers[answer.number as usize] += 1;

@@ -50,6 +50,7 @@ pub fn state(w: &Words) -> State {
             .iter()
             .map(|c| ConstraintState {
                 number: c.number as u32,
+                group: c.group,
                 strength: c.strength,
                 terms: c.terms.iter().map(|&(v, k)| (v as u32, k)).collect(),
                 marker: symbol(c.marker),
@@ -67,6 +68,7 @@ pub fn words(s: &State) -> Words {
     let along = |cells: &[(Symbol, f64)]| -> Vec<f64> { live.iter().map(|x| cells.iter().find(|c| c.0 == *x).map_or(0.0, |c| c.1)).collect() };
     let constraint = |c: &ConstraintState| ConstraintWords {
         number: c.number.into(),
+        group: c.group,
         marker: word(c.marker),
         other: word(c.other),
         strength: c.strength,
@@ -99,11 +101,13 @@ fn relation(kind: u32) -> RelationalOperator {
 fn made(solver: &mut Solver, call: &Call) -> Answer {
     let a = match call {
         Call::Reset { cutoff } => solver.reset(*cutoff),
-        Call::Add { number, vars, coefs, constant, kind, strength, budget } => {
+        Call::Add { group, number, vars, coefs, constant, kind, strength, budget } => {
             let terms = vars.iter().zip(coefs).map(|(v, k)| Term::new(Variable(*v), *k)).collect();
-            solver.add_constraint(Constraint::new(Name::Number(*number), Expression::new(terms, *constant), relation(*kind), *strength), *budget)
+            let constraint = Constraint::new(Name::Number(*number), Expression::new(terms, *constant), relation(*kind), *strength);
+            solver.add_constraint(constraint.in_group((*group).into()), *budget)
         }
         Call::Remove { number, budget } => solver.remove_constraint(*number, *budget),
+        Call::Drop { group, budget } => solver.drop_group(*group, *budget),
         Call::AddEdit { variable, strength, budget } => solver.add_edit_variable(Variable(*variable), *strength, *budget),
         Call::RemoveEdit { variable, budget } => solver.remove_edit_variable(Variable(*variable), *budget),
         Call::Suggest { variable, suggestion, budget } => solver.suggest_value(Variable(*variable), *suggestion, *budget),

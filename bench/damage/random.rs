@@ -103,6 +103,16 @@ impl Random {
         }
     }
 
+    /// Few of them, so that several constraints have one.
+    pub fn some_group(&mut self) -> u16 {
+        match self.below(12) {
+            0 => self.pick(&[255, 256, u16::MAX]),
+            1..=3 => 2,
+            4 => 3,
+            _ => 1,
+        }
+    }
+
     /// One of these numbers for the most part.
     fn one_of(&mut self, live: &[u32]) -> u32 {
         match self.below(12) {
@@ -131,17 +141,20 @@ impl Random {
         (vars, coefs)
     }
 
-    /// On tables whose variables, constraints and edits have these numbers.
-    pub fn call(&mut self, variables: &[u32], constraints: &[u32], edits: &[u32]) -> Call {
+    /// On tables whose variables, constraints and edits have these numbers, and the constraints these groups.
+    pub fn call(&mut self, variables: &[u32], constraints: &[u32], edits: &[u32], groups: &[u16]) -> Call {
         let budget = self.budget();
         match self.below(20) {
             0..=6 => {
                 let (vars, coefs) = self.terms(variables);
                 let kind = if self.one_in(40) { self.pick(&[3, 4, u32::MAX]) } else { self.below(3) as u32 };
                 let number = if self.one_in(3) { self.one_of(constraints) } else { 1 + self.below(60) as u32 };
-                Call::Add { number, vars, coefs, constant: self.real(), kind, strength: self.strength(), budget }
+                let group = if self.one_in(30) { 0 } else { self.some_group() };
+                Call::Add { group, number, vars, coefs, constant: self.real(), kind, strength: self.strength(), budget }
             }
-            7..=9 => Call::Remove { number: self.one_of(constraints), budget },
+            7..=8 => Call::Remove { number: self.one_of(constraints), budget },
+            9 if self.one_in(4) || groups.is_empty() => Call::Drop { group: self.pick(&[0, 1, 2, 7, u16::MAX]), budget },
+            9 => Call::Drop { group: self.pick(groups), budget },
             10..=12 => Call::AddEdit { variable: self.one_of(variables), strength: self.strength(), budget },
             13 => Call::RemoveEdit { variable: self.one_of(edits), budget },
             14 if self.one_in(6) => Call::Reset { cutoff: self.good_cutoff() },

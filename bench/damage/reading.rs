@@ -66,6 +66,8 @@ pub const CLAUSES: &[Clause] = &[
     ("the cutoff is above 0", |h| !(h.cutoff <= 0.0)),
     ("the cutoff is at most 1E-6", |h| !(h.cutoff > GREATEST_CUTOFF)),
     ("the cutoff is a number", |h| !h.cutoff.is_nan()),
+    // "no constraint with a number is in group 0"
+    ("no constraint is in group 0", |h| h.constraints.iter().all(|c| c.group > 0)),
     // numbers fit their types
     ("the next id is a u32", |h| h.next <= LARGEST),
     ("variable numbers are u32", |h| h.variables.iter().all(|v| v.number <= LARGEST)),

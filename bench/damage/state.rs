@@ -13,6 +13,7 @@ pub struct VariableWords {
 #[derive(Clone, Debug, Default)]
 pub struct ConstraintWords {
     pub number: u64,
+    pub group: u64,
     pub marker: u64,
     pub other: u64,
     pub strength: f64,
@@ -81,6 +82,7 @@ impl Words {
                 .iter()
                 .map(|c| ConstraintWords {
                     number: c.number,
+                    group: c.group,
                     marker: symbol(c.tag.marker),
                     other: symbol(c.tag.other),
                     strength: c.tag.strength,
@@ -131,7 +133,7 @@ impl Words {
             constraints: self
                 .constraints
                 .iter()
-                .map(|c| HeldConstraint { number: c.number, tag: tag(c.marker, c.other, c.strength), count: c.terms.len() as u8 })
+                .map(|c| HeldConstraint { number: c.number, group: c.group, tag: tag(c.marker, c.other, c.strength), count: c.terms.len() as u8 })
                 .collect(),
             terms: self.constraints.iter().flat_map(|c| &c.terms).map(|&(n, k)| (place(n), k)).collect(),
             edits: self

@@ -9,13 +9,13 @@ mod mixed;
 mod random;
 mod special;
 
-use mixed::{cutoffs, mixed, KINDS};
+use mixed::{cutoffs, grouped, mixed, KINDS};
 use random::Random;
-use special::{ids, layouts, limits, malformed, redundant, refusals, trolley};
+use special::{ids, layouts, limits, malformed, panes, redundant, refusals, trolley};
 
 const OTHERS: &[&str] = &["redundant", "refusals", "limits", "trolley", "ids", "malformed", "layouts"];
 /// Of document 02's calls. With `all` they come after the others, which stay as they were without them.
-const LATER: &[&str] = &["cutoffs"];
+const LATER: &[&str] = &["cutoffs", "groups", "panes"];
 
 fn session(name: &str, calls: u64, r: &mut Random) -> Vec<String> {
     match name {
@@ -27,6 +27,8 @@ fn session(name: &str, calls: u64, r: &mut Random) -> Vec<String> {
         "layouts" => layouts(calls, r),
         "malformed" => malformed(calls, r),
         "cutoffs" => cutoffs(calls, r),
+        "groups" => grouped(calls, r),
+        "panes" => panes(calls, r),
         _ => match KINDS.iter().find(|k| k.name == name) {
             Some(kind) => mixed(kind, calls, r),
             None => usage(),
@@ -50,18 +52,16 @@ fn main() {
         (Ok(a), Ok(b), Ok(c)) => (a, b, c),
         _ => usage(),
     };
+    // the definitions have no answer to a line that is no call and are slow on large layouts, and a plain program has no setnext
+    let left_out: &[&str] = if plain { &["ids"] } else { &["malformed", "layouts", "panes"] };
     let kinds: Vec<&str> = match args[0].as_str() {
-        // the definitions have no answer to a line that is no call and are slow on large layouts, and a plain program has no setnext
-        "all" => {
-            let left_out: &[&str] = if plain { &["ids"] } else { &["malformed", "layouts"] };
-            KINDS.iter().map(|k| k.name).chain(OTHERS.iter().cloned()).filter(|k| !left_out.contains(k)).collect()
-        }
+        "all" => KINDS.iter().map(|k| k.name).chain(OTHERS.iter().cloned()).filter(|k| !left_out.contains(k)).collect(),
         names => names.split(',').collect(),
     };
     let mut places: Vec<(u64, &str)> = (0..sessions).map(|i| (i, kinds[(i % kinds.len() as u64) as usize])).collect();
     if args[0] == "all" {
         let each = (sessions + kinds.len() as u64 - 1) / kinds.len() as u64;
-        for (k, kind) in LATER.iter().enumerate() {
+        for (k, kind) in LATER.iter().enumerate().filter(|(_, kind)| !left_out.contains(kind)) {
             let first = (k as u64 + 1) << 32;
             places.extend((first..first + each).map(|i| (i, *kind)));
         }

@@ -159,6 +159,41 @@ pub fn mixed(kind: &Kind, calls: u64, random: &mut Random) -> Vec<String> {
     s.lines
 }
 
+const GROUPED: &[&str] = &["whole", "ties", "removals", "budget", "required", "general", "tiny", "drags"];
+
+/// Constraints in a few groups, dropped again, with little budget for the most part; now and then group 0, or one that has none.
+pub fn grouped(calls: u64, random: &mut Random) -> Vec<String> {
+    let name = GROUPED[random.below(GROUPED.len() as u64) as usize];
+    let kind = KINDS.iter().find(|k| k.name == name).unwrap_or(&KINDS[0]);
+    let mut s = Session { random, kind, lines: Vec::new(), added: Vec::new(), edited: Vec::new() };
+    let mut held: Vec<(u64, u64)> = Vec::new(); // constraint and group, a guess
+    for _ in 0..calls {
+        held.retain(|h| s.added.contains(&h.0));
+        let line = if s.random.one_in(9) {
+            let group = match s.random.below(12) {
+                0 => s.random.pick(&[0, 5, 65535]),
+                _ if held.is_empty() => 1,
+                _ => s.random.pick(&held).1,
+            };
+            let budget = if s.random.one_in(2) { s.random.below(4) } else { (kind.budget)(s.random) };
+            s.added.retain(|c| !held.contains(&(*c, group)));
+            format!("drop {} {}", group, budget)
+        } else {
+            s.call()
+        };
+        let line = match line.strip_prefix("add ") {
+            Some(rest) => {
+                let group = if s.random.one_in(40) { 0 } else { s.random.pick(&[1, 1, 2, 2, 3, 65535]) };
+                held.push((*s.added.last().unwrap_or(&0), group));
+                if group == 1 { line } else { format!("addg {} {}", group, rest) }
+            }
+            None => line,
+        };
+        s.lines.push(line);
+    }
+    s.lines
+}
+
 /// Resets that name a cutoff, also one that is refused, among calls whose numbers lie around it, or are whole.
 pub fn cutoffs(calls: u64, random: &mut Random) -> Vec<String> {
     let kind = if random.one_in(4) { &KINDS[0] } else { &AROUND };

@@ -48,6 +48,10 @@ impl Random {
         weights.len() - 1
     }
 
+    pub fn pick<T: Copy>(&mut self, xs: &[T]) -> T {
+        xs[self.below(xs.len() as u64) as usize]
+    }
+
     fn choice(&mut self, xs: &[f64]) -> f64 {
         xs[self.below(xs.len() as u64) as usize]
     }

@@ -173,6 +173,41 @@ pub fn layouts(calls: u64, r: &mut Random) -> Vec<String> {
     lines
 }
 
+/// Closing panes: up to 40 constraints of one group among 48, bounds and differences over up to 20 edges, and drops of it with budgets from
+/// none to plenty until one suffices; then the pane opens again.
+pub fn panes(calls: u64, r: &mut Random) -> Vec<String> {
+    let mut lines = Vec::new();
+    let (edges, edits) = (r.from(4, 20), r.from(0, 4));
+    for edit in 0..edits {
+        lines.push(format!("addedit {} {} 65535", 1 + edit, [1, 1000, 1_000_000][r.below(3) as usize]));
+    }
+    let others = r.from(0, 4);
+    while (lines.len() as u64) < calls + 50 {
+        let pane = r.from(1, 40);
+        for c in 1..=pane + others {
+            let group = if c > pane { 2 } else { r.pick(&[7, 7, 7, 7, 7, 7, 7, 9]) };
+            let (a, b) = (r.from(1, edges), r.from(1, edges));
+            let strength = number(random::usual_strength(r));
+            let terms = if a == b { format!("1 {} 1", a) } else { format!("2 {} 1 {} -1", a, b) };
+            let relation = r.pick(ALL_RELATIONS);
+            // a required equality seldom fits the others
+            let strength = if relation == "eq" && strength == "1001001000" && !r.one_in(6) { "10".to_string() } else { strength };
+            lines.push(format!("addg {} {} 65535 {} {} {} {}", group, c, relation, strength, number(random::drag_bound(r)), terms));
+            if edits > 0 && r.one_in(6) {
+                lines.push(format!("suggest {} {} 65535", r.from(1, edits), number(random::drag_value(r))));
+            }
+        }
+        for budget in [r.below(2), r.below(6), r.below(20), 65535] {
+            lines.push(format!("drop 7 {}", budget));
+            lines.push(format!("hascon {}", r.from(1, pane)));
+            lines.push(format!("value {}", r.from(1, edges)));
+        }
+        lines.push("fetch".to_string());
+        lines.push(format!("drop 9 {}", r.below(9)));
+    }
+    lines
+}
+
 /// The next id near 4,294,900,000, which needs the bench's own call.
 pub fn ids(calls: u64, r: &mut Random) -> Vec<String> {
     let mut lines = mixed(&KINDS[0], calls / 2, r);

@@ -73,7 +73,10 @@ impl Solver {
                 (_, false) => (SymbolType::Slack, SymbolType::Error)
             };
             let terms = &c.expr().terms;
+            // EDIT 23: "no constraint with a number is in group 0"; "edits are in group 0"
+            let of_edit = if let Name::EditOf(_) = *name { true } else { false };
             let fits = (tag.marker.type_(), tag.other.type_()) == given
+                && of_edit == (c.group() == 0)
                 && terms.len() <= 16
                 && terms.iter().all(|t| t.coefficient.is_finite())
                 && c.strength().is_finite();

@@ -29,6 +29,8 @@
 //! 21. "use counts are those of the stored terms": skipped terms are not stored.
 //! 22. "Let reset take the near-zero cutoff, above 0 and at most 1E-6", "24 cutoff outside the range" (document 02, T-02). A row has
 //!     the cutoff of its solver, so that the row functions keep the crate's signatures.
+//! 23. "Every constraint gets a group number, u16, kept with it; edits are in group 0. Dropping a group removes its constraints by
+//!     ascending number, all or none, under one budget." (document 02, T-05)
 use std::collections::BTreeMap; // EDIT 1: was HashMap
 use std::collections::btree_map::{Entry};
 
@@ -132,6 +134,7 @@ pub enum Name {
 #[derive(Clone, Debug)]
 pub struct Constraint {
     name: Name,
+    group: u64, // EDIT 23
     expression: Expression,
     strength: f64,
     op: RelationalOperator
@@ -144,6 +147,8 @@ impl Constraint {
     pub fn new(name: Name, e: Expression, op: RelationalOperator, strength: f64) -> Constraint {
         Constraint {
             name: name,
+            // EDIT 23: "edits are in group 0"; 1 unless another is named
+            group: if let Name::Number(_) = name { 1 } else { 0 },
             expression: e,
             op: op,
             strength: strength
@@ -160,6 +165,14 @@ impl Constraint {
     /// The strength of the constraint that the solver will use.
     pub fn strength(&self) -> f64 {
         self.strength
+    }
+    // EDIT 23
+    pub fn in_group(mut self, group: u64) -> Constraint {
+        self.group = group;
+        self
+    }
+    pub fn group(&self) -> u64 {
+        self.group
     }
     // EDIT 21, 22: as it is stored
     fn kept(&self, cutoff: f64) -> Constraint {

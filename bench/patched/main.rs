@@ -11,14 +11,15 @@ fn line(a: Answer) -> String {
     format!("{} {} {}", a.refusal, a.pivots, a.whole as u8)
 }
 
-fn add(solver: &mut Solver, number: u32, relation: Relation, strength: f64, constant: f64, terms: &[(u32, f64)], budget: u16) -> Answer {
+fn add(solver: &mut Solver, group: u16, number: u32, relation: Relation, strength: f64, constant: f64, terms: &[(u32, f64)], budget: u16) -> Answer {
     let op = match relation {
         Relation::AtMost => RelationalOperator::LessOrEqual,
         Relation::Equal => RelationalOperator::Equal,
         Relation::AtLeast => RelationalOperator::GreaterOrEqual,
     };
     let terms = terms.iter().map(|&(v, k)| Term::new(Variable(v), k)).collect();
-    solver.add_constraint(Constraint::new(Name::Number(number), Expression::new(terms, constant), op, strength), budget)
+    let constraint = Constraint::new(Name::Number(number), Expression::new(terms, constant), op, strength);
+    solver.add_constraint(constraint.in_group(group.into()), budget)
 }
 
 fn fetched(changes: &[(Variable, f64)]) -> String {
@@ -30,9 +31,10 @@ fn main() {
     let mut solver = Solver::new();
     format::serve(|call| match call {
         Call::Reset(cutoff) => line(solver.reset(cutoff)),
-        Call::Add { number, budget, relation, strength, constant, terms } => {
-            line(add(&mut solver, number, relation, strength, constant, &terms, budget))
+        Call::Add { group, number, budget, relation, strength, constant, terms } => {
+            line(add(&mut solver, group, number, relation, strength, constant, &terms, budget))
         }
+        Call::Drop { group, budget } => line(solver.drop_group(group, budget)),
         Call::Remove { number, budget } => line(solver.remove_constraint(number, budget)),
         Call::AddEdit { variable, strength, budget } => line(solver.add_edit_variable(Variable(variable), strength, budget)),
         Call::RemoveEdit { variable, budget } => line(solver.remove_edit_variable(Variable(variable), budget)),

@@ -19,6 +19,7 @@ pub struct VariableState {
 #[derive(Clone, Debug)]
 pub struct ConstraintState {
     pub number: u32,
+    pub group: u64,
     pub strength: f64,
     pub terms: Vec<(u32, f64)>,
     pub marker: Symbol,
@@ -105,6 +106,7 @@ impl Solver {
         let constraints = self.cns.iter().filter_map(|(name, &(ref c, tag))| match *name {
             Name::Number(number) => Some(ConstraintState {
                 number: number,
+                group: c.group(),
                 strength: c.strength(),
                 terms: c.expr().terms.iter().map(|t| (t.variable.0, t.coefficient)).collect(),
                 marker: tag.marker,
@@ -140,7 +142,7 @@ impl Solver {
         }
         for c in &s.constraints {
             let name = Name::Number(c.number);
-            out.cns.insert(name, (stored(name, c.strength, &c.terms, c.marker), Tag { marker: c.marker, other: c.other }));
+            out.cns.insert(name, (stored(name, c.strength, &c.terms, c.marker).in_group(c.group), Tag { marker: c.marker, other: c.other }));
         }
         for e in &s.edits {
             let name = Name::EditOf(Variable(e.variable));

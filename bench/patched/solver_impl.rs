@@ -152,6 +152,10 @@ impl Solver {
 
     /// Add a constraint to the solver.
     pub fn add_constraint(&mut self, constraint: Constraint, budget: u16) -> Answer {
+        // EDIT 23: "26 an add or a drop naming group 0", before 1
+        if constraint.group() == 0 {
+            return self.refused(26);
+        }
         // EDIT 4: "Add: 18, 1, 2, 3, 4, 10, 9, 11."
         let finite = constraint.expr().terms.iter().all(|t| t.coefficient.is_finite())
             && constraint.expr().constant.is_finite()
@@ -242,6 +246,23 @@ impl Solver {
             return self.refused(5);
         }
         self.take_steps(budget, |solver| solver.remove_constraint_steps(Name::Number(number)))
+    }
+
+    // EDIT 23: "Drop: 18, 26, 27." Then whole removals one after the other; the first that is refused undoes all of them
+    pub fn drop_group(&mut self, group: u16, budget: u16) -> Answer {
+        if group == 0 {
+            return self.refused(26);
+        }
+        let names: Vec<Name> = self.cns.iter().filter(|&(_, c)| c.0.group() == u64::from(group)).map(|(name, _)| *name).collect();
+        if names.is_empty() {
+            return self.refused(27);
+        }
+        self.take_steps(budget, |solver| {
+            for name in names {
+                try!(solver.remove_constraint_steps(name));
+            }
+            Ok(())
+        })
     }
 
     // EDIT 3: the crate's remove_constraint from here on

@@ -69,6 +69,8 @@ impl Driver {
                 // the crate has no other
                 if cutoff == format::USUAL_CUTOFF { line(0) } else { "?".to_string() }
             }
+            // the crate has no groups
+            Call::Drop { .. } => "?".to_string(),
             Call::Add { number, relation, strength, constant, terms, .. } => {
                 let c = self.constraint(number, relation, strength, constant, &terms);
                 line(match self.solver.add_constraint(c) {

@@ -1,5 +1,5 @@
 /* The trolley's screen, six panes side by side: edge 1 is the left one, edge 7 the right one. The same calls as
-   examples/trolley.txt, then a pane that closes and a grip that goes. `make run` in this folder builds the archive, builds this
+   examples/trolley.txt, then a width that is given up, a grip that goes and a pane that closes. `make run` in this folder builds the archive, builds this
    against it and runs it; from the repository's root, `make -C examples/c run`. */
 #include "knobharbor.h"
 #include <stdio.h>
@@ -32,11 +32,18 @@ static void show(const char *what, knobharbor_answer a)
     expect(memcmp(&room, &zero, sizeof room) == 0, "the working room is all zero after every call");
 }
 
+/* the screen's own constraint, and those of the pane at the right of this edge, are groups */
+enum { FRAME = 1 };
+static uint16_t group_of(uint32_t left)
+{
+    return (uint16_t)(FRAME + left);
+}
+
 /* right edge minus left edge, minus the width, is `kind` zero */
 static void pane(uint32_t number, uint32_t left, double width, knobharbor_kind kind, double strength)
 {
     const knobharbor_term width_of[2] = { { left + 1, 1.0 }, { left, -1.0 } };
-    knobharbor_answer a = kh_add(&screen, &room, number, width_of, 2, -width, kind, strength, 20);
+    knobharbor_answer a = kh_add(&screen, &room, group_of(left), number, width_of, 2, -width, kind, strength, 20);
     expect(a.number == KNOBHARBOR_ACCEPTED, "a pane is added");
 }
 
@@ -51,7 +58,7 @@ static void lay_out(void)
     static const double liked[6] = { 160, 160, 240, 240, 120, 120 };
     static const double strength[6] = { 1, 1, 10, 10, 1, 1 };
     const knobharbor_term first = { 1, 1.0 };
-    knobharbor_answer a = kh_add(&screen, &room, 1, &first, 1, 0.0, KNOBHARBOR_EQUAL, KNOBHARBOR_REQUIRED, 20);
+    knobharbor_answer a = kh_add(&screen, &room, FRAME, 1, &first, 1, 0.0, KNOBHARBOR_EQUAL, KNOBHARBOR_REQUIRED, 20);
     expect(a.number == KNOBHARBOR_ACCEPTED, "the left edge is held");
     for (uint32_t i = 0; i < 6; i++)
         pane(2 + i, 1 + i, least[i], KNOBHARBOR_AT_LEAST, KNOBHARBOR_REQUIRED);
@@ -91,6 +98,19 @@ static void let_go(void)
     show("edge 2 without its grip", a);
     expect(a.number == KNOBHARBOR_ACCEPTED && !kh_has_edit(&screen, 2), "a grip goes");
     expect(drag(2, 100, 20).number == KNOBHARBOR_NO_EDIT, "and cannot be dragged by");
+}
+
+/* Pane 6 closes: its constraints go together or not at all, and the grip on its edge stays until it is removed. */
+static void close_last(void)
+{
+    knobharbor_answer a = kh_drop(&screen, &room, group_of(6), 20);
+    show("pane 6 closed", a);
+    expect(a.number == KNOBHARBOR_ACCEPTED && !kh_has_constraint(&screen, 7) && !kh_has_constraint(&screen, 13), "a pane's constraints go");
+    expect(kh_has_constraint(&screen, 6) && kh_has_edit(&screen, 7), "its neighbour's stay, and its grip does");
+    a = kh_remove_edit(&screen, &room, 7, 20);
+    expect(a.number == KNOBHARBOR_ACCEPTED, "the grip goes by itself");
+    expect(kh_drop(&screen, &room, group_of(6), 20).number == KNOBHARBOR_EMPTY_GROUP, "a group that is gone cannot be dropped");
+    expect(kh_drop(&screen, &room, 0, 20).number == KNOBHARBOR_GROUP_ZERO, "group 0 is the edits' own");
 }
 
 /* what a display redraws */
@@ -138,6 +158,8 @@ int main(void)
     redraw();
 
     let_go();
+    redraw();
+    close_last();
     redraw();
 
     screen.words[2] += 1;

@@ -13,7 +13,7 @@ static knobharbor_tables screen, room;
 static char call[8192], want[8192], got[2048];
 static char *word[2100]; /* a line has 4,096 bytes at most */
 static int words;
-static unsigned long deepest[8];
+static unsigned long deepest[9];
 
 static double of(uint64_t bits)
 {
@@ -62,6 +62,11 @@ static uint16_t budget(int i)
     return (uint16_t)strtoul(word[i], NULL, 10);
 }
 
+static uint16_t group_of(int i)
+{
+    return budget(i);
+}
+
 static void note(int kind, unsigned long depth)
 {
     if (depth > deepest[kind])
@@ -80,20 +85,23 @@ static void add(void)
     static uint32_t vars[1040];
     static double coefs[1040];
     static bool lists;
-    size_t count = whole(6);
-    knobharbor_kind kind = word[3][0] == 'l' ? KNOBHARBOR_AT_MOST : word[3][0] == 'e' ? KNOBHARBOR_EQUAL : KNOBHARBOR_AT_LEAST;
+    int grouped = strcmp(word[0], "addg") == 0; /* the group stands before the rest */
+    uint16_t group = grouped ? group_of(1) : KNOBHARBOR_USUAL_GROUP;
+    size_t count = whole(6 + grouped);
+    char relation = word[3 + grouped][0];
+    knobharbor_kind kind = relation == 'l' ? KNOBHARBOR_AT_MOST : relation == 'e' ? KNOBHARBOR_EQUAL : KNOBHARBOR_AT_LEAST;
     knobharbor_answer a;
     for (size_t i = 0; i < count; i++) {
-        terms[i].variable = vars[i] = whole(7 + 2 * (int)i);
-        terms[i].coefficient = coefs[i] = number(word[8 + 2 * i]);
+        terms[i].variable = vars[i] = whole(7 + grouped + 2 * (int)i);
+        terms[i].coefficient = coefs[i] = number(word[8 + grouped + 2 * (int)i]);
     }
     lists = !lists;
-    double constant = number(word[5]), strength = number(word[4]);
+    double constant = number(word[5 + grouped]), strength = number(word[4 + grouped]);
     paint();
     if (lists)
-        a = kh_add_lists(&screen, &room, whole(1), vars, coefs, count, constant, kind, strength, budget(2));
+        a = kh_add_lists(&screen, &room, group, whole(1 + grouped), vars, coefs, count, constant, kind, strength, budget(2 + grouped));
     else
-        a = kh_add(&screen, &room, whole(1), terms, count, constant, kind, strength, budget(2));
+        a = kh_add(&screen, &room, group, whole(1 + grouped), terms, count, constant, kind, strength, budget(2 + grouped));
     note(0, depth());
     answered(a);
 }
@@ -106,6 +114,8 @@ static void change(void)
         a = words == 1 ? kh_reset(&screen) : kh_reset_with_cutoff(&screen, number(word[1])), note(1, depth());
     else if (strcmp(word[0], "remove") == 0)
         a = kh_remove(&screen, &room, whole(1), budget(2)), note(2, depth());
+    else if (strcmp(word[0], "drop") == 0)
+        a = kh_drop(&screen, &room, group_of(1), budget(2)), note(8, depth());
     else if (strcmp(word[0], "addedit") == 0)
         a = kh_add_edit(&screen, &room, whole(1), number(word[2]), budget(3)), note(3, depth());
     else if (strcmp(word[0], "removeedit") == 0)
@@ -149,7 +159,7 @@ static void ask(void)
 
 static void make(void)
 {
-    if (strcmp(word[0], "add") == 0)
+    if (strcmp(word[0], "add") == 0 || strcmp(word[0], "addg") == 0)
         add();
     else if (strcmp(word[0], "fetch") == 0)
         fetch();
@@ -231,8 +241,8 @@ static unsigned long lines(void)
 int main(void)
 {
     unsigned long differ = replay(), wrong = nans() + lines();
-    printf("deepest stack: add %lu, reset %lu, remove %lu, add edit %lu, remove edit %lu, suggest %lu, fetch %lu, value %lu bytes\n", deepest[0],
-           deepest[1], deepest[2], deepest[3], deepest[4], deepest[5], deepest[6], deepest[7]);
+    printf("deepest stack: add %lu, reset %lu, remove %lu, add edit %lu, remove edit %lu, suggest %lu, fetch %lu, value %lu, drop %lu bytes\n", deepest[0],
+           deepest[1], deepest[2], deepest[3], deepest[4], deepest[5], deepest[6], deepest[7], deepest[8]);
     printf("tables: %lu bytes, and as many for the room\n", (unsigned long)sizeof screen);
     return differ != 0 || wrong != 0;
 }

@@ -4,7 +4,7 @@
 
 #include <stdint.h>
 
-#define STACK_PAINTED 16384
+#define STACK_PAINTED 49152
 #define STACK_PAINT 0xa5a5a5a5u
 
 static volatile uint32_t *painted_from;

@@ -1,11 +1,8 @@
--- Which symbol or row a step takes: over the tables' places, and that it is the one the steps take on what the tables read as.
-pub mod Kinds
+-- Which symbol or row a step takes: what a choice answers, and that a look along places is the steps' walk along the list read from them.
 pub mod Back
 pub mod Choose
 pub mod Better
 pub mod Walk
-pub mod Reading
 pub mod Chosen
 pub mod Steps
 pub mod Own
-pub mod Subject

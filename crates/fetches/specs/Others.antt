@@ -15,7 +15,7 @@ use Rattle.layout.specs.Layout.{bitOf, over}
 use Rattle.layout.specs.Relaid.{put-set}
 use Rattle.layout.specs.Copied.{length-listOf}
 use Rattle.cells.specs.Seek.{first-within}
-use Rattle.sparse.specs.Places.{mostVariables, nextIdAt, shouldClearAt, idsAt, variableNumbersAt, variableUsesAt, constraintNumbersAt, kindsAt, rowPlacesAt, variablePlacesAt, changedAt, constraintMarkersAt, constraintOthersAt, termCountsAt, editVariablesAt, editMarkersAt, editOthersAt, termsAt, constantsAt, oldValuesAt, objectiveAt, cutoffAt, constraintStrengthsAt, editStrengthsAt, suggestionsAt, coefficientsAt}
+use Rattle.sparse.specs.Places.{mostVariables, nextIdAt, shouldClearAt, idsAt, variableNumbersAt, variableUsesAt, constraintNumbersAt, constraintGroupsAt, kindsAt, rowPlacesAt, variablePlacesAt, changedAt, constraintMarkersAt, constraintOthersAt, termCountsAt, editVariablesAt, editMarkersAt, editOthersAt, termsAt, constantsAt, oldValuesAt, objectiveAt, cutoffAt, constraintStrengthsAt, editStrengthsAt, suggestionsAt, coefficientsAt}
 use Rattle.sparse.specs.Sparse.{Sparse, read}
 use Rattle.sparse.specs.Stretches.{Stretch, from, lay}
 use Rattle.sparse.specs.Write.{noVariable, placeOf, otherPlace, indexOf, numberPlace, allTerms, laidOf, headingOf, wordsOf, bytesOf, realsOf, write}
@@ -64,7 +64,8 @@ module _ (t : Sparse) (form : Form t) where
 
   abbrev wordsAbove : List (Stretch ℕ)
   wordsAbove =
-      from constraintNumbersAt (map (λ (c : Constraint). c .number) (s .constraints))
+      from constraintGroupsAt (map (λ (c : Constraint). c .group) (s .constraints))
+      ∷ from constraintNumbersAt (map (λ (c : Constraint). c .number) (s .constraints))
       ∷ from variableUsesAt (map (λ (v : Variable). v .uses) vs)
       ∷ from variableNumbersAt (map (λ (v : Variable). v .number) vs)
       ∷ from (idsAt + 1) (map (λ (x : Symbol). x .id) xs)
@@ -72,7 +73,7 @@ module _ (t : Sparse) (form : Form t) where
 
   above-heading : Above (nextIdAt + length (headingOf s size)) wordsAbove
   unfolding headingOf
-  above-heading = (omega arith, (omega arith, (omega arith, (omega arith, tt))))
+  above-heading = (omega arith, (omega arith, (omega arith, (omega arith, (omega arith, tt)))))
 
   words-written : lay wordsAbove (over nextIdAt (headingOf s size) (lay [] (t .words))) ≡ t .words
   unfolding write wordsOf lay
@@ -175,10 +176,10 @@ module _ (t : Sparse) (form : Form t) where
         new = from nextIdAt (set (headingOf s size) shouldClearAt (bitOf clear))
 
         parts : wordsOf after size
-            ≡ from constraintNumbersAt (map (λ (c : Constraint). c .number) (s .constraints)) ∷ from variableUsesAt (map (λ (v : Variable). v .uses) vs) ∷ from variableNumbersAt (map (λ (v : Variable). v .number) vs) ∷ from (idsAt + 1) (map (λ (x : Symbol). x .id) xs) ∷ new ∷ []
+            ≡ from constraintGroupsAt (map (λ (c : Constraint). c .group) (s .constraints)) ∷ from constraintNumbersAt (map (λ (c : Constraint). c .number) (s .constraints)) ∷ from variableUsesAt (map (λ (v : Variable). v .uses) vs) ∷ from variableNumbersAt (map (λ (v : Variable). v .number) vs) ∷ from (idsAt + 1) (map (λ (x : Symbol). x .id) xs) ∷ new ∷ []
         parts = unfold wordsOf in rw (map-kept f (λ (v : Variable). v .uses) uses vs, map-kept f (λ (v : Variable). v .number) numbers vs, heading-after) refl
 
-        laid-out : lay (from constraintNumbersAt (map (λ (c : Constraint). c .number) (s .constraints)) ∷ from variableUsesAt (map (λ (v : Variable). v .uses) vs) ∷ from variableNumbersAt (map (λ (v : Variable). v .number) vs) ∷ from (idsAt + 1) (map (λ (x : Symbol). x .id) xs) ∷ new ∷ []) (t .words)
+        laid-out : lay (from constraintGroupsAt (map (λ (c : Constraint). c .group) (s .constraints)) ∷ from constraintNumbersAt (map (λ (c : Constraint). c .number) (s .constraints)) ∷ from variableUsesAt (map (λ (v : Variable). v .uses) vs) ∷ from variableNumbersAt (map (λ (v : Variable). v .number) vs) ∷ from (idsAt + 1) (map (λ (x : Symbol). x .id) xs) ∷ new ∷ []) (t .words)
             ≡ lay wordsAbove (over nextIdAt (set (headingOf s size) shouldClearAt (bitOf clear)) (lay [] (t .words)))
         laid-out = unfold lay in refl
 

@@ -3,9 +3,9 @@ use mathlib.Core.Path.{_≡_, refl, sym, ap, _∙_, subst}
 use mathlib.Core.List.{List, [], _∷_, map}
 use mathlib.Core.Option.{Option, none, some}
 use mathlib.Core.Bool.{Bool, true, false, not, cond, _&&_, true≢false}
-use Prim.Native.Nat.{ℕ, suc, _+_, _≤_, _<_}
+use Prim.Native.Nat.{zero, ℕ, suc, _+_, _≤_, _<_}
 use native.Mathlib.Omega.{arith}
-use lib.Dec.{ltb, nltb→le, nleb→lt}
+use lib.Dec.{lt→ltb, eqb, ltb, nltb→le, nleb→lt}
 use lib.ListN.{length}
 use lib.Ieee.{Float, nan, inf, fin, lt, le, eq, ofBits}
 use Rattle.steps.specs.Number.{zero64, nearZero, belowZero, cutoffFits, isFinite}
@@ -20,7 +20,7 @@ use Rattle.steps.specs.Edit.{editTerms, addEditSteps}
 use Rattle.steps.specs.Tests.{Test, firstRefusal, addTests, addEditTests, finiteTerms, keptTerms, newVariables, constraintsFull, variablesFull, hasConstraint, hasEdit, findConstraint, keepConstraint, findEdit, keepEdit}
 use Rattle.steps.specs.Calls.{begin, finish, refusedBy, acceptedAs, concludeAdd, add, addEdit}
 use Rattle.steps.specs.Readable.{usesIn, constraintFinite, editFinite, tagKinds, editKinds}
-use Rattle.keeps.specs.Lists.{All, all-out, total, times, so-not, both, left, right, none≢some}
+use Rattle.keeps.specs.Lists.{truly, All, all-out, total, times, so-not, both, left, right, none≢some}
 use Rattle.keeps.specs.Keys.{find-none, keep-total, keep-length, keep-all, keep-up, findConstraint-is, keepConstraint-is, findEdit-is, keepEdit-is}
 use Rattle.keeps.specs.Cells.{zero-finite}
 use Rattle.keeps.specs.Passes.{Ends, ends-to}
@@ -145,17 +145,25 @@ plain : (s : State) → begin s .artificial ≡ none
 unfolding begin
 plain s = refl
 
-module _ (n : ℕ) (terms : List Term) (constant : Float) (r : Relation) (s : State) (reads : Reads s) (pass : firstRefusal (addTests n terms constant r s) ≡ none) where
+module _ (g n : ℕ) (terms : List Term) (constant : Float) (r : Relation) (s : State) (reads : Reads s) (pass : firstRefusal (addTests g n terms constant r s) ≡ none) where
   tests : ((not (finiteTerms terms && isFinite constant && isFinite (strengthOf r))) ≡ false) × (ltb 16 (length terms) ≡ false) × (hasConstraint n s ≡ false) × (constraintsFull s ≡ false) × (variablesFull terms s ≡ false)
   unfolding addTests
   tests =
-      let a = passed _ _ pass in
+      let a = passed _ _ (passed _ _ pass .1) in
       let b = passed _ _ (a .1) in
       let c = passed _ _ (b .1) in
       let d = passed _ _ (c .1) in
       let e = passed _ _ (d .1) in
       let f = passed _ _ (e .1) in
       (a .0, c .0, d .0, e .0, f .0)
+
+  grouped : ltb 0 g ≡ true
+  unfolding addTests
+  grouped = above g (passed _ _ pass .0)
+    where
+      above : (g : ℕ) → eqb g 0 ≡ false → ltb 0 g ≡ true
+      above zero e = absurd (true≢false e)
+      above (suc g) e = truly (ltb 0 (suc g)) (lt→ltb 0 (suc g) (omega arith))
 
   finite : (finiteTerms terms && isFinite constant && isFinite (strengthOf r)) ≡ true
   finite = not-false _ (tests .0)
@@ -184,13 +192,13 @@ module _ (n : ℕ) (terms : List Term) (constant : Float) (r : Relation) (s : St
   added-reads : (c : Created) (a : Added) → tagKinds (strengthOf r) (c .tag) ≡ true
       → AddedOk (λ m. tagsBy m (s .constraints) (s .edits)) (λ m. usesIn m (keptTerms (s .tableau .cutoff) terms) + usedBy m (s .constraints) (s .edits))
       (suc (length (s .tableau .rows))) (length (s .changes .variables) + length (newVariables (s .changes .variables) [] (keptTerms (s .tableau .cutoff) terms))) c a
-      → Reads (finish (a .work) (keepConstraint (record { number = n; strength = strengthOf r; terms = keptTerms (s .tableau .cutoff) terms; tag = a .tag }) (s .constraints)) (s .edits))
+      → Reads (finish (a .work) (keepConstraint (record { number = n; group = g; strength = strengthOf r; terms = keptTerms (s .tableau .cutoff) terms; tag = a .tag }) (s .constraints)) (s .edits))
   added-reads c a kinds h =
       finish-reads (a .work) cs (s .edits) (good-to _ _ _ _ (a .work) tags uses (h .stands .good)) (h .stands .fine) stored
       (omega (arith, h .stands .size, few-vars)) (omega (arith, h .stands .rows, reads .few-rows, size))
     where
       con : Constraint
-      con = record { number = n; strength = strengthOf r; terms = keptTerms (s .tableau .cutoff) terms; tag = a .tag }
+      con = record { number = n; group = g; strength = strengthOf r; terms = keptTerms (s .tableau .cutoff) terms; tag = a .tag }
 
       cs : List Constraint
       cs = keepConstraint con (s .constraints)
@@ -229,21 +237,22 @@ module _ (n : ℕ) (terms : List Term) (constant : Float) (r : Relation) (s : St
                 (old .constraint-kinds);
             edits-finite = old .edits-finite;
             edit-kinds = old .edit-kinds;
+            groups = more (λ (c : Constraint). ltb 0 (c .group) ≡ true) grouped (old .groups);
           }
 
-pub add-kept : (n : ℕ) (terms : List Term) (constant : Float) (r : Relation) (budget : ℕ) (s : State) → Reads s → Reads (add n terms constant r budget s .state)
+pub add-kept : (g n : ℕ) (terms : List Term) (constant : Float) (r : Relation) (budget : ℕ) (s : State) → Reads s → Reads (add g n terms constant r budget s .state)
 unfolding add refusedBy
-add-kept n terms constant r budget s reads = go (firstRefusal (addTests n terms constant r s)) refl
+add-kept g n terms constant r budget s reads = go (firstRefusal (addTests g n terms constant r s)) refl
   where
-    go : (o : Option ℕ) → firstRefusal (addTests n terms constant r s) ≡ o → Reads (add n terms constant r budget s .state)
+    go : (o : Option ℕ) → firstRefusal (addTests g n terms constant r s) ≡ o → Reads (add g n terms constant r budget s .state)
     go (some k) e = rw (e, add) reads
     go none e =
         rw (e, add) (concludeAdd-reads s (addSteps budget terms constant r (begin s))
-        (λ a. finish (a .work) (keepConstraint (record { number = n; strength = strengthOf r; terms = keptTerms (s .tableau .cutoff) terms; tag = a .tag }) (s .constraints))
+        (λ a. finish (a .work) (keepConstraint (record { number = n; group = g; strength = strengthOf r; terms = keptTerms (s .tableau .cutoff) terms; tag = a .tag }) (s .constraints))
         (s .edits)) reads
         (ends-to _ _ (addSteps budget terms constant r (begin s))
-        (add-ends budget terms constant r _ _ (begin s) (begin-good s reads) (plain s) (constant-finite n terms constant r s reads e))
-        (λ a h. unfold begin in added-reads n terms constant r s reads e _ a (createRow-kinds terms constant r _) h)))
+        (add-ends budget terms constant r _ _ (begin s) (begin-good s reads) (plain s) (constant-finite g n terms constant r s reads e))
+        (λ a h. unfold begin in added-reads g n terms constant r s reads e _ a (createRow-kinds terms constant r _) h)))
 
 module _ (n : ℕ) (strength : Float) (s : State) (reads : Reads s) (pass : firstRefusal (addEditTests n strength s) ≡ none) where
   edit-tests : (hasEdit n s ≡ false) × (eq strength required ≡ false) × (constraintsFull s ≡ false) × (variablesFull (editTerms n) s ≡ false)
@@ -308,6 +317,7 @@ module _ (n : ℕ) (strength : Float) (s : State) (reads : Reads s) (pass : firs
             edit-kinds =
                 more (λ (e : Edit). editKinds e ≡ true)
                 (unfold editKinds in both (ap (λ (t : Tag). isError (t .marker)) (h .tag) ∙ marker) (ap (tagKinds strength) (h .tag) ∙ kinds)) (old .edit-kinds);
+            groups = old .groups;
           }
 
 pub addEdit-kept : (n : ℕ) (strength : Float) (budget : ℕ) (s : State) → Reads s → Reads (addEdit n strength budget s .state)

@@ -3,7 +3,7 @@ use mathlib.Core.Path.{_≡_, refl, sym, ap, ap₂, _∙_}
 use mathlib.Core.List.{List, [], _∷_, map}
 use mathlib.Core.Bool.{true, false, cond, _||_}
 use Prim.Native.Nat.{ℕ, _+_, _≤_}
-use lib.Dec.{eqb}
+use lib.Dec.{eqb, ltb}
 use lib.ListN.{length, length-map}
 use lib.Ieee.{isNan}
 use Rattle.steps.specs.Number.{isFinite, cutoffFits, allWhole}
@@ -142,6 +142,7 @@ pub record Stored (cs : List Constraint) (es : List Edit) : Type 0 where
   pub constraint-kinds : All (λ (c : Constraint). tagKinds (c .strength) (c .tag) ≡ true) cs
   pub edits-finite : All (λ (e : Edit). editFinite e ≡ true) es
   pub edit-kinds : All (λ (e : Edit). editKinds e ≡ true) es
+  pub groups : All (λ (c : Constraint). ltb 0 (c .group) ≡ true) cs
 
 pub stored-in : (s : State) → Reads s → Stored (s .constraints) (s .edits)
 stored-in s r =
@@ -154,6 +155,7 @@ stored-in s r =
       constraint-kinds = r .constraint-kinds;
       edits-finite = r .edits-finite;
       edit-kinds = r .edit-kinds;
+      groups = r .groups;
     }
 
 pub finish-reads : (w : Work) (cs : List Constraint) (es : List Edit) → Good (λ n. tagsBy n cs es) (λ n. usedBy n cs es) w → Fine (w .mark) → Stored cs es
@@ -178,4 +180,5 @@ finish-reads w cs es g m t few rows =
       edits-finite = t .edits-finite;
       edit-kinds = t .edit-kinds;
       cutoff = g .cutoff;
+      groups = t .groups;
     }

@@ -24,5 +24,7 @@ pub mod Terms
 pub mod Creating
 pub mod Adding
 pub mod Addition
+pub mod Lookup
+pub mod Groups
 pub mod Keeps
 pub mod Needed

@@ -9,18 +9,18 @@ use Rattle.steps.specs.Strength.{required}
 use Rattle.steps.specs.Symbol.{Dummy}
 use Rattle.steps.specs.State.{Term, atMost, Variable, State}
 use Rattle.steps.specs.Calls.{Result, add}
-use Rattle.steps.specs.Readable.{all, storedTerms, usesIn, countsInRange, numbersAscend, symbolsDistinct, idsBelowNext, rowsInRange, noBasicCell, symbolsOwned, usesCounted, numbersFinite, kindsFit, cutoffInRange, openReadable}
+use Rattle.steps.specs.Readable.{all, storedTerms, usesIn, countsInRange, numbersAscend, symbolsDistinct, idsBelowNext, rowsInRange, noBasicCell, symbolsOwned, usesCounted, numbersFinite, kindsFit, cutoffInRange, groupsFit, openReadable}
 
 x : Term
 x = record { variable = 1; coefficient = one64 }
 
 -- x is at most 0, as constraint 2
 added : State → Result
-added s = add 2 (x ∷ []) zero64 (atMost required) 10 s
+added s = add 1 2 (x ∷ []) zero64 (atMost required) 10 s
 
 -- the clauses of neither
 others : State → Bool
-others s = countsInRange s && numbersAscend s && symbolsDistinct s && rowsInRange s && noBasicCell s && symbolsOwned s && numbersFinite s && kindsFit s && cutoffInRange s
+others s = countsInRange s && numbersAscend s && symbolsDistinct s && rowsInRange s && noBasicCell s && symbolsOwned s && numbersFinite s && kindsFit s && cutoffInRange s && groupsFit s
 
 -- ---- "ids from 1": were the next id 0, the first symbol would have the id 0
 
@@ -45,7 +45,7 @@ stale =
     record {
       tableau = record { cutoff = usualCutoff; symbols = record { id = 1; kind = Dummy } ∷ []; nextId = 2; rows = []; objective = zero64 ∷ [] };
       changes = record { variables = []; shouldClear = false };
-      constraints = record { number = 1; strength = required; terms = x ∷ []; tag = record { marker = record { id = 1; kind = Dummy }; other = none } } ∷ [];
+      constraints = record { number = 1; group = 1; strength = required; terms = x ∷ []; tag = record { marker = record { id = 1; kind = Dummy }; other = none } } ∷ [];
       edits = [];
       whole = true;
     }

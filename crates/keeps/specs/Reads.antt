@@ -5,6 +5,7 @@ use mathlib.Core.Option.{none}
 use mathlib.Core.Bool.{true, _||_}
 use Prim.Native.Nat.{ℕ, _+_, _≤_}
 use native.Mathlib.Omega.{arith}
+use lib.Dec.{ltb}
 use lib.ListN.{length, length-append, length-map}
 use lib.Ieee.{isNan}
 use Rattle.steps.specs.Number.{isFinite, cutoffFits, allWhole}
@@ -54,6 +55,7 @@ pub record Reads (s : State) : Type 0 where
   pub edits-finite : All (λ (e : Edit). editFinite e ≡ true) (s .edits)
   pub edit-kinds : All (λ (e : Edit). editKinds e ≡ true) (s .edits)
   pub cutoff : cutoffFits (s .tableau .cutoff) ≡ true
+  pub groups : All (λ (c : Constraint). ltb 0 (c .group) ≡ true) (s .constraints)
 
 pub unmap : {A B : Type 0} (g : A → B) (P : B → Type 0) (xs : List A) → All P (map g xs) → All (λ (x : A). P (g x)) xs
 unmap g P [] h = tt

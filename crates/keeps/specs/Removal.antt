@@ -1,5 +1,5 @@
 -- A removal of a constraint or an edit, on a state that reads: so does what it leaves. Assumes nothing.
-use mathlib.Core.Path.{_≡_, refl, sym, ap, _∙_}
+use mathlib.Core.Path.{_≡_, refl, sym, ap, _∙_, subst}
 use mathlib.Core.List.{List, [], _∷_}
 use mathlib.Core.Option.{Option, none, some}
 use Prim.Native.Nat.{ℕ, suc, _+_, _-_, _≤_}
@@ -8,12 +8,12 @@ use lib.ListN.{length}
 use lib.Ieee.{Float}
 use Rattle.steps.specs.Symbol.{Symbol}
 use Rattle.steps.specs.State.{Term, Tag, Constraint, Edit, State}
-use Rattle.steps.specs.Work.{Work, going, _>>=_, checkFinite, purge}
+use Rattle.steps.specs.Work.{Outcome, Work, going, _>>=_, checkFinite, purge}
 use Rattle.steps.specs.Optimise.{optimise, theObjective}
 use Rattle.steps.specs.Remove.{removeConstraintEffects, dropMarker, purgeTag, dropUses, removeSteps}
 use Rattle.steps.specs.Edit.{editTerms}
 use Rattle.steps.specs.Tests.{findConstraint, dropConstraint, findEdit, dropEdit}
-use Rattle.steps.specs.Calls.{begin, finish, refusedBy, remove, removeEdit}
+use Rattle.steps.specs.Calls.{removeStored, begin, finish, refusedBy, remove, removeEdit}
 use Rattle.steps.specs.Readable.{code, usesIn, tagSymbols}
 use Rattle.keeps.specs.Lists.{All, Same?, is, isnt, same, same?, total, times}
 use Rattle.keeps.specs.Keys.{findBy, find-some, drop-total, drop-length, drop-all, drop-up, findConstraint-is, dropConstraint-is, findEdit-is, dropEdit-is}
@@ -127,6 +127,36 @@ module _ (budget : ℕ) (tag : Tag) (strength : Float) (terms : List Term) (w : 
       purged : Good L U x × Shrunk v x
       purged = purgeTag-good tag K L U v (h .0) bare owned
 
+  -- where the pass starts there is a row less, and there are no more at its end
+  pub pass-rows : (v : Work) → (checkFinite (removeConstraintEffects tag strength w) >>= dropMarker (tag .marker)) ≡ going v
+      → (suc (length (purgeTag tag v .tableau .rows)) ≤ length (w .tableau .rows)) × Ends (λ u. length (u .tableau .rows) ≤ length (purgeTag tag v .tableau .rows)) (removeSteps budget tag strength terms w)
+  unfolding Less removeSteps _>>=_
+  pass-rows v e = (
+    omega (arith, purged .1 .rows, h .3),
+    subst (λ (o : Outcome Work). Ends Fewer (o >>= (λ v. optimise (budget - v .pivots) theObjective (purgeTag tag v)) >>= (λ v. going (dropUses terms v)))) (sym e)
+        (ends-bind Started′ Fewer (optimise (budget - v .pivots) theObjective x) (λ v. going (dropUses terms v)) ran (λ u a. omega (arith, a .1, dropUses-good terms L U W u (a .0 .0) (a .0 .1) used .1 .rows))),
+  )
+    where
+      x : Work
+      x = purgeTag tag v
+
+      h : Less v
+      h = subst (Ends Less) e less
+
+      purged : Good L U x × Shrunk v x
+      purged = purgeTag-good tag K L U v (h .0) (h .2 .plain plain) owned
+
+      Fewer : Work → Type 0
+      Fewer u = length (u .tableau .rows) ≤ length (x .tableau .rows)
+
+      Started′ : Work → Type 0
+      Started′ u = ((Good L U u) × (u .artificial ≡ none)) × (length (u .tableau .rows) ≡ length (x .tableau .rows))
+
+      ran : Ends Started′ (optimise (budget - v .pivots) theObjective x)
+      ran =
+          ends-to (After x) Started′ (optimise (budget - v .pivots) theObjective x) (optimise-ends (budget - v .pivots) theObjective x (purged .0 .fits) (rw (purged .1 .mark) (h .1)))
+          (λ u a. ((good-frame L U x u (purged .0) (a .fits) (a .frame), a .frame .plain (purged .1 .plain ∙ h .2 .plain plain)), a .count))
+
   pub remove-ends : Ends (Removed L W w) (removeSteps budget tag strength terms w)
   unfolding removeSteps Less Passed
   remove-ends =
@@ -149,7 +179,7 @@ unfolding begin
 removed-reads s cs es r t count w h = finish-reads w cs es (h .good) (h .fine) t (omega (arith, h .variables, r .few-variables)) (omega (arith, h .rows, r .few-rows))
 
 pub remove-kept : (n budget : ℕ) (s : State) → Reads s → Reads (remove n budget s .state)
-unfolding remove refusedBy
+unfolding remove removeStored refusedBy
 remove-kept n budget s r = go (findConstraint n (s .constraints)) refl
   where
     cs : List Constraint
@@ -198,7 +228,20 @@ remove-kept n budget s r = go (findConstraint n (s .constraints)) refl
               constraint-kinds = all-left _ (old .constraint-kinds);
               edits-finite = old .edits-finite;
               edit-kinds = old .edit-kinds;
+              groups = all-left _ (old .groups);
             }
+
+pub removed-rows : (n budget : ℕ) (s : State) (c : Constraint) → Reads s → findConstraint n (s .constraints) ≡ some c → (v : Work) → (checkFinite (removeConstraintEffects (c .tag) (c .strength) (begin s)) >>= dropMarker (c .tag .marker)) ≡ going v
+    → (suc (length (purgeTag (c .tag) v .tableau .rows)) ≤ length (s .tableau .rows)) × Ends (λ u. length (u .tableau .rows) ≤ length (purgeTag (c .tag) v .tableau .rows)) (removeSteps budget (c .tag) (c .strength) (c .terms) (begin s))
+removed-rows n budget s c r e v q =
+    unfold begin in pass-rows budget (c .tag) (c .strength) (c .terms) (begin s) _ (λ n. tagsBy n cs (s .edits)) _ (λ n. usedBy n cs (s .edits)) (begin-good s r) (unfold begin in refl)
+    (λ m. omega (arith, part (λ (c : Constraint). tagCode m (c .tag)))) (λ m. omega (arith, part (λ (c : Constraint). usesIn m (c .terms)))) v q
+  where
+    cs : List Constraint
+    cs = dropConstraint n (s .constraints)
+
+    part : (f : Constraint → ℕ) → total f (s .constraints) ≡ f c + total f cs
+    part f = rw dropConstraint-is (drop-total conNumber f n (s .constraints) c (sym (findConstraint-is n (s .constraints)) ∙ e))
 
 pub removeEdit-kept : (n budget : ℕ) (s : State) → Reads s → Reads (removeEdit n budget s .state)
 unfolding removeEdit refusedBy
@@ -251,4 +294,5 @@ removeEdit-kept n budget s r = go (findEdit n (s .edits)) refl
               constraint-kinds = old .constraint-kinds;
               edits-finite = all-left _ (old .edits-finite);
               edit-kinds = all-left _ (old .edit-kinds);
+              groups = old .groups;
             }

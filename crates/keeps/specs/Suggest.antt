@@ -196,6 +196,7 @@ module _ (n : ℕ) (new : Float) (e : Edit) (es : List Edit) (found : findEdit n
             (find-all editNumber (λ (e : Edit). editFinite e ≡ true) n es e found-by (t .edits-finite))) fin) (t .edits-finite);
         edit-kinds =
             again-all (λ (e : Edit). editKinds e ≡ true) (find-all editNumber (λ (e : Edit). editKinds e ≡ true) n es e found-by (t .edit-kinds)) (t .edit-kinds);
+        groups = t .groups;
       }
 
   again-tags : (cs : List Constraint) (m : ℕ) → tagsBy m cs es ≡ tagsBy m cs edits
@@ -256,6 +257,7 @@ fetch-kept s r =
       edits-finite = r .edits-finite;
       edit-kinds = r .edit-kinds;
       cutoff = r .cutoff;
+      groups = r .groups;
     }
   where
     bs : List Basic

@@ -11,7 +11,7 @@ use lib.Ieee.{isNan}
 use Rattle.steps.specs.Number.{isFinite, allWhole}
 use Rattle.steps.specs.Symbol.{Symbol, isExternal}
 use Rattle.steps.specs.State.{Term, Basic, Variable, Constraint, State}
-use Rattle.steps.specs.Readable.{all, ascendFrom, ascend, distinct, allIn, code, live, liveIds, basics, basicIds, tags, owned, storedTerms, usesIn, numbers, countsInRange, numbersAscend, symbolsDistinct, idsBelowNext, rowsInRange, holdsNoBasic, noBasicCell, symbolsOwned, usesCounted, tableauFinite, constraintFinite, editFinite, numbersFinite, tagKinds, editKinds, kindsFit, cutoffInRange, readable}
+use Rattle.steps.specs.Readable.{all, ascendFrom, ascend, distinct, allIn, code, live, liveIds, basics, basicIds, tags, owned, storedTerms, usesIn, numbers, countsInRange, numbersAscend, symbolsDistinct, idsBelowNext, rowsInRange, holdsNoBasic, noBasicCell, symbolsOwned, usesCounted, tableauFinite, constraintFinite, editFinite, numbersFinite, tagKinds, editKinds, kindsFit, cutoffInRange, groupsFit, readable}
 use Rattle.keeps.specs.Lists.{All, all-in, all-out, all-to, all-zip, times, member-in, member-out, allIn-in, allIn-out, distinct-in, distinct-out, ascendFrom-in, ascendFrom-out, ascend-in, ascend-out, Up, none-of, so, truly, both, left, right}
 use Rattle.keeps.specs.Along.{ids, Mem}
 use Rattle.keeps.specs.Fits.{Fits, all-map}
@@ -126,7 +126,7 @@ module _ (s : State) where
       go (suc k) q = uses-in U 0 vs u counted n (omega arith)
 
   pub reads-in : readable s ≡ true → Reads s
-  unfolding countsInRange rowsInRange numbersFinite kindsFit cutoffInRange liveIds
+  unfolding countsInRange rowsInRange numbersFinite kindsFit cutoffInRange groupsFit liveIds
   reads-in e =
       let c : Clauses s = clauses-in s e in
       let counts = and3 (leb (length vs) 32) (leb (length (tags s)) 48) (all (λ (c : Constraint). leb (length (c .terms)) 16) (s .constraints)) (c .counts) in
@@ -151,6 +151,7 @@ module _ (s : State) where
         edits-finite = all-in _ (s .edits) (finite .3);
         edit-kinds = all-in _ (s .edits) (kinds .2);
         cutoff = c .cutoff;
+        groups = all-in _ (s .constraints) (c .groups);
       }
 
   -- ---- back to the test
@@ -232,7 +233,7 @@ module _ (s : State) where
     kinds-out = both (both (all-out _ vs (r .externals)) (all-out _ (s .constraints) (r .constraint-kinds))) (all-out _ (s .edits) (r .edit-kinds))
 
     pub reads-out : readable s ≡ true
-    unfolding cutoffInRange
+    unfolding cutoffInRange groupsFit
     reads-out =
         clauses-out s (record {
           counts = counts-out;
@@ -246,4 +247,5 @@ module _ (s : State) where
           finite = finite-out;
           kinds = kinds-out;
           cutoff = r .cutoff;
+          groups = all-out _ (s .constraints) (r .groups);
         })

@@ -27,10 +27,10 @@ use Rattle.typed.specs.Typed.{wholeOf, typedTerm, typedTerms, requiredBy}
 use Rattle.typed.specs.Adding.{text, addRead, textOf}
 use Rattle.handed.specs.Handed.{kindOf, Handed, handedOf, placed}
 
--- the lists up to the count, the constant, the kind and the strength, as `knobharbor_add_lists` takes them
+-- the lists up to the count, the constant, the kind and the strength, as `knobharbor_add_lists` takes them, in group 1
 abbrev pub addHanded : ℕ → Handed → ℕ → Sparse → Sparse → Called
 addHanded number g budget work t =
-    addListsOf number (take (getD (g .words) 4 0) (g .variables)) (take (getD (g .words) 4 0) (g .coefficients)) (getD (g .reals) 0 zero64) (getD (g .words) 3 0) (getD (g .reals) 1 zero64) budget work t
+    addListsOf 1 number (take (getD (g .words) 4 0) (g .variables)) (take (getD (g .words) 4 0) (g .coefficients)) (getD (g .reals) 0 zero64) (getD (g .words) 3 0) (getD (g .reals) 1 zero64) budget work t
 
 front : {A : Type 0} (f : Term → A) (ts : List Term) (l : List A) → take (length ts) (map f ts ++ l) ≡ map f ts
 front f [] l = refl

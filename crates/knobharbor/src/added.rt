@@ -46,6 +46,7 @@ fn add_packed(
     wreals: &mut Reals,
     wvalues: &mut Values,
     answer: &mut [u32; 3],
+    group: u16,
     number: u32,
     p: Pack,
     constant: f64,
@@ -53,7 +54,7 @@ fn add_packed(
     strength: f64,
     budget: u16,
 )
-    ensures { λ _. ⌜ placed (now (answer .exit)) (lent (words .exit) (keys .exit) (bytes .exit) (reals .exit) (values .exit)) ≡ placedBy (packedOf number p constant kind strength budget (lent (wwords .entry) (wkeys .entry) (wbytes .entry) (wreals .entry) (wvalues .entry)) (lent (words .entry) (keys .entry) (bytes .entry) (reals .entry) (values .entry))) ⌝ }
+    ensures { λ _. ⌜ placed (now (answer .exit)) (lent (words .exit) (keys .exit) (bytes .exit) (reals .exit) (values .exit)) ≡ placedBy (packedOf group number p constant kind strength budget (lent (wwords .entry) (wkeys .entry) (wbytes .entry) (wreals .entry) (wvalues .entry)) (lent (words .entry) (keys .entry) (bytes .entry) (reals .entry) (values .entry))) ⌝ }
     ensures { λ _. ⌜ lent (wwords .exit) (wkeys .exit) (wbytes .exit) (wreals .exit) (wvalues .exit) ≡ cleared (lent (wwords .entry) (wkeys .entry) (wbytes .entry) (wreals .entry) (wvalues .entry)) ⌝ }
 {
     let ok = kind < 3;
@@ -63,7 +64,7 @@ fn add_packed(
         return;
     }
     let relation = relation(kind, strength);
-    let c = Change::Add(number, constant, relation);
+    let c = Change::Add(group, number, constant, relation);
     change(
         words,
         keys,
@@ -96,6 +97,7 @@ pub extern "C" fn knobharbor_add(
     wreals: &mut Reals,
     wvalues: &mut Values,
     answer: &mut [u32; 3],
+    group: u16,
     number: u32,
     terms: &[Term],
     constant: f64,
@@ -103,7 +105,7 @@ pub extern "C" fn knobharbor_add(
     strength: f64,
     budget: u16,
 )
-    ensures { λ _. ⌜ placed (now (answer .exit)) (lent (words .exit) (keys .exit) (bytes .exit) (reals .exit) (values .exit)) ≡ placedBy (addOf number (now (terms .entry)) constant kind strength budget (lent (wwords .entry) (wkeys .entry) (wbytes .entry) (wreals .entry) (wvalues .entry)) (lent (words .entry) (keys .entry) (bytes .entry) (reals .entry) (values .entry))) ⌝ }
+    ensures { λ _. ⌜ placed (now (answer .exit)) (lent (words .exit) (keys .exit) (bytes .exit) (reals .exit) (values .exit)) ≡ placedBy (addOf group number (now (terms .entry)) constant kind strength budget (lent (wwords .entry) (wkeys .entry) (wbytes .entry) (wreals .entry) (wvalues .entry)) (lent (words .entry) (keys .entry) (bytes .entry) (reals .entry) (values .entry))) ⌝ }
     ensures { λ _. ⌜ lent (wwords .exit) (wkeys .exit) (wbytes .exit) (wreals .exit) (wvalues .exit) ≡ cleared (lent (wwords .entry) (wkeys .entry) (wbytes .entry) (wreals .entry) (wvalues .entry)) ⌝ }
 {
     let p = terms::collect(terms);
@@ -119,6 +121,7 @@ pub extern "C" fn knobharbor_add(
         wreals,
         wvalues,
         answer,
+        group,
         number,
         p,
         constant,
@@ -141,6 +144,7 @@ pub extern "C" fn knobharbor_add_lists(
     wreals: &mut Reals,
     wvalues: &mut Values,
     answer: &mut [u32; 3],
+    group: u16,
     number: u32,
     vars: &[u32],
     coefs: &[f64],
@@ -149,7 +153,7 @@ pub extern "C" fn knobharbor_add_lists(
     strength: f64,
     budget: u16,
 )
-    ensures { λ _. ⌜ placed (now (answer .exit)) (lent (words .exit) (keys .exit) (bytes .exit) (reals .exit) (values .exit)) ≡ placedBy (addListsOf number (now (vars .entry)) (now (coefs .entry)) constant kind strength budget (lent (wwords .entry) (wkeys .entry) (wbytes .entry) (wreals .entry) (wvalues .entry)) (lent (words .entry) (keys .entry) (bytes .entry) (reals .entry) (values .entry))) ⌝ }
+    ensures { λ _. ⌜ placed (now (answer .exit)) (lent (words .exit) (keys .exit) (bytes .exit) (reals .exit) (values .exit)) ≡ placedBy (addListsOf group number (now (vars .entry)) (now (coefs .entry)) constant kind strength budget (lent (wwords .entry) (wkeys .entry) (wbytes .entry) (wreals .entry) (wvalues .entry)) (lent (words .entry) (keys .entry) (bytes .entry) (reals .entry) (values .entry))) ⌝ }
     ensures { λ _. ⌜ lent (wwords .exit) (wkeys .exit) (wbytes .exit) (wreals .exit) (wvalues .exit) ≡ cleared (lent (wwords .entry) (wkeys .entry) (wbytes .entry) (wreals .entry) (wvalues .entry)) ⌝ }
 {
     let ok = vars.len() == coefs.len();
@@ -171,6 +175,7 @@ pub extern "C" fn knobharbor_add_lists(
         wreals,
         wvalues,
         answer,
+        group,
         number,
         p,
         constant,

@@ -1,6 +1,6 @@
 // The changing calls without a list: all but add. "working room, where lent, is all zero after every call"
 ghost use mathlib.Core.Path.{_≡_};
-ghost use Rattle.steps.specs.Calls.{remove, addEdit, removeEdit, suggest};
+ghost use Rattle.steps.specs.Calls.{remove, dropGroup, addEdit, removeEdit, suggest};
 ghost use Rattle.steps.specs.Changing.{made};
 ghost use Rattle.waist.specs.Working.{lent};
 ghost use Rattle.sparse_copy.specs.Over.{cleared};
@@ -74,6 +74,46 @@ pub extern "C" fn knobharbor_remove(
     ensures { λ _. ⌜ lent (wwords .exit) (wkeys .exit) (wbytes .exit) (wreals .exit) (wvalues .exit) ≡ cleared (lent (wwords .entry) (wkeys .entry) (wbytes .entry) (wreals .entry) (wvalues .entry)) ⌝ }
 {
     let c = Change::Remove(number);
+    let p = terms::none();
+    change(
+        words,
+        keys,
+        bytes,
+        reals,
+        values,
+        wwords,
+        wkeys,
+        wbytes,
+        wreals,
+        wvalues,
+        answer,
+        c,
+        p,
+        budget,
+    )
+}
+
+// "Dropping a group removes its constraints by ascending number, all or none, under one budget."
+#[no_mangle]
+pub extern "C" fn knobharbor_drop(
+    words: &mut Words,
+    keys: &mut Keys,
+    bytes: &mut Bytes,
+    reals: &mut Reals,
+    values: &mut Values,
+    wwords: &mut Words,
+    wkeys: &mut Keys,
+    wbytes: &mut Bytes,
+    wreals: &mut Reals,
+    wvalues: &mut Values,
+    answer: &mut [u32; 3],
+    group: u16,
+    budget: u16,
+)
+    ensures { λ _. ⌜ placed (now (answer .exit)) (lent (words .exit) (keys .exit) (bytes .exit) (reals .exit) (values .exit)) ≡ placedBy (callOf (dropGroup group budget) (lent (wwords .entry) (wkeys .entry) (wbytes .entry) (wreals .entry) (wvalues .entry)) (lent (words .entry) (keys .entry) (bytes .entry) (reals .entry) (values .entry))) ⌝ }
+    ensures { λ _. ⌜ lent (wwords .exit) (wkeys .exit) (wbytes .exit) (wreals .exit) (wvalues .exit) ≡ cleared (lent (wwords .entry) (wkeys .entry) (wbytes .entry) (wreals .entry) (wvalues .entry)) ⌝ }
+{
+    let c = Change::Drop(group);
     let p = terms::none();
     change(
         words,

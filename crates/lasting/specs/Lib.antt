@@ -1,11 +1,6 @@
--- A call leaves tables that the next call reads: numbers stay within a u32, counts within the room.
-pub mod Numbers
-pub mod Near
-pub mod NearAdd
-pub mod Narrow
-pub mod Tabled
-pub mod Written
+-- A call leaves tables that the next call reads.
 pub mod Promises
 pub mod Again
+pub mod Drops
 pub mod Public
 pub mod Runs

@@ -9,13 +9,13 @@ use Rattle.steps.specs.Number.{cutoffFits}
 use Rattle.steps.specs.State.{State}
 use Rattle.steps.specs.Changes.{fetchChanges}
 use Rattle.steps.specs.Calls.{Result, empty, reset, refusedBy}
-use Rattle.steps.specs.Changing.{Changing, adds, removes, addsEdit, removesEdit, suggests, made, budgetOf}
+use Rattle.steps.specs.Changing.{Changing, adds, removes, drops, addsEdit, removesEdit, suggests, made, budgetOf}
 use Rattle.steps.specs.Readable.{readable}
 use Rattle.steps.proofs.Cutoff.{reset-refused, reset-taken}
 use Rattle.steps.proofs.Refusals.{refusal-keeps}
 use Rattle.steps.proofs.Budgets.{within-budget}
-use Rattle.keeps.specs.Keeps.{empty-reads, add-reads, remove-reads, addEdit-reads, removeEdit-reads, suggest-reads, fetch-reads}
-use Rattle.zeros.specs.PlainCalls.{PlainState, empty-plain, add-plain, remove-plain, addEdit-plain, removeEdit-plain, suggest-plain, fetch-plain}
+use Rattle.keeps.specs.Keeps.{empty-reads, add-reads, remove-reads, drop-reads, addEdit-reads, removeEdit-reads, suggest-reads, fetch-reads}
+use Rattle.zeros.specs.PlainCalls.{PlainState, empty-plain, add-plain, remove-plain, dropGroup-plain, addEdit-plain, removeEdit-plain, suggest-plain, fetch-plain}
 use Rattle.sparse.specs.Sparse.{Sparse, read}
 use Rattle.sparse.specs.Fits.{Lengths}
 use Rattle.sparse.specs.Write.{write}
@@ -25,9 +25,9 @@ use Rattle.sparse_test.specs.Meaning.{reads-form, reads-readable}
 use Rattle.lending.specs.Lending.{Called, called, refused18, callIn, callOf}
 use Rattle.lending.specs.Reset.{refused24, resetOf, reset-read}
 use Rattle.fetches.specs.Fetch.{fetchOf, fetchIn}
-use Rattle.lasting.specs.Narrow.{Narrow, Typed, made-narrow, fetch-narrow, empty-narrow}
-use Rattle.lasting.specs.Tabled.{narrow-of, plain-of}
-use Rattle.lasting.specs.Written.{written-read, written-state, written-lengths}
+use Rattle.narrow.specs.Narrow.{Narrow, Typed, made-narrow, fetch-narrow, empty-narrow}
+use Rattle.narrow.specs.Tabled.{narrow-of, plain-of}
+use Rattle.narrow.specs.Written.{written-read, written-state, written-lengths}
 
 -- two answers that the contract permits are one
 pub one-answer : (f : State → Result) (w t : Sparse) {x y : Called} → x ≡ callOf f w t → y ≡ callOf f w t → x ≡ y
@@ -55,15 +55,17 @@ pivots-within c w t = go (reads t)
 -- ---- tables that read as a state still do
 
 pub made-reads : (c : Changing) (s : State) → readable s ≡ true → readable (made c s .state) ≡ true
-made-reads (adds n ts k r b) s h = add-reads n ts k r b s h
+made-reads (adds g n ts k r b) s h = add-reads g n ts k r b s h
 made-reads (removes n b) s h = remove-reads n b s h
+made-reads (drops g b) s h = drop-reads g b s h
 made-reads (addsEdit v k b) s h = addEdit-reads v k b s h
 made-reads (removesEdit v b) s h = removeEdit-reads v b s h
 made-reads (suggests v x b) s h = suggest-reads v x b s h
 
 pub made-plain : (c : Changing) (s : State) → PlainState s → PlainState (made c s .state)
-made-plain (adds n ts k r b) s h = add-plain n ts k r b s h
+made-plain (adds g n ts k r b) s h = add-plain g n ts k r b s h
 made-plain (removes n b) s h = remove-plain n b s h
+made-plain (drops g b) s h = dropGroup-plain g b s h
 made-plain (addsEdit v k b) s h = addEdit-plain v k b s h
 made-plain (removesEdit v b) s h = removeEdit-plain v b s h
 made-plain (suggests v x b) s h = suggest-plain v x b s h

@@ -24,10 +24,11 @@ use Rattle.lending.specs.Reset.{resetOf}
 use Rattle.sparse_test.specs.Meaning.{reads-readable}
 use Rattle.fetches.specs.Fetch.{numbersOf, valuesOf, Fetch, fetchOf, fetchIn, places}
 use Rattle.fetches.specs.Few.{fetch-room}
-use Rattle.run.specs.Demand.{Call, make, accepted, next, start, after, Best, None}
+use Rattle.run.specs.Demand.{Call, drops, make, accepted, next, start, after, Best, None}
 use Rattle.run.specs.Run.{yes-stored, marked-best, marked-12}
-use Rattle.stall.specs.Stall.{allWays, passesOf, budgetOf, Demand3}
+use Rattle.stall.specs.Stall.{allWays, passesOf, budgetOf, Demand3, NoSetTwice}
 use Rattle.stall.proofs.Whole.{marked-never-stalls}
+use Rattle.stall.proofs.DropSets.{marked-never-returns}
 use Rattle.lasting.specs.Promises.{Holds, reset-holds}
 use Rattle.lasting.specs.Public.{Public, publicOn, runCall, unfitNumber, TypedPublic, Steps, public-step}
 
@@ -144,7 +145,7 @@ module _ (cutoff : Float) (fits : cutoffFits cutoff ≡ true) (t : Sparse) (long
     pub tables-12 : answers cutoff t s ss .number ≡ 12 → None (accepted c (after cutoff (callsOf ss) .live))
     tables-12 e = let a = tables-answer s ss h c is in marked-12 cutoff fits c (callsOf ss) (rw a at w) (rw a at e)
 
-    -- ---- demand 3, of adds, removals and suggestions, where the answer says yes, as in a whole run
+    -- ---- demand 3, of adds, removals, drops and suggestions, where the answer says yes, as in a whole run
 
     module _ (b : ℕ) (budget : budgetOf c ≡ some b) where
       -- "no optimise pass of an add or a removal holds the same set of basic symbols twice", "a dual pass then never holds the same basic set twice", and the
@@ -159,3 +160,8 @@ module _ (cutoff : Float) (fits : cutoffFits cutoff ≡ true) (t : Sparse) (long
       -- "and 16 is never given"
       pub tables-16 : answers cutoff t s ss .number ≢ 16
       tables-16 = rw (tables-answer s ss h c is, ← tables-hold ss (h .1) .state) (tables-never-stalls .some-way)
+
+  -- "Demand 3 reads over the passes of all the removals together, and demand 2's least error holds at the end of the drop." (`tables-best`): where the drop
+  -- answers yes, no set of basic symbols comes twice, within a pass or in two of them
+  pub tables-never-returns : (s : Step) (ss : List Step) → All Lent (s ∷ ss) → (g b : ℕ) → callOfStep s ≡ some (drops g b) → answers cutoff t s ss .whole ≡ true → NoSetTwice (passesOf (drops g b) (read (tablesAfter cutoff t ss)))
+  tables-never-returns s ss h g b is w = rw (tables-hold ss (h .1) .state) (marked-never-returns cutoff fits (callsOf ss) g b (rw (tables-answer s ss h (drops g b) is) at w))

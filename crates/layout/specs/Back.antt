@@ -109,9 +109,9 @@ terms-back ts n r f g =
     listOf-is (termOf n r) ts d λ j k.
     rw (f j k, g j k, getD-map (λ (t : Term). t .variable) ts j d 0 k, getD-map (λ (t : Term). t .coefficient) ts j d nan k) refl
 
-pub constraint-back : (c : Constraint) (n : List ℕ) (r : List Float) → length n ≡ 20 → length r ≡ 17 → length (c .terms) ≤ 16 → Named (c .tag .other) → constraintOf (over 0 (constraintNames c) n) (over 0 (constraintReals c) r) ≡ c
+pub constraint-back : (c : Constraint) (n : List ℕ) (r : List Float) → length n ≡ 20 → length r ≡ 17 → length (c .terms) ≤ 16 → Named (c .tag .other) → c .group ≡ 1 → constraintOf (over 0 (constraintNames c) n) (over 0 (constraintReals c) r) ≡ c
 unfolding constraintOf constraintNames constraintReals
-constraint-back c n r ln lr lt o =
+constraint-back c n r ln lr lt o g =
     let vs : List ℕ = map (λ (t : Term). t .variable) (c .terms) in
     let ks : List Float = map (λ (t : Term). t .coefficient) (c .terms) in
     let lv : length vs ≡ length (c .terms) = length-map (c .terms) (λ (t : Term). t .variable) in
@@ -121,7 +121,7 @@ constraint-back c n r ln lr lt o =
     let a : (i : ℕ) → i < 4 + length (c .terms) → getD (over 0 l n) i 0 ≡ getD l i 0 = λ i h. first-at l n i 0 (omega arith) (omega arith) in
     let b : (i : ℕ) → i < 1 + length (c .terms) → getD (over 0 m r) i nan ≡ getD m i nan = λ i h. first-at m r i nan (omega arith) (omega arith) in
     let ts : listOf (length (c .terms)) (termOf (over 0 l n) (over 0 m r)) ≡ c .terms = terms-back (c .terms) (over 0 l n) (over 0 m r) (λ j k. a (4 + j) (omega arith) ∙ past j) (λ j k. b (1 + j) (omega arith) ∙ next j) in
-    rw (a 0 (omega arith), a 3 (omega arith), b 0 (omega arith), tag-back (c .tag) l n o (a 1 (omega arith)) (a 2 (omega arith)), ts) refl
+    rw (a 0 (omega arith), a 3 (omega arith), b 0 (omega arith), tag-back (c .tag) l n o (a 1 (omega arith)) (a 2 (omega arith)), ts, ← g) refl
   where
     past : (j : ℕ) → getD (c .number ∷ code (c .tag .marker) ∷ otherCode (c .tag .other) ∷ length (c .terms) ∷ map (λ (t : Term). t .variable) (c .terms)) (4 + j) 0 ≡ getD (map (λ (t : Term). t .variable) (c .terms)) j 0
     past j =

@@ -46,6 +46,10 @@ module _ (t : Tables) (q : Coded t) where
   unfolding constraintOf tagOf
   other-named j = named _
 
+  one-group : (j : ℕ) → constraintOf (getD (t .names) (constraintsAt + j) []) (getD (t .reals) (constraintsAt + j) []) .group ≡ 1
+  unfolding constraintOf
+  one-group j = refl
+
   minus-named : (j : ℕ) → Named (editOf (getD (t .names) (editsAt + j) []) (getD (t .reals) (editsAt + j) []) .tag .other)
   unfolding editOf tagOf
   minus-named j = named _
@@ -63,6 +67,7 @@ module _ (t : Tables) (q : Coded t) where
         objective = length-listOf _ _ ∙ sym (length-listOf _ _);
         cells = λ d j k. rw (getD-listOf _ _ j d (rw (length-listOf _ _) at k)) (row-cells j ∙ sym (length-listOf _ _));
         terms = λ d j k. rw (getD-listOf _ _ j d (rw (length-listOf _ _) at k)) (few-terms j (rw (length-listOf _ _) at k));
+        groups = λ d j k. rw (getD-listOf _ _ j d (rw (length-listOf _ _) at k)) (one-group j);
         others = λ d j k. rw (getD-listOf _ _ j d (rw (length-listOf _ _) at k)) (other-named j);
         minuses = λ d j k. rw (getD-listOf _ _ j d (rw (length-listOf _ _) at k)) (minus-named j);
       }

@@ -161,8 +161,9 @@ tagOf n = record { marker = symbolOf (symbolCode n); other = otherOf (otherSymbo
 unfoldable pub termOf : List ℕ → List Float → ℕ → Term
 termOf n r j = record { variable = getD n (termsAt + j) 0; coefficient = getD r (coefficientsAt + j) nan }
 
+-- these tables are older than groups and have no place for one: their constraints are in group 1
 unfoldable pub constraintOf : List ℕ → List Float → Constraint
-constraintOf n r = record { number = numberOf n; strength = strengthIn r; terms = listOf (termCount n) (termOf n r); tag = tagOf n }
+constraintOf n r = record { number = numberOf n; group = 1; strength = strengthIn r; terms = listOf (termCount n) (termOf n r); tag = tagOf n }
 
 unfoldable pub editOf : List ℕ → List Float → Edit
 editOf n r = record { variable = numberOf n; strength = strengthIn r; tag = tagOf n; suggestion = suggestionIn r }

@@ -32,7 +32,7 @@ abbrev pub noVariable : Variable
 noVariable = record { number = 0; symbol = noSymbol; old = nan; uses = 0; changed = eqb 0 1 }
 
 abbrev pub noConstraint : Constraint
-noConstraint = record { number = 0; strength = nan; terms = []; tag = noTag }
+noConstraint = record { number = 0; group = 0; strength = nan; terms = []; tag = noTag }
 
 abbrev pub noEdit : Edit
 noEdit = record { variable = 0; strength = nan; tag = noTag; suggestion = nan }
@@ -170,7 +170,7 @@ module _ (s : State) (t : Tables) (fits : Fits s) (l : Lengths t) (w : Wide t) w
       rw (record-back s (t .head) (l .0) 1 (omega arith)) (listOf-is _ (s .constraints) noConstraint λ j k.
       let r = fits .constraints in
       rw (constraint-written (λ v m. over 0 (variableNames v) m) (λ c m. over 0 (constraintNames c) m) (λ e m. over 0 (editNames e) m) s (t .names) (l .1) fits j k, constraint-written (λ v m. over 0 (variableReals v) m) (λ c m. over 0 (constraintReals c) m) (λ e m. over 0 (editReals e) m) s (t .reals) (l .2) fits j k)
-      (constraint-back (getD (s .constraints) j noConstraint) (getD (t .names) (constraintsAt + j) []) (getD (t .reals) (constraintsAt + j) []) (w .0 (constraintsAt + j) (omega arith)) (w .1 (constraintsAt + j) (omega arith)) (fits .terms noConstraint j k) (fits .others noConstraint j k)))
+      (constraint-back (getD (s .constraints) j noConstraint) (getD (t .names) (constraintsAt + j) []) (getD (t .reals) (constraintsAt + j) []) (w .0 (constraintsAt + j) (omega arith)) (w .1 (constraintsAt + j) (omega arith)) (fits .terms noConstraint j k) (fits .others noConstraint j k) (fits .groups noConstraint j k)))
 
   edits-back : editsOf (write s t) ≡ s .edits
   unfolding editsOf write writeNames writeReals recordCounts

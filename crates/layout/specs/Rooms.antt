@@ -45,7 +45,7 @@ abbrev pub Named : Option Symbol → Type 0
 Named none = Unit {0}
 Named (some s) = 0 < code s
 
--- a state of the usual cutoff with room for each of its parts, a cell for each symbol in each row and in the objective
+-- a state of the usual cutoff and of one group, with room for each of its parts, a cell for each symbol in each row and in the objective
 pub record Fits (s : State) : Type 0 where
   pub usual : s .tableau .cutoff ≡ usualCutoff
   pub symbols : length (s .tableau .symbols) ≤ 129
@@ -56,6 +56,7 @@ pub record Fits (s : State) : Type 0 where
   pub objective : length (s .tableau .objective) ≡ length (s .tableau .symbols)
   pub cells : (d : Basic) (j : ℕ) → j < length (s .tableau .rows) → length (getD (s .tableau .rows) j d .row .cells) ≡ length (s .tableau .symbols)
   pub terms : (d : Constraint) (j : ℕ) → j < length (s .constraints) → length (getD (s .constraints) j d .terms) ≤ 16
+  pub groups : (d : Constraint) (j : ℕ) → j < length (s .constraints) → getD (s .constraints) j d .group ≡ 1
   pub others : (d : Constraint) (j : ℕ) → j < length (s .constraints) → Named (getD (s .constraints) j d .tag .other)
   pub minuses : (d : Edit) (j : ℕ) → j < length (s .edits) → Named (getD (s .edits) j d .tag .other)
 

@@ -1,4 +1,4 @@
--- The calls over the four dense tables: the test for 18, a changing call, a reset, a fetch. They are older than the choice of a cutoff: theirs is the usual one.
+-- The calls over the four dense tables: the test for 18, a changing call, a reset, a fetch. They are older than the choice of a cutoff and than groups: their cutoff is the usual one, and their constraints are in group 1.
 use Prim.Native.Nat.{ℕ, _+_}
 use mathlib.Core.Bool.{Bool, true, _&&_, cond}
 use mathlib.Core.List.{List, []}
@@ -15,7 +15,7 @@ use Rattle.layout.specs.Layout.{Tables, read, write, over, nextIdOf, symbolCoun
 use Rattle.layout.specs.Rooms.{lengthsRight}
 use Rattle.lending.specs.Lending.{refused18}
 use Rattle.fetches.specs.Fetch.{numbersOf, valuesOf, places}
-use Rattle.lasting.specs.Numbers.{isU32}
+use Rattle.narrow.specs.Numbers.{isU32}
 
 -- What the layout adds to the state's own test: the symbols are within the room, flags are 0 or 1, numbers are u32.
 unfoldable pub codesFit : Tables → Bool

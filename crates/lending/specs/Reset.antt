@@ -15,7 +15,7 @@ use Rattle.steps.specs.Calls.{Answer, empty, reset, refusedBy}
 use Rattle.steps.specs.Readable.{concat}
 use Rattle.steps.proofs.Cutoff.{reset-refused, reset-taken}
 use Rattle.cells.specs.Cells.{cells}
-use Rattle.sparse.specs.Places.{wholeAt, idsAt, variableNumbersAt, variableUsesAt, constraintNumbersAt, kindsAt, rowPlacesAt, variablePlacesAt, changedAt, constraintMarkersAt, constraintOthersAt, termCountsAt, editVariablesAt, editMarkersAt, editOthersAt, termsAt, constantsAt, oldValuesAt, objectiveAt, cutoffAt, constraintStrengthsAt, editStrengthsAt, suggestionsAt, coefficientsAt}
+use Rattle.sparse.specs.Places.{wholeAt, idsAt, variableNumbersAt, variableUsesAt, constraintNumbersAt, constraintGroupsAt, kindsAt, rowPlacesAt, variablePlacesAt, changedAt, constraintMarkersAt, constraintOthersAt, termCountsAt, editVariablesAt, editMarkersAt, editOthersAt, termsAt, constantsAt, oldValuesAt, objectiveAt, cutoffAt, constraintStrengthsAt, editStrengthsAt, suggestionsAt, coefficientsAt}
 use Rattle.sparse.specs.Sparse.{Sparse, read}
 use Rattle.sparse.specs.Stretches.{lay}
 use Rattle.sparse.specs.Laying.{rowsLaid}
@@ -46,7 +46,7 @@ reset-words : (cutoff : Float) (w : List ℕ) → lay (wordsOf (empty cutoff) 0)
 unfolding lay wordsOf headingOf empty bitOf resetWords
 reset-words cutoff w =
     let f : ℕ → ℕ → ℕ = λ x _. x in
-    over-nil constraintNumbersAt _ ∙ over-nil variableUsesAt _ ∙ over-nil variableNumbersAt _ ∙ over-nil (idsAt + 1) _
+    over-nil constraintGroupsAt _ ∙ over-nil constraintNumbersAt _ ∙ over-nil variableUsesAt _ ∙ over-nil variableNumbersAt _ ∙ over-nil (idsAt + 1) _
     ∙ (unfold over in laid-cons f 0 1 _ w 0 ∙ laid-cons f 1 0 _ _ 0 ∙ laid-cons f 2 0 _ _ 0 ∙ laid-cons f 3 0 _ _ 0 ∙ laid-cons f 4 0 _ _ 0 ∙ laid-cons f 5 0 _ _ 0 ∙ laid-cons f 6 0 _ _ 0 ∙ laid-cons f 7 0 _ _ 0 ∙ laid-cons f 8 1 _ _ 0 ∙ laid-nil f 9 _)
 
 reset-bytes : (cutoff : Float) (b : List ℕ) → lay (bytesOf (empty cutoff)) b ≡ b

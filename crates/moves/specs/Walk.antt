@@ -10,7 +10,17 @@ use native.Mathlib.Omega.{arith}
 use Rattle.laws.specs.Loops.{seek, first}
 use Rattle.laws.specs.Lists.{tab}
 use Rattle.choose.specs.declared.Found.the-variants.{At, Nothing}
-use Rattle.moves.specs.Counts.{seek-between}
+
+seek-between : (p : ℕ → Bool) (e n i : ℕ) → i + n ≡ e → (i ≤ seek p (λ j. j) e n i) × (seek p (λ j. j) e n i ≤ e)
+unfolding seek
+seek-between p e zero i h = (omega arith, omega arith)
+seek-between p e (suc n) i h =
+    let r = seek-between p e n (suc i) (omega arith) in
+    pick (p i) (seek p (λ j. j) e n (suc i)) (r .0) (r .1)
+  where
+    pick : (b : Bool) (x : ℕ) → suc i ≤ x → x ≤ e → (i ≤ cond b i x) × (cond b i x ≤ e)
+    pick true x a c = (omega arith, omega arith)
+    pick false x a c = (omega arith, c)
 
 module _ {A : Type 0} where
   tab-up : (g g′ : ℕ → A) (i n : ℕ) → ((j : ℕ) → i ≤ j → j < i + n → g′ (suc j) ≡ g j) → tab g′ (suc i) n ≡ tab g i n
@@ -109,23 +119,3 @@ module _ {A : Type 0} (a : ℕ) (q : ℕ → Bool) (g g′ : ℕ → A) (look : 
     drop-walk n z e before after =
         let t : a + suc n - a ≡ suc n = omega arith in
         drop-go n 0 z (rw (add-zero a) (rw t at e)) (λ j c d. before j d) (λ j c d. after j c (omega arith))
-
-    absent-case : (i n : ℕ) (b : Bool) → cond b (At (a + i)) (seek q At Nothing n (suc (a + i))) ≡ Nothing
-        → (seek q At Nothing n (suc (a + i)) ≡ Nothing → look (suc i) n ≡ tab g (suc i) n)
-        → cond b (tab g (suc i) n) (g i ∷ look (suc i) n) ≡ tab g i (suc n)
-    unfolding tab
-    absent-case i n true e r = never e
-    absent-case i n false e r = ap (λ (l : List A). g i ∷ l) (r e)
-
-    absent-go : (n i : ℕ) → seek q At Nothing n (a + i) ≡ Nothing → look i n ≡ tab g i n
-    unfolding seek tab
-    absent-go zero i e = none i
-    absent-go (suc n) i e =
-        let s : suc (a + i) ≡ a + suc i = omega arith in
-        some i n ∙ absent-case i n (q (a + i)) e (λ f. absent-go n (suc i) (rw s at f))
-
-    pub absent-walk : (n : ℕ) → first q At Nothing a (a + n) ≡ Nothing → look 0 n ≡ tab g 0 n
-    unfolding first
-    absent-walk n e =
-        let t : a + n - a ≡ n = omega arith in
-        absent-go n 0 (rw (add-zero a) (rw t at e))

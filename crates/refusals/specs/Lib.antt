@@ -4,4 +4,5 @@ pub mod New
 pub mod Tested
 pub mod Passed
 pub mod Known
+pub mod Groups
 pub mod Numbers

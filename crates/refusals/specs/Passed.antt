@@ -47,16 +47,16 @@ unfolding numberOr0
 some-is none h = absurd (h refl)
 some-is (some n) h = refl
 
-module _ (t : Sparse) (good : reads t ≡ true) (x : ℕ) (ts : List Term) (constant : Float) (relation : steps.Relation) where
+module _ (t : Sparse) (good : reads t ≡ true) (g x : ℕ) (ts : List Term) (constant : Float) (relation : steps.Relation) where
   abbrev refuses : ℕ
-  refuses = addRefusal (cutoffIn (t .reals)) x (packOf ts) constant (steps.strengthOf relation) (t .words)
+  refuses = addRefusal (cutoffIn (t .reals)) g x (packOf ts) constant (steps.strengthOf relation) (t .words)
 
-  pub add-refused : (refuses ≡ 0 → ⊥) → firstRefusal (addTests x (termsIn ts) constant relation (read t)) ≡ some refuses
-  add-refused h = let e = add-refusal t good x ts constant relation in some-is _ (λ q. h (sym e ∙ q)) ∙ ap some e
+  pub add-refused : (refuses ≡ 0 → ⊥) → firstRefusal (addTests g x (termsIn ts) constant relation (read t)) ≡ some refuses
+  add-refused h = let e = add-refusal t good g x ts constant relation in some-is _ (λ q. h (sym e ∙ q)) ∙ ap some e
 
-  pub add-passes : refuses ≡ 0 → firstRefusal (addTests x (termsIn ts) constant relation (read t)) ≡ none
+  pub add-passes : refuses ≡ 0 → firstRefusal (addTests g x (termsIn ts) constant relation (read t)) ≡ none
   unfolding addTests numbered
-  add-passes h = first-none (addTests x (termsIn ts) constant relation (read t)) refl (add-refusal t good x ts constant relation ∙ h)
+  add-passes h = first-none (addTests g x (termsIn ts) constant relation (read t)) refl (add-refusal t good g x ts constant relation ∙ h)
 
 module _ (t : Sparse) (good : reads t ≡ true) (x : ℕ) (strength : Float) where
   abbrev edit-refuses : ℕ
@@ -87,16 +87,17 @@ room-passed u w p e =
     let c = passed (idsUsedIn w) 11 _ (omega arith) (b .1) in
     (leb-false mostConstraints (constraintsIn w + editsIn w) (a .0), ltb-false mostVariables _ (b .0), ltb-false 4_294_900_000 (nextIn w) (c .0))
 
--- an added constraint: finite inputs, at most 16 terms, a number that is not live, and room
-pub add-passed : (u : Float) (x : ℕ) (p : Pack) (constant strength : Float) (w : List ℕ) → addRefusal u x p constant strength w ≡ 0
-    → (p .finite && isFinite constant && isFinite strength ≡ true) × (belowZero strength ≡ false) × (eqb (p .count) 17 ≡ false) × (liveIn w constraintNumbersAt (constraintsIn w) x ≡ false) × (Room u w p)
+-- an added constraint: a group above 0, finite inputs, at most 16 terms, a number that is not live, and room
+pub add-passed : (u : Float) (g x : ℕ) (p : Pack) (constant strength : Float) (w : List ℕ) → addRefusal u g x p constant strength w ≡ 0
+    → (eqb g 0 ≡ false) × (p .finite && isFinite constant && isFinite strength ≡ true) × (belowZero strength ≡ false) × (eqb (p .count) 17 ≡ false) × (liveIn w constraintNumbersAt (constraintsIn w) x ≡ false) × (Room u w p)
 unfolding addRefusal inputRefusal
-add-passed u x p constant strength w e =
-    let a = passed (not (p .finite && isFinite constant && isFinite strength)) 1 _ (omega arith) e in
+add-passed u g x p constant strength w e =
+    let z = passed (eqb g 0) 26 _ (omega arith) e in
+    let a = passed (not (p .finite && isFinite constant && isFinite strength)) 1 _ (omega arith) (z .1) in
     let b = passed (belowZero strength) 2 _ (omega arith) (a .1) in
     let c = passed (eqb (p .count) 17) 3 _ (omega arith) (b .1) in
     let d = passed (liveIn w constraintNumbersAt (constraintsIn w) x) 4 _ (omega arith) (c .1) in
-    (not-false _ (a .0), b .0, c .0, d .0, room-passed u w p (d .1))
+    (z .0, not-false _ (a .0), b .0, c .0, d .0, room-passed u w p (d .1))
 
 -- an edit: the variable has none, its strength is not required, and room
 pub add-edit-passed : (u : Float) (x : ℕ) (strength : Float) (w b : List ℕ) → addEditRefusal u x strength w b ≡ 0

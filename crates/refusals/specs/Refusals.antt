@@ -10,7 +10,7 @@ use Rattle.steps.specs.Strength.{required}
 use Rattle.laws.specs.Lists.{allIn, sumIn}
 use Rattle.layout.specs.Layout.{bitOf}
 use Rattle.layout.specs.Copy.{most16}
-use Rattle.sparse.specs.Places.{mostVariables, mostConstraints, nextIdAt, variableCountAt, constraintCountAt, editCountAt, variableNumbersAt, constraintNumbersAt, cutoffAt}
+use Rattle.sparse.specs.Places.{mostVariables, mostConstraints, nextIdAt, variableCountAt, constraintCountAt, editCountAt, variableNumbersAt, constraintNumbersAt, constraintGroupsAt, cutoffAt}
 use Rattle.sparse.specs.Lookup.{placeFrom}
 use Rattle.sparse_test.specs.Asked.{editIn}
 use Rattle.terms.specs.declared.Pack.{Pack}
@@ -42,6 +42,14 @@ liveIn w a c x = ltb (placeFrom w a c x) c
 -- the variable of the number x has an edit
 unfoldable pub editedIn : List ℕ → List ℕ → ℕ → Bool
 editedIn w b x = editIn w b (variablesIn w) (editsIn w) x
+
+-- which of the first c constraints is the group's first, c if none is in it
+abbrev pub groupPlace : List ℕ → ℕ → ℕ → ℕ
+groupPlace w c g = placeFrom w constraintGroupsAt c g
+
+-- one of the first c constraints is in the group
+abbrev pub groupIn : List ℕ → ℕ → ℕ → Bool
+groupIn w c g = liveIn w constraintGroupsAt c g
 
 -- the variable of the term at place i is none of those before it
 unfoldable pub firstOf : Pack → ℕ → Bool
@@ -78,9 +86,9 @@ roomRefusal u w p = cond (constraintsFullIn w) 10 (cond (variablesFullIn u w p) 
 unfoldable pub inputRefusal : Pack → Float → Float → ℕ → ℕ
 inputRefusal p constant strength rest = cond (not (p .finite && isFinite constant && isFinite strength)) 1 (cond (belowZero strength) 2 (cond (eqb (p .count) 17) 3 rest))
 
--- "Add: 18, 1, 2, 3, 4, 10, 9, 11."
-unfoldable pub addRefusal : Float → ℕ → Pack → Float → Float → List ℕ → ℕ
-addRefusal u x p constant strength w = inputRefusal p constant strength (cond (liveIn w constraintNumbersAt (constraintsIn w) x) 4 (roomRefusal u w p))
+-- "Add: 18, 26, 1, 2, 3, 4, 10, 9, 11."
+unfoldable pub addRefusal : Float → ℕ → ℕ → Pack → Float → Float → List ℕ → ℕ
+addRefusal u g x p constant strength w = cond (eqb g 0) 26 (inputRefusal p constant strength (cond (liveIn w constraintNumbersAt (constraintsIn w) x) 4 (roomRefusal u w p)))
 
 -- the one term of an edit, the variable times 1
 unfoldable pub editPack : ℕ → Pack
@@ -101,3 +109,7 @@ removeRefusal x w = cond (not (liveIn w constraintNumbersAt (constraintsIn w) x)
 -- "Remove edit: 18, 8."
 unfoldable pub removeEditRefusal : ℕ → List ℕ → List ℕ → ℕ
 removeEditRefusal x w b = cond (not (editedIn w b x)) 8 0
+
+-- "Drop: 18, 26, 27."
+unfoldable pub dropRefusal : ℕ → List ℕ → ℕ
+dropRefusal g w = cond (eqb g 0) 26 (cond (not (groupIn w (constraintsIn w) g)) 27 0)

@@ -100,12 +100,13 @@ module _ (t : Sparse) (good : reads t ≡ true) where
       first-if 9 _ (variablesFullIn cutoff (t .words) p) _ _ (ap (λ (l : List steps.Term). variablesFull l (read t)) (sym e) ∙ variables-full p) λ _.
       first-if 11 _ (idsUsedIn (t .words)) _ _ ids-used λ _. none-left
 
-  -- "Add: 18, 1, 2, 3, 4, 10, 9, 11."
-  pub add-refusal : (x : ℕ) (ts : List Term) (constant : Float) (relation : steps.Relation)
-      → numberOr0 (firstRefusal (addTests x (termsIn ts) constant relation (read t))) ≡ addRefusal cutoff x (packOf ts) constant (steps.strengthOf relation) (t .words)
+  -- "Add: 18, 26, 1, 2, 3, 4, 10, 9, 11."
+  pub add-refusal : (g x : ℕ) (ts : List Term) (constant : Float) (relation : steps.Relation)
+      → numberOr0 (firstRefusal (addTests g x (termsIn ts) constant relation (read t))) ≡ addRefusal cutoff g x (packOf ts) constant (steps.strengthOf relation) (t .words)
   unfolding addTests addRefusal inputRefusal
-  add-refusal x ts constant relation =
+  add-refusal g x ts constant relation =
       let s : Float = steps.strengthOf relation in
+      first-if 26 _ (eqb g 0) _ _ refl λ _.
       first-if 1 _ (not (packOf ts .finite && isFinite constant && isFinite s)) _ _ (ap (λ (b : Bool). not (b && isFinite constant && isFinite s)) (sym (pack-finite ts))) λ _.
       first-if 2 _ (belowZero s) _ _ refl λ _.
       first-if 3 _ (eqb (packOf ts .count) 17) _ _ (pack-many ts) λ few.

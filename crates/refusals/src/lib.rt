@@ -4,7 +4,7 @@ ghost use mathlib.Core.Bool.{cond};
 ghost use Prim.Native.Nat.{_+_, _<_, _≤_};
 ghost use Rattle.sparse.specs.Places.{mostVariables, mostConstraints, variableNumbersAt, constraintNumbersAt, wordsSize};
 ghost use Rattle.sparse.specs.Lookup.{Ascends};
-ghost use Rattle.refusals.specs.Refusals.{variablesIn, constraintsIn, editsIn, liveIn, editedIn, firstOf, newAt, newIn, constraintsFullIn, variablesFullIn, idsUsedIn, roomRefusal, inputRefusal, addRefusal, editPack, addEditRefusal, suggestRefusal, removeRefusal, removeEditRefusal};
+ghost use Rattle.refusals.specs.Refusals.{variablesIn, constraintsIn, editsIn, liveIn, editedIn, groupPlace, groupIn, firstOf, newAt, newIn, constraintsFullIn, variablesFullIn, idsUsedIn, roomRefusal, inputRefusal, addRefusal, editPack, addEditRefusal, suggestRefusal, removeRefusal, removeEditRefusal, dropRefusal};
 use sparse::Bytes;
 use sparse::Words;
 use sparse::lookup::look_up;
@@ -33,6 +33,29 @@ fn is_edited(words: &Words, bytes: &Bytes, x: u64) -> bool
     let v = words[sparse::VARIABLE_COUNT] as usize;
     let e = words[sparse::EDIT_COUNT] as usize;
     sparse_test::asking::edit_in(words, bytes, v, e, x)
+}
+
+// Where the group's first constraint stands; how many constraints there are, if none is in it. Groups are in no order: they are walked.
+pub fn group_place(words: &Words, g: u16) -> usize
+    requires { ⌜ constraintsIn (now words) ≤ mostConstraints ⌝ }
+    ensures { λ r. ⌜ r ≡ groupPlace (now (words .entry)) (constraintsIn (now (words .entry))) g ⌝ }
+{
+    let c = words[sparse::CONSTRAINT_COUNT] as usize;
+    let mut i = 0;
+    while i < c {
+        if g as u64 == words[sparse::CONSTRAINT_GROUPS + i] {
+            return i;
+        }
+        i += 1;
+    }
+    c
+}
+
+pub fn group_lives(words: &Words, g: u16) -> bool
+    requires { ⌜ constraintsIn (now words) ≤ mostConstraints ⌝ }
+    ensures { λ r. ⌜ r ≡ groupIn (now (words .entry)) (constraintsIn (now (words .entry))) g ⌝ }
+{
+    group_place(words, g) < words[sparse::CONSTRAINT_COUNT] as usize
 }
 
 // ---- new variables
@@ -135,10 +158,11 @@ fn input_tests(p: terms::Pack, constant: f64, strength: f64, rest: u64) -> u64
     refusal(!finite, 1, below)
 }
 
-// "Add: 18, 1, 2, 3, 4, 10, 9, 11." The cutoff is the one that the tables hold.
+// "Add: 18, 26, 1, 2, 3, 4, 10, 9, 11." The cutoff is the one that the tables hold.
 pub fn add_tests(
     words: &Words,
     cutoff: f64,
+    g: u16,
     n: u32,
     p: terms::Pack,
     constant: f64,
@@ -149,7 +173,7 @@ pub fn add_tests(
     requires { ⌜ editsIn (now words) ≤ mostConstraints ⌝ }
     requires { ⌜ Ascends (now words) variableNumbersAt (variablesIn (now words)) ⌝ }
     requires { ⌜ Ascends (now words) constraintNumbersAt (constraintsIn (now words)) ⌝ }
-    ensures { λ r. ⌜ r ≡ addRefusal cutoff n p constant strength (now (words .entry)) ⌝ }
+    ensures { λ r. ⌜ r ≡ addRefusal cutoff g n p constant strength (now (words .entry)) ⌝ }
 {
     let room = room_tests(words, cutoff, p);
     let c = words[sparse::CONSTRAINT_COUNT] as usize;
@@ -158,7 +182,8 @@ pub fn add_tests(
         4,
         room,
     );
-    input_tests(p, constant, strength, live)
+    let inputs = input_tests(p, constant, strength, live);
+    refusal(g == 0, 26, inputs)
 }
 
 // The variable times 1, as a pack.
@@ -220,4 +245,13 @@ pub fn remove_edit_tests(words: &Words, bytes: &Bytes, n: u32) -> u64
     ensures { λ r. ⌜ r ≡ removeEditRefusal n (now (words .entry)) (now (bytes .entry)) ⌝ }
 {
     refusal(!is_edited(words, bytes, n as u64), 8, 0)
+}
+
+// "Drop: 18, 26, 27."
+pub fn drop_tests(words: &Words, g: u16) -> u64
+    requires { ⌜ constraintsIn (now words) ≤ mostConstraints ⌝ }
+    ensures { λ r. ⌜ r ≡ dropRefusal g (now (words .entry)) ⌝ }
+{
+    let none = refusal(!group_lives(words, g), 27, 0);
+    refusal(g == 0, 26, none)
 }

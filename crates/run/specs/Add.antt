@@ -24,7 +24,7 @@ use Rattle.steps.proofs.After.{says-whole}
 use Rattle.keeps.specs.Keys.{findConstraint-is, keepConstraint-is}
 use Rattle.run.specs.Demand.{ofConstraint, ofEdit, sameKey, Demand, Call, adds, make, accepted, Moment, next, None}
 use Rattle.run.specs.Inv.{nonZeroTerms, columns, conOf, Held, findHeld, ConstraintAt, EditAt, Inv}
-use Rattle.run.specs.Lookup.{find-keep-same, find-keep-other}
+use Rattle.keeps.specs.Lookup.{find-keep-same, find-keep-other}
 use Rattle.run.specs.Perm.{found-hit, found-miss}
 use Rattle.run.specs.Suggest.{unchanged, changed}
 use Rattle.run.specs.AddEnds.{Unmet, ArtificialEnds}
@@ -82,10 +82,11 @@ pub record Passes (n : ℕ) (ts : List Term) (r : Relation) (s : State) : Type 0
   pub new : findConstraint n (s .constraints) ≡ none
   pub low : s .tableau .nextId ≤ 4_294_900_000
 
-passes : (n : ℕ) (ts : List Term) (k : Float) (r : Relation) (s : State) → firstRefusal (addTests n ts k r s) ≡ none → Passes n ts r s
+passes : (g n : ℕ) (ts : List Term) (k : Float) (r : Relation) (s : State) → firstRefusal (addTests g n ts k r s) ≡ none → Passes n ts r s
 unfolding addTests
-passes n ts k r s e =
-    let t₁ = passed _ _ e in
+passes g n ts k r s e =
+    let t₀ = passed _ _ e in
+    let t₁ = passed _ _ (t₀ .1) in
     let t₂ = passed _ _ (t₁ .1) in
     let t₃ = passed _ _ (t₂ .1) in
     let t₄ = passed _ _ (t₃ .1) in
@@ -94,9 +95,9 @@ passes n ts k r s e =
     let t₇ = passed _ _ (t₆ .1) in
     record { strength = t₂ .0; few = not-above 16 (length ts) (t₃ .0); new = no-constraint n s (t₄ .0); low = ids-left s (t₇ .0) }
 
-numbers : (Q : ℕ → Type 0) → Q 1 → Q 2 → Q 3 → Q 4 → Q 10 → Q 9 → Q 11 → (n : ℕ) (ts : List Term) (k : Float) (r : Relation) (s : State) → All (λ (t : Test). Q (t .number)) (addTests n ts k r s)
+numbers : (Q : ℕ → Type 0) → Q 1 → Q 2 → Q 3 → Q 4 → Q 10 → Q 9 → Q 11 → Q 26 → (g n : ℕ) (ts : List Term) (k : Float) (r : Relation) (s : State) → All (λ (t : Test). Q (t .number)) (addTests g n ts k r s)
 unfolding addTests
-numbers Q a b c d e f g n ts k r s = (a, (b, (c, (d, (e, (f, (g, tt)))))))
+numbers Q a b c d e f g h j n ts k r s = (h, (a, (b, (c, (d, (e, (f, (g, tt))))))))
 
 -- ---- an add or an add edit whose tests pass
 module _ (art : ArtificialEnds) (m : Moment) (I : Inv m) (d : Demand) (budget : ℕ) (up : belowZero (strengthOf (d .relation)) ≡ false) (few : length (d .terms) ≤ 16) (low : m .state .tableau .nextId ≤ 4_294_900_000)
@@ -150,12 +151,12 @@ module _ (art : ArtificialEnds) (m : Moment) (I : Inv m) (d : Demand) (budget : 
       go (going x) e F = subst Q (sym (ap (λ (r : Result). r .answer .number) (made (going x) e))) zero
 
 -- ---- AN ADD
-module _ (art : ArtificialEnds) (m : Moment) (n : ℕ) (ts : List Term) (k : Float) (r : Relation) (b : ℕ) (I : Inv m) (whole : make (adds n ts k r b) (m .state) .answer .whole ≡ true) where
+module _ (art : ArtificialEnds) (m : Moment) (g n : ℕ) (ts : List Term) (k : Float) (r : Relation) (b : ℕ) (I : Inv m) (whole : make (adds g n ts k r b) (m .state) .answer .whole ≡ true) where
   abbrev d : Demand
-  d = record { key = ofConstraint n; terms = ts; constant = k; relation = r }
+  d = record { key = ofConstraint n; group = g; terms = ts; constant = k; relation = r }
 
   abbrev stored : Added → Constraint
-  stored a = record { number = n; strength = strengthOf r; terms = keptTerms (m .state .tableau .cutoff) ts; tag = a .tag }
+  stored a = record { number = n; group = g; strength = strengthOf r; terms = keptTerms (m .state .tableau .cutoff) ts; tag = a .tag }
 
   abbrev after : Added → State
   after a = finish (a .work) (keepConstraint (stored a) (m .state .constraints)) (m .state .edits)
@@ -189,7 +190,7 @@ module _ (art : ArtificialEnds) (m : Moment) (n : ℕ) (ts : List Term) (k : Flo
           let q : j ≡ n = eqb→eq j n (subst T (sym e) tt) in
           subst (λ (t : Option Constraint). ConstraintAt t (findHeld (ofConstraint j) (record { demand = d; tag = a .tag } ∷ I .held)))
           (sym (kept ∙ find-keep-same (λ (c : Constraint). c .number) j (stored a) (m .state .constraints) q (ap (Rattle.keeps.specs.Keys.findBy (λ (c : Constraint). c .number) j) refl ∙ sym (findConstraint-is j (m .state .constraints)) ∙ ap (λ (i : ℕ). findConstraint i (m .state .constraints)) q ∙ new)))
-          (subst (ConstraintAt (some (stored a))) (sym (found-hit (ofConstraint j) (record { demand = d; tag = a .tag }) (I .held) e)) (record { strength = refl; terms = counted whole-ts; tag = refl }))
+          (subst (ConstraintAt (some (stored a))) (sym (found-hit (ofConstraint j) (record { demand = d; tag = a .tag }) (I .held) e)) (record { group = refl; strength = refl; terms = counted whole-ts; tag = refl }))
       go false e =
           let q : j ≢ n = λ p. subst T e (subst (λ (y : ℕ). T (eqb j y)) p (eqb-refl j)) in
           subst (λ (t : Option Constraint). ConstraintAt t (findHeld (ofConstraint j) (record { demand = d; tag = a .tag } ∷ I .held)))
@@ -200,54 +201,54 @@ module _ (art : ArtificialEnds) (m : Moment) (n : ℕ) (ts : List Term) (k : Flo
   unfolding sameKey
   edits-after a j = subst (EditAt j (findEdit j (m .state .edits))) (sym (found-miss (ofEdit j) (record { demand = d; tag = a .tag }) (I .held) refl)) (I .edits j)
 
-  is-add : firstRefusal (addTests n ts k r (m .state)) ≡ none → make (adds n ts k r b) (m .state) ≡ concludeAdd (m .state) (addSteps b ts k r (begin (m .state))) after
+  is-add : firstRefusal (addTests g n ts k r (m .state)) ≡ none → make (adds g n ts k r b) (m .state) ≡ concludeAdd (m .state) (addSteps b ts k r (begin (m .state))) after
   unfolding make add
   is-add e = rw (e, add) refl
 
-  is-refused : (j : ℕ) → firstRefusal (addTests n ts k r (m .state)) ≡ some j → make (adds n ts k r b) (m .state) ≡ refusedBy j 0 (m .state .whole) (m .state)
+  is-refused : (j : ℕ) → firstRefusal (addTests g n ts k r (m .state)) ≡ some j → make (adds g n ts k r b) (m .state) ≡ refusedBy j 0 (m .state .whole) (m .state)
   unfolding make add
   is-refused j e = rw (e, add) refl
 
   -- AN ADD KEEPS THE INVARIANT
-  pub add-inv : Inv (next (adds n ts k r b) m)
+  pub add-inv : Inv (next (adds g n ts k r b) m)
   unfolding accepted
-  add-inv = go (firstRefusal (addTests n ts k r (m .state))) refl
+  add-inv = go (firstRefusal (addTests g n ts k r (m .state))) refl
     where
-      go : (t : Option ℕ) → firstRefusal (addTests n ts k r (m .state)) ≡ t → Inv (next (adds n ts k r b) m)
+      go : (t : Option ℕ) → firstRefusal (addTests g n ts k r (m .state)) ≡ t → Inv (next (adds g n ts k r b) m)
       go (some j) e =
-          unchanged (adds n ts k r b) m j 0 (m .state .whole) (is-refused j e) (refused-by (λ i. eqb i 0 ≡ false) (addTests n ts k r (m .state)) (numbers (λ i. eqb i 0 ≡ false) refl refl refl refl refl refl refl n ts k r (m .state)) j e) I
+          unchanged (adds g n ts k r b) m j 0 (m .state .whole) (is-refused j e) (refused-by (λ i. eqb i 0 ≡ false) (addTests g n ts k r (m .state)) (numbers (λ i. eqb i 0 ≡ false) refl refl refl refl refl refl refl refl g n ts k r (m .state)) j e) I
       go none e =
-          let P = passes n ts k r (m .state) e in
-          let S = steps-whole art m I d b (P .strength) (P .few) (P .low) (adds n ts k r b) after (is-add e) whole in
-          kept-inv art m I d b (P .strength) (P .few) (P .low) (adds n ts k r b) after (is-add e) whole
+          let P = passes g n ts k r (m .state) e in
+          let S = steps-whole art m I d b (P .strength) (P .few) (P .low) (adds g n ts k r b) after (is-add e) whole in
+          kept-inv art m I d b (P .strength) (P .few) (P .low) (adds g n ts k r b) after (is-add e) whole
           (λ x F mark. after-add art m I d b (P .strength) (P .few) (P .low) S k refl (W art m I d b (P .strength) (P .few) (P .low) S .inputs) x F mark (not-held (P .new))
           (keepConstraint (stored (record { work = x; tag = createdOf ts k r (begin (m .state)) .tag })) (m .state .constraints)) (m .state .edits)
           (constraints-after (counts (W art m I d b (P .strength) (P .few) (P .low) S .inputs)) (P .new) (record { work = x; tag = createdOf ts k r (begin (m .state)) .tag })) (edits-after (record { work = x; tag = createdOf ts k r (begin (m .state)) .tag })))
 
   -- A REFUSAL 12 IS RIGHT
-  pub add-12 : make (adds n ts k r b) (m .state) .answer .number ≡ 12 → None (d ∷ m .live)
+  pub add-12 : make (adds g n ts k r b) (m .state) .answer .number ≡ 12 → None (d ∷ m .live)
   unfolding refusedBy
-  add-12 h = go (firstRefusal (addTests n ts k r (m .state))) refl
+  add-12 h = go (firstRefusal (addTests g n ts k r (m .state))) refl
     where
-      go : (t : Option ℕ) → firstRefusal (addTests n ts k r (m .state)) ≡ t → None (d ∷ m .live)
+      go : (t : Option ℕ) → firstRefusal (addTests g n ts k r (m .state)) ≡ t → None (d ∷ m .live)
       go (some j) e =
-          absurd (refused-by (λ i. i ≢ 12) (addTests n ts k r (m .state)) (numbers (λ i. i ≢ 12) (λ p. omega arith) (λ p. omega arith) (λ p. omega arith) (λ p. omega arith) (λ p. omega arith) (λ p. omega arith) (λ p. omega arith) n ts k r (m .state)) j e
+          absurd (refused-by (λ i. i ≢ 12) (addTests g n ts k r (m .state)) (numbers (λ i. i ≢ 12) (λ p. omega arith) (λ p. omega arith) (λ p. omega arith) (λ p. omega arith) (λ p. omega arith) (λ p. omega arith) (λ p. omega arith) (λ p. omega arith) g n ts k r (m .state)) j e
           (sym (ap (λ (x : Result). x .answer .number) (is-refused j e)) ∙ h))
       go none e =
-          let P = passes n ts k r (m .state) e in
-          let S = steps-whole art m I d b (P .strength) (P .few) (P .low) (adds n ts k r b) after (is-add e) whole in
+          let P = passes g n ts k r (m .state) e in
+          let S = steps-whole art m I d b (P .strength) (P .few) (P .low) (adds g n ts k r b) after (is-add e) whole in
           none-meet art m I d b (P .strength) (P .few) (P .low) S k refl (W art m I d b (P .strength) (P .few) (P .low) S .inputs)
-          (unmet-12 art m I d b (P .strength) (P .few) (P .low) (adds n ts k r b) after (is-add e) whole h)
+          (unmet-12 art m I d b (P .strength) (P .few) (P .low) (adds g n ts k r b) after (is-add e) whole h)
 
   -- 15 IS NEVER GIVEN
-  pub add-15 : make (adds n ts k r b) (m .state) .answer .number ≢ 15
+  pub add-15 : make (adds g n ts k r b) (m .state) .answer .number ≢ 15
   unfolding refusedBy
-  add-15 = go (firstRefusal (addTests n ts k r (m .state))) refl
+  add-15 = go (firstRefusal (addTests g n ts k r (m .state))) refl
     where
-      go : (t : Option ℕ) → firstRefusal (addTests n ts k r (m .state)) ≡ t → make (adds n ts k r b) (m .state) .answer .number ≢ 15
+      go : (t : Option ℕ) → firstRefusal (addTests g n ts k r (m .state)) ≡ t → make (adds g n ts k r b) (m .state) .answer .number ≢ 15
       go (some j) e = λ h.
-          refused-by (λ i. i ≢ 15) (addTests n ts k r (m .state)) (numbers (λ i. i ≢ 15) (λ p. omega arith) (λ p. omega arith) (λ p. omega arith) (λ p. omega arith) (λ p. omega arith) (λ p. omega arith) (λ p. omega arith) n ts k r (m .state)) j e
+          refused-by (λ i. i ≢ 15) (addTests g n ts k r (m .state)) (numbers (λ i. i ≢ 15) (λ p. omega arith) (λ p. omega arith) (λ p. omega arith) (λ p. omega arith) (λ p. omega arith) (λ p. omega arith) (λ p. omega arith) (λ p. omega arith) g n ts k r (m .state)) j e
           (sym (ap (λ (x : Result). x .answer .number) (is-refused j e)) ∙ h)
       go none e =
-          let P = passes n ts k r (m .state) e in
-          step-number art m I d b (P .strength) (P .few) (P .low) (adds n ts k r b) after (is-add e) whole (λ i. i ≢ 15) (λ p. omega arith) (λ p. omega arith) (λ p. omega arith)
+          let P = passes g n ts k r (m .state) e in
+          step-number art m I d b (P .strength) (P .few) (P .low) (adds g n ts k r b) after (is-add e) whole (λ i. i ≢ 15) (λ p. omega arith) (λ p. omega arith) (λ p. omega arith)

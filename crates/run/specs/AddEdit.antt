@@ -28,7 +28,7 @@ use Rattle.bridge.specs.Nums.{zero64-z, constantBound-z, belowZero-z, magnitude
 use Rattle.run.specs.Demand.{ofConstraint, ofEdit, sameKey, Demand, aim, addsEdit, make, accepted, Moment, next, None}
 use Rattle.run.specs.Inv.{Held, findHeld, ConstraintAt, EditAt, Inv}
 use Rattle.run.specs.Words.{whole-z}
-use Rattle.run.specs.Lookup.{find-keep-same, find-keep-other}
+use Rattle.keeps.specs.Lookup.{find-keep-same, find-keep-other}
 use Rattle.run.specs.Perm.{found-hit, found-miss}
 use Rattle.run.specs.Suggest.{unchanged}
 use Rattle.run.specs.Inputs.{z-whole, required-z}
@@ -117,7 +117,7 @@ module _ (art : ArtificialEnds) (m : Moment) (u : ℕ) (k : Float) (b : ℕ) (I 
   s = clip k
 
   abbrev d : Demand
-  d = record { key = ofEdit u; terms = editTerms u; constant = zero64; relation = equal s }
+  d = record { key = ofEdit u; group = 0; terms = editTerms u; constant = zero64; relation = equal s }
 
   abbrev stored : Added → Edit
   stored a = record { variable = u; strength = s; tag = a .tag; suggestion = zero64 }
@@ -126,7 +126,7 @@ module _ (art : ArtificialEnds) (m : Moment) (u : ℕ) (k : Float) (b : ℕ) (I 
   after a = finish (a .work) (m .state .constraints) (keepEdit (stored a) (m .state .edits))
 
   abbrev held : Added → Held
-  held a = record { demand = record { key = ofEdit u; terms = editTerms u; constant = neg zero64; relation = equal s }; tag = a .tag }
+  held a = record { demand = record { key = ofEdit u; group = 0; terms = editTerms u; constant = neg zero64; relation = equal s }; tag = a .tag }
 
   not-held : findEdit u (m .state .edits) ≡ none → findHeld (ofEdit u) (I .held) ≡ none
   not-held e = go (findHeld (ofEdit u) (I .held)) refl (subst (λ (t : Option Edit). EditAt u t (findHeld (ofEdit u) (I .held))) e (I .edits u))
@@ -151,7 +151,7 @@ module _ (art : ArtificialEnds) (m : Moment) (u : ℕ) (k : Float) (b : ℕ) (I 
           let q : j ≡ u = eqb→eq j u (subst T (sym e) tt) in
           subst (λ (t : Option Edit). EditAt j t (findHeld (ofEdit j) (held a ∷ I .held)))
           (sym (kept ∙ find-keep-same (λ (c : Edit). c .variable) j (stored a) (m .state .edits) q (sym (findEdit-is j (m .state .edits)) ∙ ap (λ (i : ℕ). findEdit i (m .state .edits)) q ∙ new)))
-          (subst (EditAt j (some (stored a))) (sym (found-hit (ofEdit j) (held a) (I .held) e)) (record { relation = refl; terms = ap editTerms (sym q); constant = refl; soft = soft; tag = refl }))
+          (subst (EditAt j (some (stored a))) (sym (found-hit (ofEdit j) (held a) (I .held) e)) (record { group = refl; relation = refl; terms = ap editTerms (sym q); constant = refl; soft = soft; tag = refl }))
       go false e =
           let q : j ≢ u = λ p. subst T e (subst (λ (y : ℕ). T (eqb j y)) p (eqb-refl j)) in
           subst (λ (t : Option Edit). EditAt j t (findHeld (ofEdit j) (held a ∷ I .held)))

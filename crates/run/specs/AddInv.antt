@@ -84,7 +84,7 @@ module _ (art : ArtificialEnds) (m : Moment) (I : Inv m) (d : Demand) (budget : 
   -- ---- the demand as it lives: a number of the same worth for its constant
   module _ (k : Float) (same : val k ≡ val (d .constant)) (inputs : wholeInputs (d .terms) k (d .relation) ≡ true) where
     abbrev e : Demand
-    e = record { key = d .key; terms = d .terms; constant = k; relation = d .relation }
+    e = record { key = d .key; group = d .group; terms = d .terms; constant = k; relation = d .relation }
 
     abbrev new : Held
     new = record { demand = e; tag = c .tag }

@@ -13,7 +13,7 @@ use Rattle.steps.specs.Changes.{findVariable}
 use Rattle.steps.specs.CreateRow.{keepVariable, useOnce}
 use Rattle.keeps.specs.Keys.{findBy, keepBy, findVariable-is, keepVariable-is}
 use Rattle.bridge.specs.Rows.{In}
-use Rattle.run.specs.Lookup.{find-keep-same, find-keep-other}
+use Rattle.keeps.specs.Lookup.{find-keep-same, find-keep-other}
 
 -- ---- lookups
 kept-is : (n : ℕ) (v : Variable) (vs : List Variable) → findVariable n (keepVariable v vs) ≡ findBy (λ (x : Variable). x .number) n (keepBy (λ (x : Variable). x .number) v vs)

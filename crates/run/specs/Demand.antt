@@ -1,6 +1,6 @@
 -- Demand 2 in document 01's words, for a reader who knows Cassowary and not antt. A run is a list of calls, made one after the other from a reset
--- with some cutoff on. What is live is read off the calls alone: each accepted add or add edit puts one demand in front, each accepted removal takes it away, each
--- accepted suggestion moves the aim of its edit. A number that a caller hands in is a whole number z when its f64 is worth z. An assignment by
+-- with some cutoff on. What is live is read off the calls alone: each accepted add or add edit puts one demand in front, each accepted removal takes it away, an accepted drop
+-- those of its group, each accepted suggestion moves the aim of its edit. A number that a caller hands in is a whole number z when its f64 is worth z. An assignment by
 -- fractions gives each variable v the fraction x v / d with one whole denominator d above 0; sums, errors and tests below are taken times d, so
 -- that they are whole numbers and nothing is ever divided. Nothing here speaks of rows, symbols or pivots.
 use Prim.Native.Nat.{ℕ}
@@ -17,7 +17,7 @@ use Rattle.steps.specs.Strength.{required, clip}
 use Rattle.steps.specs.State.{Term, Relation, atMost, equal, atLeast, strengthOf, State}
 use Rattle.steps.specs.Edit.{editTerms}
 use Rattle.steps.specs.Changes.{value, fetchChanges}
-use Rattle.steps.specs.Calls.{Answer, Result, empty, reset, add, remove, addEdit, removeEdit, suggest}
+use Rattle.steps.specs.Calls.{Answer, Result, empty, reset, add, remove, dropGroup, addEdit, removeEdit, suggest}
 
 -- ---- what is live
 
@@ -34,23 +34,30 @@ sameKey (ofEdit m) (ofEdit n) = eqb m n
 -- a live constraint as it was asked for: "sum of terms plus constant, related to zero"
 pub record Demand : Type 0 where
   pub key : Key
+  -- "edits are in group 0"
+  pub group : ℕ
   pub terms : List Term
   pub constant : Float
   pub relation : Relation
 
 -- "an edit aims at its last suggestion": its variable less the suggestion is to be zero
 unfoldable pub aim : ℕ → Float → Float → Demand
-aim v strength suggestion = record { key = ofEdit v; terms = editTerms v; constant = neg suggestion; relation = equal strength }
+aim v strength suggestion = record { key = ofEdit v; group = 0; terms = editTerms v; constant = neg suggestion; relation = equal strength }
 
 unfoldable pub without : Key → List Demand → List Demand
 without k [] = []
 without k (c ∷ cs) = elim (sameKey k (c .key)) [ true ↦ cs | false ↦ c ∷ without k cs ]
 
+-- the demands of a group go
+unfoldable pub withoutGroup : ℕ → List Demand → List Demand
+withoutGroup g [] = []
+withoutGroup g (c ∷ cs) = elim (eqb g (c .group)) [ true ↦ withoutGroup g cs | false ↦ c ∷ withoutGroup g cs ]
+
 -- the demand k with another suggestion
 unfoldable pub moved : ℕ → Float → Demand → Demand
 moved v suggestion c =
     elim (sameKey (ofEdit v) (c .key))
-    [ true ↦ record { key = c .key; terms = c .terms; constant = neg suggestion; relation = c .relation } | false ↦ c ]
+    [ true ↦ record { key = c .key; group = c .group; terms = c .terms; constant = neg suggestion; relation = c .relation } | false ↦ c ]
 
 -- ---- calls and runs
 
@@ -58,10 +65,12 @@ pub data Call : Type 0 where
   -- cutoff
   resets : Float → Call
   fetches : Call
-  -- number, terms, constant, relation, budget
-  adds : ℕ → List Term → Float → Relation → ℕ → Call
+  -- group, number, terms, constant, relation, budget
+  adds : ℕ → ℕ → List Term → Float → Relation → ℕ → Call
   -- number, budget
   removes : ℕ → ℕ → Call
+  -- group, budget
+  drops : ℕ → ℕ → Call
   -- variable, strength, budget
   addsEdit : ℕ → Float → ℕ → Call
   -- variable, budget
@@ -73,8 +82,9 @@ pub data Call : Type 0 where
 unfoldable pub make : Call → State → Result
 make (resets z) s = reset z s
 make fetches s = record { answer = record { number = 0; pivots = 0; whole = s .whole }; state = fetchChanges s .state }
-make (adds n ts k r b) s = add n ts k r b s
+make (adds g n ts k r b) s = add g n ts k r b s
 make (removes n b) s = remove n b s
+make (drops g b) s = dropGroup g b s
 make (addsEdit v k b) s = addEdit v k b s
 make (removesEdit v b) s = removeEdit v b s
 make (suggests v x b) s = suggest v x b s
@@ -83,8 +93,9 @@ make (suggests v x b) s = suggest v x b s
 unfoldable pub accepted : Call → List Demand → List Demand
 accepted (resets z) cs = []
 accepted fetches cs = cs
-accepted (adds n ts k r b) cs = record { key = ofConstraint n; terms = ts; constant = k; relation = r } ∷ cs
+accepted (adds g n ts k r b) cs = record { key = ofConstraint n; group = g; terms = ts; constant = k; relation = r } ∷ cs
 accepted (removes n b) cs = without (ofConstraint n) cs
+accepted (drops g b) cs = withoutGroup g cs
 accepted (addsEdit v k b) cs = aim v (clip k) zero64 ∷ cs
 accepted (removesEdit v b) cs = without (ofEdit v) cs
 accepted (suggests v x b) cs = map (moved v x) cs
@@ -100,7 +111,7 @@ pub record Moment : Type 0 where
 unfoldable pub next : Call → Moment → Moment
 next c m = record { state = make c (m .state) .state; live = liveAfter c (make c (m .state) .answer) (m .live) }
 
--- "from a reset with this cutoff"
+-- Demands 2 and 3 read "from a reset with this cutoff".
 unfoldable pub start : Float → Moment
 start cutoff = record { state = empty cutoff; live = [] }
 

@@ -84,6 +84,7 @@ Shaped eq t = (t .marker .kind ≡ Error) × ((o : Symbol) × (t .other ≡ some
 -- ---- what is stored of a demand
 
 pub record StoredAs (c : Constraint) (h : Held) : Type 0 where
+  pub group : c .group ≡ h .demand .group
   pub strength : c .strength ≡ strengthOf (h .demand .relation)
   pub terms : c .terms ≡ nonZeroTerms (h .demand .terms)
   pub tag : c .tag ≡ h .tag
@@ -96,6 +97,7 @@ ConstraintAt (some c) (some h) = StoredAs c h
 
 -- an edit aims at its stored suggestion
 pub record EditedAs (v : ℕ) (e : Edit) (h : Held) : Type 0 where
+  pub group : h .demand .group ≡ 0
   pub relation : h .demand .relation ≡ equal (e .strength)
   pub terms : h .demand .terms ≡ Rattle.steps.specs.Edit.editTerms v
   pub constant : h .demand .constant ≡ neg (e .suggestion)

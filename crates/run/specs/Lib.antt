@@ -4,7 +4,6 @@ pub mod Inv
 pub mod Words
 pub mod Inputs
 pub mod AtRest
-pub mod Lookup
 pub mod Vars
 pub mod Start
 pub mod Shift
@@ -30,6 +29,8 @@ pub mod RemoveSteps
 pub mod RemoveEnds
 pub mod RemoveStored
 pub mod Remove
+pub mod DropLive
+pub mod Drop
 pub mod TempStart
 pub mod TempPass
 pub mod BuildCons
@@ -58,4 +59,6 @@ pub mod RecutAdd
 pub mod RecutPlace
 pub mod RecutRemove
 pub mod RecutCalls
+pub mod RecutDrop
+pub mod DropRows
 pub mod Unseen

@@ -17,7 +17,7 @@ use Rattle.steps.specs.Add.{wholeWithin, wholeTerms, wholeInputs, Added, addSte
 use Rattle.steps.specs.Remove.{removeSteps}
 use Rattle.steps.specs.Edit.{editTerms, addEditSteps, shiftConstants, suggestSteps}
 use Rattle.steps.specs.Tests.{Test, firstRefusal, addTests, addEditTests, keptTerms, variablesFull, constraintsFull, idsUsed, hasConstraint, hasEdit, findConstraint, keepConstraint, dropConstraint, findEdit, keepEdit, dropEdit}
-use Rattle.steps.specs.Calls.{Result, begin, finish, refusedBy, acceptedAs, conclude, concludeAdd, add, remove, addEdit, removeEdit, suggest}
+use Rattle.steps.specs.Calls.{Result, begin, finish, refusedBy, acceptedAs, conclude, concludeAdd, add, remove, addEdit, removeEdit, suggest, removeStored}
 use Rattle.steps.proofs.After.{says-whole}
 use Rattle.steps.proofs.AfterRemove.{shift-after}
 use Rattle.bridge.specs.Nums.{whole-if}
@@ -170,9 +170,9 @@ module _ (z : Float) (fz : cutoffFits z ≡ true) (s : State) (h : Sound s) wher
   unfolding variablesFull
   full-same ts u = rw (kept-same y z fy fz ts u) refl
 
-  addTests-same : (n : ℕ) (ts : List Term) (k : Float) (r : Relation) → TermsU ts → addTests n ts k r (recutS z s) ≡ addTests n ts k r s
+  addTests-same : (g n : ℕ) (ts : List Term) (k : Float) (r : Relation) → TermsU ts → addTests g n ts k r (recutS z s) ≡ addTests g n ts k r s
   unfolding addTests hasConstraint constraintsFull idsUsed
-  addTests-same n ts k r u = rw (full-same ts u) refl
+  addTests-same g n ts k r u = rw (full-same ts u) refl
 
   editTests-same : (n : ℕ) (k : Float) → addEditTests n k (recutS z s) ≡ addEditTests n k s
   unfolding addEditTests hasEdit constraintsFull idsUsed
@@ -224,19 +224,19 @@ module _ (z : Float) (fz : cutoffFits z ≡ true) (s : State) (h : Sound s) wher
   unfolding finish
   finished w cs es = refl
 
-  pub add-twin : (n : ℕ) (ts : List Term) (k : Float) (r : Relation) (b : ℕ) → TermsU ts → add n ts k r b s .answer .whole ≡ true → Twin z (add n ts k r b s) (add n ts k r b (recutS z s))
+  pub add-twin : (g n : ℕ) (ts : List Term) (k : Float) (r : Relation) (b : ℕ) → TermsU ts → add g n ts k r b s .answer .whole ≡ true → Twin z (add g n ts k r b s) (add g n ts k r b (recutS z s))
   unfolding add
-  add-twin n ts k r b u w =
-      subst (λ (t : List Test). Twin z (at (firstRefusal (addTests n ts k r s)) s) (at (firstRefusal t) (recutS z s))) (sym (addTests-same n ts k r u)) (go (firstRefusal (addTests n ts k r s)) w)
+  add-twin g n ts k r b u w =
+      subst (λ (t : List Test). Twin z (at (firstRefusal (addTests g n ts k r s)) s) (at (firstRefusal t) (recutS z s))) (sym (addTests-same g n ts k r u)) (go (firstRefusal (addTests g n ts k r s)) w)
     where
       stores : State → Added → State
-      stores s a = finish (a .work) (keepConstraint (record { number = n; strength = strengthOf r; terms = keptTerms (s .tableau .cutoff) ts; tag = a .tag }) (s .constraints)) (s .edits)
+      stores s a = finish (a .work) (keepConstraint (record { number = n; group = g; strength = strengthOf r; terms = keptTerms (s .tableau .cutoff) ts; tag = a .tag }) (s .constraints)) (s .edits)
 
       at : Option ℕ → State → Result
       at o s = elim o as (λ _. Result) [ some x ↦ refusedBy x 0 (s .whole) s | none ↦ concludeAdd s (addSteps b ts k r (begin s)) (stores s) ]
 
       stored : (a : Added) → stores (recutS z s) (record { work = recut z (a .work); tag = a .tag }) ≡ recutS z (stores s a)
-      stored a = ap (λ (us : List Term). finish (recut z (a .work)) (keepConstraint (record { number = n; strength = strengthOf r; terms = us; tag = a .tag }) (s .constraints)) (s .edits)) (kept-same y z fy fz ts u) ∙ finished (a .work) _ (s .edits)
+      stored a = ap (λ (us : List Term). finish (recut z (a .work)) (keepConstraint (record { number = n; group = g; strength = strengthOf r; terms = us; tag = a .tag }) (s .constraints)) (s .edits)) (kept-same y z fy fz ts u) ∙ finished (a .work) _ (s .edits)
 
       go : (o : Option ℕ) → at o s .answer .whole ≡ true → Twin z (at o s) (at o (recutS z s))
       go (some x) w = refused-twin x 0 (s .whole)
@@ -245,22 +245,26 @@ module _ (z : Float) (fz : cutoffFits z ≡ true) (s : State) (h : Sound s) wher
           concludedAdd (addSteps b ts k r (begin s)) (addSteps b ts k r (begin (recutS z s))) (A .0) (stores s) (stores (recutS z s)) stored
           (λ a p. finish-sound (a .work) _ (s .edits) p (keepC-u (λ (c : Constraint). Unbroken (c .strength)) _ (s .constraints) (A .1 .strength) (h .strengths)) (h .edits))
 
+  pub stored-twin : (n : ℕ) (c : Constraint) → Unbroken (c .strength) → (b : ℕ) → removeStored n c b s .answer .whole ≡ true → Twin z (removeStored n c b s) (removeStored n c b (recutS z s))
+  unfolding removeStored
+  stored-twin n c u b w =
+      concluded (removeSteps b (c .tag) (c .strength) (c .terms) (begin s)) (removeSteps b (c .tag) (c .strength) (c .terms) (begin (recutS z s)))
+      (removed b (c .tag) (c .strength) u (c .terms) (steps-mark (removeSteps b (c .tag) (c .strength) (c .terms) (begin s)) stores w)) stores (λ v. finish v (dropConstraint n (s .constraints)) (s .edits)) (λ v. finished v _ _)
+      (λ v p. finish-sound v (dropConstraint n (s .constraints)) (s .edits) p (dropC-u (λ (c : Constraint). Unbroken (c .strength)) n (s .constraints) (h .strengths)) (h .edits))
+    where
+      stores : Work → State
+      stores w = finish w (dropConstraint n (s .constraints)) (s .edits)
+
   pub remove-twin : (n b : ℕ) → remove n b s .answer .whole ≡ true → Twin z (remove n b s) (remove n b (recutS z s))
   unfolding remove
   remove-twin n b = go (findConstraint n (s .constraints)) (findC-u (λ (c : Constraint). Unbroken (c .strength)) n (s .constraints) (h .strengths))
     where
-      stores : State → Work → State
-      stores s w = finish w (dropConstraint n (s .constraints)) (s .edits)
-
       at : Option Constraint → State → Result
-      at o s = elim o as (λ _. Result) [ none ↦ refusedBy 5 0 (s .whole) s | some c ↦ conclude s (removeSteps b (c .tag) (c .strength) (c .terms) (begin s)) (stores s) ]
+      at o s = elim o as (λ _. Result) [ none ↦ refusedBy 5 0 (s .whole) s | some c ↦ removeStored n c b s ]
 
       go : (o : Option Constraint) → HoldsC (λ (c : Constraint). Unbroken (c .strength)) o → at o s .answer .whole ≡ true → Twin z (at o s) (at o (recutS z s))
       go none u w = refused-twin 5 0 (s .whole)
-      go (some c) u w =
-          concluded (removeSteps b (c .tag) (c .strength) (c .terms) (begin s)) (removeSteps b (c .tag) (c .strength) (c .terms) (begin (recutS z s)))
-          (removed b (c .tag) (c .strength) u (c .terms) (steps-mark (removeSteps b (c .tag) (c .strength) (c .terms) (begin s)) (stores s) w)) (stores s) (stores (recutS z s)) (λ v. finished v _ _)
-          (λ v p. finish-sound v (dropConstraint n (s .constraints)) (s .edits) p (dropC-u (λ (c : Constraint). Unbroken (c .strength)) n (s .constraints) (h .strengths)) (h .edits))
+      go (some c) u w = stored-twin n c u b w
 
   pub addEdit-twin : (n : ℕ) (k : Float) (b : ℕ) → addEdit n k b s .answer .whole ≡ true → Twin z (addEdit n k b s) (addEdit n k b (recutS z s))
   unfolding addEdit addEditSteps strengthOf

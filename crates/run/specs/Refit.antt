@@ -101,18 +101,18 @@ pub moved-key : (u : ℕ) (x : Float) (c : Demand) → moved u x c .key ≡ c .k
 unfolding moved
 moved-key u x c = go (sameKey (ofEdit u) (c .key))
   where
-    go : (b : Bool) → (elim b as (λ _. Demand) [ true ↦ record { key = c .key; terms = c .terms; constant = neg x; relation = c .relation } | false ↦ c ]) .key ≡ c .key
+    go : (b : Bool) → (elim b as (λ _. Demand) [ true ↦ record { key = c .key; group = c .group; terms = c .terms; constant = neg x; relation = c .relation } | false ↦ c ]) .key ≡ c .key
     go true = refl
     go false = refl
 
 pub moved-other : (u : ℕ) (x : Float) (h : Held) → sameKey (ofEdit u) (h .demand .key) ≡ false → movedHeld u x h ≡ h
 unfolding movedHeld moved
-moved-other u x h e = ap (λ (b : Bool). record { demand = elim b as (λ _. Demand) [ true ↦ record { key = h .demand .key; terms = h .demand .terms; constant = neg x; relation = h .demand .relation } | false ↦ h .demand ]; tag = h .tag }) e
+moved-other u x h e = ap (λ (b : Bool). record { demand = elim b as (λ _. Demand) [ true ↦ record { key = h .demand .key; group = h .demand .group; terms = h .demand .terms; constant = neg x; relation = h .demand .relation } | false ↦ h .demand ]; tag = h .tag }) e
 
 pub moved-own : (u : ℕ) (x : Float) (h : Held) → sameKey (ofEdit u) (h .demand .key) ≡ true
-    → movedHeld u x h ≡ record { demand = record { key = h .demand .key; terms = h .demand .terms; constant = neg x; relation = h .demand .relation }; tag = h .tag }
+    → movedHeld u x h ≡ record { demand = record { key = h .demand .key; group = h .demand .group; terms = h .demand .terms; constant = neg x; relation = h .demand .relation }; tag = h .tag }
 unfolding movedHeld moved
-moved-own u x h e = ap (λ (b : Bool). record { demand = elim b as (λ _. Demand) [ true ↦ record { key = h .demand .key; terms = h .demand .terms; constant = neg x; relation = h .demand .relation } | false ↦ h .demand ]; tag = h .tag }) e
+moved-own u x h e = ap (λ (b : Bool). record { demand = elim b as (λ _. Demand) [ true ↦ record { key = h .demand .key; group = h .demand .group; terms = h .demand .terms; constant = neg x; relation = h .demand .relation } | false ↦ h .demand ]; tag = h .tag }) e
 
 pub live-moved : (u : ℕ) (x : Float) (hs : List Held) → map (moved u x) (map (λ (h : Held). h .demand) hs) ≡ map (λ (h : Held). h .demand) (map (movedHeld u x) hs)
 unfolding movedHeld

@@ -13,7 +13,7 @@ use Rattle.steps.specs.Work.{Work, Outcome, refused, going}
 use Rattle.steps.specs.Edit.{editTerms}
 use Rattle.steps.specs.Tests.{findConstraint, dropConstraint, findEdit, dropEdit}
 use Rattle.steps.specs.Remove.{removeSteps}
-use Rattle.steps.specs.Calls.{Result, begin, finish, refusedBy, acceptedAs, conclude, remove, removeEdit}
+use Rattle.steps.specs.Calls.{Result, begin, finish, refusedBy, acceptedAs, conclude, remove, removeEdit, removeStored}
 use Rattle.steps.specs.Readable.{readable, usesIn}
 use Rattle.steps.proofs.After.{says-whole}
 use Rattle.keeps.specs.Lists.{Up}
@@ -114,7 +114,7 @@ steps-same budget s {t} {u} {a} {b} {ts} {us} p q r = ap (λ (t : Tag). removeSt
 
 -- ---- a constraint
 remove-after : (m : Moment) (n b : ℕ) → Inv m → readable (m .state) ≡ true → make (removes n b) (m .state) .answer .whole ≡ true → After (removes n b) 5 m
-unfolding make remove accepted
+unfolding make remove removeStored accepted
 remove-after m n b I R = at (findConstraint n (m .state .constraints)) refl (findHeld (ofConstraint n) (I .held)) refl (I .constraints n)
   where
     r : Reads (m .state)

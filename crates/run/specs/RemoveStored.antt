@@ -19,7 +19,7 @@ use Rattle.keeps.specs.Reads.{conNumber, editNumber, usedBy}
 use Rattle.bridge.specs.Nums.{one64-z, absent-z}
 use Rattle.run.specs.Demand.{Key, ofConstraint, ofEdit, sameKey}
 use Rattle.run.specs.Inv.{nonZeroTerms, Held, findHeld, Once, ConstraintAt, EditAt}
-use Rattle.run.specs.Lookup.{find-drop-same, find-drop-other, eq-no}
+use Rattle.keeps.specs.Lookup.{find-drop-same, find-drop-other, eq-no}
 use Rattle.run.specs.Perm.{withoutHeld, out-same, out-other, each-found}
 use Rattle.run.specs.Uses.{by-number}
 use Rattle.run.specs.RemoveUses.{Unnamed}

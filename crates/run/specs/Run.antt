@@ -22,8 +22,8 @@ use Rattle.steps.proofs.Marks.{yes-only-if-stored, accepted-mark, lost-until-re
 use Rattle.simplex.specs.Choose.{All}
 use Rattle.steps.specs.Calls.{empty, reset, refusedBy}
 use Rattle.steps.specs.Readable.{readable}
-use Rattle.keeps.specs.Keeps.{empty-reads, reset-reads, add-reads, remove-reads, addEdit-reads, removeEdit-reads, suggest-reads, fetch-reads}
-use Rattle.run.specs.Demand.{Call, resets, fetches, adds, removes, addsEdit, removesEdit, suggests, make, accepted, liveAfter, Moment, next, start, after, Whole, Best, None}
+use Rattle.keeps.specs.Keeps.{empty-reads, reset-reads, add-reads, remove-reads, drop-reads, addEdit-reads, removeEdit-reads, suggest-reads, fetch-reads}
+use Rattle.run.specs.Demand.{Call, resets, fetches, adds, removes, drops, addsEdit, removesEdit, suggests, make, accepted, liveAfter, Moment, next, start, after, Whole, Best, None}
 use Rattle.run.specs.Inv.{Inv}
 use Rattle.run.specs.AtRest.{at-rest}
 use Rattle.run.specs.Start.{start-inv, reset-inv, fetch-inv}
@@ -31,6 +31,7 @@ use Rattle.run.specs.Artificial.{artificial-ends}
 use Rattle.run.specs.Add.{add-inv, add-12, add-15}
 use Rattle.run.specs.AddEdit.{addEdit-inv, addEdit-12, addEdit-15}
 use Rattle.run.specs.Remove.{remove-inv, removeEdit-inv, remove-refusals, removeEdit-refusals}
+use Rattle.run.specs.Drop.{drop-inv, drop-refusals}
 use Rattle.run.specs.Suggested.{suggest-inv, suggest-16}
 
 -- ---- each call keeps what a run rests on
@@ -39,8 +40,9 @@ pub reads-next : (c : Call) (s : State) → readable s ≡ true → readable (ma
 unfolding make
 reads-next (resets z) s h = reset-reads z s h
 reads-next fetches s h = fetch-reads s h
-reads-next (adds n ts k r b) s h = add-reads n ts k r b s h
+reads-next (adds g n ts k r b) s h = add-reads g n ts k r b s h
 reads-next (removes n b) s h = remove-reads n b s h
+reads-next (drops g b) s h = drop-reads g b s h
 reads-next (addsEdit v k b) s h = addEdit-reads v k b s h
 reads-next (removesEdit v b) s h = removeEdit-reads v b s h
 reads-next (suggests v x b) s h = suggest-reads v x b s h
@@ -57,8 +59,9 @@ reset-next z m I = go (cutoffFits z) refl
 pub inv-next : (c : Call) (m : Moment) → Inv m → readable (m .state) ≡ true → make c (m .state) .answer .whole ≡ true → Inv (next c m)
 inv-next (resets z) m I h w = reset-next z m I
 inv-next fetches m I h w = fetch-inv m I
-inv-next (adds n ts k r b) m I h w = add-inv artificial-ends m n ts k r b I w
+inv-next (adds g n ts k r b) m I h w = add-inv artificial-ends m g n ts k r b I w
 inv-next (removes n b) m I h w = remove-inv m n b I h w
+inv-next (drops g b) m I h w = drop-inv m g b I h w
 inv-next (addsEdit v k b) m I h w = addEdit-inv artificial-ends m v k b I w
 inv-next (removesEdit v b) m I h w = removeEdit-inv m v b I h w
 inv-next (suggests v x b) m I h w = suggest-inv m v x b I h w
@@ -75,8 +78,9 @@ sort : (c : Call) → Sort c
 unfolding make
 sort (resets z) = anew z refl
 sort fetches = looks refl
-sort (adds n ts k r b) = changes (changing.adds n ts k r b) (λ s. refl)
+sort (adds g n ts k r b) = changes (changing.adds g n ts k r b) (λ s. refl)
 sort (removes n b) = changes (changing.removes n b) (λ s. refl)
+sort (drops g b) = changes (changing.drops g b) (λ s. refl)
 sort (addsEdit v k b) = changes (changing.addsEdit v k b) (λ s. refl)
 sort (removesEdit v b) = changes (changing.removesEdit v b) (λ s. refl)
 sort (suggests v x b) = changes (changing.suggests v x b) (λ s. refl)
@@ -131,7 +135,7 @@ reset-number z s Q taken refused = go (cutoffFits z) refl
 
 module _ (cut : Float) (fits : cutoffFits cut ≡ true) where
   -- every state of a run reads as one, whatever the marks
-  after-reads : (cs : List Call) → readable (after cut cs .state) ≡ true
+  pub after-reads : (cs : List Call) → readable (after cut cs .state) ≡ true
   unfolding after next start
   after-reads [] = empty-reads cut fits
   after-reads (c ∷ cs) = reads-next c (after cut cs .state) (after-reads cs)
@@ -185,8 +189,9 @@ module _ (cut : Float) (fits : cutoffFits cut ≡ true) where
   unfolding make accepted member
   marked-12 (resets z) cs w e = absurd (reset-number z (after cut cs .state) (λ k. k ≢ 12) (λ p. omega arith) (λ p. omega arith) e)
   marked-12 fetches cs w e = absurd (zero≢12 e)
-  marked-12 (adds n ts k r b) cs w e = add-12 artificial-ends (after cut cs) n ts k r b (inv-before (changing.adds n ts k r b) cs w) w e
+  marked-12 (adds g n ts k r b) cs w e = add-12 artificial-ends (after cut cs) g n ts k r b (inv-before (changing.adds g n ts k r b) cs w) w e
   marked-12 (removes n b) cs w e = absurd (other-number 12 (changing.removes n b) (after cut cs .state) tt e)
+  marked-12 (drops g b) cs w e = absurd (other-number 12 (changing.drops g b) (after cut cs .state) tt e)
   marked-12 (addsEdit v k b) cs w e = addEdit-12 artificial-ends (after cut cs) v k b (inv-before (changing.addsEdit v k b) cs w) w e
   marked-12 (removesEdit v b) cs w e = absurd (other-number 12 (changing.removesEdit v b) (after cut cs .state) tt e)
   marked-12 (suggests v x b) cs w e = absurd (other-number 12 (changing.suggests v x b) (after cut cs .state) tt e)
@@ -202,15 +207,19 @@ module _ (cut : Float) (fits : cutoffFits cut ≡ true) where
   unfolding make member
   marked-numbers (resets z) cs w = reset-number z (after cut cs .state) (λ n. All (λ (k : ℕ). n ≢ k) (13 ∷ 15 ∷ 16 ∷ 17 ∷ [])) (each (λ e. omega arith) (λ e. omega arith) (λ e. omega arith) (λ e. omega arith)) (each (λ e. omega arith) (λ e. omega arith) (λ e. omega arith) (λ e. omega arith))
   marked-numbers fetches cs w = each (λ e. omega arith) (λ e. omega arith) (λ e. omega arith) (λ e. omega arith)
-  marked-numbers (adds n ts k r b) cs w =
-      let c : Changing = changing.adds n ts k r b in
-      each (finite-yes c (after cut cs .state) w) (add-15 artificial-ends (after cut cs) n ts k r b (inv-before c cs w) w) (other-number 16 c (after cut cs .state) tt) (other-number 17 c (after cut cs .state) tt)
+  marked-numbers (adds g n ts k r b) cs w =
+      let c : Changing = changing.adds g n ts k r b in
+      each (finite-yes c (after cut cs .state) w) (add-15 artificial-ends (after cut cs) g n ts k r b (inv-before c cs w) w) (other-number 16 c (after cut cs .state) tt) (other-number 17 c (after cut cs .state) tt)
   marked-numbers (removes n b) cs w =
       let c : Changing = changing.removes n b in
       each (finite-yes c (after cut cs .state) w) (away 15 (λ p. omega arith) (λ p. omega arith) (λ p. omega arith)) (other-number 16 c (after cut cs .state) tt) (away 17 (λ p. omega arith) (λ p. omega arith) (λ p. omega arith))
     where
       away : (k : ℕ) → k ≢ 0 → k ≢ 5 → k ≢ 14 → make (removes n b) (after cut cs .state) .answer .number ≢ k
       away k p q r e = none-of k 5 p q r (subst (λ (j : ℕ). (j ≡ 0) ⊎ ((j ≡ 5) ⊎ (j ≡ 14))) e (remove-refusals (after cut cs) n b (inv-before (changing.removes n b) cs w) (after-reads cs) w))
+  marked-numbers (drops g b) cs w =
+      let c : Changing = changing.drops g b in
+      let N = drop-refusals (after cut cs) g b (inv-before c cs w) (after-reads cs) w in
+      each (finite-yes c (after cut cs .state) w) (N 15 (λ p. omega arith) (λ p. omega arith) (λ p. omega arith) (λ p. omega arith)) (other-number 16 c (after cut cs .state) tt) (N 17 (λ p. omega arith) (λ p. omega arith) (λ p. omega arith) (λ p. omega arith))
   marked-numbers (addsEdit v k b) cs w =
       let c : Changing = changing.addsEdit v k b in
       each (finite-yes c (after cut cs .state) w) (addEdit-15 artificial-ends (after cut cs) v k b (inv-before c cs w) w) (other-number 16 c (after cut cs .state) tt) (other-number 17 c (after cut cs .state) tt)

@@ -39,7 +39,7 @@ use Rattle.bridge.specs.Table.{ReadsWork}
 use Rattle.bridge.specs.Runs.{markOf}
 use Rattle.run.specs.Demand.{Key, ofConstraint, ofEdit, sameKey, Demand, moved, Call, suggests, make, accepted, Moment, next}
 use Rattle.run.specs.Inv.{nonZeroTerms, columns, Held, exprOf, formOf, otherId, conOf, findHeld, Shaped, StoredAs, ConstraintAt, EditedAs, EditAt, VarAt, WholeDemand, Inv}
-use Rattle.run.specs.Lookup.{find-keep-same, find-keep-other, find-drop-same, find-drop-other}
+use Rattle.keeps.specs.Lookup.{find-keep-same, find-keep-other, find-drop-same, find-drop-other}
 use Rattle.run.specs.Vars.{Same, same-kept, at-same, known-same, known-back}
 use Rattle.run.specs.Perm.{withoutHeld, found-key, own-key}
 use Rattle.run.specs.Refit.{withExpr, models-expr, expr-less, movedHeld, moved-own, moved-other, live-moved, MovedAt, find-moved, out-moved, once-moved, models-back}
@@ -53,7 +53,15 @@ pub moved-terms : (u : ℕ) (x : Float) (c : Demand) → moved u x c .terms ≡ 
 unfolding moved
 moved-terms u x c = go (sameKey (ofEdit u) (c .key))
   where
-    go : (b : Bool) → (elim b as (λ _. Demand) [ true ↦ record { key = c .key; terms = c .terms; constant = neg x; relation = c .relation } | false ↦ c ]) .terms ≡ c .terms
+    go : (b : Bool) → (elim b as (λ _. Demand) [ true ↦ record { key = c .key; group = c .group; terms = c .terms; constant = neg x; relation = c .relation } | false ↦ c ]) .terms ≡ c .terms
+    go true = refl
+    go false = refl
+
+pub moved-group : (u : ℕ) (x : Float) (c : Demand) → moved u x c .group ≡ c .group
+unfolding moved
+moved-group u x c = go (sameKey (ofEdit u) (c .key))
+  where
+    go : (b : Bool) → (elim b as (λ _. Demand) [ true ↦ record { key = c .key; group = c .group; terms = c .terms; constant = neg x; relation = c .relation } | false ↦ c ]) .group ≡ c .group
     go true = refl
     go false = refl
 
@@ -61,7 +69,7 @@ pub moved-relation : (u : ℕ) (x : Float) (c : Demand) → moved u x c .relatio
 unfolding moved
 moved-relation u x c = go (sameKey (ofEdit u) (c .key))
   where
-    go : (b : Bool) → (elim b as (λ _. Demand) [ true ↦ record { key = c .key; terms = c .terms; constant = neg x; relation = c .relation } | false ↦ c ]) .relation ≡ c .relation
+    go : (b : Bool) → (elim b as (λ _. Demand) [ true ↦ record { key = c .key; group = c .group; terms = c .terms; constant = neg x; relation = c .relation } | false ↦ c ]) .relation ≡ c .relation
     go true = refl
     go false = refl
 
@@ -75,7 +83,7 @@ within-neg x e =
     (le-z (magnitude-z (neg-z (h .isz))) constantBound-z ∙ ap (λ (k : ℕ). leZ (pos k) (pos (2 ^ 30))) (abs-neg (val x)) ∙ sym (le-z (magnitude-z (h .isz)) constantBound-z) ∙ t .1)
 
 inputs-with : (h : Held) (c : Float) → wholeWithin constantBound c ≡ true → WholeDemand h
-    → WholeDemand (record { demand = record { key = h .demand .key; terms = h .demand .terms; constant = c; relation = h .demand .relation }; tag = h .tag })
+    → WholeDemand (record { demand = record { key = h .demand .key; group = h .demand .group; terms = h .demand .terms; constant = c; relation = h .demand .relation }; tag = h .tag })
 unfolding wholeInputs
 inputs-with h c e w =
     let t = both (wholeTerms (h .demand .terms) && wholeWithin constantBound (h .demand .constant)) (isWhole (strengthOf (h .demand .relation))) (w .0) in
@@ -147,6 +155,7 @@ module _ (m : Moment) (I : Inv m) (up : Rattle.keeps.specs.Lists.Up 0 (map (λ 
   stored-moved : (c : Constraint) (g : Held) → StoredAs c g → StoredAs c (movedHeld u x g)
   unfolding movedHeld
   stored-moved c g S = record {
+    group = S .group ∙ sym (moved-group u x (g .demand));
     strength = S .strength ∙ ap strengthOf (sym (moved-relation u x (g .demand)));
     terms = S .terms ∙ ap nonZeroTerms (sym (moved-terms u x (g .demand)));
     tag = S .tag;
@@ -161,6 +170,7 @@ module _ (m : Moment) (I : Inv m) (up : Rattle.keeps.specs.Lists.Up 0 (map (λ 
   edited : EditedAs u e₁ (movedHeld u x h)
   unfolding e₁
   edited = subst (EditedAs u (record { variable = u; strength = e .strength; tag = e .tag; suggestion = x })) (sym (moved-own u x h own)) (record {
+    group = E .group;
     relation = E .relation;
     terms = E .terms;
     constant = refl;

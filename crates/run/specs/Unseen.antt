@@ -14,17 +14,19 @@ use Rattle.steps.specs.Changes.{value, fetchChanges}
 use Rattle.steps.specs.Tests.{hasConstraint, hasEdit}
 use Rattle.steps.specs.Calls.{Answer, Result, empty, reset, begin, refusedBy}
 use Rattle.steps.proofs.Cutoff.{reset-refused, reset-taken}
-use Rattle.run.specs.Demand.{Call, resets, fetches, adds, removes, addsEdit, removesEdit, suggests, make, next, start, after, Whole}
+use Rattle.run.specs.Demand.{Call, resets, fetches, adds, removes, drops, addsEdit, removesEdit, suggests, make, next, start, after, Whole}
 use Rattle.run.specs.RecutRows.{whole-unbroken}
 use Rattle.run.specs.RecutAdd.{TermsU}
+use Rattle.run.specs.RecutDrop.{drop-twin}
 use Rattle.run.specs.RecutCalls.{recutS, Sound, Twin, add-twin, remove-twin, addEdit-twin, removeEdit-twin, suggest-twin}
 
 -- every coefficient that the call hands in is whole
 abbrev pub Given : Call → Type 0
 Given (resets z) = Unit
 Given fetches = Unit
-Given (adds n ts k r b) = All (λ (t : Term). isWhole (t .coefficient) ≡ true) ts
+Given (adds g n ts k r b) = All (λ (t : Term). isWhole (t .coefficient) ≡ true) ts
 Given (removes n b) = Unit
+Given (drops g b) = Unit
 Given (addsEdit v k b) = Unit
 Given (removesEdit v b) = Unit
 Given (suggests v x b) = Unit
@@ -81,8 +83,9 @@ recut-next : (c : Call) → Given c → (z : Float) → cutoffFits z ≡ true �
 unfolding make
 recut-next (resets k) g z fz s h w = reset-alike k z fz s h
 recut-next fetches g z fz s h w = (refl, record { cutoff = z; fits = fz; is = unfold fetchChanges in refl; sound = fetch-sound s h })
-recut-next (adds n ts k r b) g z fz s h w = twins z fz (make (adds n ts k r b) s) (make (adds n ts k r b) (recutS z s)) (add-twin z fz s h n ts k r b (terms-u ts g) w)
+recut-next (adds j n ts k r b) g z fz s h w = twins z fz (make (adds j n ts k r b) s) (make (adds j n ts k r b) (recutS z s)) (add-twin z fz s h j n ts k r b (terms-u ts g) w)
 recut-next (removes n b) g z fz s h w = twins z fz (make (removes n b) s) (make (removes n b) (recutS z s)) (remove-twin z fz s h n b w)
+recut-next (drops j b) g z fz s h w = twins z fz (make (drops j b) s) (make (drops j b) (recutS z s)) (drop-twin z fz s h j b w)
 recut-next (addsEdit v k b) g z fz s h w = twins z fz (make (addsEdit v k b) s) (make (addsEdit v k b) (recutS z s)) (addEdit-twin z fz s h v k b w)
 recut-next (removesEdit v b) g z fz s h w = twins z fz (make (removesEdit v b) s) (make (removesEdit v b) (recutS z s)) (removeEdit-twin z fz s h v b w)
 recut-next (suggests v x b) g z fz s h w = twins z fz (make (suggests v x b) s) (make (suggests v x b) (recutS z s)) (suggest-twin z fz s h v x b w)

@@ -12,12 +12,12 @@ use Rattle.steps.specs.Number.{zero64}
 use Rattle.steps.specs.Strength.{create, clip}
 use Rattle.steps.specs.State as steps
 use Rattle.steps.specs.State.{atMost, equal, atLeast}
-use Rattle.steps.specs.Calls.{add, remove, addEdit, removeEdit, suggest}
+use Rattle.steps.specs.Calls.{add, remove, dropGroup, addEdit, removeEdit, suggest}
 use Rattle.steps.specs.Changes.{value}
 use Rattle.steps.specs.Changing.{made}
 use Rattle.steps.specs.Tests.{hasConstraint, hasEdit}
 use Rattle.steps.specs.Session as session
-use Rattle.steps.specs.Session.{resets, adds, removes, addsEdit, removesEdit, suggests, valueOf, fetches, hasConstraints, hasEdits, creates, clips, reads, dumps, setsNext}
+use Rattle.steps.specs.Session.{resets, adds, removes, drops, addsEdit, removesEdit, suggests, valueOf, fetches, hasConstraints, hasEdits, creates, clips, reads, dumps, setsNext}
 use Rattle.sparse.specs.Sparse.{Sparse}
 use Rattle.tags.specs.Tags.{relationOf}
 use Rattle.sparse_test.specs.Asked.{asked}
@@ -29,7 +29,7 @@ use Rattle.fetches.specs.Fetch.{fetchOf}
 use Rattle.terms.specs.declared.Pack.{Pack}
 use Rattle.terms.specs.Terms.{termOf, termsIn, listed}
 use Rattle.changes.specs.declared.Change as changes
-use Rattle.changes.specs.declared.Change.the-variants.{Add, Remove, AddEdit, RemoveEdit, Suggest}
+use Rattle.changes.specs.declared.Change.the-variants.{Add, Remove, Drop, AddEdit, RemoveEdit, Suggest}
 use Rattle.changes.specs.Change.{changingOf}
 use Rattle.solver.specs.Listed.{listed-call}
 use Rattle.text.specs.declared.calls.Call.{Call}
@@ -56,8 +56,9 @@ saidBy c = said (answerText (c .answer .number) (c .answer .pivots) (c .answer .
 unfoldable pub replyOf : Option session.Call → Sparse → Said
 replyOf none t = said unreadText t
 replyOf (some (resets x)) t = saidBy (resetOf x t)
-replyOf (some (adds n ts k r b)) t = saidBy (callOf (add n ts k r b) room t)
+replyOf (some (adds g n ts k r b)) t = saidBy (callOf (add g n ts k r b) room t)
 replyOf (some (removes n b)) t = saidBy (callOf (remove n b) room t)
+replyOf (some (drops g b)) t = saidBy (callOf (dropGroup g b) room t)
 replyOf (some (addsEdit v x b)) t = saidBy (callOf (addEdit v x b) room t)
 replyOf (some (removesEdit v b)) t = saidBy (callOf (removeEdit v b) room t)
 replyOf (some (suggests v x b)) t = saidBy (callOf (suggest v x b) room t)
@@ -85,8 +86,9 @@ heldReply (some line) t = lineReply line t
 -- as the steps have it
 abbrev pub callFrom : Call → Pack → Option session.Call
 callFrom (Reset x) p = some (resets x)
-callFrom (Change (Add n k r) b) p = some (adds n (termsIn (listed p)) k (relationOf r) b)
+callFrom (Change (Add g n k r) b) p = some (adds g n (termsIn (listed p)) k (relationOf r) b)
 callFrom (Change (Remove n) b) p = some (removes n b)
+callFrom (Change (Drop g) b) p = some (drops g b)
 callFrom (Change (AddEdit v s) b) p = some (addsEdit v s b)
 callFrom (Change (RemoveEdit v) b) p = some (removesEdit v b)
 callFrom (Change (Suggest v x) b) p = some (suggests v x b)
@@ -119,8 +121,9 @@ ask-reply (Clip s) p t = refl
 
 change-reply : (c : changes.Change) (p : Pack) (b : ℕ) (t : Sparse) → replyOf (callFrom (Change c b) p) t ≡ saidBy (callOf (made (changingOf c p b)) room t)
 unfolding replyOf
-change-reply (Add n k r) p b t = refl
+change-reply (Add g n k r) p b t = refl
 change-reply (Remove n) p b t = refl
+change-reply (Drop g) p b t = refl
 change-reply (AddEdit v s) p b t = refl
 change-reply (RemoveEdit v) p b t = refl
 change-reply (Suggest v x) p b t = refl
@@ -141,8 +144,9 @@ line-reply : (o : Option session.Call) (t : Sparse) → replyOf o t ≡ replyOf 
 unfolding replyOf
 line-reply none t = refl
 line-reply (some (resets x)) t = refl
-line-reply (some (adds n ts k r b)) t = rw related (ap saidBy (rw back at (sym (listed-call n b k r room t (map asTerm ts) refl))))
+line-reply (some (adds g n ts k r b)) t = rw related (ap saidBy (rw back at (sym (listed-call g n b k r room t (map asTerm ts) refl))))
 line-reply (some (removes n b)) t = refl
+line-reply (some (drops g b)) t = refl
 line-reply (some (addsEdit v x b)) t = refl
 line-reply (some (removesEdit v b)) t = refl
 line-reply (some (suggests v x b)) t = refl
@@ -200,8 +204,9 @@ reply-short : (o : Option session.Call) (t : Sparse) → length (replyOf o t .te
 unfolding replyOf
 reply-short none t = omega arith
 reply-short (some (resets x)) t = by-short (resetOf x t)
-reply-short (some (adds n ts k r b)) t = by-short (callOf (add n ts k r b) room t)
+reply-short (some (adds g n ts k r b)) t = by-short (callOf (add g n ts k r b) room t)
 reply-short (some (removes n b)) t = by-short (callOf (remove n b) room t)
+reply-short (some (drops g b)) t = by-short (callOf (dropGroup g b) room t)
 reply-short (some (addsEdit v x b)) t = by-short (callOf (addEdit v x b) room t)
 reply-short (some (removesEdit v b)) t = by-short (callOf (removeEdit v b) room t)
 reply-short (some (suggests v x b)) t = by-short (callOf (suggest v x b) room t)

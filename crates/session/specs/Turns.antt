@@ -11,7 +11,7 @@ use lib.ListN.{length, getD, replicate, length-replicate, length-map, List·getD
 use lib.Ieee.{nan}
 use Rattle.steps.specs.Number.{zero64}
 use Rattle.steps.specs.Changes.{Change, fetchChanges}
-use Rattle.steps.specs.Session.{Call, turn, answered, resets, adds, removes, addsEdit, removesEdit, suggests, valueOf, fetches, hasConstraints, hasEdits, creates, clips, reads as readsAid, dumps, setsNext}
+use Rattle.steps.specs.Session.{Call, turn, answered, resets, adds, removes, drops, addsEdit, removesEdit, suggests, valueOf, fetches, hasConstraints, hasEdits, creates, clips, reads as readsAid, dumps, setsNext}
 use Rattle.laws.specs.Lists.{listOf-is, laid-in}
 use Rattle.keeps.specs.Tested.{reads-in}
 use Rattle.layout.specs.Layout.{over}
@@ -36,8 +36,9 @@ turnSaid c t = said (replyText (turn c (read t) .reply)) (write (turn c (read t)
 -- every call but the steps' three aids for tests
 unfoldable pub ofDocument : Call → Bool
 ofDocument (resets x) = true
-ofDocument (adds n ts k r b) = true
+ofDocument (adds g n ts k r b) = true
 ofDocument (removes n b) = true
+ofDocument (drops g b) = true
 ofDocument (addsEdit v x b) = true
 ofDocument (removesEdit v b) = true
 ofDocument (suggests v x b) = true
@@ -88,8 +89,9 @@ module _ (t : Sparse) (ok : reads t ≡ true) where
   pub reply-turn : (c : Call) → ofDocument c ≡ true → replyOf (some c) t ≡ turnSaid c t
   unfolding replyOf turnSaid turn answered replyText saidBy callOf callIn asked fetchSaid fetchOf fetchIn ofDocument
   reply-turn (resets x) e = rw (reset-read x t ok) refl
-  reply-turn (adds n ts k r b) e = rw ok refl
+  reply-turn (adds g n ts k r b) e = rw ok refl
   reply-turn (removes n b) e = rw ok refl
+  reply-turn (drops g b) e = rw ok refl
   reply-turn (addsEdit v x b) e = rw ok refl
   reply-turn (removesEdit v b) e = rw ok refl
   reply-turn (suggests v x b) e = rw ok refl

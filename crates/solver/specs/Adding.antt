@@ -51,34 +51,34 @@ abbrev pub Packed : Pack → Type 0
 Packed p = (ts : List Term) × (p ≡ packOf ts)
 
 -- for every list of terms that the pack is of
-abbrev pub Adds : ℕ → Pack → Float → steps.Relation → ℕ → code.Answer → Sparse → Sparse → Type 0
-Adds n p constant relation budget r t u = (ts : List Term) → p ≡ packOf ts → Done (add n (termsIn ts) constant relation budget) r t u
+abbrev pub Adds : ℕ → ℕ → Pack → Float → steps.Relation → ℕ → code.Answer → Sparse → Sparse → Type 0
+Adds g n p constant relation budget r t u = (ts : List Term) → p ≡ packOf ts → Done (add g n (termsIn ts) constant relation budget) r t u
 
 -- ---- refused by a test
 
-pub refused-by : (x budget k : ℕ) (terms : List steps.Term) (constant : Float) (relation : steps.Relation) (s : State) → firstRefusal (addTests x terms constant relation s) ≡ some k
-    → add x terms constant relation budget s ≡ refusedBy k 0 (s .whole) s
+pub refused-by : (g x budget k : ℕ) (terms : List steps.Term) (constant : Float) (relation : steps.Relation) (s : State) → firstRefusal (addTests g x terms constant relation s) ≡ some k
+    → add g x terms constant relation budget s ≡ refusedBy k 0 (s .whole) s
 unfolding add
-refused-by x budget k terms constant relation s e = rw (e, add) refl
+refused-by g x budget k terms constant relation s e = rw (e, add) refl
 
-pub add-by-test : (x budget : ℕ) (p : Pack) (constant : Float) (relation : steps.Relation) (t w u : Sparse) (a : code.Answer) {k : ℕ}
-    → Entered t w → k ≡ addRefusal (cutoffIn (t .reals)) x p constant (strengthOf relation) (t .words) → (k ≡ 0 → ⊥) → answerOf a ≡ byTest k (t .words) → Adds x p constant relation budget a t u
-add-by-test x budget p constant relation t w u a {k} en q h says ts is =
-    let e : k ≡ addRefusal (cutoffIn (t .reals)) x (packOf ts) constant (strengthOf relation) (t .words) = q ∙ ap (λ (y : Pack). addRefusal (cutoffIn (t .reals)) x y constant (strengthOf relation) (t .words)) is in
-    done-by-test (add x (termsIn ts) constant relation budget) a t u k (refused-by x budget k (termsIn ts) constant relation (read t) (add-refused t (en .reads) x ts constant relation (λ z. h (e ∙ z)) ∙ ap some (sym e))) h says
+pub add-by-test : (g x budget : ℕ) (p : Pack) (constant : Float) (relation : steps.Relation) (t w u : Sparse) (a : code.Answer) {k : ℕ}
+    → Entered t w → k ≡ addRefusal (cutoffIn (t .reals)) g x p constant (strengthOf relation) (t .words) → (k ≡ 0 → ⊥) → answerOf a ≡ byTest k (t .words) → Adds g x p constant relation budget a t u
+add-by-test g x budget p constant relation t w u a {k} en q h says ts is =
+    let e : k ≡ addRefusal (cutoffIn (t .reals)) g x (packOf ts) constant (strengthOf relation) (t .words) = q ∙ ap (λ (y : Pack). addRefusal (cutoffIn (t .reals)) g x y constant (strengthOf relation) (t .words)) is in
+    done-by-test (add g x (termsIn ts) constant relation budget) a t u k (refused-by g x budget k (termsIn ts) constant relation (read t) (add-refused t (en .reads) g x ts constant relation (λ z. h (e ∙ z)) ∙ ap some (sym e))) h says
 
 -- ---- the tests passed
 
-passed-by : (x budget : ℕ) (terms : List steps.Term) (constant : Float) (relation : steps.Relation) (s : State) → firstRefusal (addTests x terms constant relation s) ≡ none
-    → add x terms constant relation budget s
-    ≡ concludeAdd s (addSteps budget terms constant relation (begin s)) (λ a. finish (a .work) (keepConstraint (record { number = x; strength = strengthOf relation; terms = keptTerms (s .tableau .cutoff) terms; tag = a .tag }) (s .constraints)) (s .edits))
+passed-by : (g x budget : ℕ) (terms : List steps.Term) (constant : Float) (relation : steps.Relation) (s : State) → firstRefusal (addTests g x terms constant relation s) ≡ none
+    → add g x terms constant relation budget s
+    ≡ concludeAdd s (addSteps budget terms constant relation (begin s)) (λ a. finish (a .work) (keepConstraint (record { number = x; group = g; strength = strengthOf relation; terms = keptTerms (s .tableau .cutoff) terms; tag = a .tag }) (s .constraints)) (s .edits))
 unfolding add
-passed-by x budget terms constant relation s e = rw (e, add) refl
+passed-by g x budget terms constant relation s e = rw (e, add) refl
 
-module _ (x budget : ℕ) (p : Pack) (constant : Float) (relation : steps.Relation) (t w : Sparse) (en : Entered t w) (passes : addRefusal (cutoffIn (t .reals)) x p constant (strengthOf relation) (t .words) ≡ 0)
+module _ (g x budget : ℕ) (p : Pack) (constant : Float) (relation : steps.Relation) (t w : Sparse) (en : Entered t w) (passes : addRefusal (cutoffIn (t .reals)) g x p constant (strengthOf relation) (t .words) ≡ 0)
     (before : Wrote) (begun : markOf before ≡ storedMark (t .words)) where
   tested : (p .finite && isFinite constant && isFinite (strengthOf relation) ≡ true) × (eqb (p .count) 17 ≡ false) × (Room (cutoffIn (t .reals)) (t .words) p)
-  tested = let q = add-passed (cutoffIn (t .reals)) x p constant (strengthOf relation) (t .words) passes in (q .0, q .2, q .4)
+  tested = let q = add-passed (cutoffIn (t .reals)) g x p constant (strengthOf relation) (t .words) passes in (q .1, q .3, q .5)
 
   pub add-opens : Opening (markOf before) (termsOf p) constant w
   add-opens =
@@ -90,7 +90,7 @@ module _ (x budget : ℕ) (p : Pack) (constant : Float) (relation : steps.Relati
 
   -- the constraint that is stored
   abbrev pub record-of : Tag → Constraint
-  record-of tag = record { number = x; strength = strengthOf relation; terms = keptTerms (cutoffIn (t .reals)) (termsOf p); tag = tag }
+  record-of tag = record { number = x; group = g; strength = strengthOf relation; terms = keptTerms (cutoffIn (t .reals)) (termsOf p); tag = tag }
 
   abbrev stored : Tag → List Constraint
   stored tag = keepConstraint (record-of tag) (read t .constraints)
@@ -102,37 +102,37 @@ module _ (x budget : ℕ) (p : Pack) (constant : Float) (relation : steps.Relati
       in-list : termsOf p ≡ termsIn ts
       in-list = ap termsOf is ∙ pack-terms ts (few-terms ts (rw is at (tested .1)))
 
-      call-is : add x (termsIn ts) constant relation budget (read t) ≡ concludeAdd (read t) (addSteps budget (termsOf p) constant relation (begin (read t))) (λ a. finish (a .work) (stored (a .tag)) (read t .edits))
+      call-is : add g x (termsIn ts) constant relation budget (read t) ≡ concludeAdd (read t) (addSteps budget (termsOf p) constant relation (begin (read t))) (λ a. finish (a .work) (stored (a .tag)) (read t .edits))
       unfolding read
-      call-is = passed-by x budget (termsIn ts) constant relation (read t) (add-passes t (en .reads) x ts constant relation (rw is at passes)) ∙ rw (← in-list) refl
+      call-is = passed-by g x budget (termsIn ts) constant relation (read t) (add-passes t (en .reads) g x ts constant relation (rw is at passes)) ∙ rw (← in-list) refl
 
       outcome : cond (eqb (e .number) 0) (going (record { work = workOf false (markOf (e .wrote)) (e .pivots) u; tag = tagAt u marker other })) (refused (e .number) (e .pivots) (markOf (e .wrote)))
           ≡ addSteps budget (termsOf p) constant relation (begin (read t))
       outcome = ends ∙ rw (begun-is t w en before begun) refl
 
-      again : readable (add x (termsIn ts) constant relation budget (read t) .state) ≡ true
-      again = add-reads x (termsIn ts) constant relation budget (read t) (reads-readable t (en .reads))
+      again : readable (add g x (termsIn ts) constant relation budget (read t) .state) ≡ true
+      again = add-reads g x (termsIn ts) constant relation budget (read t) (reads-readable t (en .reads))
 
       -- what is stored names the tag's symbols in the closed room, and the kept terms
       record-is : (q : Pack) → q ≡ keptOf (cutoffIn (t .reals)) p → (strength : Float) → strength ≡ strengthOf relation → Standing false (markOf (e .wrote)) u
-          → record { number = x; strength = strength; terms = termsOf q; tag = tagAt (closed (e .wrote) u) marker other } ≡ record-of (tagAt u marker other)
+          → record { number = x; group = g; strength = strength; terms = termsOf q; tag = tagAt (closed (e .wrote) u) marker other } ≡ record-of (tagAt u marker other)
       record-is q k strength s st = rw (k, s, kept-terms (cutoffIn (t .reals)) p, closed-tag (e .wrote) u st marker other) refl
 
     -- for the call that brings the record: of any list that the pack is of
     pub addition-comes : (ts : List Term) → p ≡ packOf ts → Goes false e u → e .number ≡ 0 → (q : Pack) → q ≡ keptOf (cutoffIn (t .reals)) p → (strength : Float) → strength ≡ strengthOf relation
-        → (Comes t (closed (e .wrote) u)) × (readable (brought (keepConstraint (record { number = x; strength = strength; terms = termsOf q; tag = tagAt (closed (e .wrote) u) marker other }) (read t .constraints)) (read t .edits) (closed (e .wrote) u)) ≡ true)
+        → (Comes t (closed (e .wrote) u)) × (readable (brought (keepConstraint (record { number = x; group = g; strength = strength; terms = termsOf q; tag = tagAt (closed (e .wrote) u) marker other }) (read t .constraints)) (read t .edits) (closed (e .wrote) u)) ≡ true)
     addition-comes ts is goes on q k strength s =
         let st = went e u goes on in
-        (closed-comes (e .wrote) u st t (en .reads), rw (record-is ts is q k strength s st) (added-reads (add x (termsIn ts) constant relation budget) t e u (again ts is) on st (tagAt u marker other) _ stored (λ tag. read t .edits) (call-is ts is) (outcome ts is)))
+        (closed-comes (e .wrote) u st t (en .reads), rw (record-is ts is q k strength s st) (added-reads (add g x (termsIn ts) constant relation budget) t e u (again ts is) on st (tagAt u marker other) _ stored (λ tag. read t .edits) (call-is ts is) (outcome ts is)))
 
     module _ (a : code.Answer) (says : answerOf a ≡ answered e) where
-      pub addition-refused : (e .number ≡ 0 → ⊥) → (v : Sparse) → Adds x p constant relation budget a t v
+      pub addition-refused : (e .number ≡ 0 → ⊥) → (v : Sparse) → Adds g x p constant relation budget a t v
       addition-refused n v ts is =
-          added-refused (add x (termsIn ts) constant relation budget) t v a e u says (tagAt u marker other) _ (λ a. finish (a .work) (stored (a .tag)) (read t .edits)) (call-is ts is) (outcome ts is) n
+          added-refused (add g x (termsIn ts) constant relation budget) t v a e u says (tagAt u marker other) _ (λ a. finish (a .work) (stored (a .tag)) (read t .edits)) (call-is ts is) (outcome ts is) n
 
       pub addition-accepted : Goes false e u → e .number ≡ 0 → (q : Pack) → q ≡ keptOf (cutoffIn (t .reals)) p → (strength : Float) → strength ≡ strengthOf relation → (v : Sparse)
-          → Ends (closed (e .wrote) u) (keepConstraint (record { number = x; strength = strength; terms = termsOf q; tag = tagAt (closed (e .wrote) u) marker other }) (read t .constraints)) (read t .edits) v → Adds x p constant relation budget a t v
+          → Ends (closed (e .wrote) u) (keepConstraint (record { number = x; group = g; strength = strength; terms = termsOf q; tag = tagAt (closed (e .wrote) u) marker other }) (read t .constraints)) (read t .edits) v → Adds g x p constant relation budget a t v
       addition-accepted goes on q k strength s v h ts is =
           let st = went e u goes on in
-          added-accepted (add x (termsIn ts) constant relation budget) t v a e u says (tagAt u marker other) _ stored (λ tag. read t .edits) (call-is ts is) (outcome ts is) on st h
+          added-accepted (add g x (termsIn ts) constant relation budget) t v a e u says (tagAt u marker other) _ stored (λ tag. read t .edits) (call-is ts is) (outcome ts is) on st h
           (ap (λ (c : Constraint). keepConstraint c (read t .constraints)) (record-is ts is q k strength s st)) refl

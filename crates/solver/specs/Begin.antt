@@ -202,8 +202,8 @@ module _ (t w : Sparse) (en : Entered t w) where
       at : (v : ℕ) → v < variableCount t → eqb (getD (t .bytes) (kindsAt + getD (t .bytes) (variablePlacesAt + v) 0) 0) 0 ≡ true
       at v h = unfold externalsIn kindAt in all-at (λ i. eqb (getD (t .bytes) (kindsAt + getD (t .bytes) (variablePlacesAt + i) 0) 0) 0) 0 (variableCount t) (tests .externals) v (omega arith) h
 
-  apart : (i j : ℕ) → i < j → j < variableCount w → getD (w .bytes) (variablePlacesAt + i) 0 ≡ getD (w .bytes) (variablePlacesAt + j) 0 → ⊥
-  apart i j a b e =
+  pub apart-at-start : (i j : ℕ) → i < j → j < variableCount w → getD (w .bytes) (variablePlacesAt + i) 0 ≡ getD (w .bytes) (variablePlacesAt + j) 0 → ⊥
+  apart-at-start i j a b e =
       let q = reads-apart t (en .reads) i j (omega (arith, a, b, variables-same)) (omega (arith, b, variables-same)) (sym (variable-place i (omega (arith, a, b))) ∙ e ∙ variable-place j b) in
       omega (arith, a, q)
 
@@ -244,7 +244,7 @@ module _ (t w : Sparse) (en : Entered t w) where
               long = en .lengths .3;
             };
         inside = λ j h. f .cells .places j h .1;
-        owners = record { up = f .numbers; external = external; apart = apart; kinds = f .kinds; changed = f .changed; clear = f .clear };
+        owners = record { up = f .numbers; external = external; apart = apart-at-start; kinds = f .kinds; changed = f .changed; clear = f .clear };
         fits = good-at-start .fits;
       }
 

@@ -106,6 +106,15 @@ module _ (t u : Sparse) (come : Comes t u) where
   room-terms h p l = (omega (arith, h), few-terms (omega (arith, h)) (p .count) l)
 
   module _ (uw ub : List ℕ) (ur : List Float) (m : ℕ) where
+    -- all of them, as they are
+    pub records-come : readable (brought (read t .constraints) (read t .edits) u) ≡ true
+        → Moved (allOf (constraintCount t)) (allOf (editCount t)) 0 (t .words) (t .bytes) (t .reals) (u .words) (u .bytes) (u .reals) uw ub ur m
+        → Ends u (read t .constraints) (read t .edits) (roomOf u uw ub ur)
+    records-come q raw =
+        let cs : List Constraint = read t .constraints in
+        let es : List Edit = read t .edits in
+        ends-of u (roomOf u uw ub ur) cs es (records-kept t u ready uw ub ur m raw (hold-constraints u cs es q) (hold-edits u cs es q))
+
     pub constraint-behind : (j : ℕ) → j < constraintCount t → readable (brought (dropConstraint (constraintOf t j .number) (read t .constraints)) (read t .edits) u) ≡ true
         → Moved (without j (constraintCount t)) (allOf (editCount t)) 0 (t .words) (t .bytes) (t .reals) (u .words) (u .bytes) (u .reals) uw ub ur m
         → Ends u (dropConstraint (constraintOf t j .number) (read t .constraints)) (read t .edits) (roomOf u uw ub ur)
@@ -122,15 +131,15 @@ module _ (t u : Sparse) (come : Comes t u) where
         ends-of u (roomOf u uw ub ur) (read t .constraints) (dropEdit n (read t .edits))
         (edit-dropped t u ready uw ub ur m j n raw h (edit-before j h) (eq-eqb n n refl) (hold-constraints u (read t .constraints) (dropEdit n (read t .edits)) q) (hold-edits u (read t .constraints) (dropEdit n (read t .edits)) q))
 
-    pub constraint-comes : (n marker other : ℕ) (strength : Float) (p : Pack) → 1 ≤ marker → marker ≤ symbolCount u → other ≤ symbolCount u → constraintCount t + editCount t < mostConstraints → p .count ≤ 16
-        → readable (brought (keepConstraint (record { number = n; strength = strength; terms = termsOf p; tag = tagAt u marker other }) (read t .constraints)) (read t .edits) u) ≡ true
-        → ConstraintKept n marker other strength p (t .words) (t .bytes) (t .reals) (u .words) (u .bytes) (u .reals) uw ub ur m
-        → Ends u (keepConstraint (record { number = n; strength = strength; terms = termsOf p; tag = tagAt u marker other }) (read t .constraints)) (read t .edits) (roomOf u uw ub ur)
+    pub constraint-comes : (n g marker other : ℕ) (strength : Float) (p : Pack) → 1 ≤ marker → marker ≤ symbolCount u → other ≤ symbolCount u → constraintCount t + editCount t < mostConstraints → p .count ≤ 16
+        → readable (brought (keepConstraint (record { number = n; group = g; strength = strength; terms = termsOf p; tag = tagAt u marker other }) (read t .constraints)) (read t .edits) u) ≡ true
+        → ConstraintKept n g marker other strength p (t .words) (t .bytes) (t .reals) (u .words) (u .bytes) (u .reals) uw ub ur m
+        → Ends u (keepConstraint (record { number = n; group = g; strength = strength; terms = termsOf p; tag = tagAt u marker other }) (read t .constraints)) (read t .edits) (roomOf u uw ub ur)
     unfolding tagAt
-    constraint-comes n marker other strength p low high o room few q raw =
-        let c : Constraint = record { number = n; strength = strength; terms = termsOf p; tag = tagAt u marker other } in
+    constraint-comes n g marker other strength p low high o room few q raw =
+        let c : Constraint = record { number = n; group = g; strength = strength; terms = termsOf p; tag = tagAt u marker other } in
         ends-of u (roomOf u uw ub ur) (keepConstraint c (read t .constraints)) (read t .edits)
-        (constraint-kept t u ready uw ub ur m n marker other strength p raw few (holds-new u c (read t .constraints) (read t .edits) q) (low, high) o (omega (arith, room)) (unfold termsFrom in few-terms (omega (arith, room)) (p .count) few)
+        (constraint-kept t u ready uw ub ur m n g marker other strength p raw few (holds-new u c (read t .constraints) (read t .edits) q) (low, high) o (omega (arith, room)) (unfold termsFrom in few-terms (omega (arith, room)) (p .count) few)
         (holds-old u c (read t .constraints) (read t .edits) q) (hold-edits u (keepConstraint c (read t .constraints)) (read t .edits) q))
 
     pub edit-comes : (n marker other : ℕ) (strength : Float) → 1 ≤ marker → marker ≤ symbolCount u → other ≤ symbolCount u → constraintCount t + editCount t < mostConstraints

@@ -5,6 +5,7 @@ use mathlib.Core.Path.{_≡_, refl, sym, ap, _∙_}
 use mathlib.Core.Bool.{Bool, true, false, _&&_, cond, false≢true}
 use mathlib.Core.List.{List}
 use lib.Dec.{eqb}
+use lib.Ieee.{Float}
 use lib.ListN.{getD}
 use borrow.Author.Tests.{eqb-true, eq-eqb, ne-eqb}
 use Rattle.laws.specs.Given.{Then, then-given}
@@ -19,7 +20,7 @@ use Rattle.sparse.specs.Sparse.{Sparse, symbolCount, read}
 use Rattle.sparse.specs.Form.{Form}
 use Rattle.rows.specs.Marks.{markOf}
 use Rattle.waist.specs.declared.ending.Ended.{Ended}
-use Rattle.waist.specs.Working.{workOf}
+use Rattle.waist.specs.Working.{sparse, workOf}
 use Rattle.waist.specs.Standing.{Standing}
 use Rattle.waist.specs.Ending.{outcomeOf, Goes}
 use Rattle.lending.specs.declared.Answer as code
@@ -36,6 +37,13 @@ Done f r t u = (answerOf r ≡ f (read t) .answer) × (Then (eqb (r .number) 0) 
 -- the same where the lent tables read as a state, and 18 where they don't
 abbrev pub DoneIf : Bool → (State → Result) → code.Answer → Sparse → Sparse → Type 0
 DoneIf ok f r t u = (answerOf r ≡ cond ok (f (read t) .answer) refused18) × (Then (ok && eqb (r .number) 0) (read u ≡ f (read t) .state)) × (Then (ok && eqb (r .number) 0) (Left u))
+
+-- of the tables that the room was entered from a removal reads the words, bytes and reals alone: it is done for all cells that they may have had
+abbrev pub EnteredFrom : List ℕ → List ℕ → List Float → Sparse → Type 0
+EnteredFrom words bytes reals w = (k : List ℕ) × (v : List Float) × Entered (sparse words k bytes reals v) w
+
+abbrev pub DoneFrom : (State → Result) → code.Answer → List ℕ → List ℕ → List Float → Sparse → Sparse → Type 0
+DoneFrom f r words bytes reals w u = (k : List ℕ) (v : List Float) → Entered (sparse words k bytes reals v) w → Done f r (sparse words k bytes reals v) u
 
 pub if-not : (f : State → Result) (r : code.Answer) (t u : Sparse) (ok : Bool) → ok ≡ false → answerOf r ≡ refused18 → DoneIf ok f r t u
 if-not f r t u ok e h = rw e (h, tt, tt)

@@ -16,3 +16,6 @@ pub mod Adding
 pub mod EditAdding
 pub mod Change
 pub mod Listed
+pub mod Again
+pub mod Dropping
+pub mod Dropped

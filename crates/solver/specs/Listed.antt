@@ -5,7 +5,7 @@ use mathlib.Core.Path.{_≡_, refl, sym, ap, _∙_}
 use mathlib.Core.Bool.{Bool, true, false, not, _&&_, cond, false≢true}
 use mathlib.Core.List.{List, _∷_}
 use mathlib.Core.Option.{some}
-use lib.Dec.{leb, ltb}
+use lib.Dec.{eqb, leb, ltb}
 use lib.ListN.{length}
 use lib.Ieee.{Float}
 use borrow.Author.Tests.{leb-true, leb-false, lt-ltb, not-false}
@@ -27,40 +27,41 @@ use Rattle.terms.specs.Listed.{listed-finite, listed-few, listed-many}
 use Rattle.solver.specs.Adding.{refused-by}
 
 -- the number of the first of three tests that fails, the third failing where the first passes
-first-three : (a b c : Bool) (ts : List Test) → (a ≡ false → c ≡ true) → firstRefusal (1 if a ∷ 2 if b ∷ 3 if c ∷ ts) ≡ some (cond a 1 (cond b 2 3))
+first-four : (z a b c : Bool) (ts : List Test) → (a ≡ false → c ≡ true) → firstRefusal (26 if z ∷ 1 if a ∷ 2 if b ∷ 3 if c ∷ ts) ≡ some (cond z 26 (cond a 1 (cond b 2 3)))
 unfolding firstRefusal
-first-three true b c ts h = refl
-first-three false true c ts h = refl
-first-three false false c ts h = rw (h refl) refl
+first-four true a b c ts h = refl
+first-four false true b c ts h = refl
+first-four false false true c ts h = refl
+first-four false false false c ts h = rw (h refl) refl
 
-module _ (x budget : ℕ) (constant : Float) (relation : steps.Relation) (s : State) where
+module _ (g x budget : ℕ) (constant : Float) (relation : steps.Relation) (s : State) where
   abbrev infinite : Bool → Bool
   infinite b = not (b && isFinite constant && isFinite (strengthOf relation))
 
   -- a list that is too long or not finite
-  early : (l : List steps.Term) → (finiteTerms l ≡ true → 16 < length l) → firstRefusal (addTests x l constant relation s) ≡ some (cond (infinite (finiteTerms l)) 1 (cond (belowZero (strengthOf relation)) 2 3))
+  early : (l : List steps.Term) → (finiteTerms l ≡ true → 16 < length l) → firstRefusal (addTests g x l constant relation s) ≡ some (cond (eqb g 0) 26 (cond (infinite (finiteTerms l)) 1 (cond (belowZero (strengthOf relation)) 2 3)))
   unfolding addTests
   early l h =
-      first-three (infinite (finiteTerms l)) (belowZero (strengthOf relation)) (ltb 16 (length l)) _ λ e.
+      first-four (eqb g 0) (infinite (finiteTerms l)) (belowZero (strengthOf relation)) (ltb 16 (length l)) _ λ e.
       lt-ltb 16 (length l) (h (and-left (finiteTerms l) (isFinite constant) (and-left (finiteTerms l && isFinite constant) (isFinite (strengthOf relation)) (not-false _ e))))
 
   module _ (ts : List Term) where
-    refused-alike : (finiteTerms (termsIn ts) ≡ true → 16 < length ts) → add x (termsIn (listed (packOf ts))) constant relation budget s ≡ add x (termsIn ts) constant relation budget s
+    refused-alike : (finiteTerms (termsIn ts) ≡ true → 16 < length ts) → add g x (termsIn (listed (packOf ts))) constant relation budget s ≡ add g x (termsIn ts) constant relation budget s
     refused-alike h =
         let f = listed-finite ts in
-        refused-by x budget _ (termsIn (listed (packOf ts))) constant relation s (early _ (λ e. let q = sym f ∙ e in listed-many ts q (h q)))
-        ∙ rw f (sym (refused-by x budget _ (termsIn ts) constant relation s (early _ (λ e. rw (length-terms ts) (h e)))))
+        refused-by g x budget _ (termsIn (listed (packOf ts))) constant relation s (early _ (λ e. let q = sym f ∙ e in listed-many ts q (h q)))
+        ∙ rw f (sym (refused-by g x budget _ (termsIn ts) constant relation s (early _ (λ e. rw (length-terms ts) (h e)))))
 
-    listed-adds : add x (termsIn (listed (packOf ts))) constant relation budget s ≡ add x (termsIn ts) constant relation budget s
+    listed-adds : add g x (termsIn (listed (packOf ts))) constant relation budget s ≡ add g x (termsIn ts) constant relation budget s
     listed-adds = go (finiteTerms (termsIn ts)) (leb (length ts) 16) refl refl
       where
-        go : (f few : Bool) → finiteTerms (termsIn ts) ≡ f → leb (length ts) 16 ≡ few → add x (termsIn (listed (packOf ts))) constant relation budget s ≡ add x (termsIn ts) constant relation budget s
-        go true true e q = ap (λ (l : List steps.Term). add x l constant relation budget s) (listed-few ts e (leb-true (length ts) 16 q))
+        go : (f few : Bool) → finiteTerms (termsIn ts) ≡ f → leb (length ts) 16 ≡ few → add g x (termsIn (listed (packOf ts))) constant relation budget s ≡ add g x (termsIn ts) constant relation budget s
+        go true true e q = ap (λ (l : List steps.Term). add g x l constant relation budget s) (listed-few ts e (leb-true (length ts) 16 q))
         go true false e q = refused-alike (λ _. leb-false (length ts) 16 q)
         go false few e q = refused-alike (λ z. absurd (false≢true (sym e ∙ z)))
 
-pub listed-call : (x budget : ℕ) (constant : Float) (relation : steps.Relation) (w t : Sparse) (ts : List Term) {p : Pack} → p ≡ packOf ts
-    → callOf (add x (termsIn (listed p)) constant relation budget) w t ≡ callOf (add x (termsIn ts) constant relation budget) w t
+pub listed-call : (g x budget : ℕ) (constant : Float) (relation : steps.Relation) (w t : Sparse) (ts : List Term) {p : Pack} → p ≡ packOf ts
+    → callOf (add g x (termsIn (listed p)) constant relation budget) w t ≡ callOf (add g x (termsIn ts) constant relation budget) w t
 unfolding callOf callIn
-listed-call x budget constant relation w t ts e =
-    rw e (ap (λ (r : Result). cond (reads t) (called (r .answer) (write (r .state) t)) (called refused18 t)) (listed-adds x budget constant relation (read t) ts))
+listed-call g x budget constant relation w t ts e =
+    rw e (ap (λ (r : Result). cond (reads t) (called (r .answer) (write (r .state) t)) (called refused18 t)) (listed-adds g x budget constant relation (read t) ts))

@@ -11,13 +11,16 @@ use lib.ListN.{getD}
 use Rattle.steps.specs.State.{Tag, Constraint, State}
 use Rattle.steps.specs.Remove.{removeSteps}
 use Rattle.steps.specs.Tests.{findConstraint, dropConstraint}
-use Rattle.steps.specs.Calls.{begin, finish, conclude, remove}
+use Rattle.steps.specs.Calls.{begin, finish, conclude, removeStored, remove}
 use Rattle.steps.specs.Readable.{readable, tagKinds}
 use Rattle.keeps.specs.Lists.{times}
 use Rattle.keeps.specs.Keys.{drop-total, findConstraint-is}
 use Rattle.keeps.specs.Codes.{codes}
 use Rattle.keeps.specs.Reads.{conNumber, tagCode}
-use Rattle.stored.specs.Ended.{all-at}
+use Rattle.stored.specs.Parts.{allOf, without}
+use Rattle.stored.specs.Maps.{Stores}
+use Rattle.stored.specs.Moved.{Moved}
+use Rattle.stored.specs.Ended.{all-at, roomOf}
 use Rattle.stored.specs.Ends.{constraints-read}
 use Rattle.removal.specs.Tag.{TagLives}
 use Rattle.solver.specs.TagsLive.{tag-lives}
@@ -42,9 +45,10 @@ use Rattle.refusals.specs.Refusals as refusals
 use Rattle.refusals.specs.Refusals.{liveIn, editedIn}
 use Rattle.refusals.specs.Known as known
 use Rattle.waist.specs.Tags.{tagAt}
-use Rattle.solver.specs.Bringing.{brought, Comes, Ends}
+use Rattle.solver.specs.Bringing.{brought, Comes}
 use Rattle.solver.specs.Begin.{storedMark, begun-is, reads-at-start, symbols-same, tag-kept}
-use Rattle.solver.specs.Closing.{closed, closed-comes}
+use Rattle.solver.specs.Brings.{stores-both, constraint-behind}
+use Rattle.solver.specs.Closing.{closed, closedWords, closed-comes}
 use Rattle.solver.specs.Concluding.{Done, went, byTest, done-by-test, answered, done-refused, done-accepted, accepted-reads}
 use Rattle.solver.specs.Placed.{constraint-found, constraint-placed}
 
@@ -57,7 +61,7 @@ remove-by-test x budget t w u a {k} en q h says = done-by-test (remove x budget)
 
 remove-known : (x budget : ℕ) (s : State) (c : Constraint) → findConstraint x (s .constraints) ≡ some c
     → remove x budget s ≡ conclude s (removeSteps budget (c .tag) (c .strength) (c .terms) (begin s)) (λ w. finish w (dropConstraint x (s .constraints)) (s .edits))
-unfolding remove
+unfolding remove removeStored
 remove-known x budget s c a = rw (a, remove) refl
 
 module _ (x budget : ℕ) (t w : Sparse) (en : Entered t w) (k : ℕ) (live : liveIn (t .words) constraintNumbersAt (constraintCount t) x ≡ true) (placed : k ≡ placeFrom (t .words) constraintNumbersAt (constraintCount t) x) where
@@ -120,16 +124,23 @@ module _ (x budget : ℕ) (t w : Sparse) (en : Entered t w) (k : ℕ) (live : li
     outcome : outcomeOf false e u ≡ removeSteps budget (constraintOf t k .tag) (constraintOf t k .strength) (constraintOf t k .terms) (begin (read t))
     outcome = ends ∙ rw (tag-is, strength-is, terms, begun-is t w en before begun) refl
 
-    -- for the call that leaves the record behind
-    pub removal-comes : Goes false e u → e .number ≡ 0 → (Comes t (closed (e .wrote) u)) × (readable (brought (dropConstraint (constraintOf t k .number) (read t .constraints)) (read t .edits) (closed (e .wrote) u)) ≡ true)
+    removal-comes : Goes false e u → e .number ≡ 0 → (Comes t (closed (e .wrote) u)) × (readable (brought (dropConstraint (constraintOf t k .number) (read t .constraints)) (read t .edits) (closed (e .wrote) u)) ≡ true)
     removal-comes goes on =
         let st = went e u goes on in
         (closed-comes (e .wrote) u st t (en .reads), rw number-is (accepted-reads (remove x budget) t e u again on st _ (dropConstraint x (read t .constraints)) (read t .edits) call-is outcome))
+
+    pub removal-stores : Goes false e u → e .number ≡ 0 → (Stores (t .words) (t .bytes)) × (Stores (closedWords (e .wrote) (u .words)) (u .bytes))
+    removal-stores goes on = stores-both t (closed (e .wrote) u) (removal-comes goes on .0)
 
     module _ (a : code.Answer) (says : answerOf a ≡ answered e) where
       pub removal-refused : (e .number ≡ 0 → ⊥) → (v : Sparse) → Done (remove x budget) a t v
       removal-refused n v = done-refused (remove x budget) t v a e u says _ _ call-is outcome n
 
-      pub removal-accepted : Goes false e u → e .number ≡ 0 → (v : Sparse) → Ends (closed (e .wrote) u) (dropConstraint (constraintOf t k .number) (read t .constraints)) (read t .edits) v → Done (remove x budget) a t v
-      removal-accepted goes on v h =
-          done-accepted (remove x budget) t v a e u says _ (dropConstraint x (read t .constraints)) (read t .edits) call-is outcome on (went e u goes on) h (ap (λ (n : ℕ). dropConstraint n (read t .constraints)) number-is) refl
+      -- the records came over, all but this constraint
+      pub removal-accepted : Goes false e u → e .number ≡ 0 → (uw ub : List ℕ) (ur : List Float) (m : ℕ)
+          → Moved (without k (constraintCount t)) (allOf (editCount t)) 0 (t .words) (t .bytes) (t .reals) (closedWords (e .wrote) (u .words)) (u .bytes) (u .reals) uw ub ur m
+          → Done (remove x budget) a t (roomOf (closed (e .wrote) u) uw ub ur)
+      removal-accepted goes on uw ub ur m raw =
+          let c = removal-comes goes on in
+          let h = constraint-behind t (closed (e .wrote) u) (c .0) uw ub ur m k in-range (c .1) raw in
+          done-accepted (remove x budget) t (roomOf (closed (e .wrote) u) uw ub ur) a e u says _ (dropConstraint x (read t .constraints)) (read t .edits) call-is outcome on (went e u goes on) h (ap (λ (n : ℕ). dropConstraint n (read t .constraints)) number-is) refl

@@ -37,6 +37,7 @@ fn add_known(
     wbytes: &mut Bytes,
     wreals: &mut Reals,
     wvalues: &mut Values,
+    g: u16,
     n: u32,
     p: Pack,
     constant: f64,
@@ -45,8 +46,8 @@ fn add_known(
 ) -> Answer
     requires { ⌜ Entered (lent words keys bytes reals values) (lent wwords wkeys wbytes wreals wvalues) ⌝ }
     requires { ⌜ Packed p ⌝ }
-    requires { ⌜ addRefusal (cutoffIn (now reals)) n p constant (strengthOf (relationOf relation)) (now words) ≡ 0 ⌝ }
-    ensures { λ r. ⌜ Adds n p constant (relationOf relation) budget r (lent (words .entry) (keys .entry) (bytes .entry) (reals .entry) (values .entry)) (lent (wwords .exit) (wkeys .exit) (wbytes .exit) (wreals .exit) (wvalues .exit)) ⌝ }
+    requires { ⌜ addRefusal (cutoffIn (now reals)) g n p constant (strengthOf (relationOf relation)) (now words) ≡ 0 ⌝ }
+    ensures { λ r. ⌜ Adds g n p constant (relationOf relation) budget r (lent (words .entry) (keys .entry) (bytes .entry) (reals .entry) (values .entry)) (lent (wwords .exit) (wkeys .exit) (wbytes .exit) (wreals .exit) (wvalues .exit)) ⌝ }
 {
     let before = stored_mark(words);
     let a = add_steps(
@@ -81,6 +82,7 @@ fn add_known(
         wreals,
         wvalues,
         n,
+        g,
         strength,
         a.marker,
         a.other,
@@ -89,7 +91,7 @@ fn add_known(
     answer_of(e)
 }
 
-// "Add: 18, 1, 2, 3, 4, 10, 9, 11." The terms come as any pack: the call is that of the list that it stands for.
+// "Add: 18, 26, 1, 2, 3, 4, 10, 9, 11." The terms come as any pack: the call is that of the list that it stands for.
 pub fn add(
     words: &Words,
     keys: &Keys,
@@ -101,6 +103,7 @@ pub fn add(
     wbytes: &mut Bytes,
     wreals: &mut Reals,
     wvalues: &mut Values,
+    g: u16,
     n: u32,
     p: Pack,
     constant: f64,
@@ -108,11 +111,11 @@ pub fn add(
     budget: u32,
 ) -> Answer
     requires { ⌜ Entered (lent words keys bytes reals values) (lent wwords wkeys wbytes wreals wvalues) ⌝ }
-    ensures { λ r. ⌜ Done (add n (termsIn (listed p)) constant (relationOf relation) budget) r (lent (words .entry) (keys .entry) (bytes .entry) (reals .entry) (values .entry)) (lent (wwords .exit) (wkeys .exit) (wbytes .exit) (wreals .exit) (wvalues .exit)) ⌝ }
+    ensures { λ r. ⌜ Done (add g n (termsIn (listed p)) constant (relationOf relation) budget) r (lent (words .entry) (keys .entry) (bytes .entry) (reals .entry) (values .entry)) (lent (wwords .exit) (wkeys .exit) (wbytes .exit) (wreals .exit) (wvalues .exit)) ⌝ }
 {
     let q = terms::proper(p);
     let strength = strength_of(relation);
-    let number = refusals::add_tests(words, reals[CUTOFF], n, q, constant, strength);
+    let number = refusals::add_tests(words, reals[CUTOFF], g, n, q, constant, strength);
     if number != 0 {
         return by_test(words, number);
     }
@@ -127,6 +130,7 @@ pub fn add(
         wbytes,
         wreals,
         wvalues,
+        g,
         n,
         q,
         constant,

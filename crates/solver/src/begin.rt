@@ -23,7 +23,7 @@ pub fn stored_mark(words: &Words) -> Wrote
 
 // "A refusal answers the stored mark"
 pub fn by_test(words: &Words, number: u64) -> Answer
-    requires { ⌜ number ≤ 18 ⌝ }
+    requires { ⌜ number ≤ 27 ⌝ }
     ensures { λ r. ⌜ answerOf r ≡ byTest number (now (words .entry)) ⌝ }
 {
     Answer {

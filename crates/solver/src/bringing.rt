@@ -3,10 +3,10 @@ ghost use mathlib.Core.Path.{_≡_};
 ghost use mathlib.Core.Bool.{true};
 ghost use Prim.Native.Nat.{_+_, _≤_, _<_};
 ghost use Rattle.steps.specs.Number.{zero64};
-ghost use Rattle.steps.specs.Tests.{keepConstraint, dropConstraint, keepEdit, dropEdit};
+ghost use Rattle.steps.specs.Tests.{keepConstraint, keepEdit, dropEdit};
 ghost use Rattle.steps.specs.Readable.{readable};
 ghost use Rattle.sparse.specs.Places.{mostConstraints};
-ghost use Rattle.sparse.specs.Sparse.{symbolCount, constraintCount, editCount, constraintOf, editOf, read};
+ghost use Rattle.sparse.specs.Sparse.{symbolCount, constraintCount, editCount, editOf, read};
 ghost use Rattle.waist.specs.Working.{lent};
 ghost use Rattle.terms.specs.Terms.{termsOf};
 ghost use Rattle.waist.specs.Tags.{tagAt};
@@ -20,28 +20,6 @@ use sparse::Words;
 use stored::new;
 use stored::records;
 use terms::Pack;
-
-// The j-th constraint stays behind.
-pub fn without_constraint(
-    words: &Words,
-    keys: &Keys,
-    bytes: &Bytes,
-    reals: &Reals,
-    values: &Values,
-    wwords: &mut Words,
-    wkeys: &mut Keys,
-    wbytes: &mut Bytes,
-    wreals: &mut Reals,
-    wvalues: &mut Values,
-    j: usize,
-)
-    requires { ⌜ Comes (lent words keys bytes reals values) (lent wwords wkeys wbytes wreals wvalues) ⌝ }
-    requires { ⌜ j < constraintCount (lent words keys bytes reals values) ⌝ }
-    requires { ⌜ readable (brought (dropConstraint (constraintOf (lent words keys bytes reals values) j .number) (read (lent words keys bytes reals values) .constraints)) (read (lent words keys bytes reals values) .edits) (lent wwords wkeys wbytes wreals wvalues)) ≡ true ⌝ }
-    ensures { λ _. ⌜ Ends (lent (wwords .entry) (wkeys .entry) (wbytes .entry) (wreals .entry) (wvalues .entry)) (dropConstraint (constraintOf (lent (words .entry) (keys .entry) (bytes .entry) (reals .entry) (values .entry)) j .number) (read (lent (words .entry) (keys .entry) (bytes .entry) (reals .entry) (values .entry)) .constraints)) (read (lent (words .entry) (keys .entry) (bytes .entry) (reals .entry) (values .entry)) .edits) (lent (wwords .exit) (wkeys .exit) (wbytes .exit) (wreals .exit) (wvalues .exit)) ⌝ }
-{
-    records::drop_constraint(wwords, wbytes, wreals, words, bytes, reals, j);
-}
 
 // The j-th edit stays behind.
 pub fn without_edit(
@@ -78,6 +56,7 @@ pub fn with_constraint(
     wreals: &mut Reals,
     wvalues: &mut Values,
     n: u32,
+    g: u16,
     strength: f64,
     marker: u8,
     other: u8,
@@ -89,8 +68,8 @@ pub fn with_constraint(
     requires { ⌜ other ≤ symbolCount (lent wwords wkeys wbytes wreals wvalues) ⌝ }
     requires { ⌜ constraintCount (lent words keys bytes reals values) + editCount (lent words keys bytes reals values) < mostConstraints ⌝ }
     requires { ⌜ p .count ≤ 16 ⌝ }
-    requires { ⌜ readable (brought (keepConstraint (record { number = n; strength = strength; terms = termsOf p; tag = tagAt (lent wwords wkeys wbytes wreals wvalues) marker other }) (read (lent words keys bytes reals values) .constraints)) (read (lent words keys bytes reals values) .edits) (lent wwords wkeys wbytes wreals wvalues)) ≡ true ⌝ }
-    ensures { λ _. ⌜ Ends (lent (wwords .entry) (wkeys .entry) (wbytes .entry) (wreals .entry) (wvalues .entry)) (keepConstraint (record { number = n; strength = strength; terms = termsOf p; tag = tagAt (lent (wwords .entry) (wkeys .entry) (wbytes .entry) (wreals .entry) (wvalues .entry)) marker other }) (read (lent (words .entry) (keys .entry) (bytes .entry) (reals .entry) (values .entry)) .constraints)) (read (lent (words .entry) (keys .entry) (bytes .entry) (reals .entry) (values .entry)) .edits) (lent (wwords .exit) (wkeys .exit) (wbytes .exit) (wreals .exit) (wvalues .exit)) ⌝ }
+    requires { ⌜ readable (brought (keepConstraint (record { number = n; group = g; strength = strength; terms = termsOf p; tag = tagAt (lent wwords wkeys wbytes wreals wvalues) marker other }) (read (lent words keys bytes reals values) .constraints)) (read (lent words keys bytes reals values) .edits) (lent wwords wkeys wbytes wreals wvalues)) ≡ true ⌝ }
+    ensures { λ _. ⌜ Ends (lent (wwords .entry) (wkeys .entry) (wbytes .entry) (wreals .entry) (wvalues .entry)) (keepConstraint (record { number = n; group = g; strength = strength; terms = termsOf p; tag = tagAt (lent (wwords .entry) (wkeys .entry) (wbytes .entry) (wreals .entry) (wvalues .entry)) marker other }) (read (lent (words .entry) (keys .entry) (bytes .entry) (reals .entry) (values .entry)) .constraints)) (read (lent (words .entry) (keys .entry) (bytes .entry) (reals .entry) (values .entry)) .edits) (lent (wwords .exit) (wkeys .exit) (wbytes .exit) (wreals .exit) (wvalues .exit)) ⌝ }
 {
     new::keep_constraint(
         wwords,
@@ -100,6 +79,7 @@ pub fn with_constraint(
         bytes,
         reals,
         n as u64,
+        g,
         marker,
         other,
         strength,

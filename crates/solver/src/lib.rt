@@ -1,8 +1,10 @@
 // The one changing call over lent sparse tables: the tables are tested, their tableau and variables copied into the working room, the steps run there, an accepted call's state goes back with the records, the room is cleared.
 pub mod add;
 pub mod add_edit;
+pub mod again;
 pub mod begin;
 pub mod bringing;
+pub mod drop;
 pub mod looks;
 pub mod remove;
 pub mod remove_edit;
@@ -46,7 +48,7 @@ fn change_in(
     ensures { λ r. ⌜ Done (made (changingOf c p budget)) r (lent (words .entry) (keys .entry) (bytes .entry) (reals .entry) (values .entry)) (lent (wwords .exit) (wkeys .exit) (wbytes .exit) (wreals .exit) (wvalues .exit)) ⌝ }
 {
     match c {
-        Change::Add(n, k, r) => add::add(
+        Change::Add(g, n, k, r) => add::add(
             words,
             keys,
             bytes,
@@ -57,6 +59,7 @@ fn change_in(
             wbytes,
             wreals,
             wvalues,
+            g,
             n,
             p,
             k,
@@ -75,6 +78,20 @@ fn change_in(
             wreals,
             wvalues,
             n,
+            budget,
+        ),
+        Change::Drop(g) => drop::drop(
+            words,
+            keys,
+            bytes,
+            reals,
+            values,
+            wwords,
+            wkeys,
+            wbytes,
+            wreals,
+            wvalues,
+            g,
             budget,
         ),
         Change::AddEdit(n, s) => add_edit::add_edit(

@@ -3,9 +3,8 @@ ghost use mathlib.Core.Path.{_≡_};
 ghost use mathlib.Core.Bool.{true};
 ghost use Rattle.steps.specs.Calls.{remove};
 ghost use Rattle.sparse.specs.Places.{constraintNumbersAt};
-ghost use Rattle.sparse.specs.Sparse.{constraintCount};
-ghost use Rattle.refusals.specs.Refusals.{liveIn};
-ghost use Rattle.solver.specs.Concluding.{Done};
+ghost use Rattle.refusals.specs.Refusals.{constraintsIn, liveIn};
+ghost use Rattle.solver.specs.Concluding.{Done, EnteredFrom, DoneFrom};
 ghost use Rattle.waist.specs.Working.{lent};
 ghost use Rattle.lending.specs.Entered.{Entered};
 use crate::begin::answer_of;
@@ -20,14 +19,13 @@ use sparse::Reals;
 use sparse::Values;
 use sparse::Words;
 use sparse::lookup::look_up;
+use stored::records::drop_constraint;
 
-// The test passed: the constraint is live.
-fn remove_known(
+// The test passed: the constraint is live. The lent tables' cells are not read: those of the room are theirs.
+pub fn remove_known(
     words: &Words,
-    keys: &Keys,
     bytes: &Bytes,
     reals: &Reals,
-    values: &Values,
     wwords: &mut Words,
     wkeys: &mut Keys,
     wbytes: &mut Bytes,
@@ -36,9 +34,9 @@ fn remove_known(
     n: u32,
     budget: u32,
 ) -> Answer
-    requires { ⌜ Entered (lent words keys bytes reals values) (lent wwords wkeys wbytes wreals wvalues) ⌝ }
-    requires { ⌜ liveIn (now words) constraintNumbersAt (constraintCount (lent words keys bytes reals values)) n ≡ true ⌝ }
-    ensures { λ r. ⌜ Done (remove n budget) r (lent (words .entry) (keys .entry) (bytes .entry) (reals .entry) (values .entry)) (lent (wwords .exit) (wkeys .exit) (wbytes .exit) (wreals .exit) (wvalues .exit)) ⌝ }
+    requires { ⌜ EnteredFrom (now words) (now bytes) (now reals) (lent wwords wkeys wbytes wreals wvalues) ⌝ }
+    requires { ⌜ liveIn (now words) constraintNumbersAt (constraintsIn (now words)) n ≡ true ⌝ }
+    ensures { λ r. ⌜ DoneFrom (remove n budget) r (now (words .entry)) (now (bytes .entry)) (now (reals .entry)) (lent (wwords .entry) (wkeys .entry) (wbytes .entry) (wreals .entry) (wvalues .entry)) (lent (wwords .exit) (wkeys .exit) (wbytes .exit) (wreals .exit) (wvalues .exit)) ⌝ }
 {
     let before = stored_mark(words);
     let c = words[sparse::CONSTRAINT_COUNT] as usize;
@@ -65,19 +63,7 @@ fn remove_known(
     }
     let wrote = e.wrote;
     close(wwords, wrote);
-    crate::bringing::without_constraint(
-        words,
-        keys,
-        bytes,
-        reals,
-        values,
-        wwords,
-        wkeys,
-        wbytes,
-        wreals,
-        wvalues,
-        j,
-    );
+    drop_constraint(wwords, wbytes, wreals, words, bytes, reals, j);
     answer_of(e)
 }
 
@@ -105,10 +91,8 @@ pub fn remove(
     }
     remove_known(
         words,
-        keys,
         bytes,
         reals,
-        values,
         wwords,
         wkeys,
         wbytes,

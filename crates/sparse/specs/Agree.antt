@@ -16,7 +16,7 @@ use Rattle.cells.specs.Names.{rowSpan}
 use Rattle.cells.specs.Cells.{Ascending, cellAt, rowOf}
 use Rattle.cells.specs.Seek.{first-within}
 use Rattle.cells.specs.Reads.{cell-within}
-use Rattle.sparse.specs.Places.{idsAt, variableNumbersAt, variableUsesAt, constraintNumbersAt, kindsAt, rowPlacesAt, variablePlacesAt, changedAt, constraintMarkersAt, constraintOthersAt, termCountsAt, editVariablesAt, editMarkersAt, editOthersAt, termsAt, constantsAt, oldValuesAt, objectiveAt, cutoffAt, constraintStrengthsAt, editStrengthsAt, suggestionsAt, coefficientsAt, wordsSize, bytesSize, realsSize}
+use Rattle.sparse.specs.Places.{idsAt, variableNumbersAt, variableUsesAt, constraintNumbersAt, constraintGroupsAt, kindsAt, rowPlacesAt, variablePlacesAt, changedAt, constraintMarkersAt, constraintOthersAt, termCountsAt, editVariablesAt, editMarkersAt, editOthersAt, termsAt, constantsAt, oldValuesAt, objectiveAt, cutoffAt, constraintStrengthsAt, editStrengthsAt, suggestionsAt, coefficientsAt, wordsSize, bytesSize, realsSize}
 use Rattle.sparse.specs.Sparse.{Sparse, symbolCount, rowCount, cellCount, variableCount, constraintCount, editCount, symbolAt, otherAt, numberAt, variableOf, termsFrom, termOf, constraintOf, editOf, basicOf, symbolsOf, basicsOf, objectiveOf, read}
 use Rattle.sparse.specs.Concat.{sum-ext, sum-in, sum-le}
 use Rattle.sparse.specs.Repack.{Held}
@@ -29,6 +29,7 @@ pub record Agree (t u : Sparse) : Type 0 where
   pub numbers : (j : ℕ) → j < variableCount t → getD (u .words) (variableNumbersAt + j) 0 ≡ getD (t .words) (variableNumbersAt + j) 0
   pub uses : (j : ℕ) → j < variableCount t → getD (u .words) (variableUsesAt + j) 0 ≡ getD (t .words) (variableUsesAt + j) 0
   pub constraintNumbers : (j : ℕ) → j < constraintCount t → getD (u .words) (constraintNumbersAt + j) 0 ≡ getD (t .words) (constraintNumbersAt + j) 0
+  pub constraintGroups : (j : ℕ) → j < constraintCount t → getD (u .words) (constraintGroupsAt + j) 0 ≡ getD (t .words) (constraintGroupsAt + j) 0
   pub kinds : (p : ℕ) → 1 ≤ p → p ≤ symbolCount t → getD (u .bytes) (kindsAt + p) 0 ≡ getD (t .bytes) (kindsAt + p) 0
   pub rowPlaces : (p : ℕ) → 1 ≤ p → p ≤ rowCount t → getD (u .bytes) (rowPlacesAt + p) 0 ≡ getD (t .bytes) (rowPlacesAt + p) 0
   pub owners : (j : ℕ) → j < variableCount t → getD (u .bytes) (variablePlacesAt + j) 0 ≡ getD (t .bytes) (variablePlacesAt + j) 0
@@ -109,7 +110,7 @@ module _ (t u : Sparse) (same : Agree t u) where
     unfolding constraintOf
     constraint-same i h =
         let ts : listOf (getD (t .bytes) (termCountsAt + i) 0) (termOf u (termsFrom t i)) ≡ listOf (getD (t .bytes) (termCountsAt + i) 0) (termOf t (termsFrom t i)) = list-ext _ _ _ λ j k. term-same i j h k in
-        rw (same .constraintNumbers i h, same .strengths i h, same .termCounts i h, terms-same i (omega arith), ts, same .markers i h, symbol-same (getD (t .bytes) (constraintMarkersAt + i) 0) (form .markers i h), same .others i h, other-same (getD (t .bytes) (constraintOthersAt + i) 0) (form .others i h)) refl
+        rw (same .constraintNumbers i h, same .constraintGroups i h, same .strengths i h, same .termCounts i h, terms-same i (omega arith), ts, same .markers i h, symbol-same (getD (t .bytes) (constraintMarkersAt + i) 0) (form .markers i h), same .others i h, other-same (getD (t .bytes) (constraintOthersAt + i) 0) (form .others i h)) refl
 
     edit-same : (i : ℕ) → i < editCount t → editOf u i ≡ editOf t i
     unfolding editOf

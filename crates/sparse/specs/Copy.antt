@@ -3,7 +3,7 @@ use Prim.Native.Nat.{ℕ, _+_}
 use mathlib.Core.List.{List, [], _∷_}
 use lib.Ieee.{Float, nan}
 use lib.ListN.{getD}
-use Rattle.sparse.specs.Places.{nextIdAt, wholeAt, idsAt, variableNumbersAt, variableUsesAt, constraintNumbersAt, kindsAt, rowPlacesAt, variablePlacesAt, changedAt, constraintMarkersAt, constraintOthersAt, termCountsAt, editVariablesAt, editMarkersAt, editOthersAt, termsAt, constantsAt, oldValuesAt, objectiveAt, cutoffAt, constraintStrengthsAt, editStrengthsAt, suggestionsAt, coefficientsAt}
+use Rattle.sparse.specs.Places.{nextIdAt, wholeAt, idsAt, variableNumbersAt, variableUsesAt, constraintNumbersAt, constraintGroupsAt, kindsAt, rowPlacesAt, variablePlacesAt, changedAt, constraintMarkersAt, constraintOthersAt, termCountsAt, editVariablesAt, editMarkersAt, editOthersAt, termsAt, constantsAt, oldValuesAt, objectiveAt, cutoffAt, constraintStrengthsAt, editStrengthsAt, suggestionsAt, coefficientsAt}
 use Rattle.sparse.specs.Sparse.{Sparse, symbolCount, rowCount, cellCount, variableCount, constraintCount, editCount, termsFrom}
 use Rattle.sparse.specs.Stretches.{Stretch, part, lay, copied}
 
@@ -13,7 +13,8 @@ headingEnd = wholeAt + 1
 
 unfoldable pub liveWords : Sparse → List (Stretch ℕ)
 liveWords t =
-    part 0 (t .words) constraintNumbersAt (constraintCount t)
+    part 0 (t .words) constraintGroupsAt (constraintCount t)
+    ∷ part 0 (t .words) constraintNumbersAt (constraintCount t)
     ∷ part 0 (t .words) variableUsesAt (variableCount t)
     ∷ part 0 (t .words) variableNumbersAt (variableCount t)
     ∷ part 0 (t .words) (idsAt + 1) (symbolCount t)

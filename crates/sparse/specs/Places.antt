@@ -16,7 +16,7 @@ mostConstraints = 48
 abbrev pub mostTerms : ℕ
 mostTerms = 768
 
--- ---- words: the next id, counts and flags; then the symbols' ids, the variables' numbers and uses, the constraints' numbers
+-- ---- words: the next id, counts and flags; then the symbols' ids, the variables' numbers and uses, the constraints' numbers and groups
 abbrev pub nextIdAt : ℕ
 nextIdAt = 0
 
@@ -56,8 +56,11 @@ variableUsesAt = 178
 abbrev pub constraintNumbersAt : ℕ
 constraintNumbersAt = 210
 
+abbrev pub constraintGroupsAt : ℕ
+constraintGroupsAt = 258
+
 abbrev pub wordsSize : ℕ
-wordsSize = 258
+wordsSize = 306
 
 -- ---- bytes: the symbols' kinds and the rows' symbols; the variables' symbols and changed flags; the constraints' marker, other, count of terms; the edits' variable, marker, other; the terms' variables
 abbrev pub kindsAt : ℕ

@@ -14,7 +14,7 @@ use Rattle.steps.specs.Symbol.{Symbol}
 use Rattle.steps.specs.State.{Term, Basic, Variable, Constraint, Edit, State}
 use Rattle.layout.specs.Layout.{kindOf}
 use Rattle.cells.specs.Cells.{rowOf}
-use Rattle.sparse.specs.Places.{nextIdAt, symbolCountAt, rowCountAt, cellCountAt, variableCountAt, constraintCountAt, editCountAt, shouldClearAt, wholeAt, idsAt, variableNumbersAt, variableUsesAt, constraintNumbersAt, kindsAt, rowPlacesAt, variablePlacesAt, changedAt, constraintMarkersAt, constraintOthersAt, termCountsAt, editVariablesAt, editMarkersAt, editOthersAt, termsAt, constantsAt, oldValuesAt, objectiveAt, cutoffAt, constraintStrengthsAt, editStrengthsAt, suggestionsAt, coefficientsAt}
+use Rattle.sparse.specs.Places.{nextIdAt, symbolCountAt, rowCountAt, cellCountAt, variableCountAt, constraintCountAt, editCountAt, shouldClearAt, wholeAt, idsAt, variableNumbersAt, variableUsesAt, constraintNumbersAt, constraintGroupsAt, kindsAt, rowPlacesAt, variablePlacesAt, changedAt, constraintMarkersAt, constraintOthersAt, termCountsAt, editVariablesAt, editMarkersAt, editOthersAt, termsAt, constantsAt, oldValuesAt, objectiveAt, cutoffAt, constraintStrengthsAt, editStrengthsAt, suggestionsAt, coefficientsAt}
 
 pub record Sparse : Type 0 where
   -- u64
@@ -84,6 +84,7 @@ unfoldable pub constraintOf : Sparse → ℕ → Constraint
 constraintOf t i =
     record {
       number = getD (t .words) (constraintNumbersAt + i) 0;
+      group = getD (t .words) (constraintGroupsAt + i) 0;
       strength = getD (t .reals) (constraintStrengthsAt + i) nan;
       terms = listOf (getD (t .bytes) (termCountsAt + i) 0) (termOf t (termsFrom t i));
       tag = record { marker = symbolAt t (getD (t .bytes) (constraintMarkersAt + i) 0); other = otherAt t (getD (t .bytes) (constraintOthersAt + i) 0) };

@@ -12,7 +12,7 @@ use Rattle.steps.specs.State.{Term, Basic, Tag, Variable, Constraint, Edit, Tab
 use Rattle.steps.specs.Readable.{concat, kindCode}
 use Rattle.layout.specs.Layout.{bitOf}
 use Rattle.cells.specs.Cells.{Cells, cells}
-use Rattle.sparse.specs.Places.{nextIdAt, idsAt, variableNumbersAt, variableUsesAt, constraintNumbersAt, kindsAt, rowPlacesAt, variablePlacesAt, changedAt, constraintMarkersAt, constraintOthersAt, termCountsAt, editVariablesAt, editMarkersAt, editOthersAt, termsAt, constantsAt, oldValuesAt, objectiveAt, cutoffAt, constraintStrengthsAt, editStrengthsAt, suggestionsAt, coefficientsAt}
+use Rattle.sparse.specs.Places.{nextIdAt, idsAt, variableNumbersAt, variableUsesAt, constraintNumbersAt, constraintGroupsAt, kindsAt, rowPlacesAt, variablePlacesAt, changedAt, constraintMarkersAt, constraintOthersAt, termCountsAt, editVariablesAt, editMarkersAt, editOthersAt, termsAt, constantsAt, oldValuesAt, objectiveAt, cutoffAt, constraintStrengthsAt, editStrengthsAt, suggestionsAt, coefficientsAt}
 use Rattle.sparse.specs.Sparse.{Sparse}
 use Rattle.sparse.specs.Stretches.{Stretch, from, lay}
 use Rattle.sparse.specs.Laying.{rowsLaid}
@@ -34,7 +34,7 @@ abbrev pub noTerm : Term
 noTerm = record { variable = 0; coefficient = nan }
 
 abbrev pub noConstraint : Constraint
-noConstraint = record { number = 0; strength = nan; terms = []; tag = noTag }
+noConstraint = record { number = 0; group = 0; strength = nan; terms = []; tag = noTag }
 
 abbrev pub noEdit : Edit
 noEdit = record { variable = 0; strength = nan; tag = noTag; suggestion = nan }
@@ -77,7 +77,8 @@ headingOf s n =
 -- with n cells
 unfoldable pub wordsOf : State → ℕ → List (Stretch ℕ)
 wordsOf s n =
-    from constraintNumbersAt (map (λ (c : Constraint). c .number) (s .constraints))
+    from constraintGroupsAt (map (λ (c : Constraint). c .group) (s .constraints))
+    ∷ from constraintNumbersAt (map (λ (c : Constraint). c .number) (s .constraints))
     ∷ from variableUsesAt (map (λ (v : Variable). v .uses) (s .changes .variables))
     ∷ from variableNumbersAt (map (λ (v : Variable). v .number) (s .changes .variables))
     ∷ from (idsAt + 1) (map (λ (x : Symbol). x .id) (s .tableau .symbols))

@@ -21,7 +21,7 @@ pub const MOST_ROWS: usize = 50;
 
 pub const MOST_VARIABLES: usize = 32;
 
-// ---- words: the next id, counts and flags; then the symbols' ids, the variables' numbers and uses, the constraints' numbers
+// ---- words: the next id, counts and flags; then the symbols' ids, the variables' numbers and uses, the constraints' numbers and groups
 pub const NEXT_ID: usize = 0;
 
 pub const SYMBOL_COUNT: usize = 1;
@@ -48,7 +48,9 @@ pub const VARIABLE_USES: usize = 178;
 
 pub const CONSTRAINT_NUMBERS: usize = 210;
 
-pub const WORDS_SIZE: usize = 258;
+pub const CONSTRAINT_GROUPS: usize = 258;
+
+pub const WORDS_SIZE: usize = 306;
 
 // ---- bytes: the symbols' kinds and the rows' symbols; the variables' symbols and changed flags; the constraints' marker, other, count of terms; the edits' variable, marker, other; the terms' variables
 pub const KINDS: usize = 0;

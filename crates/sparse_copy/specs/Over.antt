@@ -10,7 +10,7 @@ use Rattle.laws.specs.Lists.{tab}
 use Rattle.layout.specs.Layout.{over}
 use Rattle.layout.specs.Laying.{remade, stretch}
 use Rattle.steps.specs.Number.{zero64}
-use Rattle.sparse.specs.Places.{nextIdAt, idsAt, variableNumbersAt, variableUsesAt, constraintNumbersAt, kindsAt, rowPlacesAt, variablePlacesAt, changedAt, constraintMarkersAt, constraintOthersAt, termCountsAt, editVariablesAt, editMarkersAt, editOthersAt, termsAt, constantsAt, oldValuesAt, objectiveAt, cutoffAt, constraintStrengthsAt, editStrengthsAt, suggestionsAt, coefficientsAt}
+use Rattle.sparse.specs.Places.{nextIdAt, idsAt, variableNumbersAt, variableUsesAt, constraintNumbersAt, constraintGroupsAt, kindsAt, rowPlacesAt, variablePlacesAt, changedAt, constraintMarkersAt, constraintOthersAt, termCountsAt, editVariablesAt, editMarkersAt, editOthersAt, termsAt, constantsAt, oldValuesAt, objectiveAt, cutoffAt, constraintStrengthsAt, editStrengthsAt, suggestionsAt, coefficientsAt}
 use Rattle.sparse.specs.Sparse.{Sparse, symbolCount, rowCount, cellCount, variableCount, constraintCount, editCount, termsFrom}
 use Rattle.sparse.specs.Stretches.{Stretch, part, lay, copied}
 use Rattle.sparse.specs.Copy.{headingEnd, liveWords, liveBytes, liveReals, putOver}
@@ -29,7 +29,7 @@ part-runs d from a n to = stretch d from (tab (λ j. getD from j d) a n) a n (a 
 -- ---- table by table: k symbols, r rows, v variables, c constraints, e edits, m terms
 
 unfoldable pub wordsOver : List ℕ → ℕ → ℕ → ℕ → List ℕ → List ℕ
-wordsOver w k v c to = putPart 0 w constraintNumbersAt c (putPart 0 w variableUsesAt v (putPart 0 w variableNumbersAt v (putPart 0 w (idsAt + 1) k (putPart 0 w nextIdAt headingEnd to))))
+wordsOver w k v c to = putPart 0 w constraintGroupsAt c (putPart 0 w constraintNumbersAt c (putPart 0 w variableUsesAt v (putPart 0 w variableNumbersAt v (putPart 0 w (idsAt + 1) k (putPart 0 w nextIdAt headingEnd to)))))
 
 -- the variables' and the symbols' and the rows'
 unfoldable pub namesOver : List ℕ → ℕ → ℕ → ℕ → List ℕ → List ℕ

@@ -80,6 +80,7 @@ pub fn put_words(to: &mut Words, from: &Words, k: usize, v: usize, c: usize)
     words_part(to, from, sparse::VARIABLE_NUMBERS, v);
     words_part(to, from, sparse::VARIABLE_USES, v);
     words_part(to, from, sparse::CONSTRAINT_NUMBERS, c);
+    words_part(to, from, sparse::CONSTRAINT_GROUPS, c);
 }
 
 pub fn put_names(to: &mut Bytes, from: &Bytes, k: usize, r: usize, v: usize)

@@ -34,7 +34,7 @@ use Rattle.sparse_test.specs.Parts.{Parts, parts, joined}
 use Rattle.sparse_test.specs.Injective.{each-list, list-each, both-lists, first-list, second-list, distinct-apart}
 use Rattle.sparse_test.specs.Owners.{IdsUp, Owns, fit-owns, owns-fit, owns-distinct, Placed, placed, all-placed}
 use Rattle.sparse_test.specs.Uses.{NumbersUp, number-is, uses-counted, counted-uses}
-use Rattle.sparse_test.specs.Records.{all-ext, externals-are, constraint-kinds-are, edit-kinds-are, olds-are, constraints-finite-are, edits-finite-are}
+use Rattle.sparse_test.specs.Records.{all-ext, externals-are, constraint-kinds-are, groups-are, edit-kinds-are, olds-are, constraints-finite-are, edits-finite-are}
 use Rattle.sparse_test.specs.Tableau.{ids-in, ordered, orderly, RowsLive, rows-up, rows-live, Clear, no-basic, basic-no}
 use Rattle.sparse_test.specs.Cells.{cells-form, cells-clear, cells-finite, finite-cells, form-keys, form-costs, form-values}
 
@@ -199,6 +199,7 @@ module _ (t : Sparse) where
           finite = finite-clause;
           kinds = kinds-clause;
           cutoff = cutoff-is ∙ p .cutoff;
+          groups = groups-are t ∙ p .groups;
         }))
 
   -- ---- and the state's gives the code's
@@ -298,6 +299,7 @@ module _ (t : Sparse) where
           numbers = f .numbers;
           constraintsUp = sym constraints-up ∙ u .1;
           constraints = f .constraints;
+          groups = sym (groups-are t) ∙ c .groups;
           kinds = f .kinds;
           changed = f .changed;
           termCounts = in-most (t .bytes) termCountsAt (constraintCount t) 16 (few-in t few-of);

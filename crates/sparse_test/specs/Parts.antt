@@ -9,9 +9,9 @@ use Rattle.layout.specs.Rooms.{both}
 use Rattle.steps.specs.Number.{cutoffFits}
 use Rattle.places.specs.Listed.{join}
 use Rattle.places.specs.Shares.{finiteIn}
-use Rattle.sparse.specs.Places.{nextIdAt, idsAt, variableNumbersAt, constraintNumbersAt, kindsAt, rowPlacesAt, changedAt, constraintMarkersAt, constraintOthersAt, termCountsAt, editMarkersAt, editOthersAt, constantsAt, objectiveAt, cutoffAt, constraintStrengthsAt, editStrengthsAt, suggestionsAt, coefficientsAt}
+use Rattle.sparse.specs.Places.{nextIdAt, idsAt, variableNumbersAt, constraintNumbersAt, constraintGroupsAt, kindsAt, rowPlacesAt, changedAt, constraintMarkersAt, constraintOthersAt, termCountsAt, editMarkersAt, editOthersAt, constantsAt, objectiveAt, cutoffAt, constraintStrengthsAt, editStrengthsAt, suggestionsAt, coefficientsAt}
 use Rattle.sparse.specs.Sparse.{Sparse, symbolCount, rowCount, cellCount, variableCount, constraintCount, editCount, termsFrom}
-use Rattle.sparse_test.specs.Stretch.{ascendIn, betweenIn, mostIn}
+use Rattle.sparse_test.specs.Stretch.{ascendIn, betweenIn, mostIn, aboveZeroIn}
 use Rattle.sparse_test.specs.Reads.{greatestU32}
 use Rattle.sparse_test.specs.Meaning.{Counted, counted, recounted}
 use Rattle.sparse_test.specs.Tested.{wordsFit, bytesFit, ownedFit, externalsIn, tagsFit, errorsIn, kindsFit, oldsFit, realsFit, editsUp, usesFit, costsFit, keysFit, valuesFit, termCount, contentFits, tested}
@@ -24,6 +24,7 @@ pub record Parts (t : Sparse) : Type 0 where
   pub numbers : mostIn (t .words) variableNumbersAt (variableCount t) greatestU32 ≡ true
   pub constraintsUp : ascendIn (t .words) constraintNumbersAt (constraintCount t) ≡ true
   pub constraints : mostIn (t .words) constraintNumbersAt (constraintCount t) greatestU32 ≡ true
+  pub groups : aboveZeroIn (t .words) constraintGroupsAt (constraintCount t) ≡ true
   pub kinds : mostIn (t .bytes) (kindsAt + 1) (symbolCount t) 3 ≡ true
   pub changed : mostIn (t .bytes) changedAt (variableCount t) 1 ≡ true
   pub termCounts : mostIn (t .bytes) termCountsAt (constraintCount t) 16 ≡ true
@@ -59,6 +60,7 @@ parts t q =
     let w₃ = both _ _ (w₂ .0) in
     let w₄ = both _ _ (w₃ .0) in
     let w₅ = both _ _ (w₄ .0) in
+    let w₆ = both _ _ (w₅ .0) in
     let b₁ = both _ _ (c .0) in
     let b₂ = both _ _ (b₁ .0) in
     let b₃ = both _ _ (b₂ .0) in
@@ -82,12 +84,13 @@ parts t q =
     let r₇ = both _ _ (r₆ .0) in
     record {
       counts = counted t (a .0);
-      idsUp = w₅ .0;
-      ids = w₅ .1;
-      numbersUp = w₄ .1;
-      numbers = w₃ .1;
-      constraintsUp = w₂ .1;
-      constraints = w₁ .1;
+      idsUp = w₆ .0;
+      ids = w₆ .1;
+      numbersUp = w₅ .1;
+      numbers = w₄ .1;
+      constraintsUp = w₃ .1;
+      constraints = w₂ .1;
+      groups = w₁ .1;
       kinds = b₄ .0;
       changed = b₄ .1;
       termCounts = b₃ .1;
@@ -117,7 +120,7 @@ pub joined : (t : Sparse) → Parts t → tested t ≡ true
 unfolding tested wordsFit bytesFit contentFits kindsFit realsFit termCount termsFrom
 joined t p =
     join (recounted t (p .counts))
-    (join (join (join (join (join (join (p .idsUp) (p .ids)) (p .numbersUp)) (p .numbers)) (p .constraintsUp)) (p .constraints))
+    (join (join (join (join (join (join (join (p .idsUp) (p .ids)) (p .numbersUp)) (p .numbers)) (p .constraintsUp)) (p .constraints)) (p .groups))
     (join (join (join (join (join (p .kinds) (p .changed)) (p .termCounts)) (p .rowsUp)) (p .rows))
     (join (join (join (join (join (join (join (p .owned)
     (join (join (join (p .externals) (p .tags)) (p .errors)) (p .editTags)))

@@ -7,7 +7,7 @@ use mathlib.Core.List.{List, [], _∷_, _++_, map}
 use mathlib.Core.Option.{none, some}
 use native.Mathlib.Nat.{not-suc-le-zero, le-of-suc-le-suc}
 use native.Mathlib.Omega.{arith}
-use lib.Dec.{eqb}
+use lib.Dec.{eqb, ltb}
 use lib.Ieee.{Float, nan, isNan}
 use lib.ListN.{getD}
 use Rattle.laws.specs.Lists.{listOf, allIn}
@@ -21,9 +21,10 @@ use Rattle.keeps.specs.Clauses.{and3, and4}
 use Rattle.places.specs.Finding.{all-at, at-all}
 use Rattle.places.specs.Listed.{join, same, all-list, at-listed, listed-at}
 use Rattle.places.specs.Shares.{finiteIn}
-use Rattle.sparse.specs.Places.{kindsAt, variablePlacesAt, constraintMarkersAt, constraintOthersAt, editMarkersAt, editOthersAt, oldValuesAt, constraintStrengthsAt, editStrengthsAt, suggestionsAt, coefficientsAt}
+use Rattle.sparse.specs.Places.{constraintGroupsAt, kindsAt, variablePlacesAt, constraintMarkersAt, constraintOthersAt, editMarkersAt, editOthersAt, oldValuesAt, constraintStrengthsAt, editStrengthsAt, suggestionsAt, coefficientsAt}
 use Rattle.sparse.specs.Sparse.{Sparse, variableCount, constraintCount, editCount, symbolAt, otherAt, variableOf, termsFrom, constraintOf, editOf, read}
 use Rattle.sparse.specs.Written.{termAt, terms-are}
+use Rattle.sparse_test.specs.Stretch.{aboveZeroIn}
 use Rattle.sparse_test.specs.Tested.{kindAt, externalsIn, tagOfKinds, tagsFit, errorsIn, oldsFit}
 
 -- ---- tests over places that say the same
@@ -105,6 +106,10 @@ module _ (t : Sparse) where
   constraint-kinds-are =
       all-list (λ (c : Constraint). steps.tagKinds (c .strength) (c .tag)) (constraintCount t) (constraintOf t)
       ∙ all-ext _ _ 0 (constraintCount t) λ j a b. tag-is (real (constraintStrengthsAt + j)) (byte (constraintMarkersAt + j)) (byte (constraintOthersAt + j))
+
+  pub groups-are : steps.groupsFit (read t) ≡ aboveZeroIn (t .words) constraintGroupsAt (constraintCount t)
+  unfolding steps.groupsFit read constraintOf aboveZeroIn
+  groups-are = all-list (λ (c : Constraint). ltb 0 (c .group)) (constraintCount t) (constraintOf t)
 
   errors-are : steps.all (λ (e : Edit). isError (e .tag .marker)) (read t .edits) ≡ errorsIn (t .bytes) (editCount t)
   unfolding read errorsIn kindAt symbolAt editOf kindOf

@@ -25,6 +25,10 @@ betweenIn l a n low high = allIn (λ i. leb low (getD l (a + i) 0) && ltb (getD 
 unfoldable pub mostIn : List ℕ → ℕ → ℕ → ℕ → Bool
 mostIn l a n most = allIn (λ i. leb (getD l (a + i) 0) most) 0 n
 
+-- none is 0
+unfoldable pub aboveZeroIn : List ℕ → ℕ → ℕ → Bool
+aboveZeroIn l a n = allIn (λ i. ltb 0 (getD l (a + i) 0)) 0 n
+
 module _ (l : List ℕ) (a n : ℕ) where
   pub ascends : ascendIn l a n ≡ true → (i j : ℕ) → i < j → j < n → getD l (a + i) 0 < getD l (a + j) 0
   unfolding ascendIn

@@ -18,12 +18,12 @@ use Rattle.cells.specs.Names.{rowSpan}
 use Rattle.cells.specs.Cells.{ascendsOf, presentOf}
 use Rattle.places.specs.Finding.{placeIn}
 use Rattle.places.specs.Shares.{Shares, shares, take, noneLeft, stock, finiteIn}
-use Rattle.sparse.specs.Places.{nextIdAt, idsAt, variableNumbersAt, variableUsesAt, constraintNumbersAt, kindsAt, rowPlacesAt, variablePlacesAt, changedAt, constraintMarkersAt, constraintOthersAt, termCountsAt, editVariablesAt, editMarkersAt, editOthersAt, termsAt, constantsAt, oldValuesAt, objectiveAt, cutoffAt, constraintStrengthsAt, editStrengthsAt, suggestionsAt, coefficientsAt}
+use Rattle.sparse.specs.Places.{nextIdAt, idsAt, variableNumbersAt, variableUsesAt, constraintNumbersAt, constraintGroupsAt, kindsAt, rowPlacesAt, variablePlacesAt, changedAt, constraintMarkersAt, constraintOthersAt, termCountsAt, editVariablesAt, editMarkersAt, editOthersAt, termsAt, constantsAt, oldValuesAt, objectiveAt, cutoffAt, constraintStrengthsAt, editStrengthsAt, suggestionsAt, coefficientsAt}
 use Rattle.sparse.specs.Sparse.{Sparse, symbolCount, rowCount, cellCount, variableCount, constraintCount, editCount}
-use Rattle.sparse_test.specs.Stretch.{ascendIn, betweenIn, mostIn}
+use Rattle.sparse_test.specs.Stretch.{ascendIn, betweenIn, mostIn, aboveZeroIn}
 use Rattle.sparse_test.specs.Reads.{greatestU32, countsFit}
 
--- ---- words: ids and numbers in order
+-- ---- words: ids and numbers in order, groups
 
 unfoldable pub wordsFit : List ℕ → ℕ → ℕ → ℕ → Bool
 wordsFit w k v c =
@@ -33,6 +33,7 @@ wordsFit w k v c =
     && mostIn w variableNumbersAt v greatestU32
     && ascendIn w constraintNumbersAt c
     && mostIn w constraintNumbersAt c greatestU32
+    && aboveZeroIn w constraintGroupsAt c
 
 -- ---- bytes: kinds, flags, counts of terms; rows' symbols in order
 

@@ -67,6 +67,7 @@ fn words_fit(words: &Words, k: usize, v: usize, c: usize) -> bool
         & stretch::words_most(words, sparse::VARIABLE_NUMBERS, v, GREATEST_U32)
         & stretch::words_ascend(words, sparse::CONSTRAINT_NUMBERS, c)
         & stretch::words_most(words, sparse::CONSTRAINT_NUMBERS, c, GREATEST_U32)
+        & stretch::words_above_zero(words, sparse::CONSTRAINT_GROUPS, c)
 }
 
 fn bytes_fit(bytes: &Bytes, k: usize, r: usize, v: usize, c: usize) -> bool

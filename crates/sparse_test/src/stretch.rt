@@ -4,7 +4,7 @@ ghost use Prim.Native.Nat.{_+_, _≤_};
 ghost use Rattle.cells.specs.Names.{cellRoom};
 ghost use Rattle.sparse.specs.Places.{wordsSize, bytesSize, realsSize};
 ghost use Rattle.places.specs.Shares.{finiteIn};
-ghost use Rattle.sparse_test.specs.Stretch.{ascendIn, betweenIn, mostIn};
+ghost use Rattle.sparse_test.specs.Stretch.{ascendIn, betweenIn, mostIn, aboveZeroIn};
 use places::is_finite;
 use sparse::Bytes;
 use sparse::Reals;
@@ -41,6 +41,20 @@ pub fn words_between(words: &Words, a: usize, n: usize, low: u64, high: u64) -> 
     while i < n {
         let x = words[a + i];
         ok = ok & ((low <= x) & (x < high));
+        i += 1;
+    }
+    ok
+}
+
+// "no constraint with a number is in group 0"
+pub fn words_above_zero(words: &Words, a: usize, n: usize) -> bool
+    requires { ⌜ a + n ≤ wordsSize ⌝ }
+    ensures { λ r. ⌜ r ≡ aboveZeroIn (now (words .entry)) a n ⌝ }
+{
+    let mut ok = true;
+    let mut i = 0;
+    while i < n {
+        ok = ok & (0 < words[a + i]);
         i += 1;
     }
     ok

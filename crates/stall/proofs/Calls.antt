@@ -1,11 +1,12 @@
 -- The passes of a call are its own, and demand 3 for a call each of whose passes starts from a good tableau. Assumes nothing.
-use Prim.Native.Nat.{ℕ, _-_, _<_}
+use Prim.Native.Nat.{ℕ, suc, _+_, _-_, _<_}
 use native.Mathlib.Omega.{arith}
-use mathlib.Core.Path.{_≡_, refl, subst}
+use mathlib.Core.Path.{_≡_, refl, sym, ap, _∙_, subst}
 use mathlib.Core.Logic.{inl, inr}
-use mathlib.Core.Bool.{Bool, true, false}
-use mathlib.Core.List.{List, [], _∷_}
+use mathlib.Core.Bool.{Bool, true, false, not}
+use mathlib.Core.List.{List, [], _∷_, _++_}
 use mathlib.Core.Option.{Option, none, some}
+use lib.Dec.{T, eqb, eqb·suc-zero}
 use lib.Ieee.{Float}
 use Rattle.simplex.specs.Choose.{All}
 use Rattle.steps.specs.Number.{zero64, isFinite}
@@ -15,15 +16,17 @@ use Rattle.steps.specs.Work.{Work, Outcome, refused, going}
 use Rattle.steps.specs.Add.{Added, addSteps}
 use Rattle.steps.specs.Remove.{removeSteps}
 use Rattle.steps.specs.Edit.{editTerms, addEditSteps, suggestSteps}
-use Rattle.steps.specs.Tests.{firstRefusal, addTests, addEditTests, findConstraint, findEdit, keepConstraint, dropConstraint, keepEdit, dropEdit, keptTerms}
-use Rattle.steps.specs.Calls.{Result, begin, finish, refusedBy, acceptedAs, conclude, concludeAdd, add, remove, addEdit, removeEdit, suggest}
+use Rattle.steps.specs.Tests.{firstRefusal, addTests, addEditTests, dropTests, groupOf, findConstraint, findEdit, keepConstraint, dropConstraint, keepEdit, dropEdit, keptTerms}
+use Rattle.steps.specs.Calls.{Answer, Result, begin, finish, refusedBy, acceptedAs, conclude, concludeAdd, add, remove, removeStored, onward, removeAll, allOrNone, dropGroup, addEdit, removeEdit, suggest}
 use Rattle.steps.specs.Changing.{Changing}
 use Rattle.steps.proofs.After.{says-whole}
-use Rattle.steps.proofs.Numbers.{test-number}
+use Rattle.steps.proofs.Numbers.{ofSteps, test-number}
 use Rattle.bridge.specs.Finds.{none≢some, some-injective}
 use Rattle.bridge.specs.Runs.{markOf}
-use Rattle.run.specs.Demand.{Call, resets, fetches, adds, removes, addsEdit, removesEdit, suggests, make}
-use Rattle.stall.specs.Stall.{PassStart, outcomeOf, pivotsOf, allPivots, allWays, addPasses, removePasses, suggestPasses, passesOf, budgetOf, NoReturn, Level, Fewer, SomeWay, Demand3, Counted, moment, refusalOf, UsedUp, Some, Shares, TheCalls}
+use Rattle.run.specs.Demand.{Call, resets, fetches, adds, removes, drops, addsEdit, removesEdit, suggests, make}
+use Rattle.run.specs.Drop.{onward-refused, onward-accepted}
+use Rattle.run.specs.RecutDrop.{Ending, refuses, accepts, stored-ending, removeAll-yes}
+use Rattle.stall.specs.Stall.{PassStart, outcomeOf, pivotsOf, allPivots, allWays, addPasses, removePasses, dropPasses, suggestPasses, passesOf, budgetOf, NoReturn, Level, Fewer, SomeWay, Demand3, Counted, moment, refusalOf, UsedUp, Some, Shares, TheCalls}
 use Rattle.stall.proofs.Turns.{pivotsAt, moments, all-used}
 use Rattle.stall.proofs.Pass.{Starts, Unmarred, returns-not, level, fewer}
 use Rattle.stall.proofs.Accounts.{Told, workOf, add-told, remove-told, suggest-told}
@@ -55,17 +58,17 @@ fresh : (s : State) → begin s .pivots ≡ 0
 unfolding begin
 fresh s = refl
 
-add-answers : (n : ℕ) (ts : List Term) (k : Float) (r : Relation) (b : ℕ) (s : State) → Answers b (passesOf (adds n ts k r b) s) (make (adds n ts k r b) s)
+add-answers : (g n : ℕ) (ts : List Term) (k : Float) (r : Relation) (b : ℕ) (s : State) → Answers b (passesOf (adds g n ts k r b) s) (make (adds g n ts k r b) s)
 unfolding passesOf make add
-add-answers n ts k r b s = go (firstRefusal (addTests n ts k r s)) refl
+add-answers g n ts k r b s = go (firstRefusal (addTests g n ts k r s)) refl
   where
     next : Added → State
-    next a = finish (a .work) (keepConstraint (record { number = n; strength = Rattle.steps.specs.State.strengthOf r; terms = keptTerms (s .tableau .cutoff) ts; tag = a .tag }) (s .constraints)) (s .edits)
+    next a = finish (a .work) (keepConstraint (record { number = n; group = g; strength = Rattle.steps.specs.State.strengthOf r; terms = keptTerms (s .tableau .cutoff) ts; tag = a .tag }) (s .constraints)) (s .edits)
 
-    go : (o : Option ℕ) → firstRefusal (addTests n ts k r s) ≡ o
+    go : (o : Option ℕ) → firstRefusal (addTests g n ts k r s) ≡ o
         → Answers b (elim o [ some x ↦ [] | none ↦ addPasses b ts k r (begin s) ]) (elim o [ some x ↦ refusedBy x 0 (s .whole) s | none ↦ concludeAdd s (addSteps b ts k r (begin s)) next ])
     go none e = concluded-add b (addPasses b ts k r (begin s)) s (addSteps b ts k r (begin s)) next (add-told b ts k r (begin s) (fresh s))
-    go (some x) e = tested b x s (λ q. omega (arith, q, test-number (Changing.adds n ts k r b) s x e .1))
+    go (some x) e = tested b x s (λ q. subst (λ (k : ℕ). T (not (ofSteps k))) q (test-number (Changing.adds g n ts k r b) s x e .1))
 
 edit-answers : (v : ℕ) (k : Float) (b : ℕ) (s : State) → Answers b (passesOf (addsEdit v k b) s) (make (addsEdit v k b) s)
 unfolding passesOf make addEdit addEditSteps
@@ -78,10 +81,10 @@ edit-answers v k b s = go (firstRefusal (addEditTests v (clip k) s)) refl
         → Answers b (elim o [ some x ↦ [] | none ↦ addPasses b (editTerms v) zero64 (equal (clip k)) (begin s) ])
         (elim o [ some x ↦ refusedBy x 0 (s .whole) s | none ↦ concludeAdd s (addSteps b (editTerms v) zero64 (equal (clip k)) (begin s)) next ])
     go none e = concluded-add b (addPasses b (editTerms v) zero64 (equal (clip k)) (begin s)) s (addSteps b (editTerms v) zero64 (equal (clip k)) (begin s)) next (add-told b (editTerms v) zero64 (equal (clip k)) (begin s) (fresh s))
-    go (some x) e = tested b x s (λ q. omega (arith, q, test-number (Changing.addsEdit v k b) s x e .1))
+    go (some x) e = tested b x s (λ q. subst (λ (k : ℕ). T (not (ofSteps k))) q (test-number (Changing.addsEdit v k b) s x e .1))
 
 remove-answers : (n b : ℕ) (s : State) → Answers b (passesOf (removes n b) s) (make (removes n b) s)
-unfolding passesOf make remove
+unfolding passesOf make remove removeStored
 remove-answers n b s = go (findConstraint n (s .constraints))
   where
     next : Work → State
@@ -106,6 +109,102 @@ unedit-answers v b s = go (findEdit v (s .edits))
     go none = tested b 8 s (λ q. omega (arith, q))
     go (some e) = concluded b (removePasses b (e .tag) (e .strength) (begin s)) s (removeSteps b (e .tag) (e .strength) (editTerms v) (begin s)) next (remove-told b (e .tag) (e .strength) (editTerms v) (begin s) (fresh s))
 
+-- ---- a drop: its removals one after the other
+
+some-right : (Q : PassStart → Type 0) (ps qs : List PassStart) → Some Q qs → Some Q (ps ++ qs)
+some-right Q [] qs q = q
+some-right Q (p ∷ ps) qs q = inr (some-right Q ps qs q)
+
+all-both : (Q : PassStart → Type 0) (ps qs : List PassStart) → All Q ps → All Q qs → All Q (ps ++ qs)
+all-both Q [] qs a c = c
+all-both Q (p ∷ ps) qs a c = (a .0, all-both Q ps qs (a .1) c)
+
+pivots-both : (ps qs : List PassStart) → allPivots (ps ++ qs) ≡ allPivots ps + allPivots qs
+unfolding allPivots
+pivots-both [] qs = omega arith
+pivots-both (p ∷ ps) qs = omega (arith, pivots-both ps qs)
+
+shares-both : (b : ℕ) (ps qs : List PassStart) → Shares b ps → Shares (b - allPivots ps) qs → Shares b (ps ++ qs)
+unfolding allPivots
+shares-both b [] qs s t = subst (λ (c : ℕ). Shares c qs) (omega arith) t
+shares-both b (p ∷ ps) qs s t = (s .0, shares-both (b - pivotsOf p) ps qs (s .1) (subst (λ (c : ℕ). Shares c qs) (omega arith) t))
+
+no-more : {A : Type 0} (l : List A) → l ++ [] ≡ l
+no-more [] = refl
+no-more (x ∷ l) = ap (λ t. x ∷ t) (no-more l)
+
+stored-answers : (n : ℕ) (c : Constraint) (b : ℕ) (s : State) → Answers b (removePasses b (c .tag) (c .strength) (begin s)) (removeStored n c b s)
+unfolding removeStored
+stored-answers n c b s =
+    concluded b (removePasses b (c .tag) (c .strength) (begin s)) s (removeSteps b (c .tag) (c .strength) (c .terms) (begin s)) (λ w. finish w (dropConstraint n (s .constraints)) (s .edits)) (remove-told b (c .tag) (c .strength) (c .terms) (begin s) (fresh s))
+
+-- a removal that is accepted, and those after it
+joined : (b : ℕ) (ps qs : List PassStart) (r q : Result) → Answers b ps r → Answers (b - r .answer .pivots) qs q → (q .answer .whole ≡ true → r .answer .whole ≡ true) → r .answer .number ≡ 0 → Answers b (ps ++ qs) (onward r q)
+joined b ps qs r q A B says e = record {
+  shares = shares-both b ps qs (A .shares) (subst (λ (k : ℕ). Shares (b - k) qs) (A .pivots) (B .shares));
+  pivots = ap (λ (x : Result). x .answer .pivots) o ∙ ap (λ (k : ℕ). k + q .answer .pivots) (A .pivots) ∙ ap (λ (k : ℕ). allPivots ps + k) (B .pivots) ∙ sym (pivots-both ps qs);
+  used-up = λ u. some-right UsedUp ps qs (B .used-up (sym (ap (λ (x : Result). x .answer .number) o) ∙ u));
+  unmarred = λ w. let v : q .answer .whole ≡ true = sym (ap (λ (x : Result). x .answer .whole) o) ∙ w in all-both Unmarred ps qs (A .unmarred (says v)) (B .unmarred v);
+}
+  where
+    o : onward r q ≡ record { answer = record { number = q .answer .number; pivots = r .answer .pivots + q .answer .pivots; whole = q .answer .whole }; state = q .state }
+    o = onward-accepted r q e
+
+all-answers : (ds : List Constraint) (b : ℕ) (s : State) → Answers b (dropPasses ds b s) (removeAll ds b s)
+unfolding dropPasses removeAll allPivots
+all-answers [] b s = record { shares = tt; pivots = refl; used-up = λ q. omega (arith, q); unmarred = λ m. tt }
+all-answers (d ∷ ds) b s = go (stored-ending (d .number) d b s) (all-answers ds (b - one .answer .pivots) (one .state))
+  where
+    one : Result
+    one = removeStored (d .number) d b s
+
+    rest : Result
+    rest = removeAll ds (b - one .answer .pivots) (one .state)
+
+    own : List PassStart
+    own = removePasses b (d .tag) (d .strength) (begin s)
+
+    later : List PassStart
+    later = dropPasses ds (b - one .answer .pivots) (one .state)
+
+    go : Ending s one → Answers (b - one .answer .pivots) later rest → Answers b (own ++ elim (eqb (one .answer .number) 0) as (λ _. List PassStart) [ false ↦ [] | true ↦ later ]) (onward one rest)
+    go (refuses k e h) on =
+        subst (λ (l : List PassStart). Answers b (own ++ l) (onward one rest)) (ap (λ (n : ℕ). elim (eqb n 0) as (λ _. List PassStart) [ false ↦ [] | true ↦ later ]) (sym e) ∙ refl)
+        (subst (λ (l : List PassStart). Answers b l (onward one rest)) (sym (append-to own k)) (subst (Answers b own) (sym (onward-refused one rest k e)) (stored-answers (d .number) d b s)))
+      where
+        append-to : (ps : List PassStart) (k : ℕ) → ps ++ elim (eqb (suc k) 0) as (λ _. List PassStart) [ false ↦ [] | true ↦ later ] ≡ ps
+        append-to ps k = ap (λ (t : Bool). ps ++ elim t as (λ _. List PassStart) [ false ↦ [] | true ↦ later ]) (eqb·suc-zero k) ∙ no-more ps
+    go (accepts e q h) on =
+        subst (λ (n : ℕ). Answers b (own ++ elim (eqb n 0) as (λ _. List PassStart) [ false ↦ [] | true ↦ later ]) (onward one rest)) (sym e)
+        (joined b own later one rest (stored-answers (d .number) d b s) on (λ w. q ∙ removeAll-yes ds (b - one .answer .pivots) (one .state) w) e)
+
+drop-answers : (g b : ℕ) (s : State) → Answers b (passesOf (drops g b) s) (make (drops g b) s)
+unfolding passesOf make dropGroup
+drop-answers g b s = go (firstRefusal (dropTests g s)) refl
+  where
+    ds : List Constraint
+    ds = groupOf g (s .constraints)
+
+    kept : (r : Result) {ps : List PassStart} → Answers b ps r → Answers b ps (allOrNone s r)
+    kept r A = record {
+      shares = A .shares;
+      pivots = ap (λ (a : Answer). a .pivots) (same-answer r) ∙ A .pivots;
+      used-up = λ u. A .used-up (sym (ap (λ (a : Answer). a .number) (same-answer r)) ∙ u);
+      unmarred = λ w. A .unmarred (sym (ap (λ (a : Answer). a .whole) (same-answer r)) ∙ w);
+    }
+      where
+        same-answer : (r : Result) → allOrNone s r .answer ≡ r .answer
+        same-answer r = unfold allOrNone refusedBy in by (eqb (r .answer .number) 0)
+          where
+            by : (t : Bool) → elim t as (λ _. Result) [ true ↦ r | false ↦ refusedBy (r .answer .number) (r .answer .pivots) (r .answer .whole) s ] .answer ≡ r .answer
+            by true = refl
+            by false = unfold refusedBy in refl
+
+    go : (o : Option ℕ) → firstRefusal (dropTests g s) ≡ o
+        → Answers b (elim o as (λ _. List PassStart) [ some x ↦ [] | none ↦ dropPasses ds b s ]) (elim o as (λ _. Result) [ some x ↦ refusedBy x 0 (s .whole) s | none ↦ allOrNone s (removeAll ds b s) ])
+    go none e = kept (removeAll ds b s) (all-answers ds b s)
+    go (some x) e = tested b x s (λ q. subst (λ (k : ℕ). T (not (ofSteps k))) q (test-number (Changing.drops g b) s x e .1))
+
 suggest-answers : (v : ℕ) (x : Float) (b : ℕ) (s : State) → Answers b (passesOf (suggests v x b) s) (make (suggests v x b) s)
 unfolding passesOf make suggest
 suggest-answers v x b s = go (isFinite x) (findEdit v (s .edits))
@@ -124,8 +223,9 @@ answers : (b : ℕ) (c : Call) (s : State) → budgetOf c ≡ some b → Answers
 unfolding budgetOf
 answers b (resets z) s e = absurd (none≢some e)
 answers b fetches s e = absurd (none≢some e)
-answers b (adds n ts k r x) s e = subst (λ (y : ℕ). Answers y (passesOf (adds n ts k r x) s) (make (adds n ts k r x) s)) (some-injective e) (add-answers n ts k r x s)
+answers b (adds g n ts k r x) s e = subst (λ (y : ℕ). Answers y (passesOf (adds g n ts k r x) s) (make (adds g n ts k r x) s)) (some-injective e) (add-answers g n ts k r x s)
 answers b (removes n x) s e = subst (λ (y : ℕ). Answers y (passesOf (removes n x) s) (make (removes n x) s)) (some-injective e) (remove-answers n x s)
+answers b (drops g x) s e = subst (λ (y : ℕ). Answers y (passesOf (drops g x) s) (make (drops g x) s)) (some-injective e) (drop-answers g x s)
 answers b (addsEdit v k x) s e = subst (λ (y : ℕ). Answers y (passesOf (addsEdit v k x) s) (make (addsEdit v k x) s)) (some-injective e) (edit-answers v k x s)
 answers b (removesEdit v x) s e = subst (λ (y : ℕ). Answers y (passesOf (removesEdit v x) s) (make (removesEdit v x) s)) (some-injective e) (unedit-answers v x s)
 answers b (suggests v k x) s e = subst (λ (y : ℕ). Answers y (passesOf (suggests v k x) s) (make (suggests v k x) s)) (some-injective e) (suggest-answers v k x s)
@@ -156,7 +256,7 @@ below-ways b (p ∷ ps) s f (inl u) = omega (arith, s .0, f .0, spent p u)
 below-ways b (p ∷ ps) s f (inr u) = omega (arith, f .0, below-ways (b - pivotsOf p) ps (s .1) (f .1) u)
 
 -- ---- DEMAND 3 FOR A CALL
-all-returns : (ps : List PassStart) → All Starts ps → All Unmarred ps → All NoReturn ps
+pub all-returns : (ps : List PassStart) → All Starts ps → All Unmarred ps → All NoReturn ps
 all-returns [] a m = tt
 all-returns (p ∷ ps) a m = (returns-not p (a .0) (m .0), all-returns ps (a .1) (m .1))
 

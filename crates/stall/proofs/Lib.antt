@@ -9,4 +9,6 @@ pub mod Calls
 pub mod RemoveStarts
 pub mod AddStarts
 pub mod SuggestStarts
+pub mod DropStarts
 pub mod Whole
+pub mod DropSets

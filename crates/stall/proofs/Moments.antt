@@ -23,13 +23,14 @@ use Rattle.steps.specs.Symbol.{Symbol}
 use Rattle.steps.specs.Work.{Work, Outcome, countPivot}
 use Rattle.steps.specs.Substitute.{pivot}
 use Rattle.steps.specs.Optimise.{Goal, theObjective, pivotOn}
-use Rattle.bridge.specs.Finds.{none≢some, some-injective}
+use Rattle.bridge.specs.Finds.{UpRows, none≢some, some-injective}
 use Rattle.bridge.specs.Table.{ReadsWork}
 use Rattle.bridge.specs.Looks.{Choose, pivots}
 use Rattle.bridge.specs.Duals.{Dual, moves, dual-is, dual-pivot}
 use Rattle.bridge.specs.Runs.{markOf, ReadsGoal, counted-mark, view, turn-is, is-choice, is-good, reads-of, reads-on, count-reads, objOf, artOf}
 use Rattle.run.specs.Steady.{pivot-kept}
 use Rattle.run.specs.Passes.{restrictedIds}
+use Rattle.run.specs.DropRows.{pivot-rows}
 use Rattle.stall.specs.Stall.{Rule, optimising, dual, chosen, outcomeBy, turn, later, pivotsFrom, isBasic, restrictedRows}
 use Rattle.stall.proofs.Turns.{Step, pass-mark}
 use Rattle.stall.proofs.Rows.{basic-is, rows-are}
@@ -118,12 +119,13 @@ module _ (n : ℕ) (kind : ℕ → KindZ) (ids : List ℕ) (asc : Asc ids) (cove
   -- ---- what a moment shows of its state
   pub record Shown (u : Work) (S : State) : Type 0 where
     pub basics : (j : ℕ) → isBasic j u ≡ S .B j
+    pub up : UpRows 0 (u .tableau .rows)
     pub rows : trues (map (S .B) (restrictedIds (u .tableau .symbols))) ≡ restrictedRows (u .tableau .rows)
 
   shows : (g : Goal) (w : Work) (S : State) (z : Vec) → ReadsGoal g kind w S z → Shown w S
   shows g w S z H =
       let R = reads-of kind g w S z H in
-      record { basics = basic-is kind w (S .B) (S .R) (objOf g (S .o) z) (artOf g (S .o) z) R; rows = rows-are kind w (S .B) (S .R) (objOf g (S .o) z) (artOf g (S .o) z) R }
+      record { up = R .rows-up; basics = basic-is kind w (S .B) (S .R) (objOf g (S .o) z) (artOf g (S .o) z) R; rows = rows-are kind w (S .B) (S .R) (objOf g (S .o) z) (artOf g (S .o) z) R }
 
   -- a pass of m pivots and its moments: states of the theory, the first S, that the moments show
   pub record Traced (r : Rule) (m : ℕ) (at : ℕ → Option Work) (S : State) : Type 0 where
@@ -223,3 +225,17 @@ symbols-stay (suc i) (suc left) r w u q = go (turn r w) (outcomeBy r (suc left) 
     go t o (Step.stays k d) q ih = absurd (none≢some q)
     go t o (Step.not-finite p e k x) q ih = absurd (none≢some q)
     go t o (Step.pivots l e c) q ih = ih (countPivot (pivot (l .id) e w)) q ∙ counted-symbols (l .id) e w
+
+-- nor the number of rows
+pub rows-stay : (i left : ℕ) (r : Rule) (w u : Work) → later i left r w ≡ some u → length (u .tableau .rows) ≡ length (w .tableau .rows)
+unfolding later
+rows-stay zero left r w u q = ap (λ (v : Work). length (v .tableau .rows)) (sym (some-injective q))
+rows-stay (suc i) zero r w u q = absurd (none≢some q)
+rows-stay (suc i) (suc left) r w u q = go (turn r w) (outcomeBy r (suc left) w) (Rattle.stall.proofs.Turns.step left r w) q (λ v. rows-stay i left r v u)
+  where
+    go : (t : Option Work) (o : Outcome Work) → Step left r w t o → elim t as (λ x. Option Work) [ none ↦ none | some v ↦ later i left r v ] ≡ some u
+        → ((v : Work) → later i left r v ≡ some u → length (u .tableau .rows) ≡ length (v .tableau .rows)) → length (u .tableau .rows) ≡ length (w .tableau .rows)
+    go t o Step.rests q ih = absurd (none≢some q)
+    go t o (Step.stays k d) q ih = absurd (none≢some q)
+    go t o (Step.not-finite p e k x) q ih = absurd (none≢some q)
+    go t o (Step.pivots l e c) q ih = ih (countPivot (pivot (l .id) e w)) q ∙ pivot-rows (l .id) e w

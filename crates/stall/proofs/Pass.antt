@@ -16,7 +16,7 @@ use Rattle.simplex.specs.Search.{Asc}
 use Rattle.steps.specs.Number.{allWhole}
 use Rattle.steps.specs.Symbol.{Symbol}
 use Rattle.steps.specs.Work.{Work}
-use Rattle.bridge.specs.Finds.{none≢some}
+use Rattle.bridge.specs.Finds.{UpRows, none≢some}
 use Rattle.bridge.specs.Rows.{In}
 use Rattle.bridge.specs.Table.{ReadsWork}
 use Rattle.bridge.specs.Runs.{markOf, ReadsGoal, objOf, artOf, reads-of}
@@ -122,3 +122,7 @@ module _ (p : PassStart) (S : Starts p) (m : Unmarred p) where
   fewer =
       subst (λ (k : ℕ). pivotsOf p < k)
       (ap (λ (t : State). waysOf (p .work .tableau .symbols) (t .B)) (T .first) ∙ ways-are (S .kind) (p .work) (S .table .B) (S .table .R) o a R) (says .bound rs once start-basics later-basics)
+
+  -- the rows of a moment stand by ascending id, and are as many as at the start
+  pub moment-up : (i : ℕ) (u : Work) → moment i p ≡ some u → UpRows 0 (u .tableau .rows)
+  moment-up i u q = T .shown i u q .up

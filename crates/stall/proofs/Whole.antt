@@ -1,4 +1,4 @@
--- DEMAND 3. In a whole run no pass of an add, a removal or a suggestion holds the same basic symbols twice, each makes fewer pivots than there are ways to choose r of n, these ways are budget enough, and 16 is not given. Assumes nothing.
+-- DEMAND 3. In a whole run no pass of an add, a removal, a drop or a suggestion holds the same basic symbols twice, each makes fewer pivots than there are ways to choose r of n, these ways are budget enough, and 16 is not given. Assumes nothing.
 use Prim.Native.Nat.{ℕ, _≤_}
 use mathlib.Core.Path.{_≡_, refl}
 use mathlib.Core.Bool.{true, false}
@@ -16,11 +16,11 @@ use Rattle.steps.specs.Tests.{firstRefusal, addTests, addEditTests, keepConstra
 use Rattle.steps.specs.Calls.{Result, begin, finish, refusedBy, concludeAdd, add, addEdit}
 use Rattle.steps.specs.Changing as changing
 use Rattle.bridge.specs.Finds.{none≢some}
-use Rattle.run.specs.Demand.{ofConstraint, ofEdit, Call, resets, fetches, adds, removes, addsEdit, removesEdit, suggests, make, Moment, after}
+use Rattle.run.specs.Demand.{ofConstraint, ofEdit, Call, resets, fetches, adds, removes, drops, addsEdit, removesEdit, suggests, make, Moment, after}
 use Rattle.run.specs.Inv.{Inv}
 use Rattle.run.specs.AddMarks.{markAdded, whole-steps}
 use Rattle.run.specs.Add.{passed, not-above, ids-left, added-whole}
-use Rattle.run.specs.Run.{inv-before, marked-numbers}
+use Rattle.run.specs.Run.{after-reads, inv-before, marked-numbers}
 use Rattle.run.specs.AddEdit.{clip-up, whole-strength, one-term}
 use Rattle.stall.specs.Stall.{PassStart, addPasses, passesOf, budgetOf, Demand3, NeverStalls}
 use Rattle.stall.proofs.Pass.{Starts}
@@ -28,6 +28,7 @@ use Rattle.stall.proofs.Calls.{unmarred, demand-3}
 use Rattle.stall.proofs.AddStarts.{add-starts}
 use Rattle.stall.proofs.SuggestStarts.{suggest-starts}
 use Rattle.stall.proofs.RemoveStarts.{remove-starts, removeEdit-starts}
+use Rattle.stall.proofs.DropStarts.{drop-starts}
 
 -- ---- an add
 record Passes (ts : List Term) (r : Relation) (s : State) : Type 0 where
@@ -35,10 +36,11 @@ record Passes (ts : List Term) (r : Relation) (s : State) : Type 0 where
   few : length ts ≤ 16
   low : s .tableau .nextId ≤ 4_294_900_000
 
-passes : (n : ℕ) (ts : List Term) (k : Float) (r : Relation) (s : State) → firstRefusal (addTests n ts k r s) ≡ none → Passes ts r s
+passes : (g n : ℕ) (ts : List Term) (k : Float) (r : Relation) (s : State) → firstRefusal (addTests g n ts k r s) ≡ none → Passes ts r s
 unfolding addTests
-passes n ts k r s e =
-    let t₁ = passed _ _ e in
+passes g n ts k r s e =
+    let t₀ = passed _ _ e in
+    let t₁ = passed _ _ (t₀ .1) in
     let t₂ = passed _ _ (t₁ .1) in
     let t₃ = passed _ _ (t₂ .1) in
     let t₄ = passed _ _ (t₃ .1) in
@@ -47,20 +49,20 @@ passes n ts k r s e =
     let t₇ = passed _ _ (t₆ .1) in
     record { strength = t₂ .0; few = not-above 16 (length ts) (t₃ .0); low = ids-left s (t₇ .0) }
 
-adds-start : (m : Moment) → Inv m → (n : ℕ) (ts : List Term) (k : Float) (r : Relation) (b : ℕ) → make (adds n ts k r b) (m .state) .answer .whole ≡ true → All Starts (passesOf (adds n ts k r b) (m .state))
+adds-start : (m : Moment) → Inv m → (g n : ℕ) (ts : List Term) (k : Float) (r : Relation) (b : ℕ) → make (adds g n ts k r b) (m .state) .answer .whole ≡ true → All Starts (passesOf (adds g n ts k r b) (m .state))
 unfolding passesOf make add
-adds-start m I n ts k r b = go (firstRefusal (addTests n ts k r (m .state))) refl
+adds-start m I g n ts k r b = go (firstRefusal (addTests g n ts k r (m .state))) refl
   where
     next : Added → State
-    next a = finish (a .work) (keepConstraint (record { number = n; strength = strengthOf r; terms = keptTerms (m .state .tableau .cutoff) ts; tag = a .tag }) (m .state .constraints)) (m .state .edits)
+    next a = finish (a .work) (keepConstraint (record { number = n; group = g; strength = strengthOf r; terms = keptTerms (m .state .tableau .cutoff) ts; tag = a .tag }) (m .state .constraints)) (m .state .edits)
 
-    go : (o : Option ℕ) → firstRefusal (addTests n ts k r (m .state)) ≡ o
+    go : (o : Option ℕ) → firstRefusal (addTests g n ts k r (m .state)) ≡ o
         → (elim o as (λ x. Result) [ some x ↦ refusedBy x 0 (m .state .whole) (m .state) | none ↦ concludeAdd (m .state) (addSteps b ts k r (begin (m .state))) next ]) .answer .whole ≡ true
         → All Starts (elim o as (λ x. List PassStart) [ some x ↦ [] | none ↦ addPasses b ts k r (begin (m .state)) ])
     go (some x) e w = tt
     go none e w =
-        let P = passes n ts k r (m .state) e in
-        add-starts m I (record { key = ofConstraint n; terms = ts; constant = k; relation = r }) b (P .strength) (P .few) (P .low) (added-whole (m .state) (addSteps b ts k r (begin (m .state))) next w)
+        let P = passes g n ts k r (m .state) e in
+        add-starts m I (record { key = ofConstraint n; group = g; terms = ts; constant = k; relation = r }) b (P .strength) (P .few) (P .low) (added-whole (m .state) (addSteps b ts k r (begin (m .state))) next w)
 
 -- ---- an add edit
 
@@ -87,17 +89,18 @@ edit-start m I v k b = go (firstRefusal (addEditTests v (clip k) (m .state))) re
     go (some x) e w = tt
     go none e w =
         let q : markAdded (addSteps b (editTerms v) zero64 (equal (clip k)) (begin (m .state))) ≡ allWhole = added-whole (m .state) (addSteps b (editTerms v) zero64 (equal (clip k)) (begin (m .state))) next w in
-        add-starts m I (record { key = ofEdit v; terms = editTerms v; constant = zero64; relation = equal (clip k) }) b
+        add-starts m I (record { key = ofEdit v; group = 0; terms = editTerms v; constant = zero64; relation = equal (clip k) }) b
         (clip-up k (whole-strength (editTerms v) zero64 (clip k) (whole-steps b (editTerms v) zero64 (equal (clip k)) (begin (m .state)) q .inputs))) (one-term v) (edit-low v (clip k) (m .state) e) q
 
 -- ---- every call's passes start well, if its answer says yes
 module _ (cut : Float) (fits : cutoffFits cut ≡ true) where
-  starts : (cs : List Call) (c : Call) (b : ℕ) → budgetOf c ≡ some b → make c (after cut cs .state) .answer .whole ≡ true → All Starts (passesOf c (after cut cs .state))
+  pub starts : (cs : List Call) (c : Call) (b : ℕ) → budgetOf c ≡ some b → make c (after cut cs .state) .answer .whole ≡ true → All Starts (passesOf c (after cut cs .state))
   unfolding budgetOf make
   starts cs (resets z) b e w = absurd (none≢some e)
   starts cs fetches b e w = absurd (none≢some e)
-  starts cs (adds n ts k r x) b e w = adds-start (after cut cs) (inv-before cut fits (changing.adds n ts k r x) cs w) n ts k r x w
+  starts cs (adds g n ts k r x) b e w = adds-start (after cut cs) (inv-before cut fits (changing.adds g n ts k r x) cs w) g n ts k r x w
   starts cs (removes n x) b e w = remove-starts (after cut cs) (inv-before cut fits (changing.removes n x) cs w) n x (unmarred b (removes n x) (after cut cs .state) e w)
+  starts cs (drops g x) b e w = drop-starts (after cut cs) (inv-before cut fits (changing.drops g x) cs w) (after-reads cut fits cs) g x w (unmarred b (drops g x) (after cut cs .state) e w)
   starts cs (addsEdit v k x) b e w = edit-start (after cut cs) (inv-before cut fits (changing.addsEdit v k x) cs w) v k x w
   starts cs (removesEdit v x) b e w = removeEdit-starts (after cut cs) (inv-before cut fits (changing.removesEdit v x) cs w) v x (unmarred b (removesEdit v x) (after cut cs .state) e w)
   starts cs (suggests v k x) b e w = suggest-starts (after cut cs) (inv-before cut fits (changing.suggests v k x) cs w) v k x (unmarred b (suggests v k x) (after cut cs .state) e w)

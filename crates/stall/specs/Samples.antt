@@ -11,7 +11,7 @@ use Rattle.steps.specs.Readable.{concat}
 use Rattle.steps.specs.Session.{sameNumbers}
 use Rattle.steps.specs.Twelve.{num, minus, x, openTwelve}
 use Rattle.run.specs.Demand.{Call, adds, removes, addsEdit, suggests, make, accepted, liveAfter, next, start, after}
-use Rattle.stall.specs.Stall.{PassStart, chosen, goesOn, turn, pivotsFrom, pivotsOf, restrictedRows, restrictedSymbols, ways, objectivePass, artificialPass, addPasses, removePasses, suggestPasses, passesOf}
+use Rattle.stall.specs.Stall.{PassStart, chosen, goesOn, turn, pivotsFrom, pivotsOf, restrictedRows, restrictedSymbols, ways, objectivePass, artificialPass, addPasses, removePasses, dropPasses, suggestPasses, passesOf}
 
 -- n, r, the ways, the pivots
 unfoldable pub figures : PassStart → List ℕ
@@ -23,11 +23,11 @@ figuresOf before c = concat (map figures (passesOf c (after usualCutoff before .
 
 -- constraint c: x related to n
 unfoldable pub xIs : ℕ → (Float → Relation) → ℕ → Float → Call
-xIs c relation n strength = adds c (x ∷ []) (minus n) (relation strength) 10
+xIs c relation n strength = adds 1 c (x ∷ []) (minus n) (relation strength) 10
 
 -- the key: unfolds this module and what it computes with
 unfoldable pub openSamples : Unit {0}
-unfolding openTwelve choose make accepted liveAfter next start after chosen goesOn turn pivotsFrom pivotsOf restrictedRows restrictedSymbols ways objectivePass artificialPass addPasses removePasses suggestPasses passesOf figures figuresOf xIs
+unfolding openTwelve choose make accepted liveAfter next start after chosen goesOn turn pivotsFrom pivotsOf restrictedRows restrictedSymbols ways objectivePass artificialPass addPasses removePasses dropPasses suggestPasses passesOf figures figuresOf xIs
 openSamples = tt
 
 -- x ≤ 8, then x = 5, both required. Step 6's pass has the slack, the dummy and the temporary, which alone of them is basic; it makes one pivot. Then the temporary is gone, and step 7's makes none.
@@ -51,6 +51,6 @@ unfolding openSamples
 dragged-past = tt
 
 -- x ≥ -3, and x ≥ 0 at 1, then x dragged to -11: two rows are below 0. The lower id leaves first, and two pivots are made; with the higher first it would be one.
-pub two-below : T (sameNumbers (figuresOf (adds 7 (x ∷ []) (num 0) (atLeast (num 1)) 10 ∷ adds 6 (x ∷ []) (num 3) (atLeast required) 10 ∷ addsEdit 1 (num 1) 10 ∷ []) (suggests 1 (minus 11) 10)) (5 ∷ 2 ∷ 10 ∷ 2 ∷ []))
+pub two-below : T (sameNumbers (figuresOf (adds 1 7 (x ∷ []) (num 0) (atLeast (num 1)) 10 ∷ adds 1 6 (x ∷ []) (num 3) (atLeast required) 10 ∷ addsEdit 1 (num 1) 10 ∷ []) (suggests 1 (minus 11) 10)) (5 ∷ 2 ∷ 10 ∷ 2 ∷ []))
 unfolding openSamples
 two-below = tt

@@ -1,5 +1,5 @@
 -- Demand 3 in the documents' words, for a reader who knows Cassowary and not antt: document 01's of adds and removals, document 02's T-11 of drags. An
--- add optimises in one or two passes, a removal in one, a suggestion makes a dual pass. A pass is pivots by the steps' own rule, one after the other:
+-- add optimises in one or two passes, a removal in one, a drop in one for each of its removals (T-05), a suggestion makes a dual pass. A pass is pivots by the steps' own rule, one after the other:
 -- `choosePivot` or `chooseDualPivot` finds what enters and what leaves, `countedPivot` makes the pivot and counts it. Its moments are the work before
 -- its first pivot and after each of them. `passesOf` gives the passes of a call, each by where it starts, in the steps' own words and with the call's
 -- own budget. Of every add, removal and suggestion of a whole run it is then said: no two moments of a pass have the same set of basic symbols; a pass
@@ -12,12 +12,13 @@ use mathlib.Core.Logic.{_⊎_, _≢_}
 use mathlib.Core.Bool.{Bool, true, false}
 use mathlib.Core.List.{List, [], _∷_, _++_}
 use mathlib.Core.Option.{Option, none, some}
+use lib.Dec.{eqb}
 use lib.Ieee.{Float}
 use Rattle.simplex.specs.Choose.{choose, All}
 use Rattle.steps.specs.Number.{zero64, cutoffFits, _-₆₄_, constantBound, isFinite, wholeIf}
 use Rattle.steps.specs.Strength.{clip}
 use Rattle.steps.specs.Symbol.{Slack, Symbol, isRestricted}
-use Rattle.steps.specs.State.{Term, Relation, equal, Tag, Basic, Edit, State}
+use Rattle.steps.specs.State.{Term, Relation, equal, Tag, Basic, Constraint, Edit, State}
 use Rattle.steps.specs.Work.{Work, Outcome, refused, going, _>>=_, checkFinite, marking, findRow, newSymbol}
 use Rattle.steps.specs.CreateRow.{Created, createRow, chooseSubject, allDummies}
 use Rattle.steps.specs.Optimise.{Goal, theObjective, theArtificial, Choice, ended, stuck, pivotOn, choosePivot, countedPivot, optimise, chooseDualPivot, dualOptimise}
@@ -25,9 +26,9 @@ use Rattle.steps.specs.Artificial.{standTemporary}
 use Rattle.steps.specs.Add.{wholeInputs, wholeWithin, addCreated}
 use Rattle.steps.specs.Remove.{removeConstraintEffects, dropMarker, purgeTag}
 use Rattle.steps.specs.Edit.{editTerms, shiftConstants}
-use Rattle.steps.specs.Tests.{firstRefusal, addTests, addEditTests, findConstraint, findEdit}
-use Rattle.steps.specs.Calls.{begin}
-use Rattle.run.specs.Demand.{Call, resets, fetches, adds, removes, addsEdit, removesEdit, suggests, make, after, Whole}
+use Rattle.steps.specs.Tests.{firstRefusal, addTests, addEditTests, dropTests, groupOf, findConstraint, findEdit}
+use Rattle.steps.specs.Calls.{Result, begin, removeStored}
+use Rattle.run.specs.Demand.{Call, resets, fetches, adds, removes, drops, addsEdit, removesEdit, suggests, make, after, Whole}
 
 -- ---- a pass
 
@@ -149,6 +150,14 @@ addPasses budget terms constant relation w =
 unfoldable pub removePasses : ℕ → Tag → Float → Work → List PassStart
 removePasses budget tag strength w = objectivePass budget (purgeTag tag) (checkFinite (removeConstraintEffects tag strength w) >>= dropMarker (tag .marker))
 
+-- the passes of removals one after the other: a removal's, and if it is accepted those of the others, with what it left of the budget
+unfoldable pub dropPasses : List Constraint → ℕ → State → List PassStart
+dropPasses [] budget s = []
+dropPasses (c ∷ cs) budget s =
+    let r : Result = removeStored (c .number) c budget s in
+    removePasses budget (c .tag) (c .strength) (begin s)
+    ++ elim (eqb (r .answer .number) 0) [ false ↦ [] | true ↦ dropPasses cs (budget - r .answer .pivots) (r .state) ]
+
 -- Suggest's dual pass, from the rows that the new value has shifted; none where a number is not finite
 unfoldable pub suggestPasses : ℕ → Edit → Float → Work → List PassStart
 suggestPasses budget e new w =
@@ -159,20 +168,22 @@ suggestPasses budget e new w =
 unfoldable pub passesOf : Call → State → List PassStart
 passesOf (resets z) s = []
 passesOf fetches s = []
-passesOf (adds n ts k r b) s = elim (firstRefusal (addTests n ts k r s)) [ some x ↦ [] | none ↦ addPasses b ts k r (begin s) ]
+passesOf (adds g n ts k r b) s = elim (firstRefusal (addTests g n ts k r s)) [ some x ↦ [] | none ↦ addPasses b ts k r (begin s) ]
 passesOf (removes n b) s = elim (findConstraint n (s .constraints)) [ none ↦ [] | some c ↦ removePasses b (c .tag) (c .strength) (begin s) ]
+passesOf (drops g b) s = elim (firstRefusal (dropTests g s)) [ some x ↦ [] | none ↦ dropPasses (groupOf g (s .constraints)) b s ]
 passesOf (addsEdit v k b) s =
     elim (firstRefusal (addEditTests v (clip k) s)) [ some x ↦ [] | none ↦ addPasses b (editTerms v) zero64 (equal (clip k)) (begin s) ]
 passesOf (removesEdit v b) s = elim (findEdit v (s .edits)) [ none ↦ [] | some e ↦ removePasses b (e .tag) (e .strength) (begin s) ]
 passesOf (suggests v x b) s =
     elim (isFinite x) [ false ↦ [] | true ↦ elim (findEdit v (s .edits)) [ none ↦ [] | some e ↦ suggestPasses b e x (begin s) ] ]
 
--- an add or a removal, of a constraint or an edit, or a suggestion, with its budget
+-- an add or a removal, of a constraint, an edit or a group, or a suggestion, with its budget
 unfoldable pub budgetOf : Call → Option ℕ
 budgetOf (resets z) = none
 budgetOf fetches = none
-budgetOf (adds n ts k r b) = some b
+budgetOf (adds g n ts k r b) = some b
 budgetOf (removes n b) = some b
+budgetOf (drops g b) = some b
 budgetOf (addsEdit v k b) = some b
 budgetOf (removesEdit v b) = some b
 budgetOf (suggests v x b) = some b
@@ -216,6 +227,21 @@ abbrev pub NeverStalls : Type 0
 NeverStalls =
     (cutoff : Float) → cutoffFits cutoff ≡ true
     → (cs : List Call) (c : Call) (b : ℕ) → budgetOf c ≡ some b → Whole cutoff (c ∷ cs) → Demand3 b c (after cutoff cs .state)
+
+-- ---- a drop, all its passes together
+
+-- two passes hold no set of basic symbols in common
+abbrev pub Different : PassStart → PassStart → Type 0
+Different p q = (i j : ℕ) (u v : Work) → moment i p ≡ some u → moment j q ≡ some v → SameBasics u v → ⊥
+
+-- no set of basic symbols comes twice, within a pass or in two of them
+abbrev pub NoSetTwice : List PassStart → Type 0
+NoSetTwice [] = Unit
+NoSetTwice (p ∷ ps) = NoReturn p × All (Different p) ps × NoSetTwice ps
+
+-- "Demand 3 reads over the passes of all the removals together, and demand 2's least error holds at the end of the drop."
+abbrev pub NeverReturns : Type 0
+NeverReturns = (cutoff : Float) → cutoffFits cutoff ≡ true → (cs : List Call) (g b : ℕ) → Whole cutoff (drops g b ∷ cs) → NoSetTwice (passesOf (drops g b) (after cutoff cs .state))
 
 -- ---- these are the call's passes: said of every call, whole or not
 

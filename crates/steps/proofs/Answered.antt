@@ -1,20 +1,23 @@
 -- The three ways in which a changing call answers, on every input. Assumes nothing.
-use Prim.Native.Nat.{ℕ}
+use Prim.Native.Nat.{ℕ, zero, suc, _+_, _-_}
 use native.Mathlib.Omega.{arith}
-use mathlib.Core.Path.{_≡_, refl, ap}
+use mathlib.Core.Path.{_≡_, refl, ap, _∙_, subst}
 use mathlib.Core.Bool.{Bool, true, false, cond}
-use mathlib.Core.List.{List}
+use mathlib.Core.List.{List, [], _∷_}
 use mathlib.Core.Option.{Option, none, some}
+use lib.Dec.{T, eqb, eqb·suc-zero}
 use lib.Ieee.{Float}
 use Rattle.steps.specs.Number.{isFinite, Mark, allWhole, notWhole, saysWhole}
 use Rattle.steps.specs.Strength.{clip}
 use Rattle.steps.specs.State.{Term, Relation, equal, Constraint, Edit, State}
 use Rattle.steps.specs.Work.{Work, Outcome}
 use Rattle.steps.specs.Add.{Added}
+use Rattle.steps.specs.Remove.{removeSteps}
 use Rattle.steps.specs.Edit.{editTerms, addEditSteps}
-use Rattle.steps.specs.Tests.{member, firstRefusal, hasConstraint, hasEdit, addTests, addEditTests, findConstraint, findEdit}
-use Rattle.steps.specs.Calls.{Result, begin, finish, refusedBy, acceptedAs, conclude, concludeAdd, add, remove, addEdit, removeEdit, suggest}
-use Rattle.steps.specs.Changing.{Changing, adds, removes, addsEdit, removesEdit, suggests, made, budgetOf, tests, stepNumbers, Stores}
+use Rattle.steps.specs.Tests.{member, firstRefusal, hasConstraint, hasEdit, addTests, addEditTests, dropTests, groupOf, findConstraint, dropConstraint, findEdit}
+use Rattle.steps.specs.Calls.{Result, begin, finish, refusedBy, acceptedAs, conclude, concludeAdd, add, removeStored, remove, onward, removeAll, allOrNone, dropGroup, addEdit, removeEdit, suggest}
+use Rattle.steps.specs.Changing.{Changing, adds, removes, drops, dropEach, addsEdit, removesEdit, suggests, made, budgetOf, tests, stepNumbers, Stores}
+use Rattle.steps.proofs.After.{says-whole}
 use Rattle.steps.proofs.Ends.{Bounds, Within, Stopped, Ends, stops, goes}
 use Rattle.steps.proofs.Steps.{addSteps-ends, removeSteps-ends, suggestSteps-ends}
 
@@ -65,11 +68,11 @@ tested c s (some n) e r h = byTest n e
 
 -- ---- the five calls
 
-add-answered : (n : ℕ) (ts : List Term) (k : Float) (r : Relation) (b : ℕ) (s : State) → Answered (adds n ts k r b) s (add n ts k r b s)
+add-answered : (g n : ℕ) (ts : List Term) (k : Float) (r : Relation) (b : ℕ) (s : State) → Answered (adds g n ts k r b) s (add g n ts k r b s)
 unfolding add member
-add-answered n ts k r b s =
-    tested (adds n ts k r b) s (firstRefusal (addTests n ts k r s)) refl _
-    λ e. concludedAdd (adds n ts k r b) s _ _ _ e (λ a. (a .tag, refl, refl)) (addSteps-ends {lim = bounds (adds n ts k r b) s} tt tt tt tt ts k r (begin s) (begins (adds n ts k r b) s))
+add-answered g n ts k r b s =
+    tested (adds g n ts k r b) s (firstRefusal (addTests g n ts k r s)) refl _
+    λ e. concludedAdd (adds g n ts k r b) s _ _ _ e (λ a. (a .tag, refl, refl)) (addSteps-ends {lim = bounds (adds g n ts k r b) s} tt tt tt tt ts k r (begin s) (begins (adds g n ts k r b) s))
 
 -- a live number is one that is found
 constraint-test : (n : ℕ) (s : State) (o : Option Constraint) → findConstraint n (s .constraints) ≡ o → hasConstraint n s ≡ elim o [ none ↦ false | some c ↦ true ]
@@ -81,13 +84,86 @@ unfolding hasEdit
 edit-test n s o e = rw (e, hasEdit)
 
 remove-answered : (n b : ℕ) (s : State) → Answered (removes n b) s (remove n b s)
-unfolding remove firstRefusal member
+unfolding remove removeStored firstRefusal member
 remove-answered n b s = go (findConstraint n (s .constraints)) refl
   where
     go : (o : Option Constraint) → findConstraint n (s .constraints) ≡ o → Answered (removes n b) s (remove n b s)
     go none e = rw (e, remove) (byTest 5 (rw (constraint-test n s none e)))
     go (some c) e =
         rw (e, remove) (concluded (removes n b) s _ _ _ (rw (constraint-test n s (some c) e)) (refl, refl) (removeSteps-ends {lim = bounds (removes n b) s} tt tt tt tt (c .tag) (c .strength) (c .terms) (begin s) (begins (removes n b) s)))
+
+-- ---- removals one after the other
+
+-- what the steps of a removal with this budget are held to
+abbrev pub limits : ℕ → State → Bounds
+limits b s = record { budget = b; stored = s .whole; cutoff = s .tableau .cutoff; numbers = 13 ∷ 14 ∷ 15 ∷ 17 ∷ [] }
+
+pub starts : (b : ℕ) (s : State) → Within (limits b s) (begin s)
+unfolding begin saysWhole
+starts b s = record { spent = omega arith; mark = go (s .whole); cutoff = refl }
+  where
+    go : (b : Bool) → cond b allWhole notWhole ≡ allWhole → b ≡ true
+    go true e = refl
+    go false e = ap saysWhole e
+
+finish-begin : (s : State) → finish (begin s) (s .constraints) (s .edits) ≡ s
+unfolding finish begin
+finish-begin s = ap (λ (b : Bool). record { tableau = s .tableau; changes = s .changes; constraints = s .constraints; edits = s .edits; whole = b }) (go (s .whole))
+  where
+    go : (b : Bool) → saysWhole (cond b allWhole notWhole) ≡ b
+    go true = unfold saysWhole in refl
+    go false = unfold saysWhole in refl
+
+-- how they end: one refuses, or all are made, and what the last one's steps came to is stored, with all their pivots
+data AllRemoved (b : ℕ) (ds : List Constraint) (s : State) : Result → Type 0 where
+  stopped : (n p : ℕ) (m : Mark) (t : State) → Stopped (limits b s) n p m → AllRemoved b ds s (refusedBy n p (saysWhole m) t)
+  went : (w : Work) → Within (limits b s) w → AllRemoved b ds s (acceptedAs w (finish w (dropEach ds (s .constraints)) (s .edits)))
+
+steps-above-zero : (n : ℕ) → T (member n (13 ∷ 14 ∷ 15 ∷ 17 ∷ [])) → eqb n 0 ≡ false
+unfolding member
+steps-above-zero zero t = absurd t
+steps-above-zero (suc n) t = eqb·suc-zero n
+
+-- a removal, then the others from the state that it leaves
+removed-then : (d : Constraint) (ds : List Constraint) (b : ℕ) (s : State) (w : Work) → Within (limits b s) w → {q : Result}
+    → AllRemoved (b - w .pivots) ds (finish w (dropConstraint (d .number) (s .constraints)) (s .edits)) q
+    → AllRemoved b (d ∷ ds) s (record { answer = record { number = q .answer .number; pivots = w .pivots + q .answer .pivots; whole = q .answer .whole }; state = q .state })
+unfolding refusedBy acceptedAs finish dropEach
+removed-then d ds b s w h (stopped n p m t k) =
+    stopped n (w .pivots + p) m t (record {
+      listed = k .listed;
+      spent = omega (arith, h .spent, k .spent);
+      used = λ e. omega (arith, h .spent, k .used e);
+      lost = k .lost;
+      mark = λ e. h .mark (says-whole (w .mark) (k .mark e));
+    })
+removed-then d ds b s w h (went v k) =
+    went (record { tableau = v .tableau; changes = v .changes; artificial = v .artificial; mark = v .mark; pivots = w .pivots + v .pivots })
+    (record { spent = omega (arith, h .spent, k .spent); mark = λ e. h .mark (says-whole (w .mark) (k .mark e)); cutoff = k .cutoff ∙ h .cutoff })
+
+removes-all : (ds : List Constraint) (b : ℕ) (s : State) → AllRemoved b ds s (removeAll ds b s)
+unfolding removeAll removeStored onward conclude refusedBy acceptedAs finish begin dropEach member
+removes-all [] b s = subst (AllRemoved b [] s) (ap (λ (t : State). record { answer = record { number = 0; pivots = 0; whole = t .whole }; state = t }) (finish-begin s)) (went (begin s) (starts b s))
+removes-all (d ∷ ds) b s = go (removeSteps b (d .tag) (d .strength) (d .terms) (begin s)) (removeSteps-ends {lim = limits b s} tt tt tt tt (d .tag) (d .strength) (d .terms) (begin s) (starts b s)) (λ c t. removes-all ds c t)
+  where
+    next : Work → State
+    next w = finish w (dropConstraint (d .number) (s .constraints)) (s .edits)
+
+    after : Outcome Work → Result
+    after o = onward (conclude s o next) (removeAll ds (b - conclude s o next .answer .pivots) (conclude s o next .state))
+
+    go : (o : Outcome Work) → Ends (limits b s) (Within (limits b s)) o → ((c : ℕ) (t : State) → AllRemoved c ds t (removeAll ds c t)) → AllRemoved b (d ∷ ds) s (after o)
+    go o (stops {n = n} {p = p} {m = m} h) on = rw (steps-above-zero n (h .listed), onward) (stopped n p m s h)
+    go o (goes {a = w} h) on = removed-then d ds b s w h (on (b - w .pivots) (next w))
+
+drop-answered : (g b : ℕ) (s : State) → Answered (drops g b) s (dropGroup g b s)
+unfolding dropGroup allOrNone refusedBy acceptedAs
+drop-answered g b s = tested (drops g b) s (firstRefusal (dropTests g s)) refl _ λ e. go e (removes-all (groupOf g (s .constraints)) b s)
+  where
+    go : firstRefusal (dropTests g s) ≡ none → {r : Result} → AllRemoved b (groupOf g (s .constraints)) s r
+        → Answered (drops g b) s (elim (eqb (r .answer .number) 0) as (λ _. Result) [ true ↦ r | false ↦ refusedBy (r .answer .number) (r .answer .pivots) (r .answer .whole) s ])
+    go e (stopped n p m t h) = rw (steps-above-zero n (h .listed)) (bySteps n p m e h)
+    go e (went w h) = accepts w (dropEach (groupOf g (s .constraints)) (s .constraints)) (s .edits) e h (refl, refl)
 
 addEdit-answered : (n : ℕ) (k : Float) (b : ℕ) (s : State) → Answered (addsEdit n k b) s (addEdit n k b s)
 unfolding addEdit addEditSteps member
@@ -116,8 +192,9 @@ suggest-answered n x b s = go (isFinite x) refl (findEdit n (s .edits)) refl
 
 -- every changing call answers in one of the three ways
 pub answered : (c : Changing) (s : State) → Answered c s (made c s)
-answered (adds n ts k r b) s = add-answered n ts k r b s
+answered (adds g n ts k r b) s = add-answered g n ts k r b s
 answered (removes n b) s = remove-answered n b s
+answered (drops g b) s = drop-answered g b s
 answered (addsEdit n k b) s = addEdit-answered n k b s
 answered (removesEdit n b) s = removeEdit-answered n b s
 answered (suggests n x b) s = suggest-answered n x b s

@@ -1,26 +1,27 @@
 -- The mark of an answer against the stored one. Assumes nothing.
-use Prim.Native.Nat.{_≤_}
+use Prim.Native.Nat.{ℕ}
 use native.Mathlib.Omega.{arith}
-use mathlib.Core.Path.{_≡_, refl, ap}
+use mathlib.Core.Path.{_≡_, refl, ap, subst}
 use mathlib.Core.Logic.{_≢_}
-use mathlib.Core.Bool.{true, false}
+use mathlib.Core.Bool.{true, false, not}
+use lib.Dec.{T}
 use Rattle.steps.specs.Number.{saysWhole}
 use Rattle.steps.specs.State.{State}
 use Rattle.steps.specs.Calls.{Result, finish, refusedBy, acceptedAs}
 use Rattle.steps.specs.Changing.{Changing, made}
 use Rattle.steps.proofs.After.{says-whole}
 use Rattle.steps.proofs.Answered.{Answered, byTest, bySteps, accepts, answered}
-use Rattle.steps.proofs.Numbers.{test-number, step-number}
+use Rattle.steps.proofs.Numbers.{ofSteps, test-number, step-number, steps-number}
 
--- "A refusal answers the stored mark, or no on 18 or if the steps taken weren't all whole.": a refusal before the steps, 1 to 11, answers the stored mark, and no pivot.
-pub before-the-steps : (c : Changing) (s : State) → made c s .answer .number ≢ 0 → made c s .answer .number ≤ 11
+-- "A refusal answers the stored mark, or no on 18 or if the steps taken weren't all whole.": a refusal before the steps, which is none of 12 to 17, answers the stored mark, and no pivot.
+pub before-the-steps : (c : Changing) (s : State) → made c s .answer .number ≢ 0 → T (not (ofSteps (made c s .answer .number)))
     → (made c s .answer .whole ≡ s .whole) × (made c s .answer .pivots ≡ 0)
 unfolding refusedBy acceptedAs
 before-the-steps c s = go (answered c s)
   where
-    go : {r : Result} → Answered c s r → r .answer .number ≢ 0 → r .answer .number ≤ 11 → (r .answer .whole ≡ s .whole) × (r .answer .pivots ≡ 0)
+    go : {r : Result} → Answered c s r → r .answer .number ≢ 0 → T (not (ofSteps (r .answer .number))) → (r .answer .whole ≡ s .whole) × (r .answer .pivots ≡ 0)
     go (byTest n e) h b = (refl, refl)
-    go (bySteps n p m e x) h b = absurd (omega (arith, b, step-number c n (x .listed) .0))
+    go (bySteps n p m e x) h b = absurd (steps-number c n (x .listed) b)
     go (accepts v cs es e w k) h b = absurd (h refl)
 
 -- "or no on 18 or if the steps taken weren't all whole": accepted or refused, in the steps or before them, an answer says yes only if the stored mark does.
@@ -69,6 +70,6 @@ unfolding refusedBy acceptedAs saysWhole
 not-finite-says-no c s = go (answered c s)
   where
     go : {r : Result} → Answered c s r → r .answer .number ≡ 13 → r .answer .whole ≡ false
-    go (byTest n e) h = absurd (omega (arith, h, test-number c s n e .1))
+    go (byTest n e) h = absurd (subst (λ (k : ℕ). T (not (ofSteps k))) h (test-number c s n e .1))
     go (bySteps n p m e x) h = ap saysWhole (x .lost h)
     go (accepts v cs es e w k) h = absurd (omega (arith, h))

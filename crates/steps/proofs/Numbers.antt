@@ -1,16 +1,16 @@
 -- Which numbers a call answers, and when. Assumes nothing.
 use Prim.Native.Nat.{ℕ, _≤_}
-use native.Mathlib.Omega.{arith}
 use mathlib.Core.Path.{_≡_, refl, sym, ap, _∙_, subst}
 use mathlib.Core.Logic.{_≢_}
-use mathlib.Core.Bool.{Bool, true, false, _&&_, _||_}
+use mathlib.Core.Bool.{Bool, true, false, not, _&&_, _||_}
 use mathlib.Core.List.{List, [], _∷_, _++_, map}
 use mathlib.Core.Option.{none, some, Option·some-injective, Option·none-ne-some}
-use lib.Dec.{T, leb, leb→le, eqb, eqb→eq, eqb-refl}
+use lib.Dec.{T, T-not, leb, leb→le, le→leb, eqb, eqb→eq, eqb-refl}
+use lib.Ieee.Fits.{and-i}
 use Rattle.steps.specs.State.{State}
-use Rattle.steps.specs.Tests.{Test, firstRefusal, addTests, addEditTests, member}
+use Rattle.steps.specs.Tests.{Test, firstRefusal, addTests, addEditTests, dropTests, member}
 use Rattle.steps.specs.Calls.{Result, refusedBy, acceptedAs}
-use Rattle.steps.specs.Changing.{Changing, adds, removes, addsEdit, removesEdit, suggests, made, tests, testNumbers, stepNumbers}
+use Rattle.steps.specs.Changing.{Changing, adds, removes, drops, addsEdit, removesEdit, suggests, made, tests, testNumbers, stepNumbers}
 use Rattle.steps.proofs.Answered.{Answered, byTest, bySteps, accepts, answered}
 
 -- ---- lists of numbers
@@ -58,9 +58,10 @@ or-either n (x ∷ xs) ys m = go (eqb n x) (or-either n xs ys m)
 
 -- they are the same whatever comes in
 tests-numbers : (c : Changing) (s : State) → map (λ (t : Test). t .number) (tests c s) ≡ testNumbers c
-unfolding addTests addEditTests
-tests-numbers (adds n ts k r b) s = refl
+unfolding addTests addEditTests dropTests
+tests-numbers (adds g n ts k r b) s = refl
 tests-numbers (removes n b) s = refl
+tests-numbers (drops g b) s = refl
 tests-numbers (addsEdit n k b) s = refl
 tests-numbers (removesEdit n b) s = refl
 tests-numbers (suggests n x b) s = refl
@@ -81,14 +82,19 @@ first-listed n (t ∷ ts) e = go (t .fails) e (first-listed n ts) (eqb n (t .num
 pub test-listed : (c : Changing) (s : State) (n : ℕ) → firstRefusal (tests c s) ≡ some n → T (member n (testNumbers c))
 test-listed c s n e = subst (λ (ns : List ℕ). T (member n ns)) (tests-numbers c s) (first-listed n (tests c s) e)
 
--- the tests' numbers are 1 to 11
-pub test-number : (c : Changing) (s : State) (n : ℕ) → firstRefusal (tests c s) ≡ some n → (1 ≤ n) × (n ≤ 11)
+-- 12 to 17, which the steps alone give
+abbrev pub ofSteps : ℕ → Bool
+ofSteps n = leb 12 n && leb n 17
+
+-- the tests' numbers are others, and not 0
+pub test-number : (c : Changing) (s : State) (n : ℕ) → firstRefusal (tests c s) ≡ some n → (1 ≤ n) × T (not (ofSteps n))
 unfolding every
-test-number c s n e = between 1 11 n (testNumbers c) (go c) (test-listed c s n e)
+test-number c s n e = (leb→le 1 n (listed (leb 1) n (testNumbers c) (go c .0) (test-listed c s n e)), listed (λ k. not (ofSteps k)) n (testNumbers c) (go c .1) (test-listed c s n e))
   where
-    go : (c : Changing) → T (every (leb 1) (testNumbers c)) × T (every (λ k. leb k 11) (testNumbers c))
-    go (adds n ts k r b) = (tt, tt)
+    go : (c : Changing) → T (every (leb 1) (testNumbers c)) × T (every (λ k. not (ofSteps k)) (testNumbers c))
+    go (adds g n ts k r b) = (tt, tt)
     go (removes n b) = (tt, tt)
+    go (drops g b) = (tt, tt)
     go (addsEdit n k b) = (tt, tt)
     go (removesEdit n b) = (tt, tt)
     go (suggests n x b) = (tt, tt)
@@ -99,8 +105,9 @@ unfolding every
 step-number c n m = between 12 17 n (stepNumbers c) (go c) m
   where
     go : (c : Changing) → T (every (leb 12) (stepNumbers c)) × T (every (λ k. leb k 17) (stepNumbers c))
-    go (adds n ts k r b) = (tt, tt)
+    go (adds g n ts k r b) = (tt, tt)
     go (removes n b) = (tt, tt)
+    go (drops g b) = (tt, tt)
     go (addsEdit n k b) = (tt, tt)
     go (removesEdit n b) = (tt, tt)
     go (suggests n x b) = (tt, tt)
@@ -116,14 +123,18 @@ refused-by-test c s n t = go (answered c s)
     go (bySteps k p m e x) = absurd (Option·none-ne-some n (sym e ∙ t))
     go (accepts v cs es e w k) = absurd (Option·none-ne-some n (sym e ∙ t))
 
--- "given exactly if": 1 to 11 are given only by a test that is the first to fail.
-pub given-by-test : (c : Changing) (s : State) → made c s .answer .number ≢ 0 → made c s .answer .number ≤ 11 → firstRefusal (tests c s) ≡ some (made c s .answer .number)
+-- a number of the steps is one of 12 to 17
+pub steps-number : (c : Changing) (n : ℕ) → T (member n (stepNumbers c)) → T (not (ofSteps n)) → ⊥
+steps-number c n m o = let b = step-number c n m in T-not (ofSteps n) o (and-i (leb 12 n) (leb n 17) (le→leb 12 n (b .0)) (le→leb n 17 (b .1)))
+
+-- "given exactly if": 1 to 11, 26 and 27 are given only by a test that is the first to fail.
+pub given-by-test : (c : Changing) (s : State) → made c s .answer .number ≢ 0 → T (not (ofSteps (made c s .answer .number))) → firstRefusal (tests c s) ≡ some (made c s .answer .number)
 unfolding refusedBy acceptedAs
 given-by-test c s = go (answered c s)
   where
-    go : {r : Result} → Answered c s r → r .answer .number ≢ 0 → r .answer .number ≤ 11 → firstRefusal (tests c s) ≡ some (r .answer .number)
+    go : {r : Result} → Answered c s r → r .answer .number ≢ 0 → T (not (ofSteps (r .answer .number))) → firstRefusal (tests c s) ≡ some (r .answer .number)
     go (byTest n e) h b = e
-    go (bySteps n p m e x) h b = absurd (omega (arith, b, step-number c n (x .listed) .0))
+    go (bySteps n p m e x) h b = absurd (steps-number c n (x .listed) b)
     go (accepts v cs es e w k) h b = absurd (h refl)
 
 -- "Then steps; 12 to 17 come from the first step that meets one.": if no test fails, the call is accepted, or refused by a number of its steps.

@@ -1,3 +1,4 @@
+-- "One head unit reports in millimetres, another in metres, and 1E-8 isn't right for both."
 -- Sessions that tell one cutoff from another, with numbers between 1E-8 and 1E-6 wherever near zero decides; and the range that reset takes.
 use Prim.Native.Nat.{ℕ}
 use mathlib.Core.Path.{_≡_, refl}
@@ -38,7 +39,7 @@ times v k = record { variable = v; coefficient = k }
 
 -- constraint c: these terms plus k are 0, required
 unfoldable pub sum : ℕ → List Term → Float → Call
-sum c ts k = adds c ts k (equal required) 10
+sum c ts k = adds 1 c ts k (equal required) 10
 
 -- a session at 1E-6, where 5E-7 is near zero, and at 1E-8, where it is not
 unfoldable pub bothWays : (Bool → List Expected) → List (List Expected)
@@ -79,7 +80,7 @@ dummies near = sum 1 [] small gives answer (cond near 0 12) 0 false ∷ []
 -- "Its constant not near zero: refuse 12.": x at most 0, then x at least 5E-7
 unfoldable pub artificial : Bool → List Expected
 artificial near =
-    xIs 1 atMost 0 required 10 gives answer 0 0 true ∷ adds 2 (x ∷ []) (neg small) (atLeast required) 10 gives answer (cond near 0 12) 0 false ∷ []
+    xIs 1 atMost 0 required 10 gives answer 0 0 true ∷ adds 1 2 (x ∷ []) (neg small) (atLeast required) 10 gives answer (cond near 0 12) 0 false ∷ []
 
 -- "in the objective with the strength": x at least 3, then x = 5 at 5E-7
 unfoldable pub weighed : Bool → List Expected

@@ -20,7 +20,7 @@ use Rattle.steps.specs.Tests.{keepConstraint, keepEdit}
 use Rattle.keeps.specs.Lists.{All}
 use Rattle.terms.specs.declared.Pack.{Pack}
 use Rattle.terms.specs.Terms as terms
-use Rattle.sparse.specs.Places.{mostConstraints, mostTerms, constraintNumbersAt, constraintMarkersAt, constraintOthersAt, termCountsAt, editVariablesAt, editMarkersAt, editOthersAt, termsAt, constraintStrengthsAt, editStrengthsAt, suggestionsAt, coefficientsAt}
+use Rattle.sparse.specs.Places.{mostConstraints, mostTerms, constraintNumbersAt, constraintGroupsAt, constraintMarkersAt, constraintOthersAt, termCountsAt, editVariablesAt, editMarkersAt, editOthersAt, termsAt, constraintStrengthsAt, editStrengthsAt, suggestionsAt, coefficientsAt}
 use Rattle.sparse.specs.Sparse.{Sparse, symbolCount, variableCount, constraintCount, editCount, symbolAt, otherAt, numberAt, termsFrom, termOf, constraintOf, editOf, read}
 use Rattle.sparse.specs.Write.{noTerm}
 use Rattle.sparse.specs.Form.{indexAt, At}
@@ -41,8 +41,8 @@ abbrev pub tagIn : Sparse → ℕ → ℕ → Tag
 tagIn w marker other = record { marker = symbolAt w marker; other = otherAt w other }
 
 -- the constraint that comes in, and the edit
-abbrev pub newConstraint : Sparse → ℕ → ℕ → ℕ → Float → Pack → Constraint
-newConstraint w n marker other strength p = record { number = n; strength = strength; terms = terms.termsOf p; tag = tagIn w marker other }
+abbrev pub newConstraint : Sparse → ℕ → ℕ → ℕ → ℕ → Float → Pack → Constraint
+newConstraint w n g marker other strength p = record { number = n; group = g; strength = strength; terms = terms.termsOf p; tag = tagIn w marker other }
 
 abbrev pub newEdit : Sparse → ℕ → ℕ → ℕ → Float → Edit
 newEdit w n marker other strength = record { variable = n; strength = strength; tag = tagIn w marker other; suggestion = zero64 }
@@ -103,8 +103,8 @@ hold-around Q i n f l h k a = rw (past-none i k) (all-at Q f n h k (omega (arith
 
 -- ---- a constraint
 
-module _ (t w : Sparse) (ready : Ready t w) (uw ub : List ℕ) (ur : List Float) (r n marker other : ℕ) (strength : Float) (p : Pack)
-    (raw : ConstraintKept n marker other strength p (t .words) (t .bytes) (t .reals) (w .words) (w .bytes) (w .reals) uw ub ur r) where
+module _ (t w : Sparse) (ready : Ready t w) (uw ub : List ℕ) (ur : List Float) (r n g marker other : ℕ) (strength : Float) (p : Pack)
+    (raw : ConstraintKept n g marker other strength p (t .words) (t .bytes) (t .reals) (w .words) (w .bytes) (w .reals) uw ub ur r) where
   abbrev u : Sparse
   u = roomOf w uw ub ur
 
@@ -124,7 +124,7 @@ module _ (t w : Sparse) (ready : Ready t w) (uw ub : List ℕ) (ur : List Float)
   s = termsPlan (countsIn (t .bytes)) c (p .count)
 
   abbrev y : Constraint
-  y = newConstraint w n marker other strength p
+  y = newConstraint w n g marker other strength p
 
   o : Own w
   o = own w (ready .room) (ready .own)
@@ -188,6 +188,9 @@ module _ (t w : Sparse) (ready : Ready t w) (uw ub : List ℕ) (ur : List Float)
       number-in : getD uw (constraintNumbersAt + i) 0 ≡ n
       number-in = gap-one 0 _ constraintNumbersAt c (t .words) (raw .mw) uw refl (raw .moved .carried .words .numbers) ∙ raw .put .number
 
+      group-in : getD uw (constraintGroupsAt + i) 0 ≡ g
+      group-in = gap-one 0 _ constraintGroupsAt c (t .words) (raw .mw) uw refl (raw .moved .carried .words .groups) ∙ raw .put .group
+
       strength-in : getD ur (constraintStrengthsAt + i) nan ≡ strength
       strength-in = gap-one nan _ constraintStrengthsAt c (t .reals) (raw .mr) ur refl (raw .moved .carried .reals .strengths) ∙ raw .put .strengthAt
 
@@ -195,7 +198,7 @@ module _ (t w : Sparse) (ready : Ready t w) (uw ub : List ℕ) (ur : List Float)
       unfolding constraintOf
       constraint-in =
           let f : termsFrom u i ≡ s .at = unfold termsFrom termsPlan in begins in
-          rw (number-in, strength-in, count-in, f, terms-in, marker-in, symbol-beside w u o bu marker (marked .1), other-in, other-beside w u o bu other othered) refl
+          rw (number-in, group-in, strength-in, count-in, f, terms-in, marker-in, symbol-beside w u o bu marker (marked .1), other-in, other-beside w u o bu other othered) refl
 
       gap : GapForm c s e u
       gap =

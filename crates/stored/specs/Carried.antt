@@ -7,7 +7,7 @@ use native.Mathlib.Omega.{arith}
 use lib.Ieee.{Float, nan}
 use lib.ListN.{length, getD, set}
 use lib.Seq.{getD-set-same, getD-set-other}
-use Rattle.sparse.specs.Places.{mostConstraints, mostTerms, constraintCountAt, editCountAt, constraintNumbersAt, constraintMarkersAt, constraintOthersAt, termCountsAt, editVariablesAt, editMarkersAt, editOthersAt, termsAt, constraintStrengthsAt, editStrengthsAt, suggestionsAt, coefficientsAt, wordsSize}
+use Rattle.sparse.specs.Places.{mostConstraints, mostTerms, constraintCountAt, editCountAt, constraintNumbersAt, constraintGroupsAt, constraintMarkersAt, constraintOthersAt, termCountsAt, editVariablesAt, editMarkersAt, editOthersAt, termsAt, constraintStrengthsAt, editStrengthsAt, suggestionsAt, coefficientsAt, wordsSize}
 use Rattle.stored.specs.declared.parts.Plan.{Plan}
 use Rattle.stored.specs.Parts.{Region, Rest, targetSize, later, earlier, rest-join, set-rest}
 use Rattle.stored.specs.Maps.{TagPlaces, VariablePlaces}
@@ -23,6 +23,7 @@ itself x = x
 
 pub record WordsCarried (c e : Plan) (from w u : List ℕ) : Type 0 where
   pub numbers : Region 0 itself constraintNumbersAt c from w u
+  pub groups : Region 0 itself constraintGroupsAt c from w u
   pub constraints : getD u constraintCountAt 0 ≡ targetSize c
   pub edits : getD u editCountAt 0 ≡ targetSize e
   pub before : (q : ℕ) → q < constraintNumbersAt → (q ≡ constraintCountAt → ⊥) → (q ≡ editCountAt → ⊥) → getD u q 0 ≡ getD w q 0
@@ -75,18 +76,20 @@ Plans c s e = (targetSize c ≤ mostConstraints) × (targetSize s ≤ mostTerms)
 
 -- ---- from the stretches
 
-pub words-carried : (c e : Plan) (from w : List ℕ) {u : List ℕ} {x y : ℕ} → length w ≡ wordsSize → targetSize c ≤ mostConstraints → x ≡ targetSize c → y ≡ targetSize e
-    → Region 0 itself constraintNumbersAt c from (set (set w constraintCountAt x) editCountAt y) u → Rest 0 constraintNumbersAt mostConstraints (set (set w constraintCountAt x) editCountAt y) u → WordsCarried c e from w u
-words-carried c e from w {u} {x} {y} l f q q' r t =
+pub words-carried : (c e : Plan) (from w : List ℕ) {v u : List ℕ} {x y : ℕ} → length w ≡ wordsSize → targetSize c ≤ mostConstraints → x ≡ targetSize c → y ≡ targetSize e
+    → Region 0 itself constraintNumbersAt c from (set (set w constraintCountAt x) editCountAt y) v → Rest 0 constraintNumbersAt mostConstraints (set (set w constraintCountAt x) editCountAt y) v
+    → Region 0 itself constraintGroupsAt c from v u → Rest 0 constraintGroupsAt mostConstraints v u → WordsCarried c e from w u
+words-carried c e from w {v} {u} {x} {y} l f q q' r t r' t' =
     let a : Rest 0 constraintCountAt 1 w w₁ = set-rest 0 constraintCountAt x w in
     let b : Rest 0 editCountAt 1 w₁ w₂ = set-rest 0 editCountAt y w₁ in
     let ab : Rest 0 constraintCountAt 2 w w₂ = rest-join 0 constraintCountAt 1 editCountAt 1 2 (omega arith) (omega arith) a b in
     record {
-      numbers = earlier 0 itself constraintNumbersAt mostConstraints c f from constraintCountAt 2 (omega arith) ab r;
-      constraints = t .before constraintCountAt (omega arith) ∙ b .before constraintCountAt (omega arith) ∙ getD-set-same w constraintCountAt x 0 (omega (arith, l)) ∙ q;
-      edits = t .before editCountAt (omega arith) ∙ getD-set-same w₁ editCountAt y 0 (omega (arith, l, a .long)) ∙ q';
-      before = λ i h m n. t .before i h ∙ there i m n;
-      long = t .long ∙ b .long ∙ a .long;
+      numbers = later 0 itself constraintNumbersAt mostConstraints c f from constraintGroupsAt mostConstraints (omega arith) (earlier 0 itself constraintNumbersAt mostConstraints c f from constraintCountAt 2 (omega arith) ab r) t';
+      groups = earlier 0 itself constraintGroupsAt mostConstraints c f from constraintCountAt 2 (omega arith) ab (earlier 0 itself constraintGroupsAt mostConstraints c f from constraintNumbersAt mostConstraints (omega arith) t r');
+      constraints = t' .before constraintCountAt (omega arith) ∙ t .before constraintCountAt (omega arith) ∙ b .before constraintCountAt (omega arith) ∙ getD-set-same w constraintCountAt x 0 (omega (arith, l)) ∙ q;
+      edits = t' .before editCountAt (omega arith) ∙ t .before editCountAt (omega arith) ∙ getD-set-same w₁ editCountAt y 0 (omega (arith, l, a .long)) ∙ q';
+      before = λ i h m n. t' .before i (omega (arith, h)) ∙ t .before i h ∙ there i m n;
+      long = t' .long ∙ t .long ∙ b .long ∙ a .long;
     }
   where
     w₁ : List ℕ

@@ -13,7 +13,7 @@ use borrow.Author.Tests.{ltb-true, ltb-false}
 use Rattle.laws.specs.Loops.{first}
 use Rattle.laws.specs.Lists.{sumIn}
 use Rattle.steps.specs.Number.{zero64}
-use Rattle.sparse.specs.Places.{mostVariables, mostConstraints, variableCountAt, constraintCountAt, editCountAt, variableNumbersAt, constraintNumbersAt, variablePlacesAt, constraintMarkersAt, constraintOthersAt, termCountsAt, editVariablesAt, editMarkersAt, editOthersAt, termsAt, constraintStrengthsAt, editStrengthsAt, suggestionsAt, coefficientsAt, wordsSize, bytesSize, realsSize}
+use Rattle.sparse.specs.Places.{mostVariables, mostConstraints, variableCountAt, constraintCountAt, editCountAt, variableNumbersAt, constraintNumbersAt, constraintGroupsAt, variablePlacesAt, constraintMarkersAt, constraintOthersAt, termCountsAt, editVariablesAt, editMarkersAt, editOthersAt, termsAt, constraintStrengthsAt, editStrengthsAt, suggestionsAt, coefficientsAt, wordsSize, bytesSize, realsSize}
 use Rattle.terms.specs.declared.Pack.{Pack}
 use Rattle.stored.specs.declared.parts.Plan.{Plan}
 use Rattle.stored.specs.Parts.{Rest, allOf, opened}
@@ -98,8 +98,9 @@ module _ (coefs : List Float) (s : ℕ) (b : List Float) where
 
 -- ---- a constraint at the i-th place, its terms from s on
 
-pub record ConstraintPut (i s n marker other : ℕ) (strength : Float) (p : Pack) (ww wb : List ℕ) (wr : List Float) (uw ub : List ℕ) (ur : List Float) : Type 0 where
+pub record ConstraintPut (i s n g marker other : ℕ) (strength : Float) (p : Pack) (ww wb : List ℕ) (wr : List Float) (uw ub : List ℕ) (ur : List Float) : Type 0 where
   pub number : getD uw (constraintNumbersAt + i) 0 ≡ n
+  pub group : getD uw (constraintGroupsAt + i) 0 ≡ g
   pub markerAt : getD ub (constraintMarkersAt + i) 0 ≡ marker
   pub otherAt : getD ub (constraintOthersAt + i) 0 ≡ other
   pub count : getD ub (termCountsAt + i) 0 ≡ p .count
@@ -111,11 +112,13 @@ pub record ConstraintPut (i s n marker other : ℕ) (strength : Float) (p : Pack
   pub reals : (q : ℕ) → q < constraintStrengthsAt → getD ur q nan ≡ getD wr q nan
   pub long : (length uw ≡ length ww) × (length ub ≡ length wb) × (length ur ≡ length wr)
 
-module _ (i s n marker other : ℕ) (strength : Float) (p : Pack) (ww wb : List ℕ) (wr : List Float) where
+module _ (i s n g marker other : ℕ) (strength : Float) (p : Pack) (ww wb : List ℕ) (wr : List Float) where
   pub constraint-put : {mb : List ℕ} {mr : List Float} {k : ℕ} → length ww ≡ wordsSize → length wb ≡ bytesSize → length wr ≡ realsSize → i < mostConstraints → k ≡ p .count
       → TermsPut ww (p .vars) s (p .count) wb mb → CoefficientsPut (p .coefs) s (p .count) wr mr
-      → ConstraintPut i s n marker other strength p ww wb wr (set ww (constraintNumbersAt + i) n) (set (set (set mb (constraintMarkersAt + i) marker) (constraintOthersAt + i) other) (termCountsAt + i) k) (set mr (constraintStrengthsAt + i) strength)
+      → ConstraintPut i s n g marker other strength p ww wb wr (set (set ww (constraintNumbersAt + i) n) (constraintGroupsAt + i) g) (set (set (set mb (constraintMarkersAt + i) marker) (constraintOthersAt + i) other) (termCountsAt + i) k) (set mr (constraintStrengthsAt + i) strength)
   constraint-put {mb} {mr} {k} lw lb lr h e t x =
+      let w₁ : List ℕ = set ww (constraintNumbersAt + i) n in
+      let lw₁ : length w₁ ≡ wordsSize = length-set ww (constraintNumbersAt + i) n ∙ lw in
       let b₁ : List ℕ = set mb (constraintMarkersAt + i) marker in
       let b₂ : List ℕ = set b₁ (constraintOthersAt + i) other in
       let l₁ : length b₁ ≡ bytesSize = length-set mb (constraintMarkersAt + i) marker ∙ t .rest .long ∙ lb in
@@ -125,7 +128,8 @@ module _ (i s n marker other : ℕ) (strength : Float) (p : Pack) (ww wb : List 
       let low = t .rest .long in
       let lx = x .rest .long in
       record {
-        number = getD-set-same ww (constraintNumbersAt + i) n 0 (omega (arith, lw, h));
+        number = getD-set-other w₁ (constraintGroupsAt + i) (constraintNumbersAt + i) g 0 (λ z. omega (arith, z, h)) ∙ getD-set-same ww (constraintNumbersAt + i) n 0 (omega (arith, lw, h));
+        group = getD-set-same w₁ (constraintGroupsAt + i) g 0 (omega (arith, lw₁, h));
         markerAt =
             getD-set-other b₂ (termCountsAt + i) (constraintMarkersAt + i) k 0 (λ z. omega (arith, z, h))
             ∙ getD-set-other b₁ (constraintOthersAt + i) (constraintMarkersAt + i) other 0 (λ z. omega (arith, z, h))
@@ -135,11 +139,11 @@ module _ (i s n marker other : ℕ) (strength : Float) (p : Pack) (ww wb : List 
         strengthAt = getD-set-same mr (constraintStrengthsAt + i) strength nan (omega (arith, lr, lx, h));
         terms = λ j a v b f. thrice (termsAt + (s + j)) (λ z. omega (arith, z, h)) (λ z. omega (arith, z, h)) (λ z. omega (arith, z, h)) ∙ t .placed j a v b f;
         coefficients = λ j a. getD-set-other mr (constraintStrengthsAt + i) (coefficientsAt + (s + j)) strength nan (λ z. omega (arith, z, h)) ∙ x .put j a;
-        words = λ q a. getD-set-other ww (constraintNumbersAt + i) q n 0 (λ z. omega (arith, z, a));
+        words = λ q a. getD-set-other w₁ (constraintGroupsAt + i) q g 0 (λ z. omega (arith, z, a)) ∙ getD-set-other ww (constraintNumbersAt + i) q n 0 (λ z. omega (arith, z, a));
         bytes = λ q a. thrice q (λ z. omega (arith, z, a)) (λ z. omega (arith, z, a)) (λ z. omega (arith, z, a)) ∙ t .rest .before q (omega (arith, a));
         reals = λ q a. getD-set-other mr (constraintStrengthsAt + i) q strength nan (λ z. omega (arith, z, a)) ∙ x .rest .before q (omega (arith, a));
         long = (
-          length-set ww (constraintNumbersAt + i) n,
+          length-set w₁ (constraintGroupsAt + i) g ∙ length-set ww (constraintNumbersAt + i) n,
           length-set b₂ (termCountsAt + i) k ∙ l₂ ∙ sym lb,
           length-set mr (constraintStrengthsAt + i) strength ∙ lx,
         );
@@ -202,13 +206,13 @@ pub record EditSought (w b : List ℕ) (n r : ℕ) : Type 0 where
 
 -- ---- with the others around it
 
-pub record ConstraintKept (n marker other : ℕ) (strength : Float) (p : Pack) (fw fb : List ℕ) (fr : List Float) (ww wb : List ℕ) (wr : List Float) (uw ub : List ℕ) (ur : List Float) (r : ℕ) : Type 0 where
+pub record ConstraintKept (n g marker other : ℕ) (strength : Float) (p : Pack) (fw fb : List ℕ) (fr : List Float) (ww wb : List ℕ) (wr : List Float) (uw ub : List ℕ) (ur : List Float) (r : ℕ) : Type 0 where
   pub at : ℕ
   pub mw : List ℕ
   pub mb : List ℕ
   pub mr : List Float
   pub sought : Sought fw constraintNumbersAt 0 (getD fw constraintCountAt 0) (n + 1) at
-  pub put : ConstraintPut at (sumIn (countsIn fb) 0 at) n marker other strength p ww wb wr mw mb mr
+  pub put : ConstraintPut at (sumIn (countsIn fb) 0 at) n g marker other strength p ww wb wr mw mb mr
   pub moved : Moved (opened at (getD fw constraintCountAt 0)) (allOf (getD fw editCountAt 0)) (p .count) fw fb fr mw mb mr uw ub ur r
 
 pub record EditKept (n marker other : ℕ) (strength : Float) (fw fb : List ℕ) (fr : List Float) (ww wb : List ℕ) (wr : List Float) (uw ub : List ℕ) (ur : List Float) (r : ℕ) : Type 0 where
@@ -236,17 +240,17 @@ before-fits g i n o m h k e =
     let a = sum-split g 0 i n (omega arith) h in
     omega (arith, a, k, e)
 
-pub put-names : (i s n marker other : ℕ) (strength : Float) (p : Pack) (ww wb : List ℕ) (wr : List Float) (uw ub : List ℕ) (ur : List Float) → Names ww wb → ConstraintPut i s n marker other strength p ww wb wr uw ub ur → Names uw ub
-put-names i s n marker other strength p ww wb wr uw ub ur m t = names-same ww wb uw ub m (t .words) (t .bytes)
+pub put-names : (i s n g marker other : ℕ) (strength : Float) (p : Pack) (ww wb : List ℕ) (wr : List Float) (uw ub : List ℕ) (ur : List Float) → Names ww wb → ConstraintPut i s n g marker other strength p ww wb wr uw ub ur → Names uw ub
+put-names i s n g marker other strength p ww wb wr uw ub ur m t = names-same ww wb uw ub m (t .words) (t .bytes)
 
 pub put-edit-names : (i n marker other : ℕ) (strength : Float) (ww wb : List ℕ) (wr : List Float) (ub : List ℕ) (ur : List Float) → Names ww wb → EditPut i n marker other strength ww wb wr ub ur → Names ww ub
 put-edit-names i n marker other strength ww wb wr ub ur m t = names-same ww wb ww ub m (λ q h. refl) (t .bytes)
 
-pub constraint-kept-by : (n marker other : ℕ) (strength : Float) (p : Pack) (fw fb : List ℕ) (fr : List Float) (ww wb : List ℕ) (wr : List Float) (uw ub : List ℕ) (ur : List Float) (r at s : ℕ) (mw mb : List ℕ) (mr : List Float) {c e : Plan}
-    → Sought fw constraintNumbersAt 0 (getD fw constraintCountAt 0) (n + 1) at → s ≡ sumIn (countsIn fb) 0 at → ConstraintPut at s n marker other strength p ww wb wr mw mb mr
+pub constraint-kept-by : (n g marker other : ℕ) (strength : Float) (p : Pack) (fw fb : List ℕ) (fr : List Float) (ww wb : List ℕ) (wr : List Float) (uw ub : List ℕ) (ur : List Float) (r at s : ℕ) (mw mb : List ℕ) (mr : List Float) {c e : Plan}
+    → Sought fw constraintNumbersAt 0 (getD fw constraintCountAt 0) (n + 1) at → s ≡ sumIn (countsIn fb) 0 at → ConstraintPut at s n g marker other strength p ww wb wr mw mb mr
     → c ≡ opened at (getD fw constraintCountAt 0) → e ≡ allOf (getD fw editCountAt 0) → Moved c e (p .count) fw fb fr mw mb mr uw ub ur r
-    → ConstraintKept n marker other strength p fw fb fr ww wb wr uw ub ur r
-constraint-kept-by n marker other strength p fw fb fr ww wb wr uw ub ur r at s mw mb mr a b c d e m =
+    → ConstraintKept n g marker other strength p fw fb fr ww wb wr uw ub ur r
+constraint-kept-by n g marker other strength p fw fb fr ww wb wr uw ub ur r at s mw mb mr a b c d e m =
     record {
       at = at;
       mw = mw;

@@ -113,7 +113,7 @@ module _ (t w u : Sparse) (form : Form t) (o : Own w) (b : Beside w u) (c e : Pl
       unfolding constraintOf
       kept-constraint k l =
           let ts : listOf (h k) (termOf u (termsFrom u (target c k))) ≡ listOf (h k) (termOf t (termsFrom t (source c k))) = list-ext _ _ _ λ j i. term-kept k j l i in
-          rw (x .words .numbers .kept k l, x .reals .strengths .kept k l, x .bytes .counts .kept k l, ts, marker-kept k l .1, other-kept k l .1) refl
+          rw (x .words .numbers .kept k l, x .words .groups .kept k l, x .reals .strengths .kept k l, x .bytes .counts .kept k l, ts, marker-kept k l .1, other-kept k l .1) refl
 
       -- ---- the form, if the gap has it
 

@@ -28,6 +28,7 @@ fn carry_words(words: &mut Words, from: &Words, c: Plan, e: Plan)
     words[sparse::CONSTRAINT_COUNT] = (c.at + c.free + c.rest) as u64;
     words[sparse::EDIT_COUNT] = (e.at + e.free + e.rest) as u64;
     split_words(words, from, sparse::CONSTRAINT_NUMBERS, MOST_CONSTRAINTS, c);
+    split_words(words, from, sparse::CONSTRAINT_GROUPS, MOST_CONSTRAINTS, c);
 }
 
 fn constraint_bytes(bytes: &mut Bytes, from: &Bytes, tags: &[u8; 256], c: Plan)

@@ -63,6 +63,7 @@ fn put_constraint(
     i: usize,
     s: usize,
     n: u64,
+    g: u16,
     marker: u8,
     other: u8,
     strength: f64,
@@ -72,7 +73,7 @@ fn put_constraint(
     requires { ⌜ i < mostConstraints ⌝ }
     requires { ⌜ p .count ≤ 16 ⌝ }
     requires { ⌜ s + p .count ≤ mostTerms ⌝ }
-    ensures { λ _. ⌜ ConstraintPut i s n marker other strength p (now (words .entry)) (now (bytes .entry)) (now (reals .entry)) (now (words .exit)) (now (bytes .exit)) (now (reals .exit)) ⌝ }
+    ensures { λ _. ⌜ ConstraintPut i s n g marker other strength p (now (words .entry)) (now (bytes .entry)) (now (reals .entry)) (now (words .exit)) (now (bytes .exit)) (now (reals .exit)) ⌝ }
 {
     long_words(words);
     long_bytes(bytes);
@@ -80,6 +81,7 @@ fn put_constraint(
     put_terms(words, bytes, s, p);
     put_coefficients(reals, s, p);
     words[sparse::CONSTRAINT_NUMBERS + i] = n;
+    words[sparse::CONSTRAINT_GROUPS + i] = g as u64;
     bytes[sparse::CONSTRAINT_MARKERS + i] = marker;
     bytes[sparse::CONSTRAINT_OTHERS + i] = other;
     bytes[sparse::TERM_COUNTS + i] = p.count as u8;
@@ -95,6 +97,7 @@ pub fn keep_constraint(
     fbytes: &Bytes,
     freals: &Reals,
     n: u64,
+    g: u16,
     marker: u8,
     other: u8,
     strength: f64,
@@ -106,12 +109,12 @@ pub fn keep_constraint(
     requires { ⌜ p .count ≤ 16 ⌝ }
     requires { ⌜ getD (now fwords) constraintCountAt 0 < mostConstraints ⌝ }
     requires { ⌜ sumIn (countsIn (now fbytes)) 0 (getD (now fwords) constraintCountAt 0) + p .count ≤ mostTerms ⌝ }
-    ensures { λ r. ⌜ ConstraintKept n marker other strength p (now (fwords .entry)) (now (fbytes .entry)) (now (freals .entry)) (now (words .entry)) (now (bytes .entry)) (now (reals .entry)) (now (words .exit)) (now (bytes .exit)) (now (reals .exit)) r ⌝ }
+    ensures { λ r. ⌜ ConstraintKept n g marker other strength p (now (fwords .entry)) (now (fbytes .entry)) (now (freals .entry)) (now (words .entry)) (now (bytes .entry)) (now (reals .entry)) (now (words .exit)) (now (bytes .exit)) (now (reals .exit)) r ⌝ }
 {
     let k = fwords[sparse::CONSTRAINT_COUNT] as usize;
     let i = seek(fwords, sparse::CONSTRAINT_NUMBERS, 0, k, n + 1);
     let s = terms_in(fbytes, 0, i);
-    put_constraint(words, bytes, reals, i, s, n, marker, other, strength, p);
+    put_constraint(words, bytes, reals, i, s, n, g, marker, other, strength, p);
     let c = with_one(i, k);
     let e = all_of(fwords[sparse::EDIT_COUNT] as usize);
     move_records(words, bytes, reals, fwords, fbytes, freals, c, e, p.count)

@@ -29,3 +29,7 @@ module _ {A B C D : Type 0} where
 module _ {A B C D E : Type 0} where
   pub ap4 : (f : A → B → C → D → E) {a x : A} {b y : B} {c z : C} {d w : D} → a ≡ x → b ≡ y → c ≡ z → d ≡ w → f a b c d ≡ f x y z w
   ap4 f p q r s = rw (p, q, r, s)
+
+module _ {A B C D E F : Type 0} where
+  pub ap5 : (f : A → B → C → D → E → F) {a x : A} {b y : B} {c z : C} {d w : D} {e v : E} → a ≡ x → b ≡ y → c ≡ z → d ≡ w → e ≡ v → f a b c d e ≡ f x y z w v
+  ap5 f p q r s t = rw (p, q, r, s, t)

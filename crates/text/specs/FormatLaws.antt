@@ -1,14 +1,15 @@
 -- What a line's words name, by how many there are.
-use Prim.Native.Nat.{ℕ, _≤_}
+use Prim.Native.Nat.{ℕ, _+_, _≤_}
 use mathlib.Core.Path.{_≡_, refl, sym, ap, _∙_}
 use mathlib.Core.Bool.{Bool, true, false, cond}
 use mathlib.Core.List.{List, [], _∷_}
 use mathlib.Core.Option.{Option, none, some}
 use native.Mathlib.Omega.{arith}
-use lib.ListN.{length, drop}
+use lib.ListN.{length, drop, drop-of-length-le}
+use lib.Seq.{drop-cons}
 use lib.Ieee.{Float}
 use Rattle.steps.specs.State as steps
-use Rattle.steps.specs.Session.{Call, resets, valueOf, hasConstraints, hasEdits, clips, removes, removesEdit, addsEdit, suggests}
+use Rattle.steps.specs.Session.{Call, resets, valueOf, hasConstraints, hasEdits, clips, removes, removesEdit, drops, addsEdit, suggests}
 use Rattle.steps.specs.State.{Term}
 use Rattle.text.specs.declared.floats.Id.{Id}
 use Rattle.text.specs.declared.floats.Id.the-variants.{Is32, No32}
@@ -20,10 +21,10 @@ use Rattle.terms.specs.Terms.{noPack, packOf}
 use Rattle.text.specs.Choices.{yes-in, no-in}
 use Rattle.text.specs.Digits.{digitsOf, upTo, sameBytes}
 use Rattle.text.specs.Floats.{idOf, budgetOf, floatOf}
-use Rattle.text.specs.Names.{resetName, fetchName, valueName, hasconName, haseditName, clipName, removeName, removeeditName, addeditName, suggestName, createName, addName}
+use Rattle.text.specs.Names.{resetName, fetchName, valueName, hasconName, haseditName, clipName, removeName, removeeditName, addeditName, suggestName, createName, addName, addgName, dropName}
 use Rattle.text.specs.Words.{word}
-use Rattle.text.specs.Format.{oneWord, twoWords, threeWords, fourWords, fiveWords, addWords, callOf, ofAdd, ofId, ofReal, ofIdBudget, ofEdit, ofReals, counts, relationOf, termsOf}
-use Rattle.text.specs.Lines.{asRelated, headOf, headAt, packedFrom, asTerms, lineOf, lineWith}
+use Rattle.text.specs.Format.{oneWord, twoWords, threeWords, fourWords, fiveWords, addWords, longWords, callOf, ofAdd, ofId, ofReal, ofIdBudget, ofEdit, ofGroup, ofReals, counts, relationOf, termsOf}
+use Rattle.text.specs.Lines.{asRelated, headOf, headAt, addAt, packedFrom, asTerms, lineOf, lineWith}
 
 pub call-1 : (ws : List (List ℕ)) → length ws ≡ 1 → callOf ws ≡ oneWord (word ws 0)
 unfolding callOf
@@ -77,7 +78,7 @@ call-none (a ∷ b ∷ c ∷ d ∷ e ∷ []) h p q r s t = absurd (t refl)
 call-none (a ∷ b ∷ c ∷ d ∷ e ∷ f ∷ []) h p q r s t = refl
 call-none (a ∷ b ∷ c ∷ d ∷ e ∷ f ∷ g ∷ ws) h p q r s t = absurd (omega arith)
 
-pub call-7 : (ws : List (List ℕ)) → 7 ≤ length ws → callOf ws ≡ addWords (word ws 0) (word ws 1) (word ws 2) (word ws 3) (word ws 4) (word ws 5) (word ws 6) (drop 7 ws)
+pub call-7 : (ws : List (List ℕ)) → 7 ≤ length ws → callOf ws ≡ longWords (word ws 0) (word ws 1) (word ws 2) (word ws 3) (word ws 4) (word ws 5) (word ws 6) (drop 7 ws)
 unfolding callOf
 call-7 [] h = absurd (omega arith)
 call-7 (a ∷ []) h = absurd (omega arith)
@@ -89,34 +90,47 @@ call-7 (a ∷ b ∷ c ∷ d ∷ e ∷ f ∷ []) h = absurd (omega arith)
 call-7 (a ∷ b ∷ c ∷ d ∷ e ∷ f ∷ g ∷ ws) h = refl
 
 -- an add of its words before the terms and its terms
-pub add-line : (c : Id) (b : Budget) (r : Option steps.Relation) (k : Real) (ts : Option (List Term)) → lineWith (headOf c b (asRelated r) k) (packedFrom noPack ts) ≡ lineOf (ofAdd c b r k ts)
+pub add-line : (g : Budget) (c : Id) (b : Budget) (r : Option steps.Relation) (k : Real) (ts : Option (List Term)) → lineWith (headOf g c b (asRelated r) k) (packedFrom noPack ts) ≡ lineOf (ofAdd g c b r k ts)
 unfolding packedFrom packOf
-add-line (Is32 n) (Is16 b) (some r) (Number k) (some ts) = refl
-add-line (Is32 n) (Is16 b) (some r) (Number k) none = refl
-add-line (Is32 n) (Is16 b) (some r) NoReal ts = refl
-add-line (Is32 n) (Is16 b) none k ts = refl
-add-line (Is32 n) No16 r k ts = refl
-add-line No32 b r k ts = refl
+add-line (Is16 g) (Is32 n) (Is16 b) (some r) (Number k) (some ts) = refl
+add-line (Is16 g) (Is32 n) (Is16 b) (some r) (Number k) none = refl
+add-line (Is16 g) (Is32 n) (Is16 b) (some r) NoReal ts = refl
+add-line (Is16 g) (Is32 n) (Is16 b) none k ts = refl
+add-line (Is16 g) (Is32 n) No16 r k ts = refl
+add-line (Is16 g) No32 b r k ts = refl
+add-line No16 c b r k ts = refl
+
+-- ---- the words of an add, from place i on
+
+module _ (g : Budget) (i : ℕ) (ws : List (List ℕ)) where
+  pub add-uncounted : counts (upTo 4294967295 (digitsOf 10 (word ws (i + 5)))) (length (drop (i + 6) ws)) ≡ false → lineOf none ≡ lineOf (addAt g i ws)
+  unfolding addWords
+  add-uncounted e = no-in lineOf _ _ e refl
+
+  pub add-counted : counts (upTo 4294967295 (digitsOf 10 (word ws (i + 5)))) (length (drop (i + 6) ws)) ≡ true → lineWith (headAt g i ws) (packedFrom noPack (termsOf (drop (i + 6) ws))) ≡ lineOf (addAt g i ws)
+  unfolding addWords headAt
+  add-counted e = yes-in lineOf _ _ e (add-line g (idOf (word ws i)) (budgetOf (word ws (i + 1))) (relationOf (word ws (i + 2)) (floatOf (word ws (i + 3)))) (floatOf (word ws (i + 4))) (termsOf (drop (i + 6) ws)))
 
 -- ---- a line of seven words or more
 
 module _ (ws : List (List ℕ)) (long : 7 ≤ length ws) where
-  pub add-other : sameBytes (word ws 0) addName ≡ false → lineOf none ≡ lineOf (callOf ws)
-  unfolding addWords
-  add-other e = no-in lineOf _ _ e refl ∙ sym (ap lineOf (call-7 ws long))
+  pub long-add : sameBytes (word ws 0) addName ≡ true → lineOf (addAt (Is16 1) 1 ws) ≡ lineOf (callOf ws)
+  unfolding longWords
+  long-add e = yes-in lineOf _ _ e refl ∙ sym (ap lineOf (call-7 ws long))
 
-  module _ (name : sameBytes (word ws 0) addName ≡ true) where
-    pub add-uncounted : counts (upTo 4294967295 (digitsOf 10 (word ws 6))) (length (drop 7 ws)) ≡ false → lineOf none ≡ lineOf (callOf ws)
-    unfolding addWords
-    add-uncounted e = yes-in lineOf _ _ name (no-in lineOf _ _ e refl) ∙ sym (ap lineOf (call-7 ws long))
+  module _ (other : sameBytes (word ws 0) addName ≡ false) where
+    pub long-other : sameBytes (word ws 0) addgName ≡ false → lineOf none ≡ lineOf (callOf ws)
+    unfolding longWords
+    long-other e = no-in lineOf _ _ other (no-in lineOf _ _ e refl) ∙ sym (ap lineOf (call-7 ws long))
 
-    pub add-counted : counts (upTo 4294967295 (digitsOf 10 (word ws 6))) (length (drop 7 ws)) ≡ true → lineWith (headAt ws) (packedFrom noPack (termsOf (drop 7 ws))) ≡ lineOf (callOf ws)
-    unfolding addWords headAt
-    add-counted e =
-        yes-in lineOf _ _ name
-        (yes-in lineOf _ _ e
-        (add-line (idOf (word ws 1)) (budgetOf (word ws 2)) (relationOf (word ws 3) (floatOf (word ws 4))) (floatOf (word ws 5)) (termsOf (drop 7 ws))))
-        ∙ sym (ap lineOf (call-7 ws long))
+    module _ (name : sameBytes (word ws 0) addgName ≡ true) where
+      pub addg-short : length ws ≤ 7 → lineOf none ≡ lineOf (callOf ws)
+      unfolding longWords
+      addg-short h = no-in lineOf _ _ other (yes-in lineOf _ _ name (rw (drop-of-length-le ws h) refl)) ∙ sym (ap lineOf (call-7 ws long))
+
+      pub addg-long : 8 ≤ length ws → lineOf (addAt (budgetOf (word ws 1)) 2 ws) ≡ lineOf (callOf ws)
+      unfolding longWords
+      addg-long h = no-in lineOf _ _ other (yes-in lineOf _ _ name (rw (drop-cons ws 7 [] (omega arith)) refl)) ∙ sym (ap lineOf (call-7 ws long))
 
 -- ---- a line too short for an add has no terms
 
@@ -145,6 +159,11 @@ module _ where
   of-edit f h (Is32 v) NoReal b = refl
   of-edit f h No32 x b = refl
 
+  of-group : (f : ℕ → ℕ → Call) → ((g b : ℕ) → asTerms (some (f g b)) ≡ noPack) → (g b : Budget) → asTerms (ofGroup f g b) ≡ noPack
+  of-group f h (Is16 g) (Is16 b) = h g b
+  of-group f h (Is16 g) No16 = refl
+  of-group f h No16 b = refl
+
   of-reals : (a b c w : Real) → asTerms (ofReals a b c w) ≡ noPack
   of-reals (Number a) (Number b) (Number c) (Number w) = refl
   of-reals (Number a) (Number b) (Number c) NoReal = refl
@@ -163,7 +182,8 @@ no-terms (name ∷ a ∷ []) h =
     (either (sameBytes name clipName) _ _ (of-real clips (λ x. refl) (floatOf a)) (either (sameBytes name resetName) _ _ (of-real resets (λ x. refl) (floatOf a)) refl))))
 no-terms (name ∷ a ∷ b ∷ []) h =
     either (sameBytes name removeName) _ _ (of-id-budget removes (λ n b. refl) (idOf a) (budgetOf b))
-    (either (sameBytes name removeeditName) _ _ (of-id-budget removesEdit (λ n b. refl) (idOf a) (budgetOf b)) refl)
+    (either (sameBytes name removeeditName) _ _ (of-id-budget removesEdit (λ n b. refl) (idOf a) (budgetOf b))
+    (either (sameBytes name dropName) _ _ (of-group drops (λ g b. refl) (budgetOf a) (budgetOf b)) refl))
 no-terms (name ∷ a ∷ b ∷ c ∷ []) h =
     either (sameBytes name addeditName) _ _ (of-edit addsEdit (λ v x b. refl) (idOf a) (floatOf b) (budgetOf c))
     (either (sameBytes name suggestName) _ _ (of-edit suggests (λ v x b. refl) (idOf a) (floatOf b) (budgetOf c)) refl)

@@ -1,25 +1,26 @@
 -- A line as the code holds it: the call by value, and the terms of an add beside it.
-use Prim.Native.Nat.{ℕ}
+use Prim.Native.Nat.{ℕ, _+_}
 use mathlib.Core.Bool.{Bool, true, false}
 use mathlib.Core.List.{List, map}
 use mathlib.Core.Option.{Option, none, some}
+use lib.ListN.{drop}
 use Rattle.terms.specs.declared.Term.{Term as Given}
 use Rattle.terms.specs.declared.Pack.{Pack}
 use Rattle.terms.specs.Terms.{noPack, packFrom, packOf}
 use Rattle.text.specs.Words.{word}
 use Rattle.text.specs.Floats.{idOf, budgetOf, floatOf}
-use Rattle.text.specs.Format.{relationOf}
+use Rattle.text.specs.Format.{relationOf, addWords}
 use Rattle.steps.specs.State.{Term, atMost, equal, atLeast}
 use Rattle.steps.specs.State as steps
 use Rattle.steps.specs.Session as session
-use Rattle.steps.specs.Session.{resets, adds, removes, addsEdit, removesEdit, suggests, valueOf, fetches, hasConstraints, hasEdits, creates, clips, reads, dumps, setsNext}
+use Rattle.steps.specs.Session.{resets, adds, removes, drops, addsEdit, removesEdit, suggests, valueOf, fetches, hasConstraints, hasEdits, creates, clips, reads, dumps, setsNext}
 use Rattle.text.specs.declared.floats.Id.{Id}
 use Rattle.text.specs.declared.floats.Id.the-variants.{Is32, No32}
 use Rattle.text.specs.declared.floats.Budget.{Budget}
 use Rattle.text.specs.declared.floats.Budget.the-variants.{Is16, No16}
 use Rattle.text.specs.declared.floats.Real.{Real}
 use Rattle.text.specs.declared.floats.Real.the-variants.{Number, NoReal}
-use Rattle.changes.specs.declared.Change.the-variants.{Add, Remove, AddEdit, RemoveEdit, Suggest}
+use Rattle.changes.specs.declared.Change.the-variants.{Add, Remove, Drop, AddEdit, RemoveEdit, Suggest}
 use Rattle.tags.specs.declared.Relation.{Relation}
 use Rattle.tags.specs.declared.Relation.the-variants.{AtMost, Equal, AtLeast}
 use Rattle.text.specs.declared.calls.Related.{Related}
@@ -44,8 +45,9 @@ asRelated none = NoRelation
 abbrev pub asCall : Option session.Call → Call
 asCall none = Bad
 asCall (some (resets x)) = Reset x
-asCall (some (adds n ts k r b)) = Change (Add n k (asRelation r)) b
+asCall (some (adds g n ts k r b)) = Change (Add g n k (asRelation r)) b
 asCall (some (removes n b)) = Change (Remove n) b
+asCall (some (drops g b)) = Change (Drop g) b
 asCall (some (addsEdit v x b)) = Change (AddEdit v x) b
 asCall (some (removesEdit v b)) = Change (RemoveEdit v) b
 asCall (some (suggests v x b)) = Change (Suggest v x) b
@@ -60,12 +62,13 @@ asCall (some dumps) = Bad
 asCall (some (setsNext n)) = Bad
 
 -- an add without its terms
-abbrev pub headOf : Id → Budget → Related → Real → Head
-headOf (Is32 n) (Is16 b) (By r) (Number k) = Of (Add n k r) b
-headOf (Is32 n) (Is16 b) (By r) NoReal = NoHead
-headOf (Is32 n) (Is16 b) NoRelation k = NoHead
-headOf (Is32 n) No16 r k = NoHead
-headOf No32 b r k = NoHead
+abbrev pub headOf : Budget → Id → Budget → Related → Real → Head
+headOf (Is16 g) (Is32 n) (Is16 b) (By r) (Number k) = Of (Add g n k r) b
+headOf (Is16 g) (Is32 n) (Is16 b) (By r) NoReal = NoHead
+headOf (Is16 g) (Is32 n) (Is16 b) NoRelation k = NoHead
+headOf (Is16 g) (Is32 n) No16 r k = NoHead
+headOf (Is16 g) No32 b r k = NoHead
+headOf No16 c b r k = NoHead
 
 -- ---- terms
 
@@ -84,8 +87,9 @@ packedFrom t (some ts) = packed true (packFrom t (map asTerm ts))
 abbrev pub asTerms : Option session.Call → Pack
 asTerms none = noPack
 asTerms (some (resets x)) = noPack
-asTerms (some (adds n ts k r b)) = packOf (map asTerm ts)
+asTerms (some (adds g n ts k r b)) = packOf (map asTerm ts)
 asTerms (some (removes n b)) = noPack
+asTerms (some (drops g b)) = noPack
 asTerms (some (addsEdit v x b)) = noPack
 asTerms (some (removesEdit v b)) = noPack
 asTerms (some (suggests v x b)) = noPack
@@ -102,10 +106,13 @@ asTerms (some (setsNext n)) = noPack
 abbrev pub lineOf : Option session.Call → Line
 lineOf o = record { call = asCall o; terms = asTerms o }
 
--- ---- an add, of its words before the terms and its terms
+-- ---- an add, of its words before the terms and its terms: they stand from place i on
 
-unfoldable pub headAt : List (List ℕ) → Head
-headAt ws = headOf (idOf (word ws 1)) (budgetOf (word ws 2)) (asRelated (relationOf (word ws 3) (floatOf (word ws 4)))) (floatOf (word ws 5))
+unfoldable pub headAt : Budget → ℕ → List (List ℕ) → Head
+headAt g i ws = headOf g (idOf (word ws i)) (budgetOf (word ws (i + 1))) (asRelated (relationOf (word ws (i + 2)) (floatOf (word ws (i + 3))))) (floatOf (word ws (i + 4)))
+
+abbrev pub addAt : Budget → ℕ → List (List ℕ) → Option session.Call
+addAt g i ws = addWords g (word ws i) (word ws (i + 1)) (word ws (i + 2)) (word ws (i + 3)) (word ws (i + 4)) (word ws (i + 5)) (drop (i + 6) ws)
 
 -- no line unless both could be read
 abbrev pub lineIf : Bool → Line → Line

@@ -50,6 +50,14 @@ createName = 99 ∷ 114 ∷ 101 ∷ 97 ∷ 116 ∷ 101 ∷ []
 abbrev pub addName : List ℕ
 addName = 97 ∷ 100 ∷ 100 ∷ []
 
+-- `addg`
+abbrev pub addgName : List ℕ
+addgName = 97 ∷ 100 ∷ 100 ∷ 103 ∷ []
+
+-- `drop`
+abbrev pub dropName : List ℕ
+dropName = 100 ∷ 114 ∷ 111 ∷ 112 ∷ []
+
 -- `le`
 abbrev pub leName : List ℕ
 leName = 108 ∷ 101 ∷ []

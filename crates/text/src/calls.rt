@@ -1,7 +1,7 @@
 // What the words of a line must be for each call.
 ghost use mathlib.Core.Path.{_≡_};
-ghost use Rattle.steps.specs.Session.{resets, valueOf, hasConstraints, hasEdits, clips, removes, removesEdit, addsEdit, suggests};
-ghost use Rattle.text.specs.Format.{ofId, ofReal, ofIdBudget, ofEdit, ofReals, relationOf};
+ghost use Rattle.steps.specs.Session.{resets, valueOf, hasConstraints, hasEdits, clips, removes, removesEdit, drops, addsEdit, suggests};
+ghost use Rattle.text.specs.Format.{ofId, ofReal, ofIdBudget, ofEdit, ofGroup, ofReals, relationOf};
 ghost use Rattle.text.specs.Lines.{asCall, asRelated, headOf};
 use crate::digits;
 use crate::floats::Budget;
@@ -120,6 +120,18 @@ pub fn remove_edit_call(v: Id, budget: Budget) -> Call
     }
 }
 
+pub fn drop_call(group: Budget, budget: Budget) -> Call
+    ensures { λ r. ⌜ r ≡ asCall (ofGroup drops group budget) ⌝ }
+{
+    match group {
+        Budget::Is16(g) => match budget {
+            Budget::Is16(b) => Call::Change(Change::Drop(g), b),
+            Budget::No16 => Call::Bad,
+        },
+        Budget::No16 => Call::Bad,
+    }
+}
+
 pub fn add_edit_call(v: Id, strength: Real, budget: Budget) -> Call
     ensures { λ r. ⌜ r ≡ asCall (ofEdit addsEdit v strength budget) ⌝ }
 {
@@ -188,20 +200,23 @@ pub fn relation_word(w: &[u8], strength: Real) -> Related
 }
 
 // An add without its terms.
-pub fn add_call(c: Id, budget: Budget, relation: Related, constant: Real) -> Head
-    ensures { λ r. ⌜ r ≡ headOf c budget relation constant ⌝ }
+pub fn add_call(group: Budget, c: Id, budget: Budget, relation: Related, constant: Real) -> Head
+    ensures { λ r. ⌜ r ≡ headOf group c budget relation constant ⌝ }
 {
-    match c {
-        Id::Is32(n) => match budget {
-            Budget::Is16(b) => match relation {
-                Related::By(r) => match constant {
-                    Real::Number(k) => Head::Of(Change::Add(n, k, r), b),
-                    Real::NoReal => Head::NoHead,
+    match group {
+        Budget::Is16(g) => match c {
+            Id::Is32(n) => match budget {
+                Budget::Is16(b) => match relation {
+                    Related::By(r) => match constant {
+                        Real::Number(k) => Head::Of(Change::Add(g, n, k, r), b),
+                        Real::NoReal => Head::NoHead,
+                    },
+                    Related::NoRelation => Head::NoHead,
                 },
-                Related::NoRelation => Head::NoHead,
+                Budget::No16 => Head::NoHead,
             },
-            Budget::No16 => Head::NoHead,
+            Id::No32 => Head::NoHead,
         },
-        Id::No32 => Head::NoHead,
+        Budget::No16 => Head::NoHead,
     }
 }

@@ -1,11 +1,11 @@
 // A line read as a call.
 ghost use mathlib.Core.Path.{_≡_};
 ghost use mathlib.Core.Option.{none};
-ghost use Prim.Native.Nat.{_≤_};
+ghost use Prim.Native.Nat.{_+_, _≤_};
 ghost use lib.ListN.{length};
 ghost use Rattle.text.specs.Words.{wordsOf, word};
 ghost use Rattle.text.specs.Format.{oneWord, twoWords, threeWords, fourWords, fiveWords, callOf};
-ghost use Rattle.text.specs.Lines.{asCall, lineOf, headAt, lineWith};
+ghost use Rattle.text.specs.Lines.{asCall, lineOf, headAt, addAt, lineWith};
 use crate::calls;
 use crate::calls::Call;
 use crate::calls::Head;
@@ -13,6 +13,7 @@ use crate::calls::Line;
 use crate::digits;
 use crate::digits::Whole;
 use crate::floats;
+use crate::floats::Budget;
 use crate::packing;
 use crate::packing::Packed;
 use crate::words;
@@ -64,6 +65,9 @@ fn read_three(s: &[u8]) -> Call
     }
     if digits::same(name, b"removeedit") {
         return calls::remove_edit_call(floats::id_word(a), floats::budget_word(b));
+    }
+    if digits::same(name, b"drop") {
+        return calls::drop_call(floats::budget_word(a), floats::budget_word(b));
     }
     Call::Bad
 }
@@ -145,16 +149,17 @@ fn no_line() -> Line
     }
 }
 
-// The words of an add before its terms.
-fn read_head(s: &[u8]) -> Head
-    ensures { λ r. ⌜ r ≡ headAt (wordsOf (now (s .entry))) ⌝ }
+// The words of an add before its terms, from place i on.
+fn read_head(s: &[u8], i: usize, group: Budget) -> Head
+    requires { ⌜ i ≤ 2 ⌝ }
+    ensures { λ r. ⌜ r ≡ headAt group i (wordsOf (now (s .entry))) ⌝ }
 {
-    let strength = floats::float_word(words::word_at(s, 4));
-    let relation = calls::relation_word(words::word_at(s, 3), strength);
-    let c = floats::id_word(words::word_at(s, 1));
-    let b = floats::budget_word(words::word_at(s, 2));
-    let k = floats::float_word(words::word_at(s, 5));
-    calls::add_call(c, b, relation, k)
+    let strength = floats::float_word(words::word_at(s, i + 3));
+    let relation = calls::relation_word(words::word_at(s, i + 2), strength);
+    let c = floats::id_word(words::word_at(s, i));
+    let b = floats::budget_word(words::word_at(s, i + 1));
+    let k = floats::float_word(words::word_at(s, i + 4));
+    calls::add_call(group, c, b, relation, k)
 }
 
 fn line_with(head: Head, p: Packed) -> Line
@@ -174,23 +179,41 @@ fn line_with(head: Head, p: Packed) -> Line
     }
 }
 
-// A line of n words, as many as an add has, or more.
-fn read_add(s: &[u8], n: usize) -> Line
+// The words of an add stand from place i on, in a line of n words.
+fn read_add(s: &[u8], n: usize, i: usize, group: Budget) -> Line
+    requires { ⌜ n ≡ length (wordsOf (now s)) ⌝ }
+    requires { ⌜ i ≤ 2 ⌝ }
+    requires { ⌜ i + 6 ≤ n ⌝ }
+    ensures { λ r. ⌜ r ≡ lineOf (addAt group i (wordsOf (now (s .entry)))) ⌝ }
+{
+    let Whole::Is(m) = digits::decimal(words::word_at(s, i + 5), 4294967295) else {
+        return no_line();
+    };
+    let m = m as usize;
+    if 2 * m != n - (i + 6) {
+        return no_line();
+    }
+    line_with(read_head(s, i, group), packing::read_terms(s, i + 6, m))
+}
+
+// A line of n words, as many as an add has, or more. "`add` is group 1"
+fn read_long(s: &[u8], n: usize) -> Line
     requires { ⌜ n ≡ length (wordsOf (now s)) ⌝ }
     requires { ⌜ 7 ≤ n ⌝ }
     ensures { λ r. ⌜ r ≡ lineOf (callOf (wordsOf (now (s .entry)))) ⌝ }
 {
-    if !digits::same(words::word_at(s, 0), b"add") {
+    let name = words::word_at(s, 0);
+    if digits::same(name, b"add") {
+        return read_add(s, n, 1, Budget::Is16(1));
+    }
+    if !digits::same(name, b"addg") {
         return no_line();
     }
-    let Whole::Is(m) = digits::decimal(words::word_at(s, 6), 4294967295) else {
-        return no_line();
-    };
-    let m = m as usize;
-    if 2 * m != n - 7 {
+    if n == 7 {
         return no_line();
     }
-    line_with(read_head(s), packing::read_terms(s, 7, m))
+    let g = floats::budget_word(words::word_at(s, 1));
+    read_add(s, n, 2, g)
 }
 
 // The call that a line names, if it is one.
@@ -199,7 +222,7 @@ pub fn read_line(s: &[u8]) -> Line
 {
     let n = words::count_words(s);
     if 7 <= n {
-        return read_add(s, n);
+        return read_long(s, n);
     }
     let c = read_short(s, n);
     let t = terms::none();

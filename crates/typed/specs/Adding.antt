@@ -54,9 +54,9 @@ markIn t = asked (λ (s : State). s .whole) false t
 abbrev pub unread : ℕ → Sparse → Called
 unread k t = called (record { number = k; pivots = 0; whole = markIn t }) t
 
--- a line that reads is the add of its terms, its constant and its relation, required
+-- a line that reads is the add of its terms, its constant and its relation: "without it the constraint is required and in group 1"
 unfoldable pub addRead : ℕ → Answer → ℕ → Sparse → Sparse → Text
-addRead n (reads r) budget work t = text 0 (callOf (add n (termsIn (typedTerms (r .terms))) (wholeOf (r .constant)) (requiredBy (r .relation)) budget) work t)
+addRead n (reads r) budget work t = text 0 (callOf (add 1 n (termsIn (typedTerms (r .terms))) (wholeOf (r .constant)) (requiredBy (r .relation)) budget) work t)
 addRead n (outside at) budget work t = text at (unread 20 t)
 addRead n (refused k) budget work t = text 0 (unread k t)
 
@@ -132,7 +132,7 @@ module _ (n : ℕ) (line : List ℕ) (budget : ℕ) (work t : Sparse) {r : Readi
       go (refused k) d = rw (d, f, g) refl
 
   pub text-added : (p : Pack) (k : Float) (x : Relation) (c : Called) → r .number ≡ 0 → p ≡ packOf (termsRead r) → k ≡ wholeOf (valueOf (r .constant)) → relationOf x ≡ requiredBy (sides.relationOf (r .relation))
-      → c ≡ callOf (add n (termsIn (listed p)) k (relationOf x) budget) work t → text 0 c ≡ textOf n line budget work t
+      → c ≡ callOf (add 1 n (termsIn (listed p)) k (relationOf x) budget) work t → text 0 c ≡ textOf n line budget work t
   unfolding textOf addRead
   text-added p k x c z g h i j = go (readLine line) (line-fit line) e
     where
@@ -142,6 +142,6 @@ module _ (n : ℕ) (line : List ℕ) (budget : ℕ) (work t : Sparse) {r : Readi
           let g′ : p ≡ packOf ts = g ∙ ap packOf (ap termsRead d ∙ terms-read q few all) in
           let h′ : k ≡ wholeOf (q .constant) = h ∙ ap (λ (y : Reading). wholeOf (valueOf (y .constant))) d ∙ ap wholeOf (value-stands (q .constant) small) in
           let i′ : relationOf x ≡ requiredBy (q .relation) = i ∙ ap (λ (y : Reading). requiredBy (sides.relationOf (y .relation))) d ∙ ap requiredBy (mark-back (q .relation)) in
-          ap (text 0) (j ∙ listed-call n budget k (relationOf x) work t ts g′ ∙ ap (λ (y : Float). callOf (add n (termsIn ts) y (relationOf x) budget) work t) h′ ∙ ap (λ (y : steps.Relation). callOf (add n (termsIn ts) (wholeOf (q .constant)) y budget) work t) i′)
+          ap (text 0) (j ∙ listed-call 1 n budget k (relationOf x) work t ts g′ ∙ ap (λ (y : Float). callOf (add 1 n (termsIn ts) y (relationOf x) budget) work t) h′ ∙ ap (λ (y : steps.Relation). callOf (add 1 n (termsIn ts) (wholeOf (q .constant)) y budget) work t) i′)
       go (outside at) f d = let y : r .number ≡ 20 = ap (λ (v : Reading). v .number) d in absurd (omega (arith, z))
       go (refused m) f d = absurd (f (sym (ap (λ (v : Reading). v .number) d) ∙ z))

@@ -34,6 +34,7 @@ fn mark_of(words: &Words, keys: &Keys, bytes: &Bytes, reals: &Reals, values: &Va
     words[sparse::WHOLE] == 1
 }
 
+// "without it the constraint is required and in group 1"
 pub fn add_text(
     words: &mut Words,
     keys: &mut Keys,
@@ -67,7 +68,7 @@ pub fn add_text(
     let constant = whole(r.constant);
     let m = r.relation;
     let relation = required_by(m);
-    let c = Change::Add(number, constant, relation);
+    let c = Change::Add(1, number, constant, relation);
     let a = solver::change(
         words,
         keys,

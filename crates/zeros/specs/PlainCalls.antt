@@ -2,7 +2,8 @@
 use mathlib.Core.List.{List, [], _∷_}
 use mathlib.Core.Option.{Option, none, some}
 use mathlib.Core.Bool.{Bool, true, false, cond, _&&_}
-use Prim.Native.Nat.{ℕ, _-_}
+use Prim.Native.Nat.{ℕ, _+_, _-_}
+use lib.Dec.{eqb}
 use lib.Ieee.{Float, ne, neg}
 use Rattle.steps.specs.Number.{zero64, isFinite, constantBound, wholeIf, _-₆₄_}
 use Rattle.steps.specs.Strength.{clip}
@@ -17,8 +18,8 @@ use Rattle.steps.specs.CreateRow.{withVariables, insertInObjective}
 use Rattle.steps.specs.Add.{wholeWithin, Added, addSteps}
 use Rattle.steps.specs.Remove.{insertRowInObjective, removeMarkerEffects, removeConstraintEffects, getMarkerLeavingRow, noteLeaving, dropMarker, purgeTag, Fallen, useLess, dropUse, dropUses, removeSteps}
 use Rattle.steps.specs.Edit.{editTerms, addEditSteps, shiftOf, shiftRow, shiftRows, shiftConstants, suggestSteps}
-use Rattle.steps.specs.Tests.{firstRefusal, addTests, addEditTests, keptTerms, findConstraint, keepConstraint, dropConstraint, findEdit, keepEdit, dropEdit}
-use Rattle.steps.specs.Calls.{Result, empty, begin, finish, refusedBy, acceptedAs, conclude, concludeAdd, add, remove, addEdit, removeEdit, suggest}
+use Rattle.steps.specs.Tests.{firstRefusal, addTests, addEditTests, dropTests, groupOf, keptTerms, findConstraint, keepConstraint, dropConstraint, findEdit, keepEdit, dropEdit}
+use Rattle.steps.specs.Calls.{Result, empty, begin, finish, refusedBy, acceptedAs, conclude, concludeAdd, add, removeStored, remove, onward, removeAll, allOrNone, dropGroup, addEdit, removeEdit, suggest}
 use Rattle.keeps.specs.Passes.{Ends, ends-bind}
 use Rattle.zeros.specs.PlainAdding.{marked, aimed, revalued, objective-plain, add-steps-plain}
 use Rattle.zeros.specs.Plain.{PlainRow, PlainRows, PlainWork, drop-plain, noted-plain, pivot-plain, purge-plain, checked-plain, optimise-plain, dual-plain}
@@ -169,27 +170,62 @@ pub empty-plain : (cutoff : Float) → PlainState (empty cutoff)
 unfolding empty
 empty-plain cutoff = tt
 
-pub add-plain : (n : ℕ) (ts : List Term) (k : Float) (r : Relation) (b : ℕ) (s : State) → PlainState s → PlainState (add n ts k r b s .state)
+pub add-plain : (g n : ℕ) (ts : List Term) (k : Float) (r : Relation) (b : ℕ) (s : State) → PlainState s → PlainState (add g n ts k r b s .state)
 unfolding add
-add-plain n ts k r b s h = go (firstRefusal (addTests n ts k r s))
+add-plain g n ts k r b s h = go (firstRefusal (addTests g n ts k r s))
   where
     next : Added → State
-    next a = finish (a .work) (keepConstraint (record { number = n; strength = strengthOf r; terms = keptTerms (s .tableau .cutoff) ts; tag = a .tag }) (s .constraints)) (s .edits)
+    next a = finish (a .work) (keepConstraint (record { number = n; group = g; strength = strengthOf r; terms = keptTerms (s .tableau .cutoff) ts; tag = a .tag }) (s .constraints)) (s .edits)
 
     go : (o : Option ℕ) → PlainState (elim o as (λ _. Result) [ some q ↦ refusedBy q 0 (s .whole) s | none ↦ concludeAdd s (addSteps b ts k r (begin s)) next ] .state)
     go (some q) = unfold refusedBy in h
     go none = concluded-add s h (addSteps b ts k r (begin s)) next (λ a p. finished (a .work) _ (s .edits) p) (add-steps-plain b ts k r (begin s) (begin-plain s h))
 
+removed-plain : (n : ℕ) (c : Constraint) (b : ℕ) (s : State) → PlainState s → PlainState (removeStored n c b s .state)
+unfolding removeStored
+removed-plain n c b s h =
+    concluded s h (removeSteps b (c .tag) (c .strength) (c .terms) (begin s)) (λ w. finish w (dropConstraint n (s .constraints)) (s .edits)) (λ w p. finished w _ (s .edits) p)
+    (remove-steps-plain b (c .tag) (c .strength) (c .terms) (begin s) (begin-plain s h))
+
 pub remove-plain : (n b : ℕ) (s : State) → PlainState s → PlainState (remove n b s .state)
 unfolding remove
 remove-plain n b s h = go (findConstraint n (s .constraints))
   where
-    next : Work → State
-    next w = finish w (dropConstraint n (s .constraints)) (s .edits)
-
-    go : (o : Option Constraint) → PlainState (elim o as (λ _. Result) [ none ↦ refusedBy 5 0 (s .whole) s | some c ↦ conclude s (removeSteps b (c .tag) (c .strength) (c .terms) (begin s)) next ] .state)
+    go : (o : Option Constraint) → PlainState (elim o as (λ _. Result) [ none ↦ refusedBy 5 0 (s .whole) s | some c ↦ removeStored n c b s ] .state)
     go none = unfold refusedBy in h
-    go (some c) = concluded s h (removeSteps b (c .tag) (c .strength) (c .terms) (begin s)) next (λ w p. finished w _ (s .edits) p) (remove-steps-plain b (c .tag) (c .strength) (c .terms) (begin s) (begin-plain s h))
+    go (some c) = removed-plain n c b s h
+
+onward-plain : (r q : Result) → PlainState (r .state) → PlainState (q .state) → PlainState (onward r q .state)
+unfolding onward
+onward-plain r q h k = go (eqb (r .answer .number) 0)
+  where
+    go : (z : Bool)
+        → PlainState (elim z as (λ _. Result) [ false ↦ r | true ↦ record { answer = record { number = q .answer .number; pivots = r .answer .pivots + q .answer .pivots; whole = q .answer .whole }; state = q .state } ] .state)
+    go false = h
+    go true = k
+
+all-plain : (cs : List Constraint) (b : ℕ) (s : State) → PlainState s → PlainState (removeAll cs b s .state)
+unfolding removeAll
+all-plain [] b s h = h
+all-plain (c ∷ cs) b s h =
+    let r : Result = removeStored (c .number) c b s in
+    let k = removed-plain (c .number) c b s h in
+    onward-plain r (removeAll cs (b - r .answer .pivots) (r .state)) k (all-plain cs (b - r .answer .pivots) (r .state) k)
+
+pub dropGroup-plain : (g b : ℕ) (s : State) → PlainState s → PlainState (dropGroup g b s .state)
+unfolding dropGroup
+dropGroup-plain g b s h = go (firstRefusal (dropTests g s))
+  where
+    r : Result
+    r = removeAll (groupOf g (s .constraints)) b s
+
+    kept : (z : Bool) → PlainState (elim z as (λ _. Result) [ true ↦ r | false ↦ refusedBy (r .answer .number) (r .answer .pivots) (r .answer .whole) s ] .state)
+    kept true = all-plain (groupOf g (s .constraints)) b s h
+    kept false = unfold refusedBy in h
+
+    go : (o : Option ℕ) → PlainState (elim o as (λ _. Result) [ some q ↦ refusedBy q 0 (s .whole) s | none ↦ allOrNone s r ] .state)
+    go (some q) = unfold refusedBy in h
+    go none = unfold allOrNone in kept (eqb (r .answer .number) 0)
 
 pub addEdit-plain : (n : ℕ) (x : Float) (b : ℕ) (s : State) → PlainState s → PlainState (addEdit n x b s .state)
 unfolding addEdit

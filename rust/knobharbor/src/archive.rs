@@ -3,7 +3,7 @@
 use crate::{RelationalOperator, Term};
 
 // The lengths of the tables.
-const WORDS: usize = 258;
+const WORDS: usize = 306;
 const CELLS: usize = 6579;
 const BYTES: usize = 1312;
 const REALS: usize = 1132;
@@ -34,7 +34,7 @@ pub struct TextAnswer {
     pub offset: usize,
 }
 
-/// The tables that hold a solver's state, or its working room, to be lent to a `LentSolver`. They are some 78 KB.
+/// The tables that hold a solver's state, or its working room, to be lent to a `LentSolver`. They are some 79 KB.
 #[repr(C)]
 #[derive(Clone)]
 pub struct Tables {
@@ -50,6 +50,13 @@ impl Tables {
     #[allow(clippy::new_without_default)]
     pub const fn new() -> Tables {
         Tables { words: [0; WORDS], reals: [0.0; REALS], values: [0.0; CELLS], keys: [0; CELLS], bytes: [0; BYTES] }
+    }
+
+    /// Whether both hold the same bits, place by place: a NaN is itself, and 0.0 is not -0.0.
+    pub fn same_bits(&self, other: &Tables) -> bool {
+        let same = |a: &[f64], b: &[f64]| a.iter().map(|x| x.to_bits()).eq(b.iter().map(|x| x.to_bits()));
+        let whole = self.words == other.words && self.keys == other.keys && self.bytes == other.bytes;
+        whole && same(&self.reals, &other.reals) && same(&self.values, &other.values)
     }
 
     /// Table by table, where they stand.
@@ -93,10 +100,11 @@ macro_rules! declare_asking {
 // What has a fixed size crosses as a reference; a list as a pointer and a length of 64 bits.
 declare_changing! {
     knobharbor_add(
-        number: u32, terms: *const Term, count: u64, constant: f64, kind: u32, strength: f64, budget: u16
+        group: u16, number: u32, terms: *const Term, count: u64, constant: f64, kind: u32, strength: f64, budget: u16
     );
     knobharbor_add_text(offset: &mut u64, number: u32, line: *const u8, length: u64, budget: u16);
     knobharbor_remove(number: u32, budget: u16);
+    knobharbor_drop(group: u16, budget: u16);
     knobharbor_add_edit(variable: u32, strength: f64, budget: u16);
     knobharbor_remove_edit(variable: u32, budget: u16);
     knobharbor_suggest(variable: u32, value: f64, budget: u16);
@@ -176,8 +184,9 @@ pub fn reset(t: &mut Tables, cutoff: f64) -> Answer {
     Answer::of(answer)
 }
 
-/// A constraint of this number: the terms plus the constant are `op` zero.
+/// A constraint of this number, in this group: the terms plus the constant are `op` zero.
 pub struct Added<'a> {
+    pub group: u16,
     pub number: u32,
     pub terms: &'a [Term],
     pub constant: f64,
@@ -186,7 +195,7 @@ pub struct Added<'a> {
 }
 
 pub fn add(t: &mut Tables, w: &mut Tables, a: Added, budget: u16) -> Answer {
-    change!(knobharbor_add, t, w, a.number, a.terms.as_ptr(), a.terms.len() as u64, a.constant, a.op.kind(), a.strength, budget)
+    change!(knobharbor_add, t, w, a.group, a.number, a.terms.as_ptr(), a.terms.len() as u64, a.constant, a.op.kind(), a.strength, budget)
 }
 
 pub fn add_text(t: &mut Tables, w: &mut Tables, number: u32, line: &[u8], budget: u16) -> TextAnswer {
@@ -197,6 +206,10 @@ pub fn add_text(t: &mut Tables, w: &mut Tables, number: u32, line: &[u8], budget
 
 pub fn remove(t: &mut Tables, w: &mut Tables, number: u32, budget: u16) -> Answer {
     change!(knobharbor_remove, t, w, number, budget)
+}
+
+pub fn drop_group(t: &mut Tables, w: &mut Tables, group: u16, budget: u16) -> Answer {
+    change!(knobharbor_drop, t, w, group, budget)
 }
 
 pub fn add_edit(t: &mut Tables, w: &mut Tables, variable: u32, strength: f64, budget: u16) -> Answer {

@@ -1,6 +1,6 @@
 //! The calls over tables that the caller lends: fixed sizes, no heap.
 use crate::archive::{self, Added, Answer, Tables, PLACES};
-use crate::{Refusal, RelationalOperator, Term, Variable, LARGEST_BUDGET, USUAL_CUTOFF};
+use crate::{Refusal, RelationalOperator, Term, Variable, LARGEST_BUDGET, USUAL_CUTOFF, USUAL_GROUP};
 use core::ops::Deref;
 
 /// A solver over lent tables. Constraints have numbers, which the caller chooses. Every call ends within the pivot budget, and a
@@ -93,14 +93,27 @@ impl<'a> LentSolver<'a> {
         Ok(())
     }
 
-    /// Adds the constraint of this number: the terms plus the constant are `op` zero, at this strength.
+    /// Adds the constraint of this number, in group 1: the terms plus the constant are `op` zero, at this strength.
     pub fn add(&mut self, number: u32, terms: &[Term], constant: f64, op: RelationalOperator, strength: f64) -> Result<(), Refusal> {
-        let added = Added { number, terms, constant, op, strength };
+        self.add_in(USUAL_GROUP, number, terms, constant, op, strength)
+    }
+
+    /// The same in this group, from 1 on, by which `drop_group` knows it. A number is one constraint's, whatever its group.
+    pub fn add_in(
+        &mut self,
+        group: u16,
+        number: u32,
+        terms: &[Term],
+        constant: f64,
+        op: RelationalOperator,
+        strength: f64,
+    ) -> Result<(), Refusal> {
+        let added = Added { group, number, terms, constant, op, strength };
         let answer = archive::add(self.tables, self.room, added, self.budget);
         self.concluded(answer)
     }
 
-    /// Adds the constraint that a line of text reads as, required: `2*(v1 + 3) <= v2` is 2 v1 - v2 + 6 at most zero. The line has
+    /// Adds the constraint that a line of text reads as, required and in group 1: `2*(v1 + 3) <= v2` is 2 v1 - v2 + 6 at most zero. The line has
     /// no newline. Beside `Refusal::LineNotInGrammar` stands the first byte with which no line can go on, else 0.
     pub fn add_text(&mut self, number: u32, line: &[u8]) -> Result<(), (Refusal, usize)> {
         let a = archive::add_text(self.tables, self.room, number, line, self.budget);
@@ -111,6 +124,12 @@ impl<'a> LentSolver<'a> {
     /// Removes the constraint of this number.
     pub fn remove(&mut self, number: u32) -> Result<(), Refusal> {
         let answer = archive::remove(self.tables, self.room, number, self.budget);
+        self.concluded(answer)
+    }
+
+    /// Removes every constraint of this group, all or none, under one budget: see `Solver::drop_group`.
+    pub fn drop_group(&mut self, group: u16) -> Result<(), Refusal> {
+        let answer = archive::drop_group(self.tables, self.room, group, self.budget);
         self.concluded(answer)
     }
 

@@ -84,6 +84,9 @@ pub use variable::{RelationalOperator, Term, Variable, WeightedRelation};
 /// The largest budget, and the one that a new solver has.
 pub const LARGEST_BUDGET: u16 = u16::MAX;
 
+/// The group of a constraint that is added without naming one.
+pub const USUAL_GROUP: u16 = 1;
+
 /// The cutoff of near zero that a new solver has unless another is named.
 pub const USUAL_CUTOFF: f64 = 1e-8;
 

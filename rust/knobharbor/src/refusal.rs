@@ -79,6 +79,10 @@ refusals! {
     LineTooManyVariables = 23, "the line has more than 16 variables";
     /// A cutoff is above 0 and at most `LARGEST_CUTOFF`.
     CutoffOutOfRange = 24, "the cutoff is not above 0 and at most 1E-6";
+    /// A constraint is in a group from 1 on: edits are in group 0.
+    GroupZero = 26, "group 0 is the edits' own";
+    /// No constraint is in the group.
+    EmptyGroup = 27, "there is no constraint in the group";
     /// Over the service cable a line has at most 200 bytes.
     CableLineTooLong = 32, "the line has more than 200 bytes";
     /// The service cable was closed inside a line.

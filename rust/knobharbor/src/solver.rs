@@ -3,7 +3,7 @@ use crate::archive::{self, Added, Answer, Tables};
 use crate::lent::Changes;
 use crate::{
     AddConstraintError, AddEditVariableError, Constraint, Refusal, Refused, RemoveConstraintError, RemoveEditVariableError,
-    SuggestValueError, Variable, LARGEST_BUDGET, USUAL_CUTOFF,
+    SuggestValueError, Variable, LARGEST_BUDGET, USUAL_CUTOFF, USUAL_GROUP,
 };
 use alloc::alloc::{alloc_zeroed, handle_alloc_error, Layout};
 use alloc::boxed::Box;
@@ -118,12 +118,17 @@ impl Solver {
         self.next
     }
 
-    /// Adds a constraint.
+    /// Adds a constraint, in group 1.
     pub fn add_constraint(&mut self, constraint: Constraint) -> Result<(), AddConstraintError> {
+        self.add_constraint_in(USUAL_GROUP, constraint)
+    }
+
+    /// Adds a constraint in this group, from 1 on, by which `drop_group` knows it.
+    pub fn add_constraint_in(&mut self, group: u16, constraint: Constraint) -> Result<(), AddConstraintError> {
         let known = self.number_of(&constraint);
         let number = known.unwrap_or_else(|| self.free_number());
         let e = constraint.expr();
-        let added = Added { number, terms: &e.terms, constant: e.constant, op: constraint.op(), strength: constraint.strength() };
+        let added = Added { group, number, terms: &e.terms, constant: e.constant, op: constraint.op(), strength: constraint.strength() };
         let answer = archive::add(&mut self.held.tables, &mut self.held.room, added, self.budget);
         self.concluded(answer, Some(&constraint))?;
         self.constraints.push((constraint, number));
@@ -148,6 +153,17 @@ impl Solver {
         let answer = archive::remove(&mut self.held.tables, &mut self.held.room, number, self.budget);
         self.concluded(answer, Some(constraint))?;
         self.constraints.retain(|(c, _)| c != constraint);
+        Ok(())
+    }
+
+    /// Removes every constraint of this group, one after the other and each as `remove_constraint` does, under one budget. All of them
+    /// go, or none: if one removal is refused, the drop is, and nothing has changed. Edits are in no such group and stay, also those of
+    /// a variable that the group's constraints alone named. There is no constraint in the group: `Refusal::EmptyGroup`.
+    pub fn drop_group(&mut self, group: u16) -> Result<(), Refusal> {
+        let answer = archive::drop_group(&mut self.held.tables, &mut self.held.room, group, self.budget);
+        self.concluded(answer, None)?;
+        let tables = &self.held.tables;
+        self.constraints.retain(|(_, number)| archive::has_constraint(tables, *number));
         Ok(())
     }
 

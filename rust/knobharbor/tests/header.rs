@@ -64,8 +64,14 @@ fn refusals_have_the_same_words() {
     for (i, refusal) in all.into_iter().enumerate() {
         assert_eq!((refusal.number() as usize, refusal.words()), (i + 1, words[i + 1]));
     }
-    for (name, refusal) in [("OVER", Refusal::CableLineTooLong), ("UNENDED", Refusal::LineUnended)] {
-        assert!(HEADER.contains(&format!("KNOBHARBOR_LINE_{name} = {}", refusal.number())));
-        assert!(HEADER.contains(&format!("if (number == KNOBHARBOR_LINE_{name})\n        return \"{}\";", refusal.words())));
+    let apart = [
+        ("LINE_OVER", Refusal::CableLineTooLong),
+        ("LINE_UNENDED", Refusal::LineUnended),
+        ("GROUP_ZERO", Refusal::GroupZero),
+        ("EMPTY_GROUP", Refusal::EmptyGroup),
+    ];
+    for (name, refusal) in apart {
+        assert!(HEADER.contains(&format!("KNOBHARBOR_{name} = {}", refusal.number())));
+        assert!(HEADER.contains(&format!("if (number == KNOBHARBOR_{name})\n        return \"{}\";", refusal.words())));
     }
 }

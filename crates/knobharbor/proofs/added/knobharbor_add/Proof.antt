@@ -93,14 +93,14 @@ termsS = SliceRefOf (11 ∷ []) tt (plain (λ _. T.the-row)) (λ _. tt)
 
 -- at exit what is lent is given up for good, and nothing is said of the other parameters
 abbrev stayed : Stays (knobharbor-add.ended .signature .params) (knobharbor-add.ended .kept)
-stayed = (gave-ref (0 ∷ []) tt wordsS, (gave-ref (1 ∷ []) tt keysS, (gave-ref (2 ∷ []) tt bytesS, (gave-ref (3 ∷ []) tt realsS, (gave-ref (4 ∷ []) tt valuesS, (gave-ref (5 ∷ []) tt wordsS, (gave-ref (6 ∷ []) tt keysS, (gave-ref (7 ∷ []) tt bytesS, (gave-ref (8 ∷ []) tt realsS, (gave-ref (9 ∷ []) tt valuesS, (gave-ref (10 ∷ []) tt answerS, (stay-dropped (plain (λ _. u32)) yes, (stay-dropped termsS yes, (stay-dropped (plain (λ _. f64)) yes, (stay-dropped (plain (λ _. u32)) yes, (stay-dropped (plain (λ _. f64)) yes, (stay-dropped (plain (λ _. u16)) yes, tt)))))))))))))))))
+stayed = (gave-ref (0 ∷ []) tt wordsS, (gave-ref (1 ∷ []) tt keysS, (gave-ref (2 ∷ []) tt bytesS, (gave-ref (3 ∷ []) tt realsS, (gave-ref (4 ∷ []) tt valuesS, (gave-ref (5 ∷ []) tt wordsS, (gave-ref (6 ∷ []) tt keysS, (gave-ref (7 ∷ []) tt bytesS, (gave-ref (8 ∷ []) tt realsS, (gave-ref (9 ∷ []) tt valuesS, (gave-ref (10 ∷ []) tt answerS, (stay-dropped (plain (λ _. u16)) yes, (stay-dropped (plain (λ _. u32)) yes, (stay-dropped termsS yes, (stay-dropped (plain (λ _. f64)) yes, (stay-dropped (plain (λ _. u32)) yes, (stay-dropped (plain (λ _. f64)) yes, (stay-dropped (plain (λ _. u16)) yes, tt))))))))))))))))))
 
 -- the parameters' types, and how their values' machine values are spelled
 abbrev kinds : Lfts 12 → List RattleType
 kinds κs = typesAt (knobharbor-add.signature .params) κs
 
 abbrev spelled : (κs : Lfts 12) → Spells (kinds κs)
-spelled κs = (ptr-vals, (ptr-vals, (ptr-vals, (ptr-vals, (ptr-vals, (ptr-vals, (ptr-vals, (ptr-vals, (ptr-vals, (ptr-vals, (ptr-vals, (uint-vals w32, (slice-vals, (float-vals binary64, (uint-vals w32, (float-vals binary64, (uint-vals w16, tt)))))))))))))))))
+spelled κs = (ptr-vals, (ptr-vals, (ptr-vals, (ptr-vals, (ptr-vals, (ptr-vals, (ptr-vals, (ptr-vals, (ptr-vals, (ptr-vals, (ptr-vals, (uint-vals w16, (uint-vals w32, (slice-vals, (float-vals binary64, (uint-vals w32, (float-vals binary64, (uint-vals w16, tt))))))))))))))))))
 
 module _ {M : Type 1} (𝓤 : URA M) (H : Heap 𝓤) (A : Atoms 𝓤) (mem : Memory → SProp 𝓤) (run : Routine → Fun 𝓤) where
   -- the contracts that the proof cites
@@ -124,23 +124,26 @@ module _ {M : Type 1} (𝓤 : URA M) (H : Heap 𝓤) (A : Atoms 𝓤) (W : Given
   Post = walkOf 𝓤 H A knobharbor-add.ended stayed (knobharbor-add.clauses 𝓤 H A mem run) .post bound
 
   -- the parameters after what is lent
+  abbrev in-group : ℕ
+  in-group = a .1 .1 .1 .1 .1 .1 .1 .1 .1 .1 .1 .0
+
   abbrev n : ℕ
-  n = a .1 .1 .1 .1 .1 .1 .1 .1 .1 .1 .1 .0
+  n = a .1 .1 .1 .1 .1 .1 .1 .1 .1 .1 .1 .1 .0
 
   abbrev terms : RefT (List Term)
-  terms = a .1 .1 .1 .1 .1 .1 .1 .1 .1 .1 .1 .1 .0
+  terms = a .1 .1 .1 .1 .1 .1 .1 .1 .1 .1 .1 .1 .1 .0
 
   abbrev constant : Float
-  constant = a .1 .1 .1 .1 .1 .1 .1 .1 .1 .1 .1 .1 .1 .0
+  constant = a .1 .1 .1 .1 .1 .1 .1 .1 .1 .1 .1 .1 .1 .1 .0
 
   abbrev kind : ℕ
-  kind = a .1 .1 .1 .1 .1 .1 .1 .1 .1 .1 .1 .1 .1 .1 .0
+  kind = a .1 .1 .1 .1 .1 .1 .1 .1 .1 .1 .1 .1 .1 .1 .1 .0
 
   abbrev strength : Float
-  strength = a .1 .1 .1 .1 .1 .1 .1 .1 .1 .1 .1 .1 .1 .1 .1 .0
+  strength = a .1 .1 .1 .1 .1 .1 .1 .1 .1 .1 .1 .1 .1 .1 .1 .1 .0
 
   abbrev budget : ℕ
-  budget = a .1 .1 .1 .1 .1 .1 .1 .1 .1 .1 .1 .1 .1 .1 .1 .1 .0
+  budget = a .1 .1 .1 .1 .1 .1 .1 .1 .1 .1 .1 .1 .1 .1 .1 .1 .1 .0
 
   -- the tables and the working room at entry
   abbrev before : Sparse
@@ -170,13 +173,13 @@ module _ {M : Type 1} (𝓤 : URA M) (H : Heap 𝓤) (A : Atoms 𝓤) (W : Given
 
   -- what the parameters own: those before the terms, the terms, those after
   abbrev fore : List Fml
-  fore = firsts 12 (kinds κs) a vals
+  fore = firsts 13 (kinds κs) a vals
 
   abbrev mine : Fml
   mine = termsS .row κs .own terms (slice-vals terms)
 
   abbrev after : Fml
-  after = owns (f64 ∷ u32 ∷ f64 ∷ u16 ∷ []) (a .1 .1 .1 .1 .1 .1 .1 .1 .1 .1 .1 .1 .1) (vals .1 .1 .1 .1 .1 .1 .1 .1 .1 .1 .1 .1 .1)
+  after = owns (f64 ∷ u32 ∷ f64 ∷ u16 ∷ []) (a .1 .1 .1 .1 .1 .1 .1 .1 .1 .1 .1 .1 .1 .1) (vals .1 .1 .1 .1 .1 .1 .1 .1 .1 .1 .1 .1 .1 .1)
 
   -- what each callee is handed
   abbrev to-collect : Collect 𝓤 H A mem run .Ghost
@@ -186,10 +189,10 @@ module _ {M : Type 1} (𝓤 : URA M) (H : Heap 𝓤) (A : Atoms 𝓤) (W : Given
   goes-collect = qed W (‵ token ∷ ‵ mine ∷ []) ∵ nothing ! $ nothing ! $ move ! (2 ∷ 0 ∷ []) $ fjoin ! $ move ! (2 ∷ 1 ∷ []) $ fjoin ! $ move ! (1 ∷ 0 ∷ []) $ join ! $ frame ! $ done !
 
   abbrev args : Pack → Args add.signature κs₁₁
-  args d = (a .0, (a .1 .0, (a .1 .1 .0, (a .1 .1 .1 .0, (a .1 .1 .1 .1 .0, (a .1 .1 .1 .1 .1 .0, (a .1 .1 .1 .1 .1 .1 .0, (a .1 .1 .1 .1 .1 .1 .1 .0, (a .1 .1 .1 .1 .1 .1 .1 .1 .0, (a .1 .1 .1 .1 .1 .1 .1 .1 .1 .0, (a .1 .1 .1 .1 .1 .1 .1 .1 .1 .1 .0, (n, (d, a .1 .1 .1 .1 .1 .1 .1 .1 .1 .1 .1 .1 .1)))))))))))))
+  args d = (a .0, (a .1 .0, (a .1 .1 .0, (a .1 .1 .1 .0, (a .1 .1 .1 .1 .0, (a .1 .1 .1 .1 .1 .0, (a .1 .1 .1 .1 .1 .1 .0, (a .1 .1 .1 .1 .1 .1 .1 .0, (a .1 .1 .1 .1 .1 .1 .1 .1 .0, (a .1 .1 .1 .1 .1 .1 .1 .1 .1 .0, (a .1 .1 .1 .1 .1 .1 .1 .1 .1 .1 .0, (in-group, (n, (d, a .1 .1 .1 .1 .1 .1 .1 .1 .1 .1 .1 .1 .1 .1))))))))))))))
 
   abbrev to-add : Pack → Val → Add 𝓤 H A mem run .Ghost
-  to-add d v = ((κs₁₁, qs₁₁, tt, args d, (vals .0, (vals .1 .0, (vals .1 .1 .0, (vals .1 .1 .1 .0, (vals .1 .1 .1 .1 .0, (vals .1 .1 .1 .1 .1 .0, (vals .1 .1 .1 .1 .1 .1 .0, (vals .1 .1 .1 .1 .1 .1 .1 .0, (vals .1 .1 .1 .1 .1 .1 .1 .1 .0, (vals .1 .1 .1 .1 .1 .1 .1 .1 .1 .0, (vals .1 .1 .1 .1 .1 .1 .1 .1 .1 .1 .0, (vals .1 .1 .1 .1 .1 .1 .1 .1 .1 .1 .1 .0, (v ∷ [], vals .1 .1 .1 .1 .1 .1 .1 .1 .1 .1 .1 .1 .1)))))))))))))), tt)
+  to-add d v = ((κs₁₁, qs₁₁, tt, args d, (vals .0, (vals .1 .0, (vals .1 .1 .0, (vals .1 .1 .1 .0, (vals .1 .1 .1 .1 .0, (vals .1 .1 .1 .1 .1 .0, (vals .1 .1 .1 .1 .1 .1 .0, (vals .1 .1 .1 .1 .1 .1 .1 .0, (vals .1 .1 .1 .1 .1 .1 .1 .1 .0, (vals .1 .1 .1 .1 .1 .1 .1 .1 .1 .0, (vals .1 .1 .1 .1 .1 .1 .1 .1 .1 .1 .0, (vals .1 .1 .1 .1 .1 .1 .1 .1 .1 .1 .1 .0, (vals .1 .1 .1 .1 .1 .1 .1 .1 .1 .1 .1 .1 .0, (v ∷ [], vals .1 .1 .1 .1 .1 .1 .1 .1 .1 .1 .1 .1 .1 .1))))))))))))))), tt)
 
   goes-add : (d : Pack) (v : Val) → ent 𝓤 (⋆ 𝓤 H A (‵ (P.the-row .own d (v ∷ [])) ∷ ‵ (chain tokens ftrue) ∷ ‵ (chain fore after) ∷ [])) (Add 𝓤 H A mem run .pre (to-add d v))
   goes-add d v =
@@ -198,7 +201,7 @@ module _ {M : Type 1} (𝓤 : URA M) (H : Heap 𝓤) (A : Atoms 𝓤) (W : Given
 
   -- what `add_packed` says of what is lent
   abbrev Says : (d : Pack) → Lasts add.ended κs₁₁ (args d) → Type 0
-  Says d zs = placed (zs .1 .1 .1 .1 .1 .1 .1 .1 .1 .1 .0) (tables (zs .0) (zs .1 .0) (zs .1 .1 .0) (zs .1 .1 .1 .0) (zs .1 .1 .1 .1 .0)) ≡ placedBy (packedOf n d constant kind strength budget room before)
+  Says d zs = placed (zs .1 .1 .1 .1 .1 .1 .1 .1 .1 .1 .0) (tables (zs .0) (zs .1 .0) (zs .1 .1 .0) (zs .1 .1 .1 .0) (zs .1 .1 .1 .1 .0)) ≡ placedBy (packedOf in-group n d constant kind strength budget room before)
 
   abbrev Clears : (d : Pack) → Lasts add.ended κs₁₁ (args d) → Type 0
   Clears d zs = tables (zs .1 .1 .1 .1 .1 .0) (zs .1 .1 .1 .1 .1 .1 .0) (zs .1 .1 .1 .1 .1 .1 .1 .0) (zs .1 .1 .1 .1 .1 .1 .1 .1 .0) (zs .1 .1 .1 .1 .1 .1 .1 .1 .1 .0) ≡ cleared room
@@ -209,8 +212,8 @@ module _ {M : Type 1} (𝓤 : URA M) (H : Heap 𝓤) (A : Atoms 𝓤) (W : Given
       use1 W (some (λ (zs : Lasts add.ended κs₁₁ (args d)). ‵ (lasts add.ended κs₁₁ (args d) zs) ⊛ (raw (fact 𝓤 (Says d zs)) ⊛ raw (fact 𝓤 (Clears d zs))))) (id⊢ 𝓤 _) $ pick ! (λ zs.
       split ! $ move ! (1 ∷ []) $ split ! $ heard ! (Says d zs) (λ said. heard ! (Clears d zs) (λ clear.
       -- [what is lent, at last; the tokens of what is lent; the terms' token]
-      suffices ! _ (ends-at 𝓤 H A knobharbor-add.ended stayed (knobharbor-add.clauses 𝓤 H A mem run) W bound vunit tt zs (tt, (tt, (tt, (tt, (tt, (tt, (tt, (tt, (tt, (tt, (tt, (tt, (tt, (tt, (tt, (tt, (tt, tt)))))))))))))))))) $
-      says-both ! (said ∙ ap placedBy (packed-list n constant kind strength budget room before (terms .now) e)) clear $
+      suffices ! _ (ends-at 𝓤 H A knobharbor-add.ended stayed (knobharbor-add.clauses 𝓤 H A mem run) W bound vunit tt zs (tt, (tt, (tt, (tt, (tt, (tt, (tt, (tt, (tt, (tt, (tt, (tt, (tt, (tt, (tt, (tt, (tt, (tt, tt))))))))))))))))))) $
+      says-both ! (said ∙ ap placedBy (packed-list in-group n constant kind strength budget room before (terms .now) e)) clear $
       move ! (2 ∷ 1 ∷ []) $ use2 W (‵ (chain tokens (fsep token ftrue))) (chain-in 𝓤 H A tokens token ftrue) $ frame ! $ frame ! $ feqI ! (List Val) (vunit ∷ []) (vunit ∷ []) refl $ done !)))
 
   module _ (C : Calls 𝓤 H) (Λ : Loops 𝓤 H) (fm : FmC 𝓤 H (W .laws) C) (known-collect : Triple 𝓤 (C #terms·collect) (Collect 𝓤 H A mem run)) (known-add : Triple 𝓤 (C #knobharbor·added·add-packed) (Add 𝓤 H A mem run))
@@ -235,27 +238,27 @@ module _ {M : Type 1} (𝓤 : URA M) (H : Heap 𝓤) (A : Atoms 𝓤) (W : Given
       adds d v e =
           move ! (0 ∷ 2 ∷ 3 ∷ []) $ use3 W (raw (Add 𝓤 H A mem run .pre (to-add d v))) (goes-add d v) $
           -- [what `add_packed` asks; the terms' token; local i at 2 + 2 · i]
-          calls-at ! fm (Add 𝓤 H A mem run) known-add (to-add d v) (and-then ! (load ! (from ! (stop !)) (look ! 42 refl)) (and-then ! (load ! (from ! (stop !)) (look ! 44 refl)) (and-then ! (load ! (from ! (stop !)) (look ! 46 refl)) (and-then ! (load ! (from ! (stop !)) (look ! 48 refl)) (and-then ! (load ! (from ! (stop !)) (look ! 50 refl)) (and-then ! (load ! (from ! (stop !)) (look ! 52 refl)) (and-then ! (load ! (from ! (stop !)) (look ! 54 refl)) (and-then ! (load ! (from ! (stop !)) (look ! 56 refl)) (and-then ! (load ! (from ! (stop !)) (look ! 58 refl)) (and-then ! (load ! (from ! (stop !)) (look ! 60 refl)) (and-then ! (load ! (from ! (stop !)) (look ! 62 refl)) (and-then ! (load ! (from ! (stop !)) (look ! 26 refl)) (and-then ! (load ! (from ! (stop !)) (look ! 38 refl)) (and-then ! (load ! (from ! (stop !)) (look ! 30 refl)) (and-then ! (load ! (from ! (stop !)) (look ! 32 refl)) (and-then ! (load ! (from ! (stop !)) (look ! 34 refl)) (and-then ! (load ! (from ! (stop !)) (look ! 36 refl)) (no-more !)))))))))))))))))) (λ w.
+          calls-at ! fm (Add 𝓤 H A mem run) known-add (to-add d v) (and-then ! (load ! (from ! (stop !)) (look ! 44 refl)) (and-then ! (load ! (from ! (stop !)) (look ! 46 refl)) (and-then ! (load ! (from ! (stop !)) (look ! 48 refl)) (and-then ! (load ! (from ! (stop !)) (look ! 50 refl)) (and-then ! (load ! (from ! (stop !)) (look ! 52 refl)) (and-then ! (load ! (from ! (stop !)) (look ! 54 refl)) (and-then ! (load ! (from ! (stop !)) (look ! 56 refl)) (and-then ! (load ! (from ! (stop !)) (look ! 58 refl)) (and-then ! (load ! (from ! (stop !)) (look ! 60 refl)) (and-then ! (load ! (from ! (stop !)) (look ! 62 refl)) (and-then ! (load ! (from ! (stop !)) (look ! 64 refl)) (and-then ! (load ! (from ! (stop !)) (look ! 26 refl)) (and-then ! (load ! (from ! (stop !)) (look ! 28 refl)) (and-then ! (load ! (from ! (stop !)) (look ! 40 refl)) (and-then ! (load ! (from ! (stop !)) (look ! 32 refl)) (and-then ! (load ! (from ! (stop !)) (look ! 34 refl)) (and-then ! (load ! (from ! (stop !)) (look ! 36 refl)) (and-then ! (load ! (from ! (stop !)) (look ! 38 refl)) (no-more !))))))))))))))))))) (λ w.
           use1 W (later (some (λ (r : Unit {0}). (‵ (chain tokens ftrue) ⊛ ‵ (Nothing .own r (w ∷ []))) ⊛ raw (ensured 𝓤 H A add.ended (add.clauses 𝓤 H A mem run) κs₁₁ (args d) tt r)))) (id⊢ 𝓤 _) $ await ! tt $ pick ! (λ r.
           split ! $ split ! $ move ! (1 ∷ []) $ feqL ! (λ eq.
           -- [the tokens of what is lent; what `add_packed` says; the terms' token; local i at 3 + 2 · i]
-          land ! (from ! (stop !)) (init ! 41 refl (nothing-lawful 𝓤 H A W .typed r (w ∷ []) eq .0)) $ assigns ! (of-opd ! (unit-lit !)) (from ! (stop !)) (init ! 3 refl (tt, tt)) $ returns ! (look ! 3 refl) $
+          land ! (from ! (stop !)) (init ! 43 refl (nothing-lawful 𝓤 H A W .typed r (w ∷ []) eq .0)) $ assigns ! (of-opd ! (unit-lit !)) (from ! (stop !)) (init ! 3 refl (tt, tt)) $ returns ! (look ! 3 refl) $
           group ! 3 $ freed En (has vunit ∷ map has (passed ++ v ∷ []) ++ has w ∷ map has lent-on) (by ! (exits d e)))))
 
       -- what is lent is lent on
       lends : (d : Pack) (v : Val) → d ≡ packOf (terms .now) → Seq Go W (Held (P.the-row .own d (v ∷ [])) token (map has (passed ++ v ∷ []))) (runs C Λ En mirs.t-2 (atRet En Post))
       lends d v e =
-          assigns ! (addr ! (from ! (hop ! (look ! 6 refl) (stop !)))) (from ! (stop !)) (init ! 44 refl (tt, tt)) $
-          assigns ! (addr ! (from ! (hop ! (look ! 8 refl) (stop !)))) (from ! (stop !)) (init ! 46 refl (tt, tt)) $
-          assigns ! (addr ! (from ! (hop ! (look ! 10 refl) (stop !)))) (from ! (stop !)) (init ! 48 refl (tt, tt)) $
-          assigns ! (addr ! (from ! (hop ! (look ! 12 refl) (stop !)))) (from ! (stop !)) (init ! 50 refl (tt, tt)) $
-          assigns ! (addr ! (from ! (hop ! (look ! 14 refl) (stop !)))) (from ! (stop !)) (init ! 52 refl (tt, tt)) $
-          assigns ! (addr ! (from ! (hop ! (look ! 16 refl) (stop !)))) (from ! (stop !)) (init ! 54 refl (tt, tt)) $
-          assigns ! (addr ! (from ! (hop ! (look ! 18 refl) (stop !)))) (from ! (stop !)) (init ! 56 refl (tt, tt)) $
-          assigns ! (addr ! (from ! (hop ! (look ! 20 refl) (stop !)))) (from ! (stop !)) (init ! 58 refl (tt, tt)) $
-          assigns ! (addr ! (from ! (hop ! (look ! 22 refl) (stop !)))) (from ! (stop !)) (init ! 60 refl (tt, tt)) $
-          assigns ! (addr ! (from ! (hop ! (look ! 24 refl) (stop !)))) (from ! (stop !)) (init ! 62 refl (tt, tt)) $
-          assigns ! (addr ! (from ! (hop ! (look ! 26 refl) (stop !)))) (from ! (stop !)) (init ! 64 refl (tt, tt)) $
+          assigns ! (addr ! (from ! (hop ! (look ! 6 refl) (stop !)))) (from ! (stop !)) (init ! 46 refl (tt, tt)) $
+          assigns ! (addr ! (from ! (hop ! (look ! 8 refl) (stop !)))) (from ! (stop !)) (init ! 48 refl (tt, tt)) $
+          assigns ! (addr ! (from ! (hop ! (look ! 10 refl) (stop !)))) (from ! (stop !)) (init ! 50 refl (tt, tt)) $
+          assigns ! (addr ! (from ! (hop ! (look ! 12 refl) (stop !)))) (from ! (stop !)) (init ! 52 refl (tt, tt)) $
+          assigns ! (addr ! (from ! (hop ! (look ! 14 refl) (stop !)))) (from ! (stop !)) (init ! 54 refl (tt, tt)) $
+          assigns ! (addr ! (from ! (hop ! (look ! 16 refl) (stop !)))) (from ! (stop !)) (init ! 56 refl (tt, tt)) $
+          assigns ! (addr ! (from ! (hop ! (look ! 18 refl) (stop !)))) (from ! (stop !)) (init ! 58 refl (tt, tt)) $
+          assigns ! (addr ! (from ! (hop ! (look ! 20 refl) (stop !)))) (from ! (stop !)) (init ! 60 refl (tt, tt)) $
+          assigns ! (addr ! (from ! (hop ! (look ! 22 refl) (stop !)))) (from ! (stop !)) (init ! 62 refl (tt, tt)) $
+          assigns ! (addr ! (from ! (hop ! (look ! 24 refl) (stop !)))) (from ! (stop !)) (init ! 64 refl (tt, tt)) $
+          assigns ! (addr ! (from ! (hop ! (look ! 26 refl) (stop !)))) (from ! (stop !)) (init ! 66 refl (tt, tt)) $
           adds d v e
 
       -- `collect` is called
@@ -263,12 +266,12 @@ module _ {M : Type 1} (𝓤 : URA M) (H : Heap 𝓤) (A : Atoms 𝓤) (W : Given
       collects =
           use2 W (raw (Collect 𝓤 H A mem run .pre to-collect)) goes-collect $
           -- [what `collect` asks; the tables' tokens; what the other parameters own; local i at 3 + 2 · i]
-          calls-at ! fm (Collect 𝓤 H A mem run) known-collect to-collect (and-then ! (load ! (from ! (stop !)) (look ! 29 refl)) (no-more !)) (λ v.
+          calls-at ! fm (Collect 𝓤 H A mem run) known-collect to-collect (and-then ! (load ! (from ! (stop !)) (look ! 31 refl)) (no-more !)) (λ v.
           use1 W (later (some (λ (d : Pack). ((‵ token ⊛ ‵ ftrue) ⊛ ‵ (P.the-row .own d (v ∷ []))) ⊛ raw (ensured 𝓤 H A collect.ended (collect.clauses 𝓤 H A mem run) (κ, tt) (terms, tt) tt d)))) (id⊢ 𝓤 _) $ await ! tt $ pick ! (λ d.
           split ! $ move ! (1 ∷ []) $ use1 W (raw (fact 𝓤 (d ≡ packOf (terms .now)))) (said-collect 𝓤 H A mem run κ terms d) $ heard ! (d ≡ packOf (terms .now)) (λ e. split ! $ move ! (1 ∷ []) $
           peeks ! P.the-row (Is P.the-row) (shows 𝓤 H A P.the-row) d (v ∷ []) (λ is.
           move ! (1 ∷ []) $ split ! $ move ! (1 ∷ []) $ drop ! $ move ! (1 ∷ 0 ∷ []) $
-          land ! (from ! (stop !)) (init ! 40 refl (LL.lawful P.the-type P′.the-laws 𝓤 H A W .typed d _ is .0)) $ lends d v e))))
+          land ! (from ! (stop !)) (init ! 42 refl (LL.lawful P.the-type P′.the-laws 𝓤 H A W .typed d _ is .0)) $ lends d v e))))
 
     walk : ent 𝓤 (onEntry 𝓤 H A knobharbor-add.signature κs qs a vals) (WpFn 𝓤 H C Λ code.function passed Post)
     walk =
@@ -284,27 +287,28 @@ module _ {M : Type 1} (𝓤 : URA M) (H : Heap 𝓤) (A : Atoms 𝓤) (W : Given
         pass1 ! (init ! 18 refl (tt, tt)) $
         pass1 ! (init ! 20 refl (tt, tt)) $
         pass1 ! (init ! 22 refl (tt, tt)) $
-        pass1 ! (init ! 24 refl (uint-lawful 𝓤 H A W w32 .typed n _ (g .1 .1 .1 .1 .1 .1 .1 .1 .1 .1 .1 .0) .0)) $
-        pass1 ! (init ! 26 refl (tt, (tt, (record { fits = g .1 .1 .1 .1 .1 .1 .1 .1 .1 .1 .1 .1 .0 .0 .1 .0 }, tt)))) $
-        pass1 ! (init ! 28 refl (float-lawful 𝓤 H A W binary64 .typed constant _ (g .1 .1 .1 .1 .1 .1 .1 .1 .1 .1 .1 .1 .1 .0) .0)) $
-        pass1 ! (init ! 30 refl (uint-lawful 𝓤 H A W w32 .typed kind _ (g .1 .1 .1 .1 .1 .1 .1 .1 .1 .1 .1 .1 .1 .1 .0) .0)) $
-        pass1 ! (init ! 32 refl (float-lawful 𝓤 H A W binary64 .typed strength _ (g .1 .1 .1 .1 .1 .1 .1 .1 .1 .1 .1 .1 .1 .1 .1 .0) .0)) $
-        pass1 ! (init ! 34 refl (uint-lawful 𝓤 H A W w16 .typed budget _ (g .1 .1 .1 .1 .1 .1 .1 .1 .1 .1 .1 .1 .1 .1 .1 .1 .0) .0)) $
+        pass1 ! (init ! 24 refl (uint-lawful 𝓤 H A W w16 .typed in-group _ (g .1 .1 .1 .1 .1 .1 .1 .1 .1 .1 .1 .0) .0)) $
+        pass1 ! (init ! 26 refl (uint-lawful 𝓤 H A W w32 .typed n _ (g .1 .1 .1 .1 .1 .1 .1 .1 .1 .1 .1 .1 .0) .0)) $
+        pass1 ! (init ! 28 refl (tt, (tt, (record { fits = g .1 .1 .1 .1 .1 .1 .1 .1 .1 .1 .1 .1 .1 .0 .0 .1 .0 }, tt)))) $
+        pass1 ! (init ! 30 refl (float-lawful 𝓤 H A W binary64 .typed constant _ (g .1 .1 .1 .1 .1 .1 .1 .1 .1 .1 .1 .1 .1 .1 .0) .0)) $
+        pass1 ! (init ! 32 refl (uint-lawful 𝓤 H A W w32 .typed kind _ (g .1 .1 .1 .1 .1 .1 .1 .1 .1 .1 .1 .1 .1 .1 .1 .0) .0)) $
+        pass1 ! (init ! 34 refl (float-lawful 𝓤 H A W binary64 .typed strength _ (g .1 .1 .1 .1 .1 .1 .1 .1 .1 .1 .1 .1 .1 .1 .1 .1 .0) .0)) $
+        pass1 ! (init ! 36 refl (uint-lawful 𝓤 H A W w16 .typed budget _ (g .1 .1 .1 .1 .1 .1 .1 .1 .1 .1 .1 .1 .1 .1 .1 .1 .1 .0) .0)) $
         pass0 ! $
         -- what is owned, taken apart, and put before the locals
-        move ! (62 ∷ []) $ use1 W (‵ token ⊛ ‵ (chain tokens ftrue)) (chain-out 𝓤 H A tokens token ftrue) $ split ! $ move ! (64 ∷ []) $ use1 W (‵ mine ⊛ ‵ (chain fore after)) (chain-out 𝓤 H A fore mine after) $ split ! $
+        move ! (64 ∷ []) $ use1 W (‵ token ⊛ ‵ (chain tokens ftrue)) (chain-out 𝓤 H A tokens token ftrue) $ split ! $ move ! (66 ∷ []) $ use1 W (‵ mine ⊛ ‵ (chain fore after)) (chain-out 𝓤 H A fore mine after) $ split ! $
         move ! (2 ∷ 0 ∷ 3 ∷ 1 ∷ []) $ collects u)
 
 module _ {M : Type 1} (𝓤 : URA M) (H : Heap 𝓤) (A : Atoms 𝓤) (W : Given 𝓤 H A) (mem : Memory → SProp 𝓤) (run : Routine → Fun 𝓤) (𝓣 : Tables 𝓤 H)
     (known-collect : Triple 𝓤 (𝓣 .C #terms·collect) (Collect 𝓤 H A mem run)) (known-add : Triple 𝓤 (𝓣 .C #knobharbor·added·add-packed) (Add 𝓤 H A mem run)) where
   knobharbor-add-walks : Walks 𝓤 H A knobharbor-add.ended stayed (WpFn 𝓤 H (𝓣 .C) (𝓣 .Λ) code.function) (knobharbor-add.clauses 𝓤 H A mem run)
   knobharbor-add-walks = walked 𝓤 H A knobharbor-add.ended stayed (knobharbor-add.clauses 𝓤 H A mem run) (WpFn 𝓤 H (𝓣 .C) (𝓣 .Λ) code.function) spelled
-      (λ κs. (mut-tells (named 0) (κs .0) (wordsS .row κs), (mut-tells (named 1) (κs .1 .0) (keysS .row κs), (mut-tells (named 2) (κs .1 .1 .0) (bytesS .row κs), (mut-tells (named 3) (κs .1 .1 .1 .0) (realsS .row κs), (mut-tells (named 4) (κs .1 .1 .1 .1 .0) (valuesS .row κs), (mut-tells (named 5) (κs .1 .1 .1 .1 .1 .0) (wordsS .row κs), (mut-tells (named 6) (κs .1 .1 .1 .1 .1 .1 .0) (keysS .row κs), (mut-tells (named 7) (κs .1 .1 .1 .1 .1 .1 .1 .0) (bytesS .row κs), (mut-tells (named 8) (κs .1 .1 .1 .1 .1 .1 .1 .1 .0) (realsS .row κs), (mut-tells (named 9) (κs .1 .1 .1 .1 .1 .1 .1 .1 .1 .0) (valuesS .row κs), (mut-tells (named 10) (κs .1 .1 .1 .1 .1 .1 .1 .1 .1 .1 .0) (answerS .row κs), (uint-tells w32, (shr-slice-tells (named 11) (κs .1 .1 .1 .1 .1 .1 .1 .1 .1 .1 .1 .0) T.the-row, (float-tells binary64, (uint-tells w32, (float-tells binary64, (uint-tells w16, tt))))))))))))))))))
+      (λ κs. (mut-tells (named 0) (κs .0) (wordsS .row κs), (mut-tells (named 1) (κs .1 .0) (keysS .row κs), (mut-tells (named 2) (κs .1 .1 .0) (bytesS .row κs), (mut-tells (named 3) (κs .1 .1 .1 .0) (realsS .row κs), (mut-tells (named 4) (κs .1 .1 .1 .1 .0) (valuesS .row κs), (mut-tells (named 5) (κs .1 .1 .1 .1 .1 .0) (wordsS .row κs), (mut-tells (named 6) (κs .1 .1 .1 .1 .1 .1 .0) (keysS .row κs), (mut-tells (named 7) (κs .1 .1 .1 .1 .1 .1 .1 .0) (bytesS .row κs), (mut-tells (named 8) (κs .1 .1 .1 .1 .1 .1 .1 .1 .0) (realsS .row κs), (mut-tells (named 9) (κs .1 .1 .1 .1 .1 .1 .1 .1 .1 .0) (valuesS .row κs), (mut-tells (named 10) (κs .1 .1 .1 .1 .1 .1 .1 .1 .1 .1 .0) (answerS .row κs), (uint-tells w16, (uint-tells w32, (shr-slice-tells (named 11) (κs .1 .1 .1 .1 .1 .1 .1 .1 .1 .1 .1 .0) T.the-row, (float-tells binary64, (uint-tells w32, (float-tells binary64, (uint-tells w16, tt)))))))))))))))))))
       (λ κs qs bounds a g are. via 𝓤 _ (fst∗ 𝓤 _ (emp 𝓤)) (walk 𝓤 H A W mem run κs qs a (𝓣 .C) (𝓣 .Λ) (fmOf 𝓤 H (W .laws) 𝓣) known-collect known-add are))
 
   knobharbor-add-meets : Meets 𝓤 H A knobharbor-add.signature (WpFn 𝓤 H (𝓣 .C) (𝓣 .Λ) code.function) (knobharbor-add.spec 𝓤 H A mem run)
   knobharbor-add-meets = walk-meets 𝓤 H A knobharbor-add.ended stayed W
-      (goes-gave-ref 𝓤 H A W 12 0 tt wordsS, (goes-gave-ref 𝓤 H A W 12 1 tt keysS, (goes-gave-ref 𝓤 H A W 12 2 tt bytesS, (goes-gave-ref 𝓤 H A W 12 3 tt realsS, (goes-gave-ref 𝓤 H A W 12 4 tt valuesS, (goes-gave-ref 𝓤 H A W 12 5 tt wordsS, (goes-gave-ref 𝓤 H A W 12 6 tt keysS, (goes-gave-ref 𝓤 H A W 12 7 tt bytesS, (goes-gave-ref 𝓤 H A W 12 8 tt realsS, (goes-gave-ref 𝓤 H A W 12 9 tt valuesS, (goes-gave-ref 𝓤 H A W 12 10 tt answerS, (goes-dropped 𝓤 H A W 12 (plain (λ _. u32)) yes (λ κs x f. refl), (goes-dropped 𝓤 H A W 12 termsS yes (λ κs x f. refl), (goes-dropped 𝓤 H A W 12 (plain (λ _. f64)) yes (λ κs x f. refl), (goes-dropped 𝓤 H A W 12 (plain (λ _. u32)) yes (λ κs x f. refl), (goes-dropped 𝓤 H A W 12 (plain (λ _. f64)) yes (λ κs x f. refl), (goes-dropped 𝓤 H A W 12 (plain (λ _. u16)) yes (λ κs x f. refl), tt)))))))))))))))))
+      (goes-gave-ref 𝓤 H A W 12 0 tt wordsS, (goes-gave-ref 𝓤 H A W 12 1 tt keysS, (goes-gave-ref 𝓤 H A W 12 2 tt bytesS, (goes-gave-ref 𝓤 H A W 12 3 tt realsS, (goes-gave-ref 𝓤 H A W 12 4 tt valuesS, (goes-gave-ref 𝓤 H A W 12 5 tt wordsS, (goes-gave-ref 𝓤 H A W 12 6 tt keysS, (goes-gave-ref 𝓤 H A W 12 7 tt bytesS, (goes-gave-ref 𝓤 H A W 12 8 tt realsS, (goes-gave-ref 𝓤 H A W 12 9 tt valuesS, (goes-gave-ref 𝓤 H A W 12 10 tt answerS, (goes-dropped 𝓤 H A W 12 (plain (λ _. u16)) yes (λ κs x f. refl), (goes-dropped 𝓤 H A W 12 (plain (λ _. u32)) yes (λ κs x f. refl), (goes-dropped 𝓤 H A W 12 termsS yes (λ κs x f. refl), (goes-dropped 𝓤 H A W 12 (plain (λ _. f64)) yes (λ κs x f. refl), (goes-dropped 𝓤 H A W 12 (plain (λ _. u32)) yes (λ κs x f. refl), (goes-dropped 𝓤 H A W 12 (plain (λ _. f64)) yes (λ κs x f. refl), (goes-dropped 𝓤 H A W 12 (plain (λ _. u16)) yes (λ κs x f. refl), tt))))))))))))))))))
       (knobharbor-add.clauses 𝓤 H A mem run) (WpFn 𝓤 H (𝓣 .C) (𝓣 .Λ) code.function) (WpFn-mono 𝓤 H (W .laws) 𝓣 code.function) knobharbor-add-walks
 
 pub knobharbor-add-spec : {M : Type 1} → stated.statement M

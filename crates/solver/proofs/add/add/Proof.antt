@@ -21,13 +21,13 @@ add-tests-requires c κs =
     (k .variables, (k .constraints, (k .edits, (numbers-at-start t w en, constraints-at-start t w en))))
 
 by-test-requires : tie.Need-by-test-requires
-by-test-requires c κs = rw (c .before .add-tests .ensures) (add-low _ (c .before .before .before .before .before .args .n) (c .before .before .before .before .proper .result) (c .before .before .before .before .before .args .constant) (c .before .before .before .strength-of .result) (c .before .before .before .before .before .args .words .now))
+by-test-requires c κs = rw (c .before .add-tests .ensures) (add-low _ (c .before .before .before .before .before .args .g) (c .before .before .before .before .before .args .n) (c .before .before .before .before .proper .result) (c .before .before .before .before .before .args .constant) (c .before .before .before .strength-of .result) (c .before .before .before .before .before .args .words .now))
 
 returns : tie.Need-returns
-returns c = add-by-test (c .before .before .before .before .before .before .args .n) (c .before .before .before .before .before .before .args .budget) (c .before .before .before .before .before .proper .result) (c .before .before .before .before .before .before .args .constant) (relationOf (c .before .before .before .before .before .before .args .relation)) (tables (c .before .before .before .before .before .before .args .words .now) (c .before .before .before .before .before .before .args .keys .now) (c .before .before .before .before .before .before .args .bytes .now) (c .before .before .before .before .before .before .args .reals .now) (c .before .before .before .before .before .before .args .values .now)) (tables (c .before .before .before .before .before .before .args .wwords .now) (c .before .before .before .before .before .before .args .wkeys .now) (c .before .before .before .before .before .before .args .wbytes .now) (c .before .before .before .before .before .before .args .wreals .now) (c .before .before .before .before .before .before .args .wvalues .now)) (tables (c .before .before .before .before .before .before .args .wwords .now) (c .before .before .before .before .before .before .args .wkeys .now) (c .before .before .before .before .before .before .args .wbytes .now) (c .before .before .before .before .before .before .args .wreals .now) (c .before .before .before .before .before .before .args .wvalues .now)) (c .by-test .result) (c .before .before .before .before .before .before .pre) (c .before .before .add-tests .ensures ∙ ap (λ (s : Float). addRefusal (cutoffIn (c .before .before .before .before .before .before .args .reals .now)) (c .before .before .before .before .before .before .args .n) (c .before .before .before .before .before .proper .result) (c .before .before .before .before .before .before .args .constant) s (c .before .before .before .before .before .before .args .words .now)) (c .before .before .before .before .strength-of .ensures)) (c .before .if1 .taken) (c .by-test .ensures) (listed (c .before .before .before .before .before .before .args .p)) (c .before .before .before .before .before .proper .ensures)
+returns c = add-by-test (c .before .before .before .before .before .before .args .g) (c .before .before .before .before .before .before .args .n) (c .before .before .before .before .before .before .args .budget) (c .before .before .before .before .before .proper .result) (c .before .before .before .before .before .before .args .constant) (relationOf (c .before .before .before .before .before .before .args .relation)) (tables (c .before .before .before .before .before .before .args .words .now) (c .before .before .before .before .before .before .args .keys .now) (c .before .before .before .before .before .before .args .bytes .now) (c .before .before .before .before .before .before .args .reals .now) (c .before .before .before .before .before .before .args .values .now)) (tables (c .before .before .before .before .before .before .args .wwords .now) (c .before .before .before .before .before .before .args .wkeys .now) (c .before .before .before .before .before .before .args .wbytes .now) (c .before .before .before .before .before .before .args .wreals .now) (c .before .before .before .before .before .before .args .wvalues .now)) (tables (c .before .before .before .before .before .before .args .wwords .now) (c .before .before .before .before .before .before .args .wkeys .now) (c .before .before .before .before .before .before .args .wbytes .now) (c .before .before .before .before .before .before .args .wreals .now) (c .before .before .before .before .before .before .args .wvalues .now)) (c .by-test .result) (c .before .before .before .before .before .before .pre) (c .before .before .add-tests .ensures ∙ ap (λ (s : Float). addRefusal (cutoffIn (c .before .before .before .before .before .before .args .reals .now)) (c .before .before .before .before .before .before .args .g) (c .before .before .before .before .before .before .args .n) (c .before .before .before .before .before .proper .result) (c .before .before .before .before .before .before .args .constant) s (c .before .before .before .before .before .before .args .words .now)) (c .before .before .before .before .strength-of .ensures)) (c .before .if1 .taken) (c .by-test .ensures) (listed (c .before .before .before .before .before .before .args .p)) (c .before .before .before .before .before .proper .ensures)
 
 add-known-requires : tie.Need-add-known-requires
-add-known-requires c κs = (c .before .before .before .before .before .before .before .before .before .before .pre, ((listed (c .before .before .before .before .before .before .before .before .before .before .args .p), c .before .before .before .before .before .before .before .before .before .proper .ensures), sym (c .before .before .before .before .before .before .add-tests .ensures ∙ ap (λ (s : Float). addRefusal (cutoffIn (c .before .before .before .before .before .before .before .before .before .before .args .reals .now)) (c .before .before .before .before .before .before .before .before .before .before .args .n) (c .before .before .before .before .before .before .before .before .before .proper .result) (c .before .before .before .before .before .before .before .before .before .before .args .constant) s (c .before .before .before .before .before .before .before .before .before .before .args .words .now)) (c .before .before .before .before .before .before .before .before .strength-of .ensures)) ∙ c .before .before .before .before .before .if1 .left))
+add-known-requires c κs = (c .before .before .before .before .before .before .before .before .before .before .pre, ((listed (c .before .before .before .before .before .before .before .before .before .before .args .p), c .before .before .before .before .before .before .before .before .before .proper .ensures), sym (c .before .before .before .before .before .before .add-tests .ensures ∙ ap (λ (s : Float). addRefusal (cutoffIn (c .before .before .before .before .before .before .before .before .before .before .args .reals .now)) (c .before .before .before .before .before .before .before .before .before .before .args .g) (c .before .before .before .before .before .before .before .before .before .before .args .n) (c .before .before .before .before .before .before .before .before .before .proper .result) (c .before .before .before .before .before .before .before .before .before .before .args .constant) s (c .before .before .before .before .before .before .before .before .before .before .args .words .now)) (c .before .before .before .before .before .before .before .before .strength-of .ensures)) ∙ c .before .before .before .before .before .if1 .left))
 
 returns-2 : tie.Need-returns-2
 returns-2 c = c .add-known .ensures (listed (c .before .before .before .before .before .before .before .before .before .before .before .args .p)) (c .before .before .before .before .before .before .before .before .before .before .proper .ensures)

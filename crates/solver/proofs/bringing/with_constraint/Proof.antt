@@ -10,7 +10,7 @@ keep-constraint-requires : tie.Need-keep-constraint-requires
 keep-constraint-requires c κs = let b = stores-both (tables (c .before .before .before .args .words .now) (c .before .before .before .args .keys .now) (c .before .before .before .args .bytes .now) (c .before .before .before .args .reals .now) (c .before .before .before .args .values .now)) (tables (c .before .before .before .args .wwords .now) (c .before .before .before .args .wkeys .now) (c .before .before .before .args .wbytes .now) (c .before .before .before .args .wreals .now) (c .before .before .before .args .wvalues .now)) (c .before .before .before .pre .0) in let q = room-terms (tables (c .before .before .before .args .words .now) (c .before .before .before .args .keys .now) (c .before .before .before .args .bytes .now) (c .before .before .before .args .reals .now) (c .before .before .before .args .values .now)) (tables (c .before .before .before .args .wwords .now) (c .before .before .before .args .wkeys .now) (c .before .before .before .args .wbytes .now) (c .before .before .before .args .wreals .now) (c .before .before .before .args .wvalues .now)) (c .before .before .before .pre .0) (c .before .before .before .pre .1 .1 .1 .1 .0) (c .before .before .before .args .p) (c .before .before .before .pre .1 .1 .1 .1 .1 .0) in (b .0, (b .1, (omega arith, (c .before .before .before .pre .1 .1 .1 .1 .1 .0, (q .0, q .1)))))
 
 returns : tie.Need-returns
-returns c = constraint-comes (tables (c .before .before .before .before .args .words .now) (c .before .before .before .before .args .keys .now) (c .before .before .before .before .args .bytes .now) (c .before .before .before .before .args .reals .now) (c .before .before .before .before .args .values .now)) (tables (c .before .before .before .before .args .wwords .now) (c .before .before .before .before .args .wkeys .now) (c .before .before .before .before .args .wbytes .now) (c .before .before .before .before .args .wreals .now) (c .before .before .before .before .args .wvalues .now)) (c .before .before .before .before .pre .0) (c .keep-constraint .last .0) (c .keep-constraint .last .1 .0) (c .keep-constraint .last .1 .1 .0) (c .keep-constraint .result) (c .before .before .before .before .args .n) (c .before .before .before .before .args .marker) (c .before .before .before .before .args .other) (c .before .before .before .before .args .strength) (c .before .before .before .before .args .p) (c .before .before .before .before .pre .1 .0) (c .before .before .before .before .pre .1 .1 .0) (c .before .before .before .before .pre .1 .1 .1 .0) (c .before .before .before .before .pre .1 .1 .1 .1 .0) (c .before .before .before .before .pre .1 .1 .1 .1 .1 .0) (c .before .before .before .before .pre .1 .1 .1 .1 .1 .1) (c .keep-constraint .ensures)
+returns c = constraint-comes (tables (c .before .before .before .before .args .words .now) (c .before .before .before .before .args .keys .now) (c .before .before .before .before .args .bytes .now) (c .before .before .before .before .args .reals .now) (c .before .before .before .before .args .values .now)) (tables (c .before .before .before .before .args .wwords .now) (c .before .before .before .before .args .wkeys .now) (c .before .before .before .before .args .wbytes .now) (c .before .before .before .before .args .wreals .now) (c .before .before .before .before .args .wvalues .now)) (c .before .before .before .before .pre .0) (c .keep-constraint .last .0) (c .keep-constraint .last .1 .0) (c .keep-constraint .last .1 .1 .0) (c .keep-constraint .result) (c .before .before .before .before .args .n) (c .before .before .before .before .args .g) (c .before .before .before .before .args .marker) (c .before .before .before .before .args .other) (c .before .before .before .before .args .strength) (c .before .before .before .before .args .p) (c .before .before .before .before .pre .1 .0) (c .before .before .before .before .pre .1 .1 .0) (c .before .before .before .before .pre .1 .1 .1 .0) (c .before .before .before .before .pre .1 .1 .1 .1 .0) (c .before .before .before .before .pre .1 .1 .1 .1 .1 .0) (c .before .before .before .before .pre .1 .1 .1 .1 .1 .1) (c .keep-constraint .ensures)
 
 pub with-constraint-spec : {M : Type 1} → statement M
 with-constraint-spec = tie.close (tie.spec keep-constraint-requires returns)

@@ -23,10 +23,13 @@ returns : tie.Need-returns
 returns c = remove-by-test (c .before .before .before .args .n) (c .before .before .before .args .budget) (tables (c .before .before .before .args .words .now) (c .before .before .before .args .keys .now) (c .before .before .before .args .bytes .now) (c .before .before .before .args .reals .now) (c .before .before .before .args .values .now)) (tables (c .before .before .before .args .wwords .now) (c .before .before .before .args .wkeys .now) (c .before .before .before .args .wbytes .now) (c .before .before .before .args .wreals .now) (c .before .before .before .args .wvalues .now)) (tables (c .before .before .before .args .wwords .now) (c .before .before .before .args .wkeys .now) (c .before .before .before .args .wbytes .now) (c .before .before .before .args .wreals .now) (c .before .before .before .args .wvalues .now)) (c .by-test .result) (c .before .before .before .pre) (c .before .before .remove-tests .ensures) (c .before .if1 .taken) (c .by-test .ensures)
 
 remove-known-requires : tie.Need-remove-known-requires
-remove-known-requires c κs = let p = remove-passed (c .before .before .before .before .before .before .before .args .n) (c .before .before .before .before .before .before .before .args .words .now) (sym (c .before .before .before .before .before .before .remove-tests .ensures) ∙ c .before .before .before .before .before .if1 .left) in (c .before .before .before .before .before .before .before .pre, p)
+remove-known-requires c κs =
+    let b = c .before .before .before .before .before .before .before in
+    let p = remove-passed (b .args .n) (b .args .words .now) (sym (c .before .before .before .before .before .before .remove-tests .ensures) ∙ c .before .before .before .before .before .if1 .left) in
+    ((b .args .keys .now, b .args .values .now, b .pre), p)
 
 returns-2 : tie.Need-returns-2
-returns-2 c = c .remove-known .ensures
+returns-2 c = c .remove-known .ensures (c .before .before .before .before .before .before .before .before .args .keys .now) (c .before .before .before .before .before .before .before .before .args .values .now) (c .before .before .before .before .before .before .before .before .pre)
 
 pub remove-spec : {M : Type 1} → statement M
 remove-spec = tie.close (tie.spec remove-tests-requires by-test-requires returns remove-known-requires returns-2)

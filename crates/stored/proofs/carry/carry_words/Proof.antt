@@ -8,7 +8,7 @@ use Rattle.stored.proofs.carry.carry_words.Statement.{statement}
 use Rattle.stored.proofs.carry.carry_words.Tie as tie
 
 returns : tie.Need-returns
-returns c = words-carried _ _ _ _ (c .before .before .before .before .before .before .long-words .ensures) (omega arith) refl refl (c .split-words .ensures .0) (c .split-words .ensures .1)
+returns c = words-carried _ _ _ _ (c .before .before .before .before .before .before .before .before .long-words .ensures) (omega arith) refl refl (c .before .before .split-words .ensures .0) (c .before .before .split-words .ensures .1) (c .split-words2 .ensures .0) (c .split-words2 .ensures .1)
 
 pub carry-words-spec : {M : Type 1} → statement M
 carry-words-spec =
@@ -21,5 +21,6 @@ carry-words-spec =
     (λ c. search needs)
     (λ c. search needs)
     (λ c. search needs)
+    (λ c κs. search needs)
     (λ c κs. search needs)
     returns)

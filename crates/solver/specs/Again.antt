@@ -1,0 +1,130 @@
+-- A room that holds a whole state: all records of the lent tables brought over, and a removal made in it as if its own tables had been lent.
+-- Assumes nothing.
+use Prim.Native.Nat.{ℕ}
+use mathlib.Core.Path.{_≡_, refl, ap, _∙_}
+use mathlib.Core.Bool.{Bool, true, false}
+use mathlib.Core.List.{List}
+use native.Mathlib.Omega.{arith}
+use lib.Dec.{eqb}
+use lib.Ieee.{Float}
+use lib.ListN.{length, set, length-set}
+use lib.Seq.{getD-set-other}
+use Rattle.laws.specs.Given.{Then}
+use Rattle.steps.specs.State.{State}
+use Rattle.steps.specs.Calls.{remove}
+use Rattle.steps.specs.Changing.{removes}
+use Rattle.steps.specs.Readable.{readable}
+use Rattle.keeps.specs.Keeps.{remove-reads}
+use Rattle.sparse.specs.Places.{constraintCountAt, editCountAt, wholeAt, wordsSize}
+use Rattle.sparse.specs.Sparse.{Sparse, constraintCount, editCount, read}
+use Rattle.sparse.specs.Fits.{Lengths}
+use Rattle.sparse.specs.Form.{Form}
+use Rattle.sparse.specs.Agree.{Agree}
+use Rattle.sparse_test.specs.Reads.{reads}
+use Rattle.sparse_test.specs.Meaning.{reads-form, reads-readable}
+use Rattle.narrow.specs.Narrow.{Narrow, made-narrow}
+use Rattle.narrow.specs.Tabled.{narrow-of}
+use Rattle.narrow.specs.Written.{form-reads}
+use Rattle.stored.specs.Parts.{allOf}
+use Rattle.stored.specs.Maps.{Stores}
+use Rattle.stored.specs.Moved.{Moved}
+use Rattle.stored.specs.Ended.{roomOf}
+use Rattle.lending.specs.declared.Answer as code
+use Rattle.lending.specs.Entered.{bare, bareWords, Entered, bare-form, bare-tableau, bare-changes}
+use Rattle.solver.specs.Bringing.{brought, Comes, Ends}
+use Rattle.solver.specs.Begin.{apart-at-start}
+use Rattle.solver.specs.Brings.{stores-both, records-come}
+use Rattle.solver.specs.Concluding.{Done}
+
+-- what the tables read as is left in others of the form
+left-reads : (u : Sparse) {s : State} → read u ≡ s → Form u → Lengths u → readable s ≡ true → Narrow s → reads u ≡ true
+left-reads u e form len good narrow = form-reads u form len (ap readable e ∙ good) (rw e narrow)
+
+-- ---- the records come over, all of them
+
+module _ (t w : Sparse) (en : Entered t w) where
+  comes : Comes t w
+  comes = record { lent = en .reads; form = en .form; lengths = en .lengths; apart = apart-at-start t w en }
+
+  pub all-stored : (Stores (t .words) (t .bytes)) × (Stores (w .words) (w .bytes))
+  all-stored = stores-both t w comes
+
+  mark : read w .whole ≡ read t .whole
+  unfolding read bareWords
+  mark = ap (λ (k : ℕ). eqb k 1) (en .agrees .heading wholeAt (omega arith) ∙ getD-set-other (set (t .words) constraintCountAt 0) editCountAt wholeAt 0 0 (omega arith) ∙ getD-set-other (t .words) constraintCountAt wholeAt 0 0 (omega arith))
+
+  brought-is : brought (read t .constraints) (read t .edits) w ≡ read t
+  brought-is = λ i. record { tableau = en .tableau i; changes = en .changes i; constraints = read t .constraints; edits = read t .edits; whole = mark i }
+
+  module _ (uw ub : List ℕ) (ur : List Float) (m : ℕ)
+      (raw : Moved (allOf (constraintCount t)) (allOf (editCount t)) 0 (t .words) (t .bytes) (t .reals) (w .words) (w .bytes) (w .reals) uw ub ur m) where
+    good : readable (read t) ≡ true
+    good = reads-readable t (en .reads)
+
+    ends : Ends w (read t .constraints) (read t .edits) (roomOf w uw ub ur)
+    ends = records-come t w comes uw ub ur m (ap readable brought-is ∙ good) raw
+
+    pub all-brought : read (roomOf w uw ub ur) ≡ read t
+    all-brought = ends .0 ∙ brought-is
+
+    pub all-read : Lengths (roomOf w uw ub ur) → reads (roomOf w uw ub ur) ≡ true
+    all-read len = left-reads (roomOf w uw ub ur) all-brought (ends .1) len good (narrow-of t (en .reads))
+
+-- ---- the room as lent tables, its records left out
+
+agree-self : (t : Sparse) → Agree t t
+agree-self t =
+    record {
+      heading = λ j a. refl;
+      ids = λ p a b. refl;
+      numbers = λ j a. refl;
+      uses = λ j a. refl;
+      constraintNumbers = λ j a. refl;
+      constraintGroups = λ j a. refl;
+      kinds = λ p a b. refl;
+      rowPlaces = λ p a b. refl;
+      owners = λ j a. refl;
+      changed = λ j a. refl;
+      markers = λ j a. refl;
+      others = λ j a. refl;
+      termCounts = λ j a. refl;
+      edited = λ j a. refl;
+      pluses = λ j a. refl;
+      minuses = λ j a. refl;
+      terms = λ j a. refl;
+      constants = λ p a b. refl;
+      olds = λ j a. refl;
+      objective = λ p a b. refl;
+      cutoff = refl;
+      strengths = λ j a. refl;
+      editStrengths = λ j a. refl;
+      suggestions = λ j a. refl;
+      coefficients = λ j a. refl;
+      keys = λ j a. refl;
+      values = λ j a. refl;
+    }
+
+bare-long : (w : List ℕ) → length w ≡ wordsSize → length (bareWords w) ≡ wordsSize
+unfolding bareWords
+bare-long w e = length-set (set w constraintCountAt 0) editCountAt 0 ∙ length-set w constraintCountAt 0 ∙ e
+
+pub entered-bare : (t : Sparse) → reads t ≡ true → Lengths t → {h : List ℕ} → h ≡ bareWords (t .words) → Entered t (record { words = h; keys = t .keys; bytes = t .bytes; reals = t .reals; values = t .values })
+entered-bare t good len e =
+    let form = reads-form t good in
+    rw e (record {
+      reads = good;
+      long = len .0;
+      form = bare-form t (len .0) form;
+      lengths = (bare-long (t .words) (len .0), len .1, len .2, len .3, len .4);
+      agrees = agree-self (bare t);
+      tableau = bare-tableau t (len .0);
+      changes = bare-changes t (len .0);
+    })
+
+-- where the removal is accepted the room holds a whole state again
+pub removed-reads : (n budget : ℕ) (t u : Sparse) (r : code.Answer) → reads t ≡ true → Lengths u → Done (remove n budget) r t u → Then (eqb (r .number) 0) (reads u ≡ true)
+removed-reads n budget t u r good len d = go (eqb (r .number) 0) (d .1) (d .2)
+  where
+    go : (b : Bool) → Then b (read u ≡ remove n budget (read t) .state) → Then b (Form u) → Then b (reads u ≡ true)
+    go true e form = left-reads u e form len (remove-reads n budget (read t) (reads-readable t good)) (made-narrow (read t) (narrow-of t good) (removes n budget) tt)
+    go false e form = tt
