@@ -1,9 +1,8 @@
-#![allow(clippy::needless_borrowed_reference, clippy::type_complexity)] // the crate's own text
-use std::cell::RefCell;
 use std::collections::HashMap;
+use std::cell::RefCell;
 use std::rc::Rc;
 
-use knobharbor::Variable;
+use cassowary::Variable;
 
 #[derive(Clone, Default)]
 struct Values(Rc<RefCell<HashMap<Variable, f64>>>);

@@ -1,9 +1,8 @@
-//! The crate's own test, its `use` lines and its layout changed (NOTICE), and its last line: a variable that no constraint names any more "goes
-//! with its row and cells and leaves the changed set without notice" (document 01), so a new one at 0 is not reported; its value is.
+//! The crate's own test (NOTICE), by the rename line in Cargo.toml.
 
-use knobharbor::strength::*;
-use knobharbor::WeightedRelation::*;
-use knobharbor::{Constraint, Solver, Variable};
+use cassowary::{Variable, Solver, Constraint};
+use cassowary::WeightedRelation::*;
+use cassowary::strength::*;
 
 mod common;
 
@@ -25,5 +24,7 @@ fn remove_constraint() {
 
     solver.remove_constraint(&constraint).unwrap();
     solver.add_constraint(val | EQ(REQUIRED) | 0.0).unwrap();
-    assert_eq!(solver.get_value(val), 0.0);
+    update_values(solver.fetch_changes());
+
+    assert_eq!(value_of(val), 0.0);
 }
