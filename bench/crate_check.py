@@ -4,14 +4,17 @@ answers otherwise than the patched crate, by cause.
 
 usage: crate_check.py SESSIONS ORDERED PATCHED
 
-Budgets are made ample, pivots and marks left out, and a fetch's list is sorted, since the crate has none of these.
+Budgets are made ample, pivots, marks and what a fetch lists as gone (11) left out, and a fetch's list is sorted, since the crate has none of
+these.
 A session is compared up to its first difference. The numbers in brackets are those of docs/DIFFERENCES.md.
 """
 import collections
+import re
 import subprocess
 import sys
 
 CHANGING = ('add', 'addg', 'remove', 'drop', 'addedit', 'removeedit', 'suggest')
+SIGNALLING = re.compile(r'0x[7f]ff[0-7]')
 SHOWN = 3
 
 
@@ -33,7 +36,7 @@ def bare(line, answer):
     if op in CHANGING + ('reset',):
         return answer.split()[0]
     if op == 'fetch':
-        return ' '.join(answer.split()[:1] + sorted(answer.split()[1:]))
+        return ' '.join(sorted(entry for entry in answer.split()[1:] if not entry.endswith(':gone')))
     return answer
 
 
@@ -42,6 +45,8 @@ def cause(line, crate, ours, seen):
         return 'a reset with another cutoff than 1E-8, which the crate does not take (21)'
     if line.startswith('drop ') or ours == '26':
         return 'a group, which the crate does not have (22)'
+    if line.split(' ')[0] in ('clip', 'addedit') and SIGNALLING.search(line):
+        return 'a signalling NaN clipped, by `min` and `max` of the machine (18)'
     if ours in ('1', '2', '3', '9', '10', '11', '13') and line.split(' ')[0] in CHANGING:
         return 'refused for its numbers or sizes by ours alone (3, 4, 13, 15)'
     if 'refusal' in seen:
@@ -49,7 +54,7 @@ def cause(line, crate, ours, seen):
     if crate == '!':
         return 'a panic (7, 10)'
     if 'removal' in seen and line == 'fetch':
-        return 'a fetch after a removal: a gone variable that came back (11), or as below'
+        return 'a fetch after a removal: a variable that went and came back (11), or as below'
     if 'removal' in seen or line.split(' ')[0] in ('remove', 'removeedit'):
         return 'at or after a removal (5, 6, 7)'
     return 'OTHER'

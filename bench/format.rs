@@ -29,6 +29,8 @@ pub enum Call {
     SetNext(u32),
     // a row's cell by the ids, 0 for the objective and for the constant: states that read and come from no run
     SetCell(u32, u32, f64),
+    // gone entries wait for the numbers from the first to the last, and for no others
+    SetGone(u32, u32),
 }
 
 /// `reset` without one takes this
@@ -145,6 +147,7 @@ pub fn read(line: &str, decimals: bool) -> Option<Call> {
         "check" => Call::Check,
         "setnext" => Call::SetNext(w.u32()?),
         "setcell" => Call::SetCell(w.u32()?, w.u32()?, w.f64()?),
+        "setgone" => Call::SetGone(w.u32()?, w.u32()?),
         _ => return None,
     };
     if w.word().is_some() {
@@ -155,6 +158,12 @@ pub fn read(line: &str, decimals: bool) -> Option<Call> {
 
 pub fn bits(x: f64) -> String {
     format!("{:016x}", x.to_bits())
+}
+
+/// The list of a fetch; none is for a variable that is gone.
+pub fn fetched(list: impl ExactSizeIterator<Item = (u32, Option<f64>)>) -> String {
+    let entry = |(v, x): (u32, Option<f64>)| format!(" {}:{}", v, x.map_or("gone".to_string(), bits));
+    format!("{}{}", list.len(), list.map(entry).collect::<String>())
 }
 
 /// Reads standard input, a call a line, and writes an answer a line. With `-d` decimals are read, and empty lines and

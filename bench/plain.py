@@ -15,7 +15,7 @@ def main():
     for path in sys.argv[1:]:
         for line in open(path):
             words = line.split('#')[0].split()
-            if words and words[0] not in ('dump', 'check', 'setnext', 'setcell'):
+            if words and words[0] not in ('dump', 'check', 'setnext', 'setcell', 'setgone'):
                 print(' '.join(word(w) for w in words))
 
 

@@ -5,7 +5,8 @@ session by the definitions and compares it with the program's answer.
 usage: spec_check.py SCRIPT PROGRAM ARGUMENT ...
 
 A session starts at each `reset` line without a cutoff and is one theorem, so the checker's step limit (a declaration's) holds for a
-session. Of a session that differs, a second run has a theorem for each prefix and says at which call it first differs.
+session. Of a session that differs, a second run has a theorem for each prefix and says at which call it first differs. A `setgone` is no call of
+the definitions: the state is given these gone entries there, and the session goes on. Sessions with `setcell` are left out.
 BATCH is how many sessions stand in one file (40), SHOW how many differing ones are narrowed down (10).
 """
 import os
@@ -21,12 +22,30 @@ ROOT = os.path.dirname(os.path.dirname(os.path.abspath(__file__)))
 CRATE = 'steps'
 
 HEAD = """use mathlib.Core.Bool.{true, false}
+use mathlib.Core.Bool.{_&&_}
 use mathlib.Core.List.{List, [], _∷_}
+use Prim.Native.Nat.{ℕ}
 use lib.Dec.{T, eqb}
 use lib.Ieee.{binary64, ofBits}
-use Rattle.steps.specs.State.{Term, atMost, equal, atLeast}
+use Rattle.steps.specs.Number.{usualCutoff}
+use Rattle.steps.specs.State.{Term, State, atMost, equal, atLeast}
 use Rattle.steps.specs.Changes.{Change}
-use Rattle.steps.specs.Session.{resets, adds, removes, drops, addsEdit, removesEdit, suggests, valueOf, fetches, hasConstraints, hasEdits, creates, clips, reads, dumps, setsNext, answer, is, list, says, numbers, Expected, _gives_, firstBad, openSession}
+use Rattle.steps.specs.Calls.{empty}
+use Rattle.steps.specs.Session.{resets, adds, removes, drops, addsEdit, removesEdit, suggests, valueOf, fetches, hasConstraints, hasEdits, creates, clips, reads, dumps, setsNext, answer, is, list, says, numbers, Expected, _gives_, turn, firstBadFrom, openSession}
+
+unfoldable after : State → List Expected → State
+after s [] = s
+after s (e ∷ es) = after (turn (e .call) s .state) es
+
+unfoldable waits : List ℕ → State → State
+waits ns s =
+    record {
+      tableau = s .tableau;
+      changes = record { variables = s .changes .variables; gone = ns; shouldClear = s .changes .shouldClear };
+      constraints = s .constraints;
+      edits = s .edits;
+      whole = s .whole;
+    }
 """
 RELATION = {'le': 'atMost', 'eq': 'equal', 'ge': 'atLeast'}
 USUAL_CUTOFF = '1e-8'
@@ -98,15 +117,23 @@ def dump(text):
             out += symbol(p[1]) + ['0x' + p[2]] + cells(p[4:])
         elif p[0] == 'obj':
             out += cells(p[1:])
+        elif p[0] == 'gone':
+            out += p[1:]
     return out
+
+
+def change(entry):
+    """an entry of a fetch's list, `V:BITS` or `V:gone`"""
+    v, x = entry.split(':')
+    gone = x == 'gone'
+    return 'record { variable = %s; new = %s; gone = %s }' % (v, number('0' if gone else '0x' + x), 'true' if gone else 'false')
 
 
 def reply(op, a):
     if op in ('value', 'create', 'clip'):
         return 'is ' + number('0x' + a)
     if op == 'fetch':
-        pairs = [p.split(':') for p in a.split()[1:]]
-        return 'list ' + listed(['record { variable = %s; new = %s }' % (v, number('0x' + b)) for v, b in pairs])
+        return 'list ' + listed([change(entry) for entry in a.split()[1:]])
     if op in ('hascon', 'hasedit', 'check'):
         return 'says ' + ('true' if a in ('1', 'reads') else 'false')
     if op == 'setnext':
@@ -117,10 +144,28 @@ def reply(op, a):
     return 'answer %s %s %s' % (refusal, pivots, 'true' if mark == '1' else 'false')
 
 
+def parts(session):
+    """the calls up to each setgone, with the numbers that wait from there on"""
+    out = [([], [])]
+    for line, a in session:
+        w = line.split()
+        if w[0] == 'setgone':
+            out.append(([str(n) for n in range(int(w[1]), int(w[2]) + 1)], []))
+        else:
+            out[-1][1].append('%s gives %s' % (call(w), reply(w[0], a)))
+    return out
+
+
 def theorem(name, session):
-    expected = ['%s gives %s' % (call(line.split()), reply(line.split()[0], a)) for line, a in session]
-    body = '\n    ∷ '.join(expected + ['[]'])
-    return '%s : List Expected\n%s =\n    %s\n\n%s-passes : T (eqb (firstBad %s) 0)\nunfolding openSession %s\n%s-passes = tt\n' % ((name, name, body) + (name,) * 4)
+    text, passes, names, state = '', [], [], '(empty usualCutoff)'
+    for k, (waiting, expected) in enumerate(parts(session)):
+        calls, before = '%s-calls%d' % (name, k), '%s-state%d' % (name, k)
+        value = 'waits %s %s' % (listed(waiting), state) if k else state
+        text += '%s : List Expected\n%s =\n    %s\n\n%s : State\n%s = %s\n\n' % (calls, calls, '\n    ∷ '.join(expected + ['[]']), before, before, value)
+        passes.append('eqb (firstBadFrom 1 %s %s) 0' % (before, calls))
+        names += [calls, before]
+        state = '(after %s %s)' % (before, calls)
+    return '%s%s-passes : T (%s)\nunfolding openSession after waits %s\n%s-passes = tt\n' % (text, name, ' && '.join(passes), ' '.join(names), name)
 
 
 # ---- a copy of the definitions, with the theorems in a module of their own
@@ -201,7 +246,7 @@ def main():
         if line == 'reset' or not sessions:
             sessions.append([])
         sessions[-1].append((line, a))
-    sys.exit(compare(sessions))
+    sys.exit(compare([s for s in sessions if not any(line.startswith('setcell ') for line, _ in s)]))
 
 
 main()

@@ -31,19 +31,19 @@ extern "C" {
 
 /* of this header and the archive that was built with it; a state kept by one version is not promised to read in another */
 #define KNOBHARBOR_VERSION_MAJOR 0
-#define KNOBHARBOR_VERSION_MINOR 4
+#define KNOBHARBOR_VERSION_MINOR 5
 #define KNOBHARBOR_VERSION_PATCH 0
-#define KNOBHARBOR_VERSION "0.4.0"
+#define KNOBHARBOR_VERSION "0.5.0"
 
 /* ---- sizes */
 
 /* the lengths that tables have */
-#define KNOBHARBOR_WORDS 306
+#define KNOBHARBOR_WORDS 338
 #define KNOBHARBOR_CELLS 6579
 #define KNOBHARBOR_BYTES 1312
 #define KNOBHARBOR_REALS 1132
-/* the places of fetch's two lists */
-#define KNOBHARBOR_CHANGES 32
+/* the places of fetch's three lists: 32 variables that are gone, and 32 that are live */
+#define KNOBHARBOR_CHANGES 64
 /* the places of a changing call's answer: the number, the pivots, the mark; and of a fetch's: the number, the count */
 #define KNOBHARBOR_ANSWER 3
 #define KNOBHARBOR_FETCHED 2
@@ -76,7 +76,7 @@ extern "C" {
 
 /* ---- tables */
 
-/* Five tables of the right lengths, 78,608 bytes: one to keep, and one as working room. Both may start with any content: reset
+/* Five tables of the right lengths, 78,864 bytes: one to keep, and one as working room. Both may start with any content: reset
    makes a state of the first, and every call leaves the second all zero. */
 typedef struct knobharbor_tables {
     uint64_t words[KNOBHARBOR_WORDS];
@@ -113,6 +113,7 @@ typedef enum knobharbor_number {
     KNOBHARBOR_NO_ROW = 17,           /* a removal finds no leaving row */
     KNOBHARBOR_NOT_A_STATE = 18,      /* a lent table doesn't read as a state (in C a table has the length of its type) */
     KNOBHARBOR_BAD_CUTOFF = 24,       /* a reset's cutoff is not above 0 and at most 1E-6 */
+    KNOBHARBOR_MANY_GONE = 25,        /* a removal would make a 33rd gone entry; a fetch empties them */
     KNOBHARBOR_GROUP_ZERO = 26,       /* an add or a drop naming group 0 */
     KNOBHARBOR_EMPTY_GROUP = 27       /* no constraint in the group */
 } knobharbor_number;
@@ -146,7 +147,7 @@ typedef struct knobharbor_text_answer {
 
 typedef struct knobharbor_fetched {
     uint32_t number; /* 0 or 18 */
-    uint32_t count;  /* how many places of both lists are filled */
+    uint32_t count;  /* how many places of the three lists are filled */
 } knobharbor_fetched;
 
 /* a variable times a coefficient */
@@ -205,7 +206,8 @@ void knobharbor_add_text(
     double wreals[KNOBHARBOR_REALS], double wvalues[KNOBHARBOR_CELLS], uint32_t answer[KNOBHARBOR_ANSWER], uint64_t *offset,
     uint32_t number, const uint8_t *line, uint64_t length, uint16_t budget);
 
-/* Removes the constraint of this number. Tests 18, 5; steps 13, 14, 15, 17. */
+/* Removes the constraint of this number. Tests 18, 5, 25; steps 13, 14, 15, 17. A variable that none names any more goes with it: the
+   next fetch lists it as gone. */
 void knobharbor_remove(
     uint64_t words[KNOBHARBOR_WORDS], uint16_t keys[KNOBHARBOR_CELLS], uint8_t bytes[KNOBHARBOR_BYTES],
     double reals[KNOBHARBOR_REALS], double values[KNOBHARBOR_CELLS],
@@ -215,7 +217,8 @@ void knobharbor_remove(
 
 /* Removes every constraint of this group, by ascending number, all or none, under one budget: whole removals one after the other. If one
    of them is refused, the drop is, by that number, with the pivots made so far, and every constraint stays. Edits are in no such group:
-   they stay, those of a pane's splitters too (knobharbor_remove_edit removes one). Tests 18, 26, 27; steps 13, 14, 15, 17. */
+   they stay, those of a pane's splitters too (knobharbor_remove_edit removes one). Tests 18, 26, 27, 25; steps 13, 14, 15,
+   17. */
 void knobharbor_drop(
     uint64_t words[KNOBHARBOR_WORDS], uint16_t keys[KNOBHARBOR_CELLS], uint8_t bytes[KNOBHARBOR_BYTES],
     double reals[KNOBHARBOR_REALS], double values[KNOBHARBOR_CELLS],
@@ -232,7 +235,7 @@ void knobharbor_add_edit(
     double wreals[KNOBHARBOR_REALS], double wvalues[KNOBHARBOR_CELLS], uint32_t answer[KNOBHARBOR_ANSWER],
     uint32_t variable, double strength, uint16_t budget);
 
-/* Removes the variable's edit, and with it the last suggestion. Tests 18, 8; steps 13, 14, 15, 17. */
+/* Removes the variable's edit, and with it the last suggestion. Tests 18, 8, 25; steps 13, 14, 15, 17. */
 void knobharbor_remove_edit(
     uint64_t words[KNOBHARBOR_WORDS], uint16_t keys[KNOBHARBOR_CELLS], uint8_t bytes[KNOBHARBOR_BYTES],
     double reals[KNOBHARBOR_REALS], double values[KNOBHARBOR_CELLS],
@@ -251,14 +254,17 @@ void knobharbor_suggest(
 
 /* ---- fetch changes */
 
-/* Lists the variables that calls have moved and whose value is not the one last fetched, by ascending number, with their values;
-   a second fetch straight after lists none. A variable that no constraint or edit names any more is forgotten without notice,
-   and a new one that stands at 0 is not listed: ask its value. The answer is 0 or 18, and how many places of both lists are filled.
-   The lists are zero past the count; on 18 they are all zero and no table changes. Keys and values are only read. */
+/* Lists, by ascending number, the variables that calls have moved and whose value is not the one last fetched, with their values, and
+   those that have gone since the last fetch, as gone, with 0.0: no constraint or edit names them any more. One that went and is back is
+   listed as gone and then with its value, 0 too. A second fetch straight after lists none. One that goes before a fetch has listed it,
+   and a new one that stands at 0, are not listed. So a display that draws from the lists alone is right if it starts empty at the reset,
+   takes each list in order, forgets what is gone and takes what it does not know as 0.
+   The answer is 0 or 18, and how many places of the lists are filled: numbers[i] stands at moved[i], or is gone where gone[i] is 1. The
+   lists are zero past the count; on 18 they are all zero and no table changes. Keys and values are only read. */
 void knobharbor_fetch(
     uint64_t words[KNOBHARBOR_WORDS], uint16_t keys[KNOBHARBOR_CELLS], uint8_t bytes[KNOBHARBOR_BYTES],
     double reals[KNOBHARBOR_REALS], double values[KNOBHARBOR_CELLS], uint32_t answer[KNOBHARBOR_FETCHED],
-    uint64_t numbers[KNOBHARBOR_CHANGES], double moved[KNOBHARBOR_CHANGES]);
+    uint64_t numbers[KNOBHARBOR_CHANGES], double moved[KNOBHARBOR_CHANGES], uint8_t gone[KNOBHARBOR_CHANGES]);
 
 /* ---- queries
 
@@ -408,17 +414,18 @@ static inline knobharbor_answer kh_suggest(knobharbor_tables *t, knobharbor_tabl
     return kh_answered(answer);
 }
 
-/* what a fetch lists: variable numbers[i] stands at values[i], for i below the count that it answers */
+/* what a fetch lists: variable numbers[i] is gone if gone[i] is 1, else it stands at values[i], for i below the count that it answers */
 typedef struct knobharbor_changes {
     uint64_t numbers[KNOBHARBOR_CHANGES];
     double values[KNOBHARBOR_CHANGES];
+    uint8_t gone[KNOBHARBOR_CHANGES];
 } knobharbor_changes;
 
 static inline knobharbor_fetched kh_fetch(knobharbor_tables *t, knobharbor_changes *changes)
 {
     uint32_t answer[KNOBHARBOR_FETCHED];
     knobharbor_fetched f;
-    knobharbor_fetch(KNOBHARBOR_LEND(t), answer, changes->numbers, changes->values);
+    knobharbor_fetch(KNOBHARBOR_LEND(t), answer, changes->numbers, changes->values, changes->gone);
     f.number = answer[0];
     f.count = answer[1];
     return f;
@@ -524,11 +531,10 @@ static inline const char *kh_words(uint32_t number)
         "the line has a number above 1,048,576, or a variable above 4,294,967,295",
         "the line has more than 16 variables",
         "the cutoff is not above 0 and at most 1E-6",
+        "more than 32 variables that are gone would wait for a fetch",
+        "group 0 is the edits' own",
+        "there is no constraint in the group",
     };
-    if (number == KNOBHARBOR_GROUP_ZERO)
-        return "group 0 is the edits' own";
-    if (number == KNOBHARBOR_EMPTY_GROUP)
-        return "there is no constraint in the group";
     if (number == KNOBHARBOR_LINE_OVER)
         return "the line has more than 200 bytes";
     if (number == KNOBHARBOR_LINE_UNENDED)

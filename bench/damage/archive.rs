@@ -56,7 +56,7 @@ changing! {
 extern "C" {
     fn knobharbor_reset(words: &mut Words, keys: &mut Keys, bytes: &mut Bytes, reals: &mut Reals, values: &mut Values, cutoff: f64, answer: &mut [u32; ANSWER]);
     fn knobharbor_fetch(words: &mut Words, keys: &Keys, bytes: &mut Bytes, reals: &mut Reals, values: &Values, answer: &mut [u32; FETCHED],
-        numbers: &mut [u64; CHANGES], moved: &mut [f64; CHANGES]);
+        numbers: &mut [u64; CHANGES], moved: &mut [f64; CHANGES], gone: &mut [u8; CHANGES]);
     fn knobharbor_value(words: &Words, keys: &Keys, bytes: &Bytes, reals: &Reals, values: &Values, variable: u32) -> f64;
     fn knobharbor_has_constraint(words: &Words, keys: &Keys, bytes: &Bytes, reals: &Reals, values: &Values, number: u32) -> bool;
     fn knobharbor_has_edit(words: &Words, keys: &Keys, bytes: &Bytes, reals: &Reals, values: &Values, variable: u32) -> bool;
@@ -122,8 +122,15 @@ impl Call {
     }
 }
 
-pub fn fetch(t: Lent, answer: &mut [u32; FETCHED], numbers: &mut [u64; CHANGES], moved: &mut [f64; CHANGES]) -> Fetched {
-    unsafe { knobharbor_fetch(t.words, t.keys, t.bytes, t.reals, t.values, answer, numbers, moved) }
+/// The three lists of a fetch: the variables, their values, and 1 where one is gone.
+pub struct Changes<'a> {
+    pub numbers: &'a mut [u64; CHANGES],
+    pub moved: &'a mut [f64; CHANGES],
+    pub gone: &'a mut [u8; CHANGES],
+}
+
+pub fn fetch(t: Lent, answer: &mut [u32; FETCHED], lists: Changes) -> Fetched {
+    unsafe { knobharbor_fetch(t.words, t.keys, t.bytes, t.reals, t.values, answer, lists.numbers, lists.moved, lists.gone) }
     let [number, count] = *answer;
     Fetched { number, count }
 }

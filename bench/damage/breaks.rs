@@ -1,5 +1,5 @@
 //! States in which one thing is wrong and all else fits to it, so that the one clause that forbids it must be what refuses them.
-use crate::craft::{count_uses, state, LARGEST, MOST_TAGS, MOST_TERMS, MOST_VARIABLES, REQUIRED};
+use crate::craft::{count_uses, state, LARGEST, MOST_GONE, MOST_TAGS, MOST_TERMS, MOST_VARIABLES, REQUIRED};
 use crate::layout::{code, id_of, kind_of, Held, CELLS, DUMMY, ERROR, EXTERNAL, NONE, SLACK, SPAN, SYMBOL_ROOM};
 use crate::random::Random;
 use crate::state::{RowWords, Words};
@@ -213,6 +213,26 @@ const NUMBERS: &[Break] = &[
     |g, w| Some(some(g, &mut w.variables)?.changed = 2 + g.word() % 9),
 ];
 
+/// A number more among those that wait.
+fn waits(w: &mut Words, number: u64) -> Option<()> {
+    w.gone.push(number);
+    w.gone.sort();
+    Some(()).filter(|_| w.gone.len() <= MOST_GONE)
+}
+
+const WAITING: &[Break] = &[
+    |g, w| Some(swap(g, &mut w.gone)),
+    |g, w| {
+        let again = *some(g, &mut w.gone)?;
+        waits(w, again)
+    },
+    |g, w| waits(w, LARGEST + 1 + g.word() % 9),
+    |g, w| {
+        let reported: Vec<u64> = w.variables.iter().filter(|v| !v.old.is_nan()).map(|v| v.number).collect();
+        if reported.is_empty() { None } else { waits(w, g.pick(&reported)) }
+    },
+];
+
 type HeldBreak = fn(&mut Random, &mut Held) -> Option<()>;
 
 /// A row's number and a symbol's place that have a cell, and which one it is.
@@ -287,13 +307,14 @@ const COUNTS: &[HeldBreak] = &[
     |g, h| Some(h.cell_count = CELLS as u64 + 1 + g.word() % 9),
     |g, h| Some(h.variable_count = MOST_VARIABLES as u64 + 1 + g.word() % 9).filter(|_| h.variables.len() == MOST_VARIABLES),
     |g, h| Some(h.constraint_count = MOST_TAGS as u64 + 1 + g.word() % 9).filter(|_| h.constraints.len() == MOST_TAGS),
+    |g, h| Some(h.gone_count = MOST_GONE as u64 + 1 + g.word() % 9).filter(|_| h.gone.len() == MOST_GONE),
 ];
 
 /// What is held of a state in which one thing is wrong, or of a state where it has no place for it.
 pub fn broken(g: &mut Random) -> Held {
     let w = state(g);
     let held = w.held();
-    let breaks: Vec<Break> = [COUNTS_AND_ORDER, SYMBOLS, NUMBERS].concat();
+    let breaks: Vec<Break> = [COUNTS_AND_ORDER, SYMBOLS, NUMBERS, WAITING].concat();
     match g.below(4) {
         0 => {
             let mut out = held.clone();

@@ -2,7 +2,7 @@
 //! crate's model comes to where they do (`model.rs`).
 use crate::archive::{self, Answer, Call, Fetched, Term, ANSWER, FETCHED};
 use crate::layout::{Held, Tables, CHANGES};
-use crate::memory::{Lists, Set};
+use crate::memory::{Content, Fetches, Lists, Set};
 use crate::model;
 use crate::reading::{self, cutoff_fits, CLAUSES};
 use crate::state::Words;
@@ -22,7 +22,7 @@ pub struct Checker {
     room: Set,
     terms: Lists<u32, f64>,
     records: Lists<Term, u8>,
-    changes: Lists<u64, f64>,
+    changes: Fetches,
     /// of a changing call, and of a fetch
     answers: Lists<u32, u32>,
     /// the clause that the oracle leaves out
@@ -40,7 +40,7 @@ fn has_negative_zero(h: &Held) -> bool {
 
 impl Checker {
     pub fn new(left_out: Option<usize>) -> Checker {
-        Checker { tables: Set::new(), room: Set::new(), terms: Lists::new(), records: Lists::new(), changes: Lists::new(), answers: Lists::new(), left_out }
+        Checker { tables: Set::new(), room: Set::new(), terms: Lists::new(), records: Lists::new(), changes: Fetches::new(), answers: Lists::new(), left_out }
     }
 
     /// All of these hold, but for the one that is left out.
@@ -124,12 +124,13 @@ impl Checker {
         (Answer { number: 24, pivots: 0, whole }, t.clone())
     }
 
-    pub fn fetch(&mut self, t: &Tables, numbers: &[u64; CHANGES], values: &[f64; CHANGES], last: bool) -> Result<(Fetched, Tables), Difference> {
-        let (lent_numbers, lent_values) = self.changes.lend_arrays(numbers, values, last);
+    /// The three lists hold this before.
+    pub fn fetch(&mut self, t: &Tables, content: &Content, last: bool) -> Result<(Fetched, Tables), Difference> {
+        let lists = self.changes.lend(content, last);
         let lent = self.tables.lend(t, last);
         let place = self.answers.lend_arrays(&[7; ANSWER], &[7; FETCHED], last).1;
-        let answer = archive::fetch(lent, place, lent_numbers, lent_values);
-        let (Some(after), Some((got_numbers, got_values)), Some(_)) = (self.tables.back(), self.changes.back(), self.answers.back()) else {
+        let answer = archive::fetch(lent, place, lists);
+        let (Some(after), Some(got), Some(_)) = (self.tables.back(), self.changes.back(), self.answers.back()) else {
             return differ("fetch: what is not lent changed", &answer);
         };
         let h = Held::of(t);
@@ -139,9 +140,8 @@ impl Checker {
         }
         let (list, tables) = if taken { model::fetch(&Words::of(&h), t) } else { (Vec::new(), t.clone()) };
         let expected = Fetched { number: if taken { 0 } else { 18 }, count: list.len() as u32 };
-        let listed = |i: usize| list.get(i).copied().unwrap_or((0, 0.0));
-        let lists = got_numbers.iter().enumerate().all(|(i, n)| *n == listed(i).0) && got_values.iter().enumerate().all(|(i, x)| x.to_bits() == listed(i).1.to_bits());
-        if answer != expected || !lists {
+        let right = (0..CHANGES).all(|i| (got.0[i], got.1[i].to_bits(), got.2[i]) == listed(list.get(i)));
+        if answer != expected || !right {
             return differ("fetch: the lists are not the model's", &(answer, expected, list));
         }
         if !after.same(&tables, taken && has_negative_zero(&h)) {
@@ -163,6 +163,11 @@ impl Checker {
         }
         Ok(())
     }
+}
+
+/// An entry of a fetch's list in its three places, the value by its bits; zero where there is none.
+fn listed(entry: Option<&(u64, Option<f64>)>) -> (u64, u64, u8) {
+    entry.map_or((0, 0, 0), |&(n, x)| (n, x.unwrap_or(0.0).to_bits(), x.is_none().into()))
 }
 
 /// "Reset": the counts, the flags and the cutoff alone are written.

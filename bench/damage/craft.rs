@@ -2,11 +2,13 @@
 use crate::layout::{code, DUMMY, ERROR, EXTERNAL, NONE, SLACK};
 use crate::random::Random;
 use crate::state::{ConstraintWords, EditWords, RowWords, VariableWords, Words};
+use std::collections::BTreeSet;
 
 pub const REQUIRED: f64 = 1_001_001_000.0;
 pub const MOST_VARIABLES: usize = 32;
 pub const MOST_TAGS: usize = 48;
 pub const MOST_TERMS: usize = 16;
+pub const MOST_GONE: usize = 32;
 pub const LARGEST: u64 = u32::MAX as u64;
 pub const LAST_ID: u64 = 4_294_900_000;
 
@@ -127,6 +129,24 @@ fn tableau(g: &mut Random, w: &mut Words, wild: bool) {
     w.objective = cells(g, least, negative_zero);
 }
 
+/// Gone entries wait, full up to the last or but one now and then: some of variables that are back and were not reported since.
+fn gone(g: &mut Random, w: &mut Words) {
+    let many = match g.below(6) {
+        0 | 1 => MOST_GONE - g.below(2),
+        2 | 3 => g.below(6),
+        _ => 0,
+    };
+    let back: Vec<u64> = w.variables.iter().filter(|v| v.old.is_nan()).map(|v| v.number).collect();
+    let reported: Vec<u64> = w.variables.iter().filter(|v| !v.old.is_nan()).map(|v| v.number).collect();
+    let mut numbers: BTreeSet<u64> = back.into_iter().filter(|_| many > 0 && g.one_in(3)).take(many).collect();
+    numbers.extend(ascending(g, MOST_GONE + MOST_VARIABLES, LARGEST).into_iter().filter(|n| !reported.contains(n)));
+    while numbers.len() > many {
+        let n = g.pick(&numbers.iter().copied().collect::<Vec<_>>());
+        numbers.remove(&n);
+    }
+    w.gone = numbers.into_iter().collect();
+}
+
 /// A state that reads.
 pub fn state(g: &mut Random) -> Words {
     let (wild, sizes) = (g.one_in(3), sizes(g));
@@ -134,5 +154,6 @@ pub fn state(g: &mut Random) -> Words {
     owners(g, &mut w, wild, sizes);
     terms(g, &mut w, wild);
     tableau(g, &mut w, wild);
+    gone(g, &mut w);
     w
 }

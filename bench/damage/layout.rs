@@ -3,14 +3,14 @@
 
 // ---- lengths and places
 
-pub const WORDS: usize = 306;
+pub const WORDS: usize = 338;
 pub const CELLS: usize = 6579;
 pub const BYTES: usize = 1312;
 pub const REALS: usize = 1132;
 /// The lengths that tables have: words, keys, bytes, reals, values.
 pub const LENGTHS: [usize; 5] = [WORDS, CELLS, BYTES, REALS, CELLS];
-/// The places of fetch's two lists.
-pub const CHANGES: usize = 32;
+/// The places of each of fetch's three lists.
+pub const CHANGES: usize = 64;
 
 const NEXT: usize = 0;
 const SYMBOL_COUNT: usize = 1;
@@ -21,7 +21,8 @@ const CONSTRAINT_COUNT: usize = 5;
 const EDIT_COUNT: usize = 6;
 const CLEAR: usize = 7;
 const WHOLE: usize = 8;
-const HEADING: usize = 9;
+const GONE_COUNT: usize = 9;
+const HEADING: usize = 10;
 
 // of words; symbols and rows are counted from 1
 const IDS: usize = 16;
@@ -29,6 +30,7 @@ const NUMBERS: usize = 146;
 const USES: usize = 178;
 const CONSTRAINTS: usize = 210;
 const GROUPS: usize = 258;
+const GONE: usize = 306;
 
 // of bytes
 const KINDS: usize = 1;
@@ -58,6 +60,7 @@ pub const SYMBOL_ROOM: usize = 129;
 const ROW_ROOM: usize = 50;
 const VARIABLE_ROOM: usize = USES - NUMBERS;
 const RECORD_ROOM: usize = GROUPS - CONSTRAINTS;
+const GONE_ROOM: usize = WORDS - GONE;
 const TERM_ROOM: usize = BYTES - TERMS;
 
 /// How far the keys of one row lie from those of the next.
@@ -155,7 +158,7 @@ impl Tables {
     pub fn live_place(&self, mut pick: impl FnMut(usize) -> usize) -> usize {
         let h = Held::of(self);
         let (k, r, n, v) = (h.symbols.len(), h.rows.len(), h.cells.len(), h.variables.len());
-        let (c, e, m) = (h.constraints.len(), h.edits.len(), h.terms.len());
+        let (c, e, m, g) = (h.constraints.len(), h.edits.len(), h.terms.len(), h.gone.len());
         let (keys, bytes) = (WORDS, WORDS + CELLS);
         let (reals, values) = (bytes + BYTES, bytes + BYTES + REALS);
         let parts = [
@@ -165,6 +168,7 @@ impl Tables {
             (USES, v),
             (CONSTRAINTS, c),
             (GROUPS, c),
+            (GONE, g),
             (keys, n),
             (bytes + KINDS, k),
             (bytes + BASICS, r),
@@ -246,6 +250,7 @@ pub struct Held {
     pub variable_count: u64,
     pub constraint_count: u64,
     pub edit_count: u64,
+    pub gone_count: u64,
     /// id and kind
     pub symbols: Vec<(u64, u8)>,
     /// the basic symbol's place and the constant
@@ -253,6 +258,8 @@ pub struct Held {
     pub cells: Vec<(u16, f64)>,
     pub objective: Vec<f64>,
     pub variables: Vec<HeldVariable>,
+    /// the numbers that the next fetch lists as gone
+    pub gone: Vec<u64>,
     pub constraints: Vec<HeldConstraint>,
     /// of all constraints, one after the other: the variable's place and the coefficient
     pub terms: Vec<(u8, f64)>,
@@ -282,6 +289,7 @@ impl Held {
             variable_count: w[VARIABLE_COUNT],
             constraint_count: w[CONSTRAINT_COUNT],
             edit_count: w[EDIT_COUNT],
+            gone_count: w[GONE_COUNT],
             ..Held::default()
         };
         let k = held(h.symbol_count, SYMBOL_ROOM);
@@ -292,6 +300,7 @@ impl Held {
         h.variables = (0..held(h.variable_count, VARIABLE_ROOM))
             .map(|i| HeldVariable { number: w[NUMBERS + i], place: b[PLACES + i], uses: w[USES + i], changed: b[CHANGED + i], old: f[OLD + i] })
             .collect();
+        h.gone = w[GONE..GONE + held(h.gone_count, GONE_ROOM)].to_vec();
         h.read_records(t);
         h
     }
@@ -322,6 +331,7 @@ impl Held {
         self.variable_count = self.variables.len() as u64;
         self.constraint_count = self.constraints.len() as u64;
         self.edit_count = self.edits.len() as u64;
+        self.gone_count = self.gone.len() as u64;
         self
     }
 
@@ -338,6 +348,7 @@ impl Held {
             self.edit_count,
             self.clear,
             self.whole,
+            self.gone_count,
         ];
         t.words[..HEADING].copy_from_slice(&heading);
         t.reals[CUTOFF] = self.cutoff;
@@ -355,6 +366,7 @@ impl Held {
             (t.words[NUMBERS + i], t.words[USES + i]) = (v.number, v.uses);
             (t.bytes[PLACES + i], t.bytes[CHANGED + i], t.reals[OLD + i]) = (v.place, v.changed, v.old);
         }
+        t.words[GONE..GONE + self.gone.len()].copy_from_slice(&self.gone);
         self.lay_records(t);
     }
 

@@ -16,9 +16,9 @@ mod state;
 
 use archive::{ask, clip, create, fetch, Call, ANSWER, FETCHED};
 use cassowary_patched::{Solver, State};
-use format::{bits, Relation};
+use format::{bits, fetched, Relation};
 use layout::{Held, Tables, CHANGES};
-use memory::{Lists, Set};
+use memory::{Fetches, Set};
 use state::Words;
 
 fn kind(r: Relation) -> u32 {
@@ -33,7 +33,7 @@ struct Program {
     tables: Tables,
     lent: Set,
     room: Set,
-    changes: Lists<u64, f64>,
+    changes: Fetches,
 }
 
 impl Program {
@@ -47,11 +47,11 @@ impl Program {
     }
 
     fn fetch(&mut self) -> String {
-        let (numbers, values) = self.changes.lend_arrays(&[7; CHANGES], &[7.0; CHANGES], true);
-        let f = fetch(self.lent.lend(&self.tables, true), &mut [7; FETCHED], numbers, values);
+        let lists = self.changes.lend(&([7; CHANGES], [7.0; CHANGES], [7; CHANGES]), true);
+        let f = fetch(self.lent.lend(&self.tables, true), &mut [7; FETCHED], lists);
         self.tables = self.lent.back().expect("what is not lent stays");
-        let list: String = (0..f.count as usize).map(|i| format!(" {}:{}", numbers[i], bits(values[i]))).collect();
-        format!("{}{}", f.count, list)
+        let (numbers, values, gone) = self.changes.back().expect("what is not lent stays");
+        fetched((0..f.count as usize).map(|i| (numbers[i] as u32, Some(values[i]).filter(|_| gone[i] == 0))))
     }
 
     fn ask(&mut self, n: u32) -> (f64, bool, bool) {
@@ -83,6 +83,12 @@ impl Program {
                 })
             }
             format::Call::SetCell(row, cell, value) => return self.change(|s| s.set_cell(row as usize, cell as usize, value)),
+            format::Call::SetGone(first, last) => {
+                return self.change(|s| {
+                    s.gone = (first..=last).collect();
+                    true
+                })
+            }
             format::Call::Reset(cutoff) => Call::Reset { cutoff },
             format::Call::Add { group, number, budget, relation, strength, constant, terms } => {
                 let (vars, coefs) = terms.into_iter().unzip();
@@ -100,7 +106,7 @@ impl Program {
 
 fn main() {
     let tables = Tables::filled(|| 7, || 7.0);
-    let mut program = Program { tables, lent: Set::new(), room: Set::new(), changes: Lists::new() };
+    let mut program = Program { tables, lent: Set::new(), room: Set::new(), changes: Fetches::new() };
     program.make(Call::Reset { cutoff: format::USUAL_CUTOFF });
     format::serve(|call| program.answer(call));
 }

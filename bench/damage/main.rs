@@ -121,8 +121,9 @@ impl Run {
     fn fetch(&mut self, t: &Tables) -> Result<(u32, Tables), Difference> {
         let numbers = [0; CHANGES].map(|_: u64| self.g.word());
         let values = [0.0; CHANGES].map(|_: f64| f64::from_bits(self.g.word()));
+        let gone = [0; CHANGES].map(|_: u8| self.g.word() as u8);
         let last = self.g.one_in(2);
-        let (answer, after) = self.checker.fetch(t, &numbers, &values, last)?;
+        let (answer, after) = self.checker.fetch(t, &(numbers, values, gone), last)?;
         self.counts.fetches[(answer.number == 18) as usize] += 1;
         Ok((answer.number, after))
     }

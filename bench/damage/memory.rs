@@ -1,7 +1,7 @@
 //! Memory that ends at pages nobody may touch: what is lent stands against the page before it or the page behind it, and the
 //! rest of its own pages is filled with a pattern that must stay.
-use crate::archive::Lent;
-use crate::layout::{Tables, LENGTHS};
+use crate::archive::{Changes, Lent};
+use crate::layout::{Tables, CHANGES, LENGTHS};
 use std::sync::atomic::{AtomicU64, Ordering};
 
 const PAGE: usize = 4096;
@@ -147,5 +147,29 @@ impl<A: Copy + 'static, B: Copy + 'static> Lists<A, B> {
     pub fn back(&mut self) -> Option<(Vec<A>, Vec<B>)> {
         let stays = self.0.rest_stays() & self.1.rest_stays();
         Some((self.0.slice().to_vec(), self.1.slice().to_vec())).filter(|_| stays)
+    }
+}
+
+/// What the three lists of a fetch hold: numbers, values, 1 where one is gone.
+pub type Content = ([u64; CHANGES], [f64; CHANGES], [u8; CHANGES]);
+
+/// Memory for them.
+pub struct Fetches(Fenced<u64>, Fenced<f64>, Fenced<u8>);
+
+impl Fetches {
+    pub fn new() -> Fetches {
+        Fetches(Fenced::new(CHANGES), Fenced::new(CHANGES), Fenced::new(CHANGES))
+    }
+
+    pub fn lend(&mut self, (numbers, moved, gone): &Content, last: bool) -> Changes<'static> {
+        self.0.lend(numbers, last);
+        self.1.lend(moved, last);
+        self.2.lend(gone, last);
+        Changes { numbers: self.0.array(), moved: self.1.array(), gone: self.2.array() }
+    }
+
+    pub fn back(&mut self) -> Option<Content> {
+        let stays = self.0.rest_stays() & self.1.rest_stays() & self.2.rest_stays();
+        Some((*self.0.array(), *self.1.array(), *self.2.array())).filter(|_| stays)
     }
 }

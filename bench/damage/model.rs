@@ -45,6 +45,7 @@ pub fn state(w: &Words) -> State {
         clear: w.clear == 1,
         whole: w.whole == 1,
         variables: w.variables.iter().map(|v| VariableState { number: v.number as u32, symbol: symbol(v.symbol), old: v.old, uses: v.uses as usize, changed: v.changed == 1 }).collect(),
+        gone: w.gone.iter().map(|n| *n as u32).collect(),
         constraints: w
             .constraints
             .iter()
@@ -83,6 +84,7 @@ pub fn words(s: &State) -> Words {
         rows: s.rows.iter().map(|r| RowWords { symbol: word(r.symbol), constant: r.constant, cells: along(&r.cells) }).collect(),
         objective: along(&s.objective),
         variables: s.variables.iter().map(|v| VariableWords { number: v.number.into(), symbol: word(v.symbol), uses: v.uses as u64, changed: v.changed.into(), old: v.old }).collect(),
+        gone: s.gone.iter().map(|n| u64::from(*n)).collect(),
         constraints: s.constraints.iter().map(constraint).collect(),
         edits: s.edits.iter().map(|e| EditWords { variable: e.variable.into(), marker: word(e.marker), other: word(e.other), strength: e.strength, suggestion: e.suggestion }).collect(),
     }
@@ -126,8 +128,8 @@ pub fn call(w: &Words, t: &Tables, call: &Call) -> (Answer, Tables) {
     (answer, after)
 }
 
-/// The list of a fetch, and the tables afterwards.
-pub fn fetch(w: &Words, t: &Tables) -> (Vec<(u64, f64)>, Tables) {
+/// The list of a fetch, the value none where a variable is gone, and the tables afterwards.
+pub fn fetch(w: &Words, t: &Tables) -> (Vec<(u64, Option<f64>)>, Tables) {
     let mut solver = Solver::from_state(&state(w));
     let list = solver.fetch_changes().iter().map(|(v, x)| (v.0.into(), *x)).collect();
     let mut after = t.clone();

@@ -7,6 +7,7 @@ use std::collections::BTreeSet;
 const MOST_VARIABLES: u64 = 32;
 const MOST_CONSTRAINTS: u64 = 48;
 const MOST_TERMS: u8 = 16;
+const MOST_GONE: u64 = 32;
 const LARGEST: u64 = u32::MAX as u64;
 const REQUIRED: f64 = 1_001_001_000.0;
 const GREATEST_CUTOFF: f64 = 1e-6;
@@ -68,10 +69,15 @@ pub const CLAUSES: &[Clause] = &[
     ("the cutoff is a number", |h| !h.cutoff.is_nan()),
     // "no constraint with a number is in group 0"
     ("no constraint is in group 0", |h| h.constraints.iter().all(|c| c.group > 0)),
+    // "gone numbers ascend and are at most 32, a variable whose number is among them has NaN for its old value"
+    ("at most 32 gone entries", |h| h.gone_count <= MOST_GONE),
+    ("gone numbers ascend", |h| ascend(h.gone.iter().copied())),
+    ("one that is back was not reported since", |h| h.variables.iter().all(|v| v.old.is_nan() || !h.gone.contains(&v.number))),
     // numbers fit their types
     ("the next id is a u32", |h| h.next <= LARGEST),
     ("variable numbers are u32", |h| h.variables.iter().all(|v| v.number <= LARGEST)),
     ("constraint numbers are u32", |h| h.constraints.iter().all(|c| c.number <= LARGEST)),
+    ("gone numbers are u32", |h| h.gone.iter().all(|n| *n <= LARGEST)),
     ("the toggle is 0 or 1", |h| h.clear <= 1),
     ("the mark is 0 or 1", |h| h.whole <= 1),
     ("changed flags are 0 or 1", |h| h.variables.iter().all(|v| v.changed <= 1)),

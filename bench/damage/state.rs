@@ -47,6 +47,7 @@ pub struct Words {
     pub rows: Vec<RowWords>,
     pub objective: Vec<f64>,
     pub variables: Vec<VariableWords>,
+    pub gone: Vec<u64>,
     pub constraints: Vec<ConstraintWords>,
     pub edits: Vec<EditWords>,
 }
@@ -77,6 +78,7 @@ impl Words {
                 .iter()
                 .map(|v| VariableWords { number: v.number, symbol: symbol(v.place), uses: v.uses, changed: u64::from(v.changed), old: v.old })
                 .collect(),
+            gone: h.gone.clone(),
             constraints: h
                 .constraints
                 .iter()
@@ -130,6 +132,7 @@ impl Words {
                 .iter()
                 .map(|v| HeldVariable { number: v.number, place: live(v.symbol), uses: v.uses, changed: v.changed as u8, old: v.old })
                 .collect(),
+            gone: self.gone.clone(),
             constraints: self
                 .constraints
                 .iter()

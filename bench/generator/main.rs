@@ -1,21 +1,29 @@
 //! Random sessions of many kinds in the text format of calls, the same for the same arguments.
 //!
-//! usage: generator KINDS SESSIONS CALLS SEED [plain]
+//! usage: generator KINDS SESSIONS CALLS SEED [plain | asked]
 //!
 //! KINDS is `all` or names joined by commas, taken in turn. With `all` the kinds of document 02's calls come after SESSIONS of the
 //! others, as many of each as of any other. `plain` leaves out the bench's own calls (dump, check,
-//! setnext) and the kind that needs one, so that any program of the format can be given the sessions.
+//! setnext) and the kind that needs one, so that any program of the format can be given the sessions. `asked` does too, and puts fetches among the
+//! calls, behind each of which every variable is asked.
+mod asked;
+#[allow(dead_code)] // the lines alone are read
+#[path = "../format.rs"]
+mod format;
+mod gone;
 mod mixed;
 mod random;
 mod special;
 
+use asked::asked;
+use gone::gone;
 use mixed::{cutoffs, grouped, mixed, KINDS};
 use random::Random;
 use special::{ids, layouts, limits, malformed, panes, redundant, refusals, trolley};
 
 const OTHERS: &[&str] = &["redundant", "refusals", "limits", "trolley", "ids", "malformed", "layouts"];
 /// Of document 02's calls. With `all` they come after the others, which stay as they were without them.
-const LATER: &[&str] = &["cutoffs", "groups", "panes"];
+const LATER: &[&str] = &["cutoffs", "groups", "panes", "gone"];
 
 fn session(name: &str, calls: u64, r: &mut Random) -> Vec<String> {
     match name {
@@ -29,6 +37,7 @@ fn session(name: &str, calls: u64, r: &mut Random) -> Vec<String> {
         "cutoffs" => cutoffs(calls, r),
         "groups" => grouped(calls, r),
         "panes" => panes(calls, r),
+        "gone" => gone(calls, r),
         _ => match KINDS.iter().find(|k| k.name == name) {
             Some(kind) => mixed(kind, calls, r),
             None => usage(),
@@ -38,7 +47,7 @@ fn session(name: &str, calls: u64, r: &mut Random) -> Vec<String> {
 
 fn usage() -> ! {
     let names: Vec<&str> = KINDS.iter().map(|k| k.name).chain(OTHERS.iter().cloned()).chain(LATER.iter().cloned()).collect();
-    eprintln!("usage: generator KINDS SESSIONS CALLS SEED [plain]\nkinds: all, {}", names.join(", "));
+    eprintln!("usage: generator KINDS SESSIONS CALLS SEED [plain | asked]\nkinds: all, {}", names.join(", "));
     std::process::exit(2)
 }
 
@@ -47,7 +56,12 @@ fn main() {
     if args.len() < 4 {
         usage();
     }
-    let plain = args.get(4).map_or(false, |a| a == "plain");
+    let (plain, asking) = match args.get(4).map(String::as_str) {
+        None => (false, false),
+        Some("plain") => (true, false),
+        Some("asked") => (true, true),
+        Some(_) => usage(),
+    };
     let (sessions, calls, seed): (u64, u64, u64) = match (args[1].parse(), args[2].parse(), args[3].parse()) {
         (Ok(a), Ok(b), Ok(c)) => (a, b, c),
         _ => usage(),
@@ -70,7 +84,8 @@ fn main() {
     for (i, kind) in places {
         let mut r = Random::new(seed, i);
         out.push_str("reset\n");
-        for line in session(kind, calls, &mut r) {
+        let lines = session(kind, calls, &mut r);
+        for line in if asking { asked(lines, &mut r) } else { lines } {
             out.push_str(&line);
             out.push('\n');
             if !plain && r.one_in(8) {

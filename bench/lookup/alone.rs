@@ -6,7 +6,7 @@ use std::time::Instant;
 mod black_box;
 use black_box::black_box;
 
-const WORDS: usize = 306;
+const WORDS: usize = 338;
 const NUMBERS: u64 = 146;
 // the least of so many batches: the cores have other work
 const BATCHES: u64 = 15;

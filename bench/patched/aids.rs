@@ -29,7 +29,7 @@ impl Solver {
 
     /// Parts split by ` ; `: the next id and the fetch toggle; each variable with its symbol, old value and uses; each
     /// numbered constraint with its marker and other; each edit with these and its suggestion; each row with its symbol,
-    /// constant and cells; the objective; the changed set.
+    /// constant and cells; the objective; the changed set; the gone variables that the next fetch lists.
     pub fn dump(&self) -> String {
         let mut parts = vec![format!("next {} clear {}", self.id_tick, self.should_clear_changes as u8)];
         for (v, &(old, symbol, uses)) in &self.var_data {
@@ -48,6 +48,7 @@ impl Solver {
         }
         parts.push(format!("obj{}", cells(&self.objective.borrow())));
         parts.push(format!("chg{}", with_space(self.changed.iter().map(|v| v.0.to_string()))));
+        parts.push(format!("gone{}", with_space(self.gone.iter().map(|v| v.0.to_string()))));
         parts.join(" ; ")
     }
 
@@ -104,5 +105,8 @@ impl Solver {
             && row_reads(&self.objective.borrow())
             && self.var_data.iter().all(|(v, d)| d.2 == uses.get(v).cloned().unwrap_or(0) && !d.0.is_infinite())
             && self.edits.iter().all(|(v, e)| e.constant.is_finite() && self.cns.contains_key(&Name::EditOf(*v)))
+            // EDIT 24: one that is live again was not reported since
+            && self.gone.len() <= 32
+            && self.gone.iter().all(|v| self.var_data.get(v).map_or(true, |d| d.0.is_nan()))
     }
 }

@@ -18,7 +18,7 @@
 //! 12. "take each error symbol's strength out of the objective, marker's first"
 //! 13. "in rank: the first Dummy row holding the marker; ..."
 //! 14. "drop the other's row if it's basic, then remove cells of both tag symbols"; "a variable at zero goes with its row
-//!     and cells and leaves the changed set without notice."
+//!     and cells and leaves the changed set".
 //! 15. "leaving is the restricted row below 0 with the lowest id, not the last pushed, and the infeasible list goes" (document
 //!     02, T-11).
 //! 16. "Its constant not near zero: refuse 12." before the temporary's pivot.
@@ -31,6 +31,9 @@
 //!     the cutoff of its solver, so that the row functions keep the crate's signatures.
 //! 23. "Every constraint gets a group number, u16, kept with it; edits are in group 0. Dropping a group removes its constraints by
 //!     ascending number, all or none, under one budget." (document 02, T-05)
+//! 24. "A variable that goes is listed once as gone in the next fetch of either kind, unless it was never reported. One that goes and
+//!     returns before the fetch is listed gone first, then with its new value, 0.0 included. At most 32 gone entries wait." "25 a removal
+//!     would make a 33rd gone entry; it stands before the steps of removal" (document 02, T-04)
 use std::collections::BTreeMap; // EDIT 1: was HashMap
 use std::collections::btree_map::{Entry};
 

@@ -5,7 +5,7 @@ extern crate cassowary_patched as cassowary;
 mod format;
 
 use cassowary::{strength, Answer, Constraint, Expression, Name, RelationalOperator, Solver, Term, Variable};
-use format::{bits, Call, Relation};
+use format::{bits, fetched, Call, Relation};
 
 fn line(a: Answer) -> String {
     format!("{} {} {}", a.refusal, a.pivots, a.whole as u8)
@@ -20,11 +20,6 @@ fn add(solver: &mut Solver, group: u16, number: u32, relation: Relation, strengt
     let terms = terms.iter().map(|&(v, k)| Term::new(Variable(v), k)).collect();
     let constraint = Constraint::new(Name::Number(number), Expression::new(terms, constant), op, strength);
     solver.add_constraint(constraint.in_group(group.into()), budget)
-}
-
-fn fetched(changes: &[(Variable, f64)]) -> String {
-    let list: String = changes.iter().map(|(v, x)| format!(" {}:{}", v.0, bits(*x))).collect();
-    format!("{}{}", changes.len(), list)
 }
 
 fn main() {
@@ -42,13 +37,19 @@ fn main() {
         Call::Value(v) => bits(solver.get_value(Variable(v))),
         Call::HasConstraint(n) => (solver.has_constraint(n) as u8).to_string(),
         Call::HasEdit(v) => (solver.has_edit_variable(&Variable(v)) as u8).to_string(),
-        Call::Fetch => fetched(solver.fetch_changes()),
+        Call::Fetch => fetched(solver.fetch_changes().iter().map(|(v, x)| (v.0, *x))),
         Call::Create(a, b, c, w) => bits(strength::create(a, b, c, w)),
         Call::Clip(s) => bits(strength::clip(s)),
         Call::Dump => solver.dump(),
         Call::Check => if solver.reads_as_one() { "reads" } else { "no" }.to_string(),
         Call::SetNext(id) => {
             solver.set_next(id);
+            "set".to_string()
+        }
+        Call::SetGone(first, last) => {
+            let mut state = solver.state();
+            state.gone = (first..=last).collect();
+            solver = Solver::from_state(&state);
             "set".to_string()
         }
         Call::SetCell(row, cell, value) => {

@@ -49,6 +49,7 @@ pub struct State {
     pub clear: bool,
     pub whole: bool,
     pub variables: Vec<VariableState>,
+    pub gone: Vec<u32>,
     pub constraints: Vec<ConstraintState>,
     pub edits: Vec<EditState>,
     pub rows: Vec<RowState>,
@@ -120,6 +121,7 @@ impl Solver {
             clear: self.should_clear_changes,
             whole: self.whole,
             variables: self.var_data.iter().map(|(v, &(old, symbol, uses))| VariableState { number: v.0, symbol: symbol, old: old, uses: uses, changed: self.changed.contains(v) }).collect(),
+            gone: self.gone.iter().map(|v| v.0).collect(),
             constraints: constraints,
             edits: self.edits.iter().map(|(v, e)| EditState { variable: v.0, strength: e.constraint.strength(), marker: e.tag.marker, other: e.tag.other, suggestion: e.constant }).collect(),
             rows: self.rows.iter().map(|(s, r)| RowState { symbol: *s, constant: r.constant, cells: cells_of(r) }).collect(),
@@ -140,6 +142,7 @@ impl Solver {
                 out.changed.insert(Variable(v.number));
             }
         }
+        out.gone.extend(s.gone.iter().map(|n| Variable(*n)));
         for c in &s.constraints {
             let name = Name::Number(c.number);
             out.cns.insert(name, (stored(name, c.strength, &c.terms, c.marker).in_group(c.group), Tag { marker: c.marker, other: c.other }));

@@ -26,6 +26,8 @@ const MOST_VARIABLES: usize = 32;
 const MOST_CONSTRAINTS: usize = 48;
 const MOST_TERMS: usize = 16;
 const LAST_ID: usize = 4_294_900_000;
+// EDIT 24: "At most 32 gone entries wait."
+const MOST_GONE: usize = 32;
 
 // EDIT 20: what aids.rs looks at is pub(crate), here and in Solver
 #[derive(Copy, Clone)]
@@ -46,8 +48,9 @@ pub struct Solver {
     pub(crate) cns: BTreeMap<Name, (Constraint, Tag)>, // EDIT 2: by number, was by the constraint's address
     pub(crate) var_data: BTreeMap<Variable, (f64, Symbol, usize)>,
     pub(crate) var_for_symbol: BTreeMap<Symbol, Variable>,
-    public_changes: Vec<(Variable, f64)>,
+    public_changes: Vec<(Variable, Option<f64>)>, // EDIT 24: None for one that is gone
     pub(crate) changed: BTreeSet<Variable>,
+    pub(crate) gone: BTreeSet<Variable>, // EDIT 24: what the next fetch lists as gone
     pub(crate) should_clear_changes: bool,
     pub(crate) rows: BTreeMap<Symbol, Box<Row>>,
     pub(crate) edits: BTreeMap<Variable, EditInfo>,
@@ -72,6 +75,7 @@ impl Solver {
             var_for_symbol: BTreeMap::new(),
             public_changes: Vec::new(),
             changed: BTreeSet::new(),
+            gone: BTreeSet::new(),
             should_clear_changes: false,
             rows: BTreeMap::new(),
             edits: BTreeMap::new(),
@@ -93,6 +97,7 @@ impl Solver {
             var_for_symbol: self.var_for_symbol.clone(),
             public_changes: self.public_changes.clone(),
             changed: self.changed.clone(),
+            gone: self.gone.clone(),
             should_clear_changes: self.should_clear_changes,
             rows: self.rows.clone(),
             edits: self.edits.clone(),
@@ -239,16 +244,33 @@ impl Solver {
         self.optimise(&objective) // EDIT 3
     }
 
+    // EDIT 24: 25, "a removal would make a 33rd gone entry", of the removal of these: a variable goes if nothing else uses it, and makes an
+    // entry if it was reported and none waits for its number
+    fn too_many_gone(&self, names: &[Name]) -> bool {
+        let mut uses: BTreeMap<Variable, usize> = BTreeMap::new();
+        for constraint in names.iter().filter_map(|name| self.cns.get(name)) {
+            for term in &constraint.0.expr().terms {
+                *uses.entry(term.variable).or_insert(0) += 1;
+            }
+        }
+        let goes = |v: &Variable| self.var_data.get(v).map_or(false, |&(old, _, count)| count <= uses[v] && !old.is_nan());
+        let made = uses.keys().filter(|&v| !self.gone.contains(v) && goes(v)).count();
+        self.gone.len() + made > MOST_GONE
+    }
+
     /// Remove a constraint from the solver.
     pub fn remove_constraint(&mut self, number: u32, budget: u16) -> Answer {
-        // EDIT 4: "Remove: 18, 5."
+        // EDIT 4, 24: "Remove: 18, 5, 25."
         if !self.has_constraint(number) {
             return self.refused(5);
+        }
+        if self.too_many_gone(&[Name::Number(number)]) {
+            return self.refused(25);
         }
         self.take_steps(budget, |solver| solver.remove_constraint_steps(Name::Number(number)))
     }
 
-    // EDIT 23: "Drop: 18, 26, 27." Then whole removals one after the other; the first that is refused undoes all of them
+    // EDIT 23, 24: "Drop: 18, 26, 27, 25." Then whole removals one after the other; the first that is refused undoes all of them
     pub fn drop_group(&mut self, group: u16, budget: u16) -> Answer {
         if group == 0 {
             return self.refused(26);
@@ -256,6 +278,9 @@ impl Solver {
         let names: Vec<Name> = self.cns.iter().filter(|&(_, c)| c.0.group() == u64::from(group)).map(|(name, _)| *name).collect();
         if names.is_empty() {
             return self.refused(27);
+        }
+        if self.too_many_gone(&names) {
+            return self.refused(25);
         }
         self.take_steps(budget, |solver| {
             for name in names {
@@ -306,8 +331,12 @@ impl Solver {
                 should_remove = *count == 0;
             }
             if should_remove {
-                // EDIT 14: "a variable at zero goes with its row and cells and leaves the changed set without notice"
-                let symbol = self.var_data[&term.variable].1;
+                // EDIT 14: "a variable at zero goes with its row and cells and leaves the changed set"
+                let (old, symbol, _) = self.var_data[&term.variable];
+                // EDIT 24: "unless it was never reported"; one that waits already is listed once
+                if !old.is_nan() {
+                    self.gone.insert(term.variable);
+                }
                 self.var_for_symbol.remove(&symbol);
                 self.var_data.remove(&term.variable);
                 self.changed.remove(&term.variable);
@@ -371,9 +400,12 @@ impl Solver {
 
     /// Remove an edit variable from the solver.
     pub fn remove_edit_variable(&mut self, v: Variable, budget: u16) -> Answer {
-        // EDIT 4: "Remove edit: 18, 8."
+        // EDIT 4, 24: "Remove edit: 18, 8, 25."
         if !self.edits.contains_key(&v) {
             return self.refused(8);
+        }
+        if self.too_many_gone(&[Name::EditOf(v)]) {
+            return self.refused(25);
         }
         self.take_steps(budget, |solver| {
             if let Some(constraint) = solver.edits.remove(&v).map(|e| e.constraint) {
@@ -462,7 +494,8 @@ impl Solver {
     ///
     /// The list of changes returned is not in a specific order. Each change comprises the variable changed and
     /// the new value of that variable.
-    pub fn fetch_changes(&mut self) -> &[(Variable, f64)] {
+    // EDIT 1, 24: in order now, and None for a variable that is gone
+    pub fn fetch_changes(&mut self) -> &[(Variable, Option<f64>)] {
         if self.should_clear_changes {
             self.changed.clear();
             self.should_clear_changes = false;
@@ -470,12 +503,19 @@ impl Solver {
             self.should_clear_changes = true;
         }
         self.public_changes.clear();
-        for &v in &self.changed {
+        // EDIT 24: "listed once as gone in the next fetch of either kind"; was a walk of the changed alone
+        let gone = ::std::mem::replace(&mut self.gone, BTreeSet::new());
+        for &v in gone.union(&self.changed) {
+            let is_gone = gone.contains(&v);
+            if is_gone {
+                self.public_changes.push((v, None));
+            }
             if let Some(var_data) = self.var_data.get_mut(&v) {
                 let new_value = self.rows.get(&var_data.1).map(|r| r.constant).unwrap_or(0.0);
                 let old_value = var_data.0;
-                if old_value != new_value {
-                    self.public_changes.push((v, new_value));
+                // EDIT 24: "listed gone first, then with its new value, 0.0 included"
+                if is_gone || old_value != new_value {
+                    self.public_changes.push((v, Some(new_value)));
                     var_data.0 = new_value;
                 }
             }
@@ -501,6 +541,7 @@ impl Solver {
         self.var_data.clear();
         self.var_for_symbol.clear();
         self.changed.clear();
+        self.gone.clear(); // EDIT 24
         self.should_clear_changes = false;
         self.edits.clear();
         *self.objective.borrow_mut() = Row::objective(cutoff); // EDIT 10, 22

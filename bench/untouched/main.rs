@@ -10,7 +10,7 @@ mod format;
 use cassowary::strength;
 use cassowary::{AddConstraintError, AddEditVariableError, RemoveConstraintError, RemoveEditVariableError, SuggestValueError};
 use cassowary::{Constraint, Expression, RelationalOperator, Solver, Term, Variable};
-use format::{bits, Call, Relation};
+use format::{bits, fetched, Call, Relation};
 use std::collections::HashMap;
 use std::panic::{catch_unwind, AssertUnwindSafe};
 use std::sync::atomic::{AtomicU64, Ordering};
@@ -126,12 +126,11 @@ impl Driver {
             }
             Call::Fetch => {
                 let changes = self.solver.fetch_changes();
-                let list: String = changes.iter().map(|(v, x)| format!(" {}:{}", self.numbers[v], bits(*x))).collect();
-                format!("{}{}", changes.len(), list)
+                fetched(changes.iter().map(|(v, x)| (self.numbers[v], Some(*x))))
             }
             Call::Create(a, b, c, w) => bits(strength::create(a, b, c, w)),
             Call::Clip(s) => bits(strength::clip(s)),
-            Call::Dump | Call::Check | Call::SetNext(_) | Call::SetCell(..) => "?".to_string(),
+            Call::Dump | Call::Check | Call::SetNext(_) | Call::SetCell(..) | Call::SetGone(..) => "?".to_string(),
         }
     }
 }

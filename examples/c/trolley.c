@@ -113,16 +113,23 @@ static void close_last(void)
     expect(kh_drop(&screen, &room, 0, 20).number == KNOBHARBOR_GROUP_ZERO, "group 0 is the edits' own");
 }
 
-/* what a display redraws */
-static void redraw(void)
+/* What a display redraws, and how many edges it has to forget. */
+static uint32_t redraw(void)
 {
     knobharbor_changes changes;
     knobharbor_fetched f = kh_fetch(&screen, &changes);
     expect(f.number == KNOBHARBOR_ACCEPTED, "the changes are fetched");
+    uint32_t gone = 0;
     printf("  redraw");
-    for (uint32_t i = 0; i < f.count; i++)
-        printf(" %u:%g", (unsigned)changes.numbers[i], changes.values[i]);
+    for (uint32_t i = 0; i < f.count; i++) {
+        if (changes.gone[i])
+            printf(" %u:gone", (unsigned)changes.numbers[i]);
+        else
+            printf(" %u:%g", (unsigned)changes.numbers[i], changes.values[i]);
+        gone += changes.gone[i];
+    }
     printf("\n");
+    return gone;
 }
 
 int main(void)
@@ -160,7 +167,8 @@ int main(void)
     let_go();
     redraw();
     close_last();
-    redraw();
+    expect(redraw() == 1, "the last edge is told to be gone");
+    expect(redraw() == 0, "and told once");
 
     screen.words[2] += 1;
     a = drag(3, 340, 20);

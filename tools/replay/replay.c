@@ -134,7 +134,7 @@ static void fetch(void)
     int at = sprintf(got, "%lu", (unsigned long)f.count);
     for (uint32_t i = 0; i < f.count; i++) {
         at += sprintf(got + at, " %lu:", (unsigned long)changes.numbers[i]);
-        at += digits(got + at, changes.values[i]);
+        at += changes.gone[i] ? sprintf(got + at, "gone") : digits(got + at, changes.values[i]);
     }
 }
 

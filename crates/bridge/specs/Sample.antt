@@ -50,7 +50,7 @@ row2 = record { constant = three; cells = minusOne64 ∷ zero64 ∷ [] }
 abbrev work : Work
 work = record {
   tableau = record { cutoff = usualCutoff; symbols = s1 ∷ s2 ∷ []; nextId = 3; rows = record { symbol = s2; row = row2 } ∷ []; objective = minusOne64 ∷ zero64 ∷ [] };
-  changes = record { variables = []; shouldClear = false };
+  changes = record { variables = []; gone = []; shouldClear = false };
   artificial = none;
   mark = allWhole;
   pivots = 0;

@@ -13,3 +13,5 @@ pub mod Drop
 pub mod Close
 pub mod Open
 pub mod Column
+pub mod Spots
+pub mod Edges

@@ -24,3 +24,7 @@ rowRoom = 130
 -- the last place of a dense row
 abbrev pub lastPlace : ℕ
 lastPlace = 129
+
+-- rows, and the line after the last, are below this one
+abbrev pub linesRoom : ℕ
+linesRoom = 64

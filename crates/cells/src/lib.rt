@@ -1,9 +1,11 @@
 // The cells of all rows as one ascending list of keys, row * ROW_SPAN + place, with their values beside them.
 pub mod column;
+pub mod edges;
 pub mod row;
 pub mod search;
 pub mod shift;
 pub mod slide;
+pub mod spots;
 
 // How far the keys of one row lie from those of the next: a place is below it.
 pub const ROW_SPAN: u16 = 256;
@@ -19,3 +21,6 @@ pub const CELL_ROOM: usize = 6579;
 
 // A dense row: place 0 is free, then a place for each of 129 symbols.
 pub const ROW_ROOM: usize = 130;
+
+// Rows, and the line after the last, are below this one.
+pub const LINES_ROOM: usize = 64;

@@ -113,7 +113,7 @@ module _ (n : ℕ) (a : Mark) (t u : Sparse) (s : Standing false a t) (fit : sym
       let d = count in
       let e = g .symbols in
       let f = symbols-same in
-      let i : nextId v ≡ nextId u = alone .words nextIdAt (omega arith) (λ z. omega (arith, z)) in
+      let i : nextId v ≡ nextId u = alone .words nextIdAt (omega arith) (λ z. omega (arith, z)) (λ z. omega (arith, z)) in
       let j = g .next in
       record {
         ids = omega (arith, i, j);

@@ -38,6 +38,17 @@ module _ {A : Type 0} where
   lay-past [] a l m h = refl
   lay-past (s ∷ ss) a l m h = ap (over (s .at) (s .list)) (lay-past ss a l m (h .1)) ∙ over-past a (s .at) l (s .list) (lay ss m) (h .0)
 
+  -- each ends at a or before
+  abbrev pub Below : ℕ → List (Stretch A) → Type 0
+  Below a [] = Unit {0}
+  Below a (s ∷ ss) = (s .at + length (s .list) ≤ a) × Below a ss
+
+  -- the list after all of them is laid first or last
+  pub lay-under : (ss : List (Stretch A)) (a : ℕ) (l m : List A) → Below a ss → over a l (lay ss m) ≡ lay ss (over a l m)
+  unfolding lay
+  lay-under [] a l m h = refl
+  lay-under (s ∷ ss) a l m h = over-past (s .at) a (s .list) l (lay ss m) (h .0) ∙ ap (over (s .at) (s .list)) (lay-under ss a l m (h .1))
+
   -- of a table that has all of them, the list l among them anew
   pub lay-anew : (ss rs : List (Stretch A)) (a : ℕ) (l k m : List A) → Above (a + length l) ss → length k ≡ length l → lay ss (over a l (lay rs m)) ≡ m → lay ss (over a k (lay rs m)) ≡ over a k m
   lay-anew ss rs a l k m h n q =

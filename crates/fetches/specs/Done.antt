@@ -1,57 +1,75 @@
 -- What the code of a fetch leaves is the state after it, written into the tables, and its list.
 -- Assumes nothing.
-use Prim.Native.Nat.{ℕ, _+_, _<_}
+use Prim.Native.Nat.{ℕ, zero, suc, _+_, _-_, _≤_}
 use mathlib.Core.Path.{_≡_, refl, sym, ap, _∙_}
 use mathlib.Core.Bool.{Bool, true, false, not, cond}
 use mathlib.Core.List.{List, [], _∷_, map}
-use native.Mathlib.Nat.{zero-add}
-use lib.Dec.{eqb}
+use native.Mathlib.Nat.{zero-add, not-suc-le-zero, le-of-suc-le-suc}
+use lib.Dec.{eqb, leb}
 use lib.Ieee.{Float}
 use lib.ListN.{length, getD, set, replicate}
 use Rattle.laws.specs.Loops.{mapIn}
 use Rattle.laws.specs.Lists.{listOf}
 use Rattle.steps.specs.Number.{zero64}
 use Rattle.steps.specs.State.{Basic, Variable, State}
-use Rattle.steps.specs.Changes.{valueOf, withFlag, clearChanged, isNews, newsOf, reported, fetchChanges}
+use Rattle.steps.specs.Changes.{Change, withFlag, clearChanged, isListed, newsOf, merged, reported, fetchChanges}
+use Rattle.steps.specs.Readable.{ascend, all, goneFits}
+use Rattle.keeps.specs.Clauses.{and3, clauses-in}
 use Rattle.layout.specs.Layout.{bitOf, over}
-use Rattle.layout.specs.Laying.{laid-nil}
 use Rattle.layout.specs.Copied.{length-listOf}
-use Rattle.sparse.specs.Places.{shouldClearAt, variablePlacesAt, changedAt, oldValuesAt}
-use Rattle.sparse.specs.Sparse.{Sparse, rowCount, variableCount, variableOf, read}
+use Rattle.sparse.specs.Places.{shouldClearAt, goneCountAt, goneNumbersAt, changedAt, oldValuesAt}
+use Rattle.sparse.specs.Lookup.{Ascends}
+use Rattle.sparse.specs.Sparse.{Sparse, variableCount, goneCount, variableOf, goneOf, read}
 use Rattle.sparse.specs.Write.{write}
 use Rattle.sparse.specs.Form.{Form}
 use Rattle.sparse_test.specs.Reads.{reads}
-use Rattle.sparse_test.specs.Meaning.{reads-form}
-use Rattle.sparse_test.specs.Asked.{constantOf, row-value}
+use Rattle.sparse_test.specs.Stretch.{ascends}
+use Rattle.sparse_test.specs.Records.{gone-ascend, notTold}
+use Rattle.sparse_test.specs.Meaning.{reads-form, reads-readable}
 use Rattle.sparse_test.specs.Whole.{tables}
 use Rattle.fetches.specs.Anew.{over-same}
-use Rattle.fetches.specs.Others.{map-kept, flagBit, flags-there, olds-there, others-written}
-use Rattle.fetches.specs.Listing.{Listing, listing, listAll, listed}
-use Rattle.fetches.specs.Fetch.{fetch, numbersOf, valuesOf, places, fetchIn, fetch18, fetchOf}
+use Rattle.fetches.specs.Others.{map-kept, flagBit, flags-there, others-written}
+use Rattle.fetches.specs.Seen.{clearedIf, clearedBy, seen, seen-all, under, variables-seen, value-there}
+use Rattle.fetches.specs.Lists.{Lists, lists, filled}
+use Rattle.fetches.specs.Listing.{Ended, ended, listing, listAll, listed}
+use Rattle.fetches.specs.Fetch.{fetch, numbersOf, valuesOf, flagsOf, places, fetchIn, fetch18, fetchOf}
 
-together : {c d : ℕ} {ns ms : List ℕ} {vs us : List Float} {t u : Sparse} → c ≡ d → ns ≡ ms → vs ≡ us → t ≡ u → fetch 0 c ns vs t ≡ fetch 0 d ms us u
-together a b c d = rw (a, b, c, d) refl
-
--- ---- a set that a fetch has reported is cleared: nothing is news
+together : {l k : Lists} {t u : Sparse} → l ≡ k → t ≡ u → fetch 0 (l .count) (l .numbers) (l .values) (l .gone) t ≡ fetch 0 (k .count) (k .numbers) (k .values) (k .gone) u
+together a b = rw (a, b) refl
 
 map-twice : {A B C : Type 0} (f : B → C) (g : A → B) (l : List A) → map f (map g l) ≡ map (λ x. f (g x)) l
 map-twice f g [] = refl
 map-twice f g (x ∷ l) = rw (map-twice f g l) refl
 
-none-news : (rows : List Basic) (vs : List Variable) → newsOf rows (map (withFlag false) vs) ≡ []
-unfolding newsOf isNews withFlag
-none-news rows [] = refl
-none-news rows (v ∷ vs) = none-news rows vs
+-- the toggle, as the code has it
+toggled : (x : ℕ) → x ≤ 1 → bitOf (not (eqb x 1)) ≡ 1 - x
+unfolding bitOf
+toggled zero h = refl
+toggled (suc zero) h = refl
+toggled (suc (suc x)) h = absurd (not-suc-le-zero (le-of-suc-le-suc h))
+
+abbrev pub empty : Lists
+empty = lists (replicate places 0) (replicate places zero64) (replicate places 0) 0
 
 module _ (t : Sparse) (ok : reads t ≡ true) where
-  form : Form t
+  pub form : Form t
   form = reads-form t ok
+
+  -- what a lookup among the gone needs
+  pub gone-ascends : Ascends (t .words) goneNumbersAt (goneCount t)
+  unfolding goneFits
+  gone-ascends =
+      let c = and3 (leb (length (read t .changes .gone)) 32) (ascend (read t .changes .gone)) (all (notTold t) (read t .changes .variables)) (clauses-in (read t) (reads-readable t ok) .gone) in
+      ascends (t .words) goneNumbersAt (goneCount t) (sym (gone-ascend t) ∙ c .1)
 
   abbrev s : State
   s = read t
 
   abbrev vs : List Variable
   vs = s .changes .variables
+
+  abbrev gone : List ℕ
+  gone = s .changes .gone
 
   abbrev rows : List Basic
   rows = s .tableau .rows
@@ -60,124 +78,99 @@ module _ (t : Sparse) (ok : reads t ≡ true) where
   unfolding read
   many = length-listOf (variableCount t) (variableOf t)
 
-  clear-is : s .changes .shouldClear ≡ eqb (getD (t .words) shouldClearAt 0) 1
-  unfolding read
-  clear-is = refl
+  -- what a fetch leaves of a variable, and its list
+  abbrev after : Bool → Variable → Variable
+  after c v = reported gone rows (seen c v)
 
-  -- what a fetch of variables us gives
-  abbrev made : List Variable → Bool → State
-  made us b = record { tableau = s .tableau; changes = record { variables = us; shouldClear = b }; constraints = s .constraints; edits = s .edits; whole = s .whole }
+  abbrev list : Bool → List Change
+  list c = merged gone (newsOf gone rows (map (seen c) vs))
 
-  fetch-is : (b : Bool) → s .changes .shouldClear ≡ b → fetchChanges s ≡ record { list = newsOf rows (cond b (clearChanged vs) vs); state = made (map (reported rows) (cond b (clearChanged vs) vs)) (not b) }
+  abbrev made : Bool → State
+  made c = record { tableau = s .tableau; changes = record { variables = map (after c) vs; gone = []; shouldClear = not c }; constraints = s .constraints; edits = s .edits; whole = s .whole }
+
+  fetch-is : (c : Bool) → s .changes .shouldClear ≡ c → fetchChanges s ≡ record { list = list c; state = made c }
   unfolding fetchChanges
-  fetch-is b e = rw e refl
+  fetch-is c e = rw (e, seen-all c vs, map-twice (reported gone rows) (seen c) vs) refl
 
-  in-is : (b : Bool) → s .changes .shouldClear ≡ b
-      → fetchIn t ≡ fetch 0 (length (newsOf rows (cond b (clearChanged vs) vs))) (over 0 (numbersOf (newsOf rows (cond b (clearChanged vs) vs))) (replicate places 0)) (over 0 (valuesOf (newsOf rows (cond b (clearChanged vs) vs))) (replicate places zero64)) (write (made (map (reported rows) (cond b (clearChanged vs) vs)) (not b)) t)
+  in-is : (c : Bool) → s .changes .shouldClear ≡ c
+      → fetchIn t ≡ fetch 0 (length (list c)) (over 0 (numbersOf (list c)) (replicate places 0)) (over 0 (valuesOf (list c)) (replicate places zero64)) (over 0 (flagsOf (list c)) (replicate places 0)) (write (made c) t)
   unfolding fetchIn
-  in-is b e = rw (fetch-is b e) refl
+  in-is c e = rw (fetch-is c e) refl
 
-  -- ---- the set is cleared
+  -- ---- the tables
 
-  abbrev off : Variable → Variable
-  off v = reported rows (withFlag false v)
+  after-number : (c : Bool) (v : Variable) → after c v .number ≡ v .number
+  unfolding reported withFlag
+  after-number true v = refl
+  after-number false v = refl
 
-  off-number : (v : Variable) → off v .number ≡ v .number
-  off-number v = unfold reported withFlag in refl
+  after-symbol : (c : Bool) (v : Variable) → after c v .symbol ≡ v .symbol
+  unfolding reported withFlag
+  after-symbol true v = refl
+  after-symbol false v = refl
 
-  off-symbol : (v : Variable) → off v .symbol ≡ v .symbol
-  off-symbol v = unfold reported withFlag in refl
+  after-uses : (c : Bool) (v : Variable) → after c v .uses ≡ v .uses
+  unfolding reported withFlag
+  after-uses true v = refl
+  after-uses false v = refl
 
-  off-uses : (v : Variable) → off v .uses ≡ v .uses
-  off-uses v = unfold reported withFlag in refl
-
-  off-old : (v : Variable) → off v .old ≡ v .old
-  off-old v = unfold reported withFlag isNews in refl
-
-  off-flag : (v : Variable) → flagBit (off v) ≡ 0
-  off-flag v = unfold reported withFlag bitOf in refl
-
-  off-all : map (reported rows) (clearChanged vs) ≡ map off vs
-  unfolding clearChanged
-  off-all = map-twice (reported rows) (withFlag false) vs
-
-  flags-off : over changedAt (map flagBit (map off vs)) (t .bytes) ≡ mapIn (λ _. 0) changedAt (changedAt + variableCount t) (t .bytes)
-  flags-off =
-      ap (λ (l : List ℕ). over changedAt l (t .bytes)) (map-twice flagBit off vs)
-      ∙ over-same (λ (v : Variable). flagBit (off v)) 0 off-flag changedAt vs (t .bytes)
+  flags : (c : Bool) → over changedAt (map flagBit (map (after c) vs)) (t .bytes) ≡ clearedIf c (variableCount t) (t .bytes)
+  unfolding reported withFlag bitOf
+  flags true =
+      ap (λ (l : List ℕ). over changedAt l (t .bytes)) (map-twice flagBit (after true) vs)
+      ∙ over-same (λ (v : Variable). flagBit (after true v)) 0 (λ v. refl) changedAt vs (t .bytes)
       ∙ ap (λ (n : ℕ). mapIn (λ _. 0) changedAt (changedAt + n) (t .bytes)) many
+  flags false = ap (λ (l : List ℕ). over changedAt l (t .bytes)) (map-kept (after false) flagBit (λ v. refl) vs) ∙ flags-there t form
 
-  olds-off : over oldValuesAt (map (λ (v : Variable). v .old) (map off vs)) (t .reals) ≡ t .reals
-  olds-off = ap (λ (l : List Float). over oldValuesAt l (t .reals)) (map-kept off (λ (v : Variable). v .old) off-old vs) ∙ olds-there t form
+  olds : Bool → List Float
+  olds c = over oldValuesAt (map (λ (v : Variable). v .old) (map (after c) vs)) (t .reals)
 
-  written-off : write (made (map off vs) false) t ≡ tables (set (t .words) shouldClearAt 0) (t .keys) (mapIn (λ _. 0) changedAt (changedAt + variableCount t) (t .bytes)) (t .reals) (t .values)
-  unfolding bitOf
-  written-off = others-written t form off false off-number off-symbol off-uses ∙ rw (flags-off, olds-off) refl
+  written : (c : Bool) → write (made c) t ≡ tables (set (set (t .words) shouldClearAt (bitOf (not c))) goneCountAt 0) (t .keys) (clearedIf c (variableCount t) (t .bytes)) (olds c) (t .values)
+  unfolding olds
+  written c = others-written t form (after c) (not c) (after-number c) (after-symbol c) (after-uses c) ∙ rw (flags c) refl
 
-  none-listed : newsOf rows (clearChanged vs) ≡ []
-  unfolding clearChanged
-  none-listed = none-news rows vs
+  -- ---- the lists
 
-  nothing : {A : Type 0} (m : List A) → over 0 [] m ≡ m
-  unfolding over
-  nothing m = laid-nil (λ y _. y) 0 m
+  all-listed : (c : Bool) → listAll (t .words) (clearedIf c (variableCount t) (t .bytes)) (goneCount t) (variableCount t) (listing (t .reals) empty 0)
+      ≡ ended (olds c) (lists (over 0 (numbersOf (list c)) (replicate places 0)) (over 0 (valuesOf (list c)) (replicate places zero64)) (over 0 (flagsOf (list c)) (replicate places 0)) (length (list c)))
+  unfolding read olds goneOf
+  all-listed c =
+      listed (under t form c) rows (form .counts .rows) (value-there t form c) empty
+      ∙ rw (variables-seen t form c, ← map-twice (reported gone rows) (seen c) vs, filled (list c) empty, zero-add (length (list c))) refl
 
-  pub fetch-cleared : {b ns : List ℕ} {us : List Float} → eqb (getD (t .words) shouldClearAt 0) 1 ≡ true → ns ≡ replicate places 0 → us ≡ replicate places zero64
-      → b ≡ mapIn (λ _. 0) changedAt (changedAt + variableCount t) (t .bytes)
-      → fetch 0 0 ns us (tables (set (t .words) shouldClearAt 0) (t .keys) b (t .reals) (t .values)) ≡ fetchIn t
-  unfolding numbersOf valuesOf
-  fetch-cleared e z y h =
-      together refl (z ∙ sym (nothing (replicate places 0))) (y ∙ sym (nothing (replicate places zero64))) (ap (λ (b : List ℕ). tables (set (t .words) shouldClearAt 0) (t .keys) b (t .reals) (t .values)) h ∙ sym written-off)
-      ∙ sym (in-is true (clear-is ∙ e) ∙ rw (none-listed, off-all) refl)
+  -- ---- what the code leaves
 
-  -- ---- the loop
+  -- its loop begins with lists of zeros
+  pub begun : (b : List ℕ) {ns gs : List ℕ} {us : List Float} {e : Ended} → ns ≡ replicate places 0 → us ≡ replicate places zero64 → gs ≡ replicate places 0
+      → e ≡ listAll (t .words) b (goneCount t) (variableCount t) (listing (t .reals) (lists ns us gs 0) 0) → e ≡ listAll (t .words) b (goneCount t) (variableCount t) (listing (t .reals) empty 0)
+  begun b x y z h = h ∙ rw (x, y, z) refl
 
-  on-number : (v : Variable) → reported rows v .number ≡ v .number
-  on-number v = unfold reported in refl
+  module _ {w b : List ℕ} {r : List Float} {l : Lists} (h : ended r l ≡ listAll (t .words) b (goneCount t) (variableCount t) (listing (t .reals) empty 0)) (k : b ≡ clearedBy (t .words) (t .bytes))
+      (z : w ≡ set (set (t .words) shouldClearAt (1 - getD (t .words) shouldClearAt 0)) goneCountAt 0) where
+    abbrev clear : Bool
+    clear = eqb (getD (t .words) shouldClearAt 0) 1
 
-  on-symbol : (v : Variable) → reported rows v .symbol ≡ v .symbol
-  on-symbol v = unfold reported in refl
+    bytes-are : b ≡ clearedIf clear (variableCount t) (t .bytes)
+    bytes-are = k ∙ (unfold clearedBy in refl)
 
-  on-uses : (v : Variable) → reported rows v .uses ≡ v .uses
-  on-uses v = unfold reported in refl
+    words-are : w ≡ set (set (t .words) shouldClearAt (bitOf (not clear))) goneCountAt 0
+    words-are = z ∙ ap (λ (x : ℕ). set (set (t .words) shouldClearAt x) goneCountAt 0) (sym (toggled (getD (t .words) shouldClearAt 0) (form .clear)))
 
-  on-flag : (v : Variable) → flagBit (reported rows v) ≡ flagBit v
-  on-flag v = unfold reported in refl
+    told : ended r l ≡ ended (olds clear) (lists (over 0 (numbersOf (list clear)) (replicate places 0)) (over 0 (valuesOf (list clear)) (replicate places zero64)) (over 0 (flagsOf (list clear)) (replicate places 0)) (length (list clear)))
+    told = h ∙ ap (λ (y : List ℕ). listAll (t .words) y (goneCount t) (variableCount t) (listing (t .reals) empty 0)) bytes-are ∙ all-listed clear
 
-  flags-on : over changedAt (map flagBit (map (reported rows) vs)) (t .bytes) ≡ t .bytes
-  flags-on = ap (λ (l : List ℕ). over changedAt l (t .bytes)) (map-kept (reported rows) flagBit on-flag vs) ∙ flags-there t form
+    left : tables w (t .keys) b r (t .values) ≡ write (made clear) t
+    left = rw (words-are, bytes-are, ap (λ (x : Ended). x .reals) told) (sym (written clear))
 
-  written-on : write (made (map (reported rows) vs) true) t ≡ tables (set (t .words) shouldClearAt 1) (t .keys) (t .bytes) (over oldValuesAt (map (λ (v : Variable). v .old) (map (reported rows) vs)) (t .reals)) (t .values)
-  unfolding bitOf
-  written-on = others-written t form (reported rows) true on-number on-symbol on-uses ∙ rw flags-on refl
+    pub fetch-done : fetch 0 (l .count) (l .numbers) (l .values) (l .gone) (tables w (t .keys) b r (t .values)) ≡ fetchIn t
+    fetch-done = together (ap (λ (x : Ended). x .lists) told) left ∙ sym (in-is clear (unfold read in refl))
 
-  value-at : (i : ℕ) → i < variableCount t → valueOf (variableOf t i) rows ≡ constantOf (t .bytes) (t .reals) (rowCount t) (getD (t .bytes) (variablePlacesAt + i) 0)
-  unfolding read
-  value-at i h = row-value t 0 form (variableOf t i) (getD (t .bytes) (variablePlacesAt + i) 0) (form .owners i h) (unfold variableOf in refl)
-
-  abbrev all : Listing
-  all = listing (over oldValuesAt (map (λ (v : Variable). v .old) (map (reported rows) vs)) (t .reals)) (over 0 (numbersOf (newsOf rows vs)) (replicate places 0)) (over 0 (valuesOf (newsOf rows vs)) (replicate places zero64)) (length (newsOf rows vs))
-
-  list-is : listAll (t .words) (t .bytes) (variableCount t) (listing (t .reals) (replicate places 0) (replicate places zero64) 0) ≡ all
-  list-is = listed t rows (form .counts .rows) value-at (replicate places 0) (replicate places zero64) ∙ begun
-    where
-      begun : listing (over (oldValuesAt + 0) (map (λ (v : Variable). v .old) (map (reported rows) (listOf (variableCount t) (variableOf t)))) (t .reals)) (over 0 (numbersOf (newsOf rows (listOf (variableCount t) (variableOf t)))) (replicate places 0)) (over 0 (valuesOf (newsOf rows (listOf (variableCount t) (variableOf t)))) (replicate places zero64)) (0 + length (newsOf rows (listOf (variableCount t) (variableOf t)))) ≡ all
-      begun = unfold read in rw (zero-add (length (newsOf rows (listOf (variableCount t) (variableOf t))))) refl
-
-  pub fetch-listed : {r : List Float} {ns ms : List ℕ} {us ws : List Float} {c : ℕ} → eqb (getD (t .words) shouldClearAt 0) 1 ≡ false → ms ≡ replicate places 0 → ws ≡ replicate places zero64
-      → listing r ns us c ≡ listAll (t .words) (t .bytes) (variableCount t) (listing (t .reals) ms ws 0)
-      → fetch 0 c ns us (tables (set (t .words) shouldClearAt 1) (t .keys) (t .bytes) r (t .values)) ≡ fetchIn t
-  fetch-listed e z y h =
-      let told = (rw (z, y) at h) ∙ list-is in
-      together (ap (λ (x : Listing). x .count) told) (ap (λ (x : Listing). x .numbers) told) (ap (λ (x : Listing). x .values) told) (ap (λ (x : Listing). tables (set (t .words) shouldClearAt 1) (t .keys) (t .bytes) (x .reals) (t .values)) told ∙ sym written-on)
-      ∙ sym (in-is false (clear-is ∙ e))
-
--- ---- the test, over variables: ns and vs are the lists cleared
+-- ---- the test, over variables: the lists are cleared
 
 module _ (t : Sparse) {r : Bool} (e : r ≡ reads t) where
-  pub fetch-refused : {ns : List ℕ} {us : List Float} → r ≡ false → ns ≡ replicate places 0 → us ≡ replicate places zero64 → fetch 18 0 ns us t ≡ fetchOf t
+  pub fetch-refused : {ns gs : List ℕ} {us : List Float} → r ≡ false → ns ≡ replicate places 0 → us ≡ replicate places zero64 → gs ≡ replicate places 0 → fetch 18 0 ns us gs t ≡ fetchOf t
   unfolding fetchOf fetch18
-  fetch-refused h z y = rw (← e, h, z, y) refl
+  fetch-refused h z y x = rw (← e, h, z, y, x) refl
 
   pub fetch-accepted : r ≡ true → fetchIn t ≡ fetchOf t
   unfolding fetchOf

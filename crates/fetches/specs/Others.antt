@@ -1,4 +1,4 @@
--- A state that differs in its variables' old values and flags alone, written into the tables that it was read from.
+-- A state that differs in its variables' old values and flags and the toggle, and in which none wait among the gone, written into the tables that it was read from.
 -- Assumes nothing.
 use Prim.Native.Nat.{ℕ, zero, suc, _+_, _≤_}
 use mathlib.Core.Path.{_≡_, refl, sym, ap, _∙_}
@@ -8,20 +8,23 @@ use native.Mathlib.Omega.{arith}
 use lib.Dec.{eqb}
 use lib.Ieee.{Float}
 use lib.ListN.{length, getD, set, length-map, length-set}
+use Rattle.laws.specs.Lists.{length-tab}
 use Rattle.steps.specs.Symbol.{Symbol}
 use Rattle.steps.specs.State.{Term, Basic, Variable, Constraint, Edit, State}
 use Rattle.steps.specs.Readable.{kindCode}
 use Rattle.layout.specs.Layout.{bitOf, over}
+use Rattle.layout.specs.Laying.{laid-nil}
 use Rattle.layout.specs.Relaid.{put-set}
 use Rattle.layout.specs.Copied.{length-listOf}
+use Rattle.cells.specs.Names.{lastPlace}
 use Rattle.cells.specs.Seek.{first-within}
-use Rattle.sparse.specs.Places.{mostVariables, nextIdAt, shouldClearAt, idsAt, variableNumbersAt, variableUsesAt, constraintNumbersAt, constraintGroupsAt, kindsAt, rowPlacesAt, variablePlacesAt, changedAt, constraintMarkersAt, constraintOthersAt, termCountsAt, editVariablesAt, editMarkersAt, editOthersAt, termsAt, constantsAt, oldValuesAt, objectiveAt, cutoffAt, constraintStrengthsAt, editStrengthsAt, suggestionsAt, coefficientsAt}
-use Rattle.sparse.specs.Sparse.{Sparse, read}
+use Rattle.sparse.specs.Places.{mostVariables, mostConstraints, nextIdAt, shouldClearAt, goneCountAt, idsAt, variableNumbersAt, variableUsesAt, constraintNumbersAt, constraintGroupsAt, goneNumbersAt, kindsAt, rowPlacesAt, variablePlacesAt, changedAt, constraintMarkersAt, constraintOthersAt, termCountsAt, editVariablesAt, editMarkersAt, editOthersAt, termsAt, constantsAt, oldValuesAt, objectiveAt, cutoffAt, constraintStrengthsAt, editStrengthsAt, suggestionsAt, coefficientsAt}
+use Rattle.sparse.specs.Sparse.{Sparse, symbolsOf, read}
 use Rattle.sparse.specs.Stretches.{Stretch, from, lay}
 use Rattle.sparse.specs.Write.{noVariable, placeOf, otherPlace, indexOf, numberPlace, allTerms, laidOf, headingOf, wordsOf, bytesOf, realsOf, write}
 use Rattle.sparse.specs.Form.{Form}
 use Rattle.sparse.specs.Written.{write-read}
-use Rattle.fetches.specs.Anew.{Above, lay-anew, over-there}
+use Rattle.fetches.specs.Anew.{Above, Below, lay-anew, lay-under, over-there}
 
 map-same : {A B : Type 0} (g h : A → B) → ((x : A) → g x ≡ h x) → (l : List A) → map g l ≡ map h l
 map-same g h q [] = refl
@@ -57,6 +60,14 @@ module _ (t : Sparse) (form : Form t) where
   unfolding read
   few = let c = form .counts .variables in rw (length-listOf _ _) c
 
+  few-constraints : length (s .constraints) ≤ mostConstraints
+  unfolding read
+  few-constraints = let c = form .counts .constraints in rw (length-listOf _ _) c
+
+  few-symbols : length xs ≤ lastPlace
+  unfolding read symbolsOf
+  few-symbols = let c = form .counts .symbols in rw (length-tab _ _ _) c
+
   written : write s t ≡ t
   written = write-read t form
 
@@ -71,13 +82,41 @@ module _ (t : Sparse) (form : Form t) where
       ∷ from (idsAt + 1) (map (λ (x : Symbol). x .id) xs)
       ∷ []
 
-  above-heading : Above (nextIdAt + length (headingOf s size)) wordsAbove
-  unfolding headingOf
-  above-heading = (omega arith, (omega arith, (omega arith, (omega arith, (omega arith, tt)))))
+  -- the gone ones stand behind all others
+  abbrev goneFrom : Stretch ℕ
+  goneFrom = from goneNumbersAt (s .changes .gone)
 
-  words-written : lay wordsAbove (over nextIdAt (headingOf s size) (lay [] (t .words))) ≡ t .words
+  above-heading : Above (nextIdAt + length (headingOf s size)) (goneFrom ∷ wordsAbove)
+  unfolding headingOf
+  above-heading = (omega arith, (omega arith, (omega arith, (omega arith, (omega arith, (omega arith, tt))))))
+
+  words-written : lay (goneFrom ∷ wordsAbove) (over nextIdAt (headingOf s size) (lay [] (t .words))) ≡ t .words
   unfolding write wordsOf lay
   words-written = ap (λ (x : Sparse). x .words) written
+
+  -- with the heading h, all that stands before the gone ones
+  abbrev wordsBelow : List ℕ → List (Stretch ℕ)
+  wordsBelow h =
+      from constraintGroupsAt (map (λ (c : Constraint). c .group) (s .constraints))
+      ∷ from constraintNumbersAt (map (λ (c : Constraint). c .number) (s .constraints))
+      ∷ from variableUsesAt (map (λ (v : Variable). v .uses) vs)
+      ∷ from variableNumbersAt (map (λ (v : Variable). v .number) vs)
+      ∷ from (idsAt + 1) (map (λ (x : Symbol). x .id) xs)
+      ∷ from nextIdAt h
+      ∷ []
+
+  gone-there : over goneNumbersAt (s .changes .gone) (t .words) ≡ t .words
+  gone-there = over-there [] (wordsBelow (headingOf s size)) goneNumbersAt (s .changes .gone) (t .words) tt (unfold lay in words-written)
+
+  gone-behind : (h : List ℕ) → length h ≡ length (headingOf s size) → Below goneNumbersAt (wordsBelow h)
+  unfolding headingOf
+  gone-behind h e =
+      let groups = length-map (s .constraints) (λ (c : Constraint). c .group) in
+      let numbers = length-map (s .constraints) (λ (c : Constraint). c .number) in
+      let uses = length-map vs (λ (v : Variable). v .uses) in
+      let owners = length-map vs (λ (v : Variable). v .number) in
+      let ids = length-map xs (λ (x : Symbol). x .id) in
+      (omega (arith, groups, few-constraints), (omega (arith, numbers, few-constraints), (omega (arith, uses, few), (omega (arith, owners, few), (omega (arith, ids, few-symbols), (omega (arith, e), tt))))))
 
   abbrev bytesAbove : List (Stretch ℕ)
   bytesAbove =
@@ -144,7 +183,7 @@ module _ (t : Sparse) (form : Form t) where
     us = map f vs
 
     abbrev after : State
-    after = record { tableau = s .tableau; changes = record { variables = us; shouldClear = clear }; constraints = s .constraints; edits = s .edits; whole = s .whole }
+    after = record { tableau = s .tableau; changes = record { variables = us; gone = []; shouldClear = clear }; constraints = s .constraints; edits = s .edits; whole = s .whole }
 
     many : length us ≡ length vs
     many = length-map vs f
@@ -159,32 +198,33 @@ module _ (t : Sparse) (form : Form t) where
     unfolding numberPlace
     place-kept n = rw (index-kept n) (ap (placeOf xs) (at-kept f (λ (v : Variable). v .symbol) noVariable symbols vs (indexOf vs n)))
 
-    heading-after : headingOf after size ≡ set (headingOf s size) shouldClearAt (bitOf clear)
+    abbrev heading : List ℕ
+    heading = set (set (headingOf s size) shouldClearAt (bitOf clear)) goneCountAt 0
+
+    heading-after : headingOf after size ≡ heading
     unfolding headingOf
     heading-after = rw many refl
 
-    words-after : lay (wordsOf after size) (t .words) ≡ set (t .words) shouldClearAt (bitOf clear)
-    words-after =
-        let hs : List ℕ = headingOf s size in
-        ap (λ (ss : List (Stretch ℕ)). lay ss (t .words)) parts
-        ∙ laid-out
-        ∙ lay-anew wordsAbove [] nextIdAt hs (set hs shouldClearAt (bitOf clear)) (t .words) above-heading (length-set hs shouldClearAt (bitOf clear)) words-written
-        ∙ put
-        ∙ ap (λ (w : List ℕ). set w shouldClearAt (bitOf clear)) (over-there wordsAbove [] nextIdAt hs (t .words) above-heading words-written)
+    heading-long : length heading ≡ length (headingOf s size)
+    heading-long = length-set (set (headingOf s size) shouldClearAt (bitOf clear)) goneCountAt 0 ∙ length-set (headingOf s size) shouldClearAt (bitOf clear)
+
+    abbrev changed : List ℕ → List ℕ
+    changed w = set (set w shouldClearAt (bitOf clear)) goneCountAt 0
+
+    words-after : lay (wordsOf after size) (t .words) ≡ set (set (t .words) shouldClearAt (bitOf clear)) goneCountAt 0
+    words-after = parts ∙ behind ∙ lay-anew (goneFrom ∷ wordsAbove) [] nextIdAt (headingOf s size) heading (t .words) above-heading heading-long words-written ∙ put ∙ ap changed (over-there (goneFrom ∷ wordsAbove) [] nextIdAt (headingOf s size) (t .words) above-heading words-written)
       where
-        new : Stretch ℕ
-        new = from nextIdAt (set (headingOf s size) shouldClearAt (bitOf clear))
+        parts : lay (wordsOf after size) (t .words) ≡ lay (wordsBelow heading) (t .words)
+        parts = unfold wordsOf lay over in rw (map-kept f (λ (v : Variable). v .uses) uses vs, map-kept f (λ (v : Variable). v .number) numbers vs, heading-after) (laid-nil (λ x _. x) goneNumbersAt _)
 
-        parts : wordsOf after size
-            ≡ from constraintGroupsAt (map (λ (c : Constraint). c .group) (s .constraints)) ∷ from constraintNumbersAt (map (λ (c : Constraint). c .number) (s .constraints)) ∷ from variableUsesAt (map (λ (v : Variable). v .uses) vs) ∷ from variableNumbersAt (map (λ (v : Variable). v .number) vs) ∷ from (idsAt + 1) (map (λ (x : Symbol). x .id) xs) ∷ new ∷ []
-        parts = unfold wordsOf in rw (map-kept f (λ (v : Variable). v .uses) uses vs, map-kept f (λ (v : Variable). v .number) numbers vs, heading-after) refl
+        behind : lay (wordsBelow heading) (t .words) ≡ lay (goneFrom ∷ wordsAbove) (over nextIdAt heading (lay [] (t .words)))
+        behind = unfold lay in sym (lay-under (wordsBelow heading) goneNumbersAt (s .changes .gone) (t .words) (gone-behind heading heading-long) ∙ ap (lay (wordsBelow heading)) gone-there)
 
-        laid-out : lay (from constraintGroupsAt (map (λ (c : Constraint). c .group) (s .constraints)) ∷ from constraintNumbersAt (map (λ (c : Constraint). c .number) (s .constraints)) ∷ from variableUsesAt (map (λ (v : Variable). v .uses) vs) ∷ from variableNumbersAt (map (λ (v : Variable). v .number) vs) ∷ from (idsAt + 1) (map (λ (x : Symbol). x .id) xs) ∷ new ∷ []) (t .words)
-            ≡ lay wordsAbove (over nextIdAt (set (headingOf s size) shouldClearAt (bitOf clear)) (lay [] (t .words)))
-        laid-out = unfold lay in refl
-
-        put : over nextIdAt (set (headingOf s size) shouldClearAt (bitOf clear)) (t .words) ≡ set (over nextIdAt (headingOf s size) (t .words)) shouldClearAt (bitOf clear)
-        put = unfold over in put-set (headingOf s size) (t .words) shouldClearAt (bitOf clear) (unfold headingOf in omega arith)
+        put : over nextIdAt heading (t .words) ≡ changed (over nextIdAt (headingOf s size) (t .words))
+        put =
+            unfold over in
+            put-set (set (headingOf s size) shouldClearAt (bitOf clear)) (t .words) goneCountAt 0 (rw (length-set (headingOf s size) shouldClearAt (bitOf clear)) (unfold headingOf in omega arith))
+            ∙ ap (λ (w : List ℕ). set w goneCountAt 0) (put-set (headingOf s size) (t .words) shouldClearAt (bitOf clear) (unfold headingOf in omega arith))
 
     bytes-after : lay (bytesOf after) (t .bytes) ≡ over changedAt (map flagBit us) (t .bytes)
     bytes-after = parts ∙ lay-anew bytesAbove bytesBelow changedAt (map flagBit vs) (map flagBit us) (t .bytes) above-flags (length-map us flagBit ∙ many ∙ sym (length-map vs flagBit)) bytes-written
@@ -204,6 +244,6 @@ module _ (t : Sparse) (form : Form t) where
         parts : lay (realsOf after) (t .reals) ≡ lay realsAbove (over oldValuesAt (map old us) (lay realsBelow (t .reals)))
         parts = unfold realsOf lay in refl
 
-    pub others-written : write after t ≡ record { words = set (t .words) shouldClearAt (bitOf clear); keys = t .keys; bytes = over changedAt (map flagBit us) (t .bytes); reals = over oldValuesAt (map (λ (v : Variable). v .old) us) (t .reals); values = t .values }
+    pub others-written : write after t ≡ record { words = set (set (t .words) shouldClearAt (bitOf clear)) goneCountAt 0; keys = t .keys; bytes = over changedAt (map flagBit us) (t .bytes); reals = over oldValuesAt (map (λ (v : Variable). v .old) us) (t .reals); values = t .values }
     unfolding write
     others-written = rw (words-after, bytes-after, reals-after, ap (λ (x : Sparse). x .keys) written, ap (λ (x : Sparse). x .values) written) refl

@@ -225,6 +225,7 @@ module _ (K U : ℕ → ℕ) (N L : ℕ) (c : Created) (h : Tagged K U N L c) (f
         vars = h .good .vars;
         owns = λ n. omega (arith, codes-append n (c .work .tableau .symbols) temporary, h .good .owns n);
         cutoff = h .good .cutoff;
+        waits = h .good .waits;
       }
 
   standing-count : length (standing .tableau .rows) ≡ suc N
@@ -257,6 +258,7 @@ module _ (K U : ℕ → ℕ) (N L : ℕ) (c : Created) (h : Tagged K U N L c) (f
               vars = g .vars;
               owns = g .owns;
               cutoff = g .cutoff;
+              waits = g .waits;
             };
             fine = a .fine;
             plain = refl;

@@ -3,17 +3,18 @@ use mathlib.Core.Path.{_≡_, refl, sym, ap, _∙_, subst}
 use mathlib.Core.Logic.{_≢_}
 use mathlib.Core.List.{List, [], _∷_, map}
 use mathlib.Core.Option.{Option, none, some}
-use mathlib.Core.Bool.{Bool, true, false, cond}
+use mathlib.Core.Bool.{Bool, true, false, not, cond, _||_}
 use Prim.Native.Nat.{ℕ, _+_, _≤_}
 use native.Mathlib.Omega.{arith}
 use lib.Dec.{eqb}
 use lib.ListN.{length, length-map}
-use lib.Ieee.{Float, nan, isNan}
+use lib.Ieee.{Float, nan, isNan, eq, ne}
 use Rattle.steps.specs.Number.{isFinite, Mark, worse}
 use Rattle.steps.specs.Symbol.{External, Symbol, isExternal}
 use Rattle.steps.specs.Row.{Row, insertSymbolInRow, insertRow, appendCell}
 use Rattle.steps.specs.State.{Basic, Variable}
 use Rattle.steps.specs.Work.{Work, withTableau, withChanges, marking, findRow, newSymbol, appendSymbol}
+use Rattle.steps.specs.Changes.{member, neverReported}
 use Rattle.steps.specs.CreateRow.{Building, written, appendTo, insertInto, keepVariable, withVariables, addVariable, useOnce, insertVariable}
 use Rattle.steps.specs.Readable.{code}
 use Rattle.keeps.specs.Lists.{Same?, is, isnt, same, same?, total, times, up-once}
@@ -24,6 +25,7 @@ use Rattle.keeps.specs.Fits.{bids, IsBasic, FitsW, fits-worse, fits-plai
 use Rattle.keeps.specs.Frame.{mark-frame}
 use Rattle.keeps.specs.Codes.{codes-append}
 use Rattle.keeps.specs.Uses.{varNumber, usesOf, uses-hit, uses-miss}
+use Rattle.keeps.specs.Waits.{Returned, Waits, waits-to}
 use Rattle.keeps.specs.Reads.{varCode}
 use Rattle.keeps.specs.Good.{OldOk, Vars, numbers-map, symbols-map, Good, good-frame}
 use Rattle.keeps.specs.Passes.{Free}
@@ -131,6 +133,7 @@ append-built K U N b s e h =
             vars = unfold appendSymbol withTableau in h .good .vars;
             owns = λ n. unfold appendSymbol withTableau in omega (arith, codes-append n (b .work .tableau .symbols) s, h .good .owns n);
             cutoff = unfold appendSymbol withTableau in h .good .cutoff;
+            waits = unfold appendSymbol withTableau in h .good .waits;
           };
       row = append-row s (b .work) (b .row) (h .row);
       plain = unfold appendSymbol withTableau in h .plain;
@@ -166,6 +169,16 @@ new-vars n s C U vs x z h =
     none-used m true = omega arith
     none-used m false = omega arith
 
+-- one that comes has not been reported
+new-waits : (n : ℕ) (s : Symbol) (gone : List ℕ) (vs : List Variable) → Waits gone vs → Waits gone (keepVariable (newVariable n s) vs)
+unfolding newVariable neverReported ne eq
+new-waits n s gone vs w =
+    rw keepVariable-is (waits-to gone vs (keepBy varNumber (newVariable n s) vs) (λ h. keep-all varNumber (Returned gone) (newVariable n s) vs (by (not (member n gone))) h) w)
+  where
+    by : (b : Bool) → (b || true) ≡ true
+    by true = refl
+    by false = refl
+
 pub addVariable-built : (K U : ℕ → ℕ) (N n : ℕ) (b : Building) → times n (map varNumber (b .work .changes .variables)) ≡ 0 → Built K U N b → Built K U N (addVariable n b)
 unfolding addVariable appendTo newSymbol withVariables withChanges newVariable
 addVariable-built K U N n b z h =
@@ -177,6 +190,7 @@ addVariable-built K U N n b z h =
             vars = unfold appendSymbol withTableau in new-vars n s (h .good .C) U (b .work .changes .variables) (unfold isExternal in refl) z (h .good .vars);
             owns = λ m. unfold appendSymbol withTableau in omega (arith, codes-append m (b .work .tableau .symbols) s, h .good .owns m);
             cutoff = unfold appendSymbol withTableau in h .good .cutoff;
+            waits = unfold appendSymbol withTableau in new-waits n s (b .work .changes .gone) (b .work .changes .variables) (h .good .waits);
           };
       row = append-row s (b .work) (b .row) (h .row);
       plain = unfold appendSymbol withTableau in h .plain;
@@ -231,3 +245,7 @@ once-vars n C U vs l h =
           up-once 0 m (map varNumber vs) (h .up),
         )
     by m (isnt a b c) = omega (arith, c, h .uses m, once-miss m n b vs)
+
+pub once-waits : (n : ℕ) (gone : List ℕ) (vs : List Variable) → Waits gone vs → Waits gone (map (useOnce n) vs)
+unfolding useOnce neverReported
+once-waits n gone vs w = waits-to gone vs (map (useOnce n) vs) (λ h. all-map (useOnce n) (Returned gone) vs h) w

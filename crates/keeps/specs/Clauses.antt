@@ -2,7 +2,7 @@
 use mathlib.Core.Path.{_≡_}
 use mathlib.Core.Bool.{Bool, true, _&&_}
 use Rattle.steps.specs.State.{State}
-use Rattle.steps.specs.Readable.{countsInRange, numbersAscend, symbolsDistinct, idsBelowNext, rowsInRange, noBasicCell, symbolsOwned, usesCounted, numbersFinite, kindsFit, cutoffInRange, groupsFit, readable}
+use Rattle.steps.specs.Readable.{countsInRange, numbersAscend, symbolsDistinct, idsBelowNext, rowsInRange, noBasicCell, symbolsOwned, usesCounted, numbersFinite, kindsFit, cutoffInRange, groupsFit, goneFits, readable}
 use Rattle.keeps.specs.Lists.{both, left, right}
 
 pub and3 : (a b c : Bool) → (a && b && c) ≡ true → (a ≡ true) × (b ≡ true) × (c ≡ true)
@@ -24,32 +24,34 @@ pub record Clauses (s : State) : Type 0 where
   pub kinds : kindsFit s ≡ true
   pub cutoff : cutoffInRange s ≡ true
   pub groups : groupsFit s ≡ true
+  pub gone : goneFits s ≡ true
 
 pub clauses-in : (s : State) → readable s ≡ true → Clauses s
 unfolding readable
 clauses-in s e =
-    let x = and4 _ (kindsFit s) (cutoffInRange s) (groupsFit s) e in
-    let z = and4 _ (symbolsOwned s) (usesCounted s) (numbersFinite s) (x .0) in
-    let y = and4 _ (idsBelowNext s) (rowsInRange s) (noBasicCell s) (z .0) in
-    let v = and3 (countsInRange s) (numbersAscend s) (symbolsDistinct s) (y .0) in
+    let x = and4 _ (cutoffInRange s) (groupsFit s) (goneFits s) e in
+    let z = and4 _ (usesCounted s) (numbersFinite s) (kindsFit s) (x .0) in
+    let y = and4 _ (rowsInRange s) (noBasicCell s) (symbolsOwned s) (z .0) in
+    let v = and4 (countsInRange s) (numbersAscend s) (symbolsDistinct s) (idsBelowNext s) (y .0) in
     record {
       counts = v .0;
       ascending = v .1;
       distincts = v .2;
-      below = y .1;
-      rows = y .2;
-      cells = y .3;
-      owners = z .1;
-      uses = z .2;
-      finite = z .3;
-      kinds = x .1;
-      cutoff = x .2;
-      groups = x .3;
+      below = v .3;
+      rows = y .1;
+      cells = y .2;
+      owners = y .3;
+      uses = z .1;
+      finite = z .2;
+      kinds = z .3;
+      cutoff = x .1;
+      groups = x .2;
+      gone = x .3;
     }
 
 pub clauses-out : (s : State) → Clauses s → readable s ≡ true
 unfolding readable
 clauses-out s c =
     both
-    (both (both (both (both (both (both (both (both (both (both (c .counts) (c .ascending)) (c .distincts)) (c .below)) (c .rows)) (c .cells)) (c .owners)) (c .uses)) (c .finite)) (c .kinds)) (c .cutoff))
-    (c .groups)
+    (both (both (both (both (both (both (both (both (both (both (both (c .counts) (c .ascending)) (c .distincts)) (c .below)) (c .rows)) (c .cells)) (c .owners)) (c .uses)) (c .finite)) (c .kinds)) (c .cutoff))
+    (c .groups)) (c .gone)

@@ -84,7 +84,7 @@ addError-step K U N b s k strength e h =
     one = addSymbol-step K U N b s k e h
 
     only : Frame (added .work) goal
-    only = unfold insertInObjective marking withObjective withTableau in record { symbols = refl; next = refl; variables = refl; plain = λ e. e; cutoff = refl }
+    only = unfold insertInObjective marking withObjective withTableau in record { symbols = refl; next = refl; variables = refl; plain = λ e. e; cutoff = refl; gone = refl }
 
 -- ---- a row with its tag; L is the number of variables
 

@@ -1,8 +1,8 @@
 -- "Use counts fall; a variable at zero goes with its row and cells": what is left reads with one use less. Assumes nothing.
-use mathlib.Core.Path.{_≡_, refl, sym, _∙_}
-use mathlib.Core.List.{List, [], _∷_, map}
+use mathlib.Core.Path.{_≡_, refl, sym, ap, ap₂, _∙_, subst}
+use mathlib.Core.List.{List, [], _∷_, _++_, map}
 use mathlib.Core.Option.{Option, none, some}
-use mathlib.Core.Bool.{Bool, true, false}
+use mathlib.Core.Bool.{Bool, true, false, cond}
 use Prim.Native.Nat.{ℕ, suc, _+_, _-_, _≤_}
 use native.Mathlib.Omega.{arith}
 use lib.Dec.{eqb}
@@ -11,30 +11,34 @@ use Rattle.steps.specs.Symbol.{Symbol, isSymbol, deleteSymbol, deleteCell}
 use Rattle.steps.specs.Row.{Row}
 use Rattle.steps.specs.State.{Term, Basic, Variable}
 use Rattle.steps.specs.Work.{Work, withTableau, withChanges, dropRow, purge}
+use Rattle.steps.specs.Changes.{withFlag, clearChanged, keepNumber, neverReported, tellGone}
 use Rattle.steps.specs.CreateRow.{withVariables}
-use Rattle.steps.specs.Remove.{Fallen, useLess, dropUse, dropUses}
+use Rattle.steps.specs.Remove.{Fallen, useLess, lose, dropUse, dropUses}
+use Rattle.steps.specs.Tests.{goesWith, makesEntry, entriesMade}
 use Rattle.steps.specs.Readable.{code, usesIn}
-use Rattle.keeps.specs.Lists.{All, Same?, is, isnt, same, same?, total, times, Up, up-from, up-none}
+use Rattle.keeps.specs.Lists.{All, Same?, is, isnt, same, same?, total, times, Up, up-from, up-none, none≢some}
 use Rattle.keeps.specs.Along.{ids}
 use Rattle.keeps.specs.Fits.{FitsW, fits-plain, fits-purge}
+use Rattle.keeps.specs.Frame.{Frame}
 use Rattle.keeps.specs.Codes.{codes, codes-mem, codes-delete}
 use Rattle.keeps.specs.Uses.{varNumber, usesOf, uses-hit, uses-miss, uses-none}
+use Rattle.keeps.specs.Waits.{Returned, Waits, waits-to, waits-told, goneAfter, gone-number, entries-fall, entriesBy, keep-number-up}
 use Rattle.keeps.specs.Reads.{varCode}
 use Rattle.keeps.specs.Places.{eqb-in}
 use Rattle.keeps.specs.Good.{OldOk, Vars, Good, good-to}
 
 -- ---- one use of the variable n less
 
-abbrev goneCode : ℕ → Option Symbol → ℕ
+abbrev goneCode : ℕ → Option Variable → ℕ
 goneCode m none = 0
-goneCode m (some s) = same m (code s)
+goneCode m (some v) = varCode m v
 
 fewer : Variable → Variable
 fewer v = record { number = v .number; symbol = v .symbol; old = v .old; uses = v .uses - 1; changed = v .changed }
 
 -- the variable at the head is n
 hit : Bool → Variable → List Variable → Fallen
-hit t v vs = elim t [ true ↦ record { variables = vs; gone = some (v .symbol) } | false ↦ record { variables = fewer v ∷ vs; gone = none } ]
+hit t v vs = elim t [ true ↦ record { variables = vs; gone = some v } | false ↦ record { variables = fewer v ∷ vs; gone = none } ]
 
 less-up : (n i : ℕ) (vs : List Variable) → Up i (map varNumber vs) → Up i (map varNumber (useLess n vs .variables))
 unfolding useLess hit fewer
@@ -116,6 +120,21 @@ less-uses n m i (v ∷ vs) u l = go (same? n (v .number)) (same? m (v .number)) 
     go (is a b c) (isnt d e f) (isnt p q s) true w ih = rw a (omega (arith, uses-miss m v vs d))
     go (is a b c) (isnt d e f) (isnt p q s) false w ih = rw a (omega (arith, uses-miss m v vs d, uses-miss m (fewer v) vs d))
 
+-- none of the number is left of a variable that goes
+less-gone : (n i : ℕ) (vs : List Variable) (v : Variable) → Up i (map varNumber vs) → useLess n vs .gone ≡ some v → times n (map varNumber (useLess n vs .variables)) ≡ 0
+unfolding useLess hit fewer times
+less-gone n i [] v u e = absurd (none≢some e)
+less-gone n i (x ∷ vs) v u e = go (same? n (x .number)) (eqb (x .uses) 1) e (less-gone n (suc (x .number)) vs v (u .1))
+  where
+    after : Bool → Bool → Fallen
+    after t r = elim t [ false ↦ record { variables = x ∷ useLess n vs .variables; gone = useLess n vs .gone } | true ↦ hit r x vs ]
+
+    go : Same? n (x .number) → (r : Bool) → after (eqb n (x .number)) r .gone ≡ some v → (useLess n vs .gone ≡ some v → times n (map varNumber (useLess n vs .variables)) ≡ 0)
+        → times n (map varNumber (after (eqb n (x .number)) r .variables)) ≡ 0
+    go (isnt a b c) r e ih = rw a (omega (arith, c, ih (rw a at e)))
+    go (is a b c) true e ih = rw a (up-none (suc (x .number)) n (map varNumber vs) (omega (arith, b)) (u .1))
+    go (is a b c) false e ih = absurd (none≢some (rw a at e))
+
 -- ---- a symbol goes, and its row, place and cells
 
 pub purge-owns : (s : Symbol) (E : ℕ → ℕ) (xs : List Symbol) → Up 1 (ids xs) → ((n : ℕ) → same n (code s) + E n ≡ times n (codes xs)) → (n : ℕ)
@@ -178,23 +197,99 @@ purge-good s K L U w g plain h =
       vars = unfold purge withTableau in g .vars;
       owns = unfold purge withTableau in purge-owns s (λ n. g .C n + L n) (w .tableau .symbols) (g .fits .up) (λ n. omega (arith, g .owns n, h n));
       cutoff = unfold purge withTableau in g .cutoff;
+      waits = unfold purge withTableau in g .waits;
     }
+
+-- ---- no more rows, whatever falls
+
+lose-shrunk : (v : Variable) (w : Work) → Shrunk w (lose v w)
+unfolding lose tellGone withChanges
+lose-shrunk v w = shrunk-trans (record { rows = omega arith; variables = omega arith; mark = refl; plain = refl }) (purge-shrunk (v .symbol .id) (withChanges (tellGone v (w .changes)) w))
+
+dropUse-shrunk : (t : Term) (w : Work) → Shrunk w (dropUse t w)
+unfolding dropUse withVariables withChanges
+dropUse-shrunk t w = go (useLess (t .variable) (w .changes .variables) .gone)
+  where
+    left : Work
+    left = withVariables (useLess (t .variable) (w .changes .variables) .variables) w
+
+    shrunk : Shrunk w left
+    shrunk = record { rows = omega arith; variables = less-length (t .variable) (w .changes .variables); mark = refl; plain = refl }
+
+    go : (o : Option Variable) → Shrunk w (elim o [ none ↦ left | some v ↦ lose v left ])
+    go none = shrunk
+    go (some v) = shrunk-trans shrunk (lose-shrunk v left)
+
+pub dropUses-shrunk : (ts : List Term) (w : Work) → Shrunk w (dropUses ts w)
+unfolding dropUses
+dropUses-shrunk [] w = shrunk-refl w
+dropUses-shrunk (t ∷ ts) w = shrunk-trans (dropUse-shrunk t w) (dropUses-shrunk ts (dropUse t w))
+
+-- ---- the gone numbers as uses fall
+
+module _ (t : Term) (w : Work) where
+  -- what a term's use less makes of them
+  dropUse-gone : dropUse t w .changes .gone ≡ goneAfter (useLess (t .variable) (w .changes .variables) .gone) (w .changes .gone)
+  unfolding dropUse lose tellGone withVariables withChanges purge withTableau
+  dropUse-gone = go (useLess (t .variable) (w .changes .variables) .gone)
+    where
+      left : Work
+      left = withVariables (useLess (t .variable) (w .changes .variables) .variables) w
+
+      go : (o : Option Variable) → elim o as (λ _. Work) [ none ↦ left | some v ↦ lose v left ] .changes .gone ≡ goneAfter o (w .changes .gone)
+      go none = refl
+      go (some v) = refl
+
+  dropUse-variables : dropUse t w .changes .variables ≡ useLess (t .variable) (w .changes .variables) .variables
+  unfolding dropUse lose tellGone withVariables withChanges purge withTableau
+  dropUse-variables = go (useLess (t .variable) (w .changes .variables) .gone)
+    where
+      left : Work
+      left = withVariables (useLess (t .variable) (w .changes .variables) .variables) w
+
+      go : (o : Option Variable) → elim o as (λ _. Work) [ none ↦ left | some v ↦ lose v left ] .changes .variables ≡ useLess (t .variable) (w .changes .variables) .variables
+      go none = refl
+      go (some v) = refl
+
+  after-up : (o : Option Variable) (gone : List ℕ) → Up 0 gone → Up 0 (goneAfter o gone)
+  after-up none gone u = u
+  after-up (some v) gone u = go (neverReported v)
+    where
+      go : (b : Bool) → Up 0 (cond b gone (keepNumber (v .number) gone))
+      go true = u
+      go false = keep-number-up 0 (v .number) gone (omega arith) u
+
+  dropUse-ups : Up 0 (w .changes .gone) → Up 0 (map varNumber (w .changes .variables)) → Up 0 (dropUse t w .changes .gone) × Up 0 (map varNumber (dropUse t w .changes .variables))
+  dropUse-ups g u = (rw dropUse-gone (after-up (useLess (t .variable) (w .changes .variables) .gone) (w .changes .gone) g), rw dropUse-variables (less-up (t .variable) 0 (w .changes .variables) u))
+
+-- 25's count is exact: the fall of these terms' uses makes just so many entries, and those of other terms are counted afterwards as before
+pub dropUses-entries : (ts us : List Term) (w : Work) → Up 0 (w .changes .gone) → Up 0 (map varNumber (w .changes .variables)) → entriesBy us (dropUses ts w .changes) ≡ entriesBy (ts ++ us) (w .changes)
+unfolding dropUses
+dropUses-entries [] us w g u = refl
+dropUses-entries (t ∷ ts) us w g u =
+    let v = dropUse-ups t w g u in
+    dropUses-entries ts us (dropUse t w) (v .0) (v .1)
+    ∙ ap₂ (λ (n : List ℕ) (vs : List Variable). length n + entriesMade n (ts ++ us) vs) (dropUse-gone t w) (dropUse-variables t w)
+    ∙ entries-fall 0 (w .changes .gone) t (ts ++ us) (w .changes .variables) g u
 
 -- ---- a term's use falls
 
-pub dropUse-good : (t : Term) (K U W : ℕ → ℕ) (w : Work) → Good K U w → w .artificial ≡ none → ((n : ℕ) → U n ≡ same n (t .variable) + W n)
-    → Good K W (dropUse t w) × Shrunk w (dropUse t w)
-unfolding dropUse withVariables withChanges
-dropUse-good t K U W w g plain h = go (fallen .gone) refl
+pub dropUse-good : (t : Term) (ts : List Term) (K U W : ℕ → ℕ) (w : Work) → Good K U w → w .artificial ≡ none → ((n : ℕ) → U n ≡ same n (t .variable) + W n)
+    → entriesBy (t ∷ ts) (w .changes) ≤ 32 → Good K W (dropUse t w)
+unfolding dropUse lose tellGone withVariables withChanges
+dropUse-good t ts K U W w g plain h room = go (fallen .gone) refl
   where
     vs : List Variable
     vs = w .changes .variables
 
+    gone : List ℕ
+    gone = w .changes .gone
+
     fallen : Fallen
     fallen = useLess (t .variable) vs
 
-    v : Work
-    v = withVariables (fallen .variables) w
+    left : Work
+    left = withVariables (fallen .variables) w
 
     used : 1 ≤ usesOf (t .variable) vs
     used = by (same? (t .variable) (t .variable))
@@ -213,37 +308,56 @@ dropUse-good t K U W w g plain h = go (fallen .gone) refl
           externals = unfold fewer in less-all _ (λ v o. o) (t .variable) vs (g .vars .externals);
         }
 
-    left : (n : ℕ) → goneCode n (fallen .gone) + (total (varCode n) (fallen .variables) + K n) ≡ times n (codes (w .tableau .symbols))
-    left n = omega (arith, less-codes (t .variable) n vs, g .vars .symbols n, g .owns n)
+    owns : (n : ℕ) → goneCode n (fallen .gone) + (total (varCode n) (fallen .variables) + K n) ≡ times n (codes (w .tableau .symbols))
+    owns n = omega (arith, less-codes (t .variable) n vs, g .vars .symbols n, g .owns n)
 
-    shrunk : Shrunk w v
-    shrunk = record { rows = omega arith; variables = less-length (t .variable) vs; mark = refl; plain = refl }
+    stay : Waits gone (fallen .variables)
+    stay = waits-to gone vs (fallen .variables) (λ r. unfold fewer neverReported in less-all (Returned gone) (λ v o. o) (t .variable) vs r) (g .waits)
 
-    after : Option Symbol → Work
-    after o = elim o [ none ↦ v | some s ↦ purge (s .id) v ]
+    waits : (v : Variable) → fallen .gone ≡ some v → Waits (goneAfter (some v) gone) (fallen .variables)
+    waits v e = by (neverReported v) (subst (λ (o : Option Variable). length (goneAfter o gone) + entriesMade (goneAfter o gone) ts (fallen .variables) ≡ entriesBy (t ∷ ts) (w .changes)) e (entries-fall 0 gone t ts vs (g .waits .up) (g .vars .up)))
+      where
+        by : (b : Bool) → length (cond b gone (keepNumber (v .number) gone)) + entriesMade (cond b gone (keepNumber (v .number) gone)) ts (fallen .variables) ≡ entriesBy (t ∷ ts) (w .changes)
+            → Waits (cond b gone (keepNumber (v .number) gone)) (fallen .variables)
+        by true q = stay
+        by false q =
+            waits-told (v .number) gone (fallen .variables) (subst (λ (k : ℕ). times k (map varNumber (fallen .variables)) ≡ 0) (gone-number (t .variable) vs v e) (less-gone (t .variable) 0 vs v (g .vars .up) e))
+            (omega (arith, q, room)) stay
 
-    go : (o : Option Symbol) → fallen .gone ≡ o → Good K W (after o) × Shrunk w (after o)
+    go : (o : Option Variable) → fallen .gone ≡ o → Good K W (elim o [ none ↦ left | some v ↦ lose v left ])
     go none e =
-        (record { fits = g .fits; C = λ n. total (varCode n) (fallen .variables); vars = vars; owns = λ n. omega (arith, rw e at (left n)); cutoff = g .cutoff }, shrunk)
-    go (some s) e = (
-      record {
-        fits = purge-fits (s .id) v (g .fits) plain;
-        C = λ n. total (varCode n) (fallen .variables);
-        vars = unfold purge withTableau in vars;
-        owns = unfold purge withTableau in purge-owns s (λ n. total (varCode n) (fallen .variables) + K n) (w .tableau .symbols) (g .fits .up) (λ n. rw e at (left n));
-        cutoff = unfold purge withTableau in g .cutoff;
-      },
-      shrunk-trans shrunk (purge-shrunk (s .id) v),
-    )
+        record { fits = g .fits; C = λ n. total (varCode n) (fallen .variables); vars = vars; owns = λ n. omega (arith, rw e at (owns n)); cutoff = g .cutoff; waits = stay }
+    go (some v) e =
+        record {
+          fits = purge-fits (v .symbol .id) (withChanges (tellGone v (left .changes)) left) (g .fits) plain;
+          C = λ n. total (varCode n) (fallen .variables);
+          vars = unfold purge withTableau in vars;
+          owns = unfold purge withTableau in purge-owns (v .symbol) (λ n. total (varCode n) (fallen .variables) + K n) (w .tableau .symbols) (g .fits .up) (λ n. rw e at (owns n));
+          cutoff = unfold purge withTableau in g .cutoff;
+          waits = unfold purge withTableau in waits v e;
+        }
 
 pub dropUses-good : (ts : List Term) (K U W : ℕ → ℕ) (w : Work) → Good K U w → w .artificial ≡ none → ((n : ℕ) → U n ≡ usesIn n ts + W n)
-    → Good K W (dropUses ts w) × Shrunk w (dropUses ts w)
+    → entriesBy ts (w .changes) ≤ 32 → Good K W (dropUses ts w)
 unfolding dropUses usesIn
-dropUses-good [] K U W w g plain h = (good-to K K U W w (λ n. refl) (λ n. omega (arith, h n)) g, shrunk-refl w)
-dropUses-good (t ∷ ts) K U W w g plain h =
-    let one : Good K (λ n. usesIn n ts + W n) (dropUse t w) × Shrunk w (dropUse t w) = first in
-    let rest : Good K W (dropUses ts (dropUse t w)) × Shrunk (dropUse t w) (dropUses ts (dropUse t w)) = dropUses-good ts K (λ n. usesIn n ts + W n) W (dropUse t w) (one .0) (one .1 .plain ∙ plain) (λ n. refl) in
-    (rest .0, shrunk-trans (one .1) (rest .1))
+dropUses-good [] K U W w g plain h room = good-to K K U W w (λ n. refl) (λ n. omega (arith, h n)) g
+dropUses-good (t ∷ ts) K U W w g plain h room = dropUses-good ts K (λ n. usesIn n ts + W n) W (dropUse t w) first (dropUse-shrunk t w .plain ∙ plain) (λ n. refl) on
   where
-    first : Good K (λ n. usesIn n ts + W n) (dropUse t w) × Shrunk w (dropUse t w)
-    first = unfold same in dropUse-good t K U (λ n. usesIn n ts + W n) w g plain (λ n. omega (arith, h n))
+    first : Good K (λ n. usesIn n ts + W n) (dropUse t w)
+    first = unfold same in dropUse-good t ts K U (λ n. usesIn n ts + W n) w g plain (λ n. omega (arith, h n)) room
+
+    on : entriesBy ts (dropUse t w .changes) ≤ 32
+    on = omega (arith, ap₂ (λ (n : List ℕ) (vs : List Variable). length n + entriesMade n ts vs) (dropUse-gone t w) (dropUse-variables t w), entries-fall 0 (w .changes .gone) t ts (w .changes .variables) (g .waits .up) (g .vars .up), room)
+
+-- ---- the entries, where the variables change their flags alone
+
+entries-clear : (gone : List ℕ) (ts : List Term) (vs : List Variable) → entriesMade gone ts (clearChanged vs) ≡ entriesMade gone ts vs
+unfolding entriesMade makesEntry goesWith neverReported clearChanged withFlag
+entries-clear gone ts [] = refl
+entries-clear gone ts (v ∷ vs) = ap (λ (k : ℕ). cond (makesEntry gone ts v) 1 0 + k) (entries-clear gone ts vs)
+
+pub entries-frame : {w v : Work} → Frame w v → (us : List Term) → entriesBy us (v .changes) ≡ entriesBy us (w .changes)
+entries-frame {w} {v} f us =
+    ap₂ (λ (a b : ℕ). a + b) (ap length (f .gone))
+    (ap (λ (g : List ℕ). entriesMade g us (v .changes .variables)) (f .gone)
+    ∙ sym (entries-clear (w .changes .gone) us (v .changes .variables)) ∙ ap (entriesMade (w .changes .gone) us) (f .variables) ∙ entries-clear (w .changes .gone) us (w .changes .variables))

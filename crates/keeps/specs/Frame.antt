@@ -1,4 +1,4 @@
--- What a pivot and its like leave alone: symbols, next id, variables but for their flags, the absence of an artificial objective. Assumes nothing.
+-- What a pivot and its like leave alone: symbols, next id, variables but for their flags, the gone numbers, the absence of an artificial objective. Assumes nothing.
 use mathlib.Core.Path.{_≡_, refl, sym, ap, _∙_}
 use mathlib.Core.List.{List, [], _∷_}
 use mathlib.Core.Option.{Option, none, some}
@@ -21,9 +21,10 @@ pub record Frame (w v : Work) : Type 0 where
   pub variables : clearChanged (v .changes .variables) ≡ clearChanged (w .changes .variables)
   pub plain : w .artificial ≡ none → v .artificial ≡ none
   pub cutoff : v .tableau .cutoff ≡ w .tableau .cutoff
+  pub gone : v .changes .gone ≡ w .changes .gone
 
 pub frame-refl : (w : Work) → Frame w w
-frame-refl w = record { symbols = refl; next = refl; variables = refl; plain = λ e. e; cutoff = refl }
+frame-refl w = record { symbols = refl; next = refl; variables = refl; plain = λ e. e; cutoff = refl; gone = refl }
 
 pub frame-trans : {w v u : Work} → Frame w v → Frame v u → Frame w u
 frame-trans f g =
@@ -33,6 +34,7 @@ frame-trans f g =
       variables = g .variables ∙ f .variables;
       plain = λ e. g .plain (f .plain e);
       cutoff = g .cutoff ∙ f .cutoff;
+      gone = g .gone ∙ f .gone;
     }
 
 -- ---- flags
@@ -60,6 +62,15 @@ unfolding allChanged
 clear-all [] c = refl
 clear-all (s ∷ ss) c = clear-all ss (varChanged s c) ∙ clear-changed s c
 
+gone-changed : (s : ℕ) (c : Changes) → varChanged s c .gone ≡ c .gone
+unfolding varChanged
+gone-changed s c = refl
+
+pub gone-all : (ss : List ℕ) (c : Changes) → allChanged ss c .gone ≡ c .gone
+unfolding allChanged
+gone-all [] c = refl
+gone-all (s ∷ ss) c = gone-all ss (varChanged s c) ∙ gone-changed s c
+
 -- ---- substitute, enter, pivot
 
 pub substitute-frame : (s : ℕ) (r : Row) (w : Work) → Frame w (substitute s r w)
@@ -71,19 +82,20 @@ substitute-frame s r w =
       variables = clear-all (notedOf (substituteInRows (w .tableau .cutoff) s (w .tableau .symbols) r (w .tableau .rows))) (w .changes);
       plain = λ e. rw e;
       cutoff = refl;
+      gone = gone-all (notedOf (substituteInRows (w .tableau .cutoff) s (w .tableau .symbols) r (w .tableau .rows))) (w .changes);
     }
 
 pub note-frame : (s : ℕ) (w : Work) → Frame w (note s w)
 unfolding note withChanges
-note-frame s w = record { symbols = refl; next = refl; variables = clear-changed s (w .changes); plain = λ e. e; cutoff = refl }
+note-frame s w = record { symbols = refl; next = refl; variables = clear-changed s (w .changes); plain = λ e. e; cutoff = refl; gone = gone-changed s (w .changes) }
 
 pub rows-frame : (bs : List Basic) (w : Work) → Frame w (withRows bs w)
 unfolding withRows withTableau
-rows-frame bs w = record { symbols = refl; next = refl; variables = refl; plain = λ e. e; cutoff = refl }
+rows-frame bs w = record { symbols = refl; next = refl; variables = refl; plain = λ e. e; cutoff = refl; gone = refl }
 
 pub mark-frame : (m : Mark) (w : Work) → Frame w (marking m w)
 unfolding marking
-mark-frame m w = record { symbols = refl; next = refl; variables = refl; plain = λ e. e; cutoff = refl }
+mark-frame m w = record { symbols = refl; next = refl; variables = refl; plain = λ e. e; cutoff = refl; gone = refl }
 
 pub enter-frame : (s : Symbol) (r : Row) (w : Work) → Frame w (enterBasis s r w)
 unfolding enterBasis

@@ -1,4 +1,4 @@
--- The work of a call on a state that reads: the tableau's shape, and the variables, whose symbols with K's are the live ones and whose uses are U; a cutoff in its range. Assumes nothing.
+-- The work of a call on a state that reads: the tableau's shape, and the variables, whose symbols with K's are the live ones and whose uses are U; a cutoff in its range; the gone numbers that wait. Assumes nothing.
 use mathlib.Core.Path.{_≡_, refl, sym, ap, ap₂, _∙_}
 use mathlib.Core.List.{List, [], _∷_, map}
 use mathlib.Core.Bool.{true, false, cond, _||_}
@@ -19,6 +19,7 @@ use Rattle.keeps.specs.Fits.{FitsW, fits-mark, fits-plain, all-map}
 use Rattle.keeps.specs.Frame.{Frame}
 use Rattle.keeps.specs.Codes.{codes}
 use Rattle.keeps.specs.Uses.{varNumber, usesOf}
+use Rattle.keeps.specs.Waits.{Waits, waits-flags}
 use Rattle.keeps.specs.Reads.{Reads, unmap, conNumber, editNumber, varCode, tagCode, usedBy}
 
 abbrev pub OldOk : Variable → Type 0
@@ -93,6 +94,7 @@ pub record Good (K U : ℕ → ℕ) (w : Work) : Type 0 where
   pub vars : Vars C U (w .changes .variables)
   pub owns : (n : ℕ) → C n + K n ≡ times n (codes (w .tableau .symbols))
   pub cutoff : cutoffFits (w .tableau .cutoff) ≡ true
+  pub waits : Waits (w .changes .gone) (w .changes .variables)
 
 pub good-frame : (K U : ℕ → ℕ) (w v : Work) → Good K U w → FitsW v → Frame w v → Good K U v
 good-frame K U w v g f h =
@@ -102,6 +104,7 @@ good-frame K U w v g f h =
       vars = vars-flags (g .C) U (w .changes .variables) (v .changes .variables) (h .variables) (g .vars);
       owns = λ n. g .owns n ∙ ap (λ (xs : List Symbol). times n (codes xs)) (sym (h .symbols));
       cutoff = ap cutoffFits (h .cutoff) ∙ g .cutoff;
+      waits = rw (h .gone) (waits-flags (w .changes .gone) (w .changes .variables) (v .changes .variables) (h .variables) (g .waits));
     }
 
 pub good-to : (K L U W : ℕ → ℕ) (w : Work) → ((n : ℕ) → K n ≡ L n) → ((n : ℕ) → U n ≡ W n) → Good K U w → Good L W w
@@ -112,6 +115,7 @@ good-to K L U W w k u g =
       vars = record { up = g .vars .up; symbols = g .vars .symbols; uses = λ n. g .vars .uses n ∙ u n; olds = g .vars .olds; externals = g .vars .externals };
       owns = λ n. ap (λ (a : ℕ). g .C n + a) (sym (k n)) ∙ g .owns n;
       cutoff = g .cutoff;
+      waits = g .waits;
     }
 
 -- ---- the start
@@ -128,6 +132,7 @@ begin-good s r =
       vars = record { up = r .variables-up; symbols = λ n. refl; uses = r .uses; olds = r .olds; externals = r .externals };
       owns = r .owns;
       cutoff = r .cutoff;
+      waits = r .waits;
     }
 
 -- ---- the end
@@ -181,4 +186,5 @@ finish-reads w cs es g m t few rows =
       edit-kinds = t .edit-kinds;
       cutoff = g .cutoff;
       groups = t .groups;
+      waits = g .waits;
     }

@@ -19,7 +19,7 @@ use Rattle.keeps.specs.Addition.{add-kept, addEdit-kept}
 
 pub empty-reads : (cutoff : Float) → cutoffFits cutoff ≡ true → readable (empty cutoff) ≡ true
 unfolding openReadable
-empty-reads cutoff fits = both fits refl
+empty-reads cutoff fits = both (both fits refl) refl
 
 -- a reset that is refused leaves the state
 pub reset-reads : (cutoff : Float) (s : State) → readable s ≡ true → readable (reset cutoff s .state) ≡ true

@@ -74,7 +74,7 @@ effect s strength w f = go (isError s)
     by o (no-row q) =
         record {
           fits = symbol-objective (s .id) (neg strength) w f (find-none rowId (s .id) (w .tableau .rows) q);
-          frame = unfold insertInObjective marking withObjective withTableau in record { symbols = refl; next = refl; variables = refl; plain = λ e. e; cutoff = refl };
+          frame = unfold insertInObjective marking withObjective withTableau in record { symbols = refl; next = refl; variables = refl; plain = λ e. e; cutoff = refl; gone = refl };
           rows = unfold insertInObjective marking withObjective withTableau in refl;
         }
     by o (a-row b q) =
@@ -84,7 +84,7 @@ effect s strength w f = go (isError s)
               (find-all rowId (λ (b : Basic). RowOk (IsBasic (w .tableau .rows)) (Fine (w .mark)) (w .tableau .symbols) (b .row)) (s .id) (w .tableau .rows) b q
               (f .rows));
           frame =
-              unfold insertRowInObjective marking withObjective withTableau in record { symbols = refl; next = refl; variables = refl; plain = λ e. e; cutoff = refl };
+              unfold insertRowInObjective marking withObjective withTableau in record { symbols = refl; next = refl; variables = refl; plain = λ e. e; cutoff = refl; gone = refl };
           rows = unfold insertRowInObjective marking withObjective withTableau in refl;
         }
 

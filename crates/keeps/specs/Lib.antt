@@ -10,6 +10,7 @@ pub mod Pivots
 pub mod Passes
 pub mod Codes
 pub mod Uses
+pub mod Waits
 pub mod Places
 pub mod Clauses
 pub mod Reads
@@ -27,4 +28,6 @@ pub mod Addition
 pub mod Lookup
 pub mod Groups
 pub mod Keeps
+pub mod Never
+pub mod Listed
 pub mod Needed

@@ -9,7 +9,7 @@ use Rattle.steps.specs.Strength.{required}
 use Rattle.steps.specs.Symbol.{Dummy}
 use Rattle.steps.specs.State.{Term, atMost, Variable, State}
 use Rattle.steps.specs.Calls.{Result, add}
-use Rattle.steps.specs.Readable.{all, storedTerms, usesIn, countsInRange, numbersAscend, symbolsDistinct, idsBelowNext, rowsInRange, noBasicCell, symbolsOwned, usesCounted, numbersFinite, kindsFit, cutoffInRange, groupsFit, openReadable}
+use Rattle.steps.specs.Readable.{all, storedTerms, usesIn, countsInRange, numbersAscend, symbolsDistinct, idsBelowNext, rowsInRange, noBasicCell, symbolsOwned, usesCounted, numbersFinite, kindsFit, cutoffInRange, groupsFit, goneFits, openReadable}
 
 x : Term
 x = record { variable = 1; coefficient = one64 }
@@ -20,7 +20,7 @@ added s = add 1 2 (x ∷ []) zero64 (atMost required) 10 s
 
 -- the clauses of neither
 others : State → Bool
-others s = countsInRange s && numbersAscend s && symbolsDistinct s && rowsInRange s && noBasicCell s && symbolsOwned s && numbersFinite s && kindsFit s && cutoffInRange s && groupsFit s
+others s = countsInRange s && numbersAscend s && symbolsDistinct s && rowsInRange s && noBasicCell s && symbolsOwned s && numbersFinite s && kindsFit s && cutoffInRange s && groupsFit s && goneFits s
 
 -- ---- "ids from 1": were the next id 0, the first symbol would have the id 0
 
@@ -28,7 +28,7 @@ fromZero : State
 fromZero =
     record {
       tableau = record { cutoff = usualCutoff; symbols = []; nextId = 0; rows = []; objective = [] };
-      changes = record { variables = []; shouldClear = false };
+      changes = record { variables = []; gone = []; shouldClear = false };
       constraints = [];
       edits = [];
       whole = true;
@@ -44,7 +44,7 @@ stale : State
 stale =
     record {
       tableau = record { cutoff = usualCutoff; symbols = record { id = 1; kind = Dummy } ∷ []; nextId = 2; rows = []; objective = zero64 ∷ [] };
-      changes = record { variables = []; shouldClear = false };
+      changes = record { variables = []; gone = []; shouldClear = false };
       constraints = record { number = 1; group = 1; strength = required; terms = x ∷ []; tag = record { marker = record { id = 1; kind = Dummy }; other = none } } ∷ [];
       edits = [];
       whole = true;

@@ -77,7 +77,7 @@ counted-ends o w h =
     ends-bind (After w) (After w) o (λ v. going (countPivot v)) h (λ v a. record { fits = a .fits; fine = a .fine; frame = again v (a .frame); count = a .count })
   where
     again : (v : Work) → Frame w v → Frame w (countPivot v)
-    again v f = record { symbols = f .symbols; next = f .next; variables = f .variables; plain = f .plain; cutoff = f .cutoff }
+    again v f = record { symbols = f .symbols; next = f .next; variables = f .variables; plain = f .plain; cutoff = f .cutoff; gone = f .gone }
 
 -- ---- the optimise pass
 

@@ -17,6 +17,7 @@ use Rattle.keeps.specs.Lists.{All, total, times, times-append, times-map
 use Rattle.keeps.specs.Fits.{Fits}
 use Rattle.keeps.specs.Codes.{codes}
 use Rattle.keeps.specs.Uses.{varNumber, usesOf, uses-append, uses-concat}
+use Rattle.keeps.specs.Waits.{Waits}
 
 abbrev pub conNumber : Constraint → ℕ
 conNumber c = c .number
@@ -56,6 +57,7 @@ pub record Reads (s : State) : Type 0 where
   pub edit-kinds : All (λ (e : Edit). editKinds e ≡ true) (s .edits)
   pub cutoff : cutoffFits (s .tableau .cutoff) ≡ true
   pub groups : All (λ (c : Constraint). ltb 0 (c .group) ≡ true) (s .constraints)
+  pub waits : Waits (s .changes .gone) (s .changes .variables)
 
 pub unmap : {A B : Type 0} (g : A → B) (P : B → Type 0) (xs : List A) → All P (map g xs) → All (λ (x : A). P (g x)) xs
 unmap g P [] h = tt

@@ -1,21 +1,26 @@
 -- A removal of a constraint or an edit, on a state that reads: so does what it leaves. Assumes nothing.
 use mathlib.Core.Path.{_≡_, refl, sym, ap, _∙_, subst}
-use mathlib.Core.List.{List, [], _∷_}
+use mathlib.Core.List.{List, [], _∷_, _++_}
 use mathlib.Core.Option.{Option, none, some}
+use mathlib.Core.Bool.{Bool, true, false}
 use Prim.Native.Nat.{ℕ, suc, _+_, _-_, _≤_}
 use native.Mathlib.Omega.{arith}
+use lib.Dec.{eqb}
 use lib.ListN.{length}
 use lib.Ieee.{Float}
 use Rattle.steps.specs.Symbol.{Symbol}
 use Rattle.steps.specs.State.{Term, Tag, Constraint, Edit, State}
-use Rattle.steps.specs.Work.{Outcome, Work, going, _>>=_, checkFinite, purge}
+use Rattle.steps.specs.Work.{Outcome, Work, going, _>>=_, checkFinite, withTableau, purge}
 use Rattle.steps.specs.Optimise.{optimise, theObjective}
 use Rattle.steps.specs.Remove.{removeConstraintEffects, dropMarker, purgeTag, dropUses, removeSteps}
 use Rattle.steps.specs.Edit.{editTerms}
-use Rattle.steps.specs.Tests.{findConstraint, dropConstraint, findEdit, dropEdit}
-use Rattle.steps.specs.Calls.{removeStored, begin, finish, refusedBy, remove, removeEdit}
+use Rattle.steps.specs.Tests.{findConstraint, dropConstraint, findEdit, dropEdit, member, goneFull}
+use Rattle.steps.specs.Calls.{begin, finish, refusedBy, conclude, acceptedAs, removeStored, unlessFull, remove, removeEditStored, removeEdit}
 use Rattle.steps.specs.Readable.{code, usesIn, tagSymbols}
-use Rattle.keeps.specs.Lists.{All, Same?, is, isnt, same, same?, total, times}
+use Rattle.steps.proofs.Ends as steps
+use Rattle.steps.proofs.Steps.{removeSteps-ends}
+use Rattle.steps.proofs.Answered.{limits, starts, steps-above-zero}
+use Rattle.keeps.specs.Lists.{All, Same?, is, isnt, same, same?, total, times, no-both}
 use Rattle.keeps.specs.Keys.{findBy, find-some, drop-total, drop-length, drop-all, drop-up, findConstraint-is, dropConstraint-is, findEdit-is, dropEdit-is}
 use Rattle.keeps.specs.Along.{Mem}
 use Rattle.keeps.specs.Cells.{Fine}
@@ -25,7 +30,8 @@ use Rattle.keeps.specs.Passes.{Ends, ends-bind, ends-to, check-ends, Aft
 use Rattle.keeps.specs.Reads.{Reads, conNumber, editNumber, tagCode, usedBy}
 use Rattle.keeps.specs.Good.{Good, good-frame, clear-length, tagsBy, begin-good, Stored, stored-in, finish-reads}
 use Rattle.keeps.specs.Suggest.{conclude-reads}
-use Rattle.keeps.specs.Fallen.{Shrunk, shrunk-trans, purge-shrunk, purge-good, dropUses-good}
+use Rattle.keeps.specs.Fallen.{Shrunk, shrunk-trans, purge-shrunk, purge-good, dropUses-good, dropUses-shrunk, dropUses-entries, entries-frame}
+use Rattle.keeps.specs.Waits.{entriesBy, not-full}
 use Rattle.keeps.specs.Leaving.{OnlyGoal, effects, Dropped, dropMarker-ends}
 
 -- what K counts is live
@@ -54,14 +60,23 @@ purgeTag-good tag K L U w g plain h = go (tag .other) h
         one : Good (λ n. same n (code (tag .marker)) + L n) U (purge (x .id) w)
         one = purge-good x K (λ n. same n (code (tag .marker)) + L n) U w g plain (λ n. omega (arith, h n))
 
+purgeTag-changes : (tag : Tag) (w : Work) → purgeTag tag w .changes ≡ w .changes
+unfolding purgeTag purge withTableau
+purgeTag-changes tag w = go (tag .other)
+  where
+    go : (o : Option Symbol) → purge (tag .marker .id) (elim o [ none ↦ w | some x ↦ purge (x .id) w ]) .changes ≡ w .changes
+    go none = refl
+    go (some x) = refl
+
 -- ---- the steps
 
--- one row less at least, no more variables
-pub record Removed (K U : ℕ → ℕ) (w v : Work) : Type 0 where
+-- one row less at least, no more variables, and the gone entries that 25 counted
+pub record Removed (terms : List Term) (K U : ℕ → ℕ) (w v : Work) : Type 0 where
   pub good : Good K U v
   pub fine : Fine (v .mark)
   pub rows : suc (length (v .tableau .rows)) ≤ length (w .tableau .rows)
   pub variables : length (v .changes .variables) ≤ length (w .changes .variables)
+  pub entries : (us : List Term) → entriesBy us (v .changes) ≡ entriesBy (terms ++ us) (w .changes)
 
 module _ (budget : ℕ) (tag : Tag) (strength : Float) (terms : List Term) (w : Work) (K L U W : ℕ → ℕ) (g : Good K U w) (plain : w .artificial ≡ none) (owned : (n : ℕ) → K n ≡ tagCode n tag + L n) (used : (n : ℕ) → U n ≡ usesIn n terms + W n) where
   -- after the effects, and after the marker's row
@@ -96,7 +111,7 @@ module _ (budget : ℕ) (tag : Tag) (strength : Float) (terms : List Term) (w : 
   Passed : Work → Type 0
   Passed v =
       (Good L U v) × (Fine (v .mark)) × (v .artificial ≡ none) × (suc (length (v .tableau .rows)) ≤ length (w .tableau .rows)) × (length
-      (v .changes .variables) ≤ length (w .changes .variables))
+      (v .changes .variables) ≤ length (w .changes .variables)) × ((us : List Term) → entriesBy us (v .changes) ≡ entriesBy us (w .changes))
 
   passed : (v : Work) → Less v → Ends Passed (optimise (budget - v .pivots) theObjective (purgeTag tag v))
   unfolding Less Passed
@@ -116,6 +131,7 @@ module _ (budget : ℕ) (tag : Tag) (strength : Float) (terms : List Term) (w : 
           clear-length (w .changes .variables)
               (v .changes .variables) (h .2 .variables),
         ),
+        λ us. entries-frame (a .frame) us ∙ ap (entriesBy us) (purgeTag-changes tag v) ∙ entries-frame (h .2) us,
       ))
     where
       x : Work
@@ -134,7 +150,7 @@ module _ (budget : ℕ) (tag : Tag) (strength : Float) (terms : List Term) (w : 
   pass-rows v e = (
     omega (arith, purged .1 .rows, h .3),
     subst (λ (o : Outcome Work). Ends Fewer (o >>= (λ v. optimise (budget - v .pivots) theObjective (purgeTag tag v)) >>= (λ v. going (dropUses terms v)))) (sym e)
-        (ends-bind Started′ Fewer (optimise (budget - v .pivots) theObjective x) (λ v. going (dropUses terms v)) ran (λ u a. omega (arith, a .1, dropUses-good terms L U W u (a .0 .0) (a .0 .1) used .1 .rows))),
+        (ends-bind Started′ Fewer (optimise (budget - v .pivots) theObjective x) (λ v. going (dropUses terms v)) ran (λ u a. omega (arith, a .1, dropUses-shrunk terms u .rows))),
   )
     where
       x : Work
@@ -157,79 +173,107 @@ module _ (budget : ℕ) (tag : Tag) (strength : Float) (terms : List Term) (w : 
           ends-to (After x) Started′ (optimise (budget - v .pivots) theObjective x) (optimise-ends (budget - v .pivots) theObjective x (purged .0 .fits) (rw (purged .1 .mark) (h .1)))
           (λ u a. ((good-frame L U x u (purged .0) (a .fits) (a .frame), a .frame .plain (purged .1 .plain ∙ h .2 .plain plain)), a .count))
 
-  pub remove-ends : Ends (Removed L W w) (removeSteps budget tag strength terms w)
+  pub remove-ends : entriesBy terms (w .changes) ≤ 32 → Ends (Removed terms L W w) (removeSteps budget tag strength terms w)
   unfolding removeSteps Less Passed
-  remove-ends =
-      ends-bind Passed (Removed L W w)
+  remove-ends room =
+      ends-bind Passed (Removed terms L W w)
       (checkFinite (removeConstraintEffects tag strength w) >>= dropMarker (tag .marker) >>= (λ v. optimise (budget - v .pivots) theObjective (purgeTag tag v)))
       (λ v. going (dropUses terms v))
       (ends-bind Less Passed (checkFinite (removeConstraintEffects tag strength w) >>= dropMarker (tag .marker))
       (λ v. optimise (budget - v .pivots) theObjective (purgeTag tag v)) less passed)
-      (λ v h. last v h (dropUses-good terms L U W v (h .0) (h .2) used))
+      (λ v h. last v h (dropUses-shrunk terms v))
     where
-      last : (v : Work) → Passed v → Good L W (dropUses terms v) × Shrunk v (dropUses terms v) → Removed L W w (dropUses terms v)
-      last v h d = record { good = d .0; fine = rw (d .1 .mark) (h .1); rows = omega (arith, d .1 .rows, h .3); variables = omega (arith, d .1 .variables, h .4) }
+      last : (v : Work) → Passed v → Shrunk v (dropUses terms v) → Removed terms L W w (dropUses terms v)
+      last v h d =
+          record {
+            good = dropUses-good terms L U W v (h .0) (h .2) used (omega (arith, h .5 terms, room));
+            fine = rw (d .mark) (h .1);
+            rows = omega (arith, d .rows, h .3);
+            variables = omega (arith, d .variables, h .4);
+            entries = λ us. dropUses-entries terms us v (h .0 .waits .up) (h .0 .vars .up) ∙ h .5 (terms ++ us);
+          }
 
 -- ---- the calls
 
-removed-reads : (s : State) (cs : List Constraint) (es : List Edit) → Reads s → Stored cs es
-    → suc (length cs + length es) ≡ length (s .constraints) + length (s .edits) → (w : Work) → Removed (λ n. tagsBy n cs es) (λ n. usedBy n cs es) (begin s) w
+removed-reads : (s : State) (terms : List Term) (cs : List Constraint) (es : List Edit) → Reads s → Stored cs es
+    → suc (length cs + length es) ≡ length (s .constraints) + length (s .edits) → (w : Work) → Removed terms (λ n. tagsBy n cs es) (λ n. usedBy n cs es) (begin s) w
     → Reads (finish w cs es)
 unfolding begin
-removed-reads s cs es r t count w h = finish-reads w cs es (h .good) (h .fine) t (omega (arith, h .variables, r .few-variables)) (omega (arith, h .rows, r .few-rows))
+removed-reads s terms cs es r t count w h = finish-reads w cs es (h .good) (h .fine) t (omega (arith, h .variables, r .few-variables)) (omega (arith, h .rows, r .few-rows))
+
+-- ---- a constraint that is found
+
+module _ (n budget : ℕ) (s : State) (c : Constraint) (r : Reads s) (e : findConstraint n (s .constraints) ≡ some c) (room : entriesBy (c .terms) (s .changes) ≤ 32) where
+  cs : List Constraint
+  cs = dropConstraint n (s .constraints)
+
+  by : findBy conNumber n (s .constraints) ≡ some c
+  by = sym (findConstraint-is n (s .constraints)) ∙ e
+
+  part : (f : Constraint → ℕ) → total f (s .constraints) ≡ f c + total f cs
+  unfolding cs
+  part f = rw dropConstraint-is (drop-total conNumber f n (s .constraints) c by)
+
+  size : length (s .constraints) ≡ suc (length cs)
+  unfolding cs
+  size = rw dropConstraint-is (drop-length conNumber n (s .constraints) c by)
+
+  all-left : (P : Constraint → Type 0) → All P (s .constraints) → All P cs
+  unfolding cs
+  all-left P h = rw dropConstraint-is (drop-all conNumber P n (s .constraints) h)
+
+  stored : Stored cs (s .edits)
+  unfolding cs
+  stored =
+      let old : Stored (s .constraints) (s .edits) = stored-in s r in
+      record {
+        few-tags = omega (arith, size, old .few-tags);
+        few-terms = all-left _ (old .few-terms);
+        constraints-up = rw dropConstraint-is (drop-up conNumber 0 n (s .constraints) (old .constraints-up));
+        edits-up = old .edits-up;
+        constraints-finite = all-left _ (old .constraints-finite);
+        constraint-kinds = all-left _ (old .constraint-kinds);
+        edits-finite = old .edits-finite;
+        edit-kinds = old .edit-kinds;
+        groups = all-left _ (old .groups);
+      }
+
+  ends : Ends (Removed (c .terms) (λ m. tagsBy m cs (s .edits)) (λ m. usedBy m cs (s .edits)) (begin s)) (removeSteps budget (c .tag) (c .strength) (c .terms) (begin s))
+  unfolding begin
+  ends =
+      remove-ends budget (c .tag) (c .strength) (c .terms) (begin s) _ (λ m. tagsBy m cs (s .edits)) _ (λ m. usedBy m cs (s .edits)) (begin-good s r) refl
+      (λ m. omega (arith, part (λ (c : Constraint). tagCode m (c .tag)))) (λ m. omega (arith, part (λ (c : Constraint). usesIn m (c .terms)))) room
+
+  pub stored-kept : Reads (removeStored n c budget s .state)
+  unfolding removeStored cs
+  stored-kept =
+      conclude-reads s (removeSteps budget (c .tag) (c .strength) (c .terms) (begin s)) (λ w. finish w cs (s .edits)) r
+      (ends-to _ _ (removeSteps budget (c .tag) (c .strength) (c .terms) (begin s)) ends (removed-reads s (c .terms) cs (s .edits) r stored (omega (arith, size))))
+
+  -- accepted, it has made the entries that 25 counted
+  pub stored-entries : removeStored n c budget s .answer .number ≡ 0 → (us : List Term) → entriesBy us (removeStored n c budget s .state .changes) ≡ entriesBy (c .terms ++ us) (s .changes)
+  unfolding removeStored conclude refusedBy acceptedAs finish begin member
+  stored-entries accepted us = go (removeSteps budget (c .tag) (c .strength) (c .terms) (begin s)) (removeSteps-ends {lim = limits budget s} tt tt tt tt (c .tag) (c .strength) (c .terms) (begin s) (starts budget s)) ends accepted
+    where
+      next : Work → State
+      next w = finish w (dropConstraint n (s .constraints)) (s .edits)
+
+      go : (o : Outcome Work) → steps.Ends (limits budget s) (steps.Within (limits budget s)) o → Ends (Removed (c .terms) (λ m. tagsBy m cs (s .edits)) (λ m. usedBy m cs (s .edits)) (begin s)) o
+          → conclude s o next .answer .number ≡ 0 → entriesBy us (conclude s o next .state .changes) ≡ entriesBy (c .terms ++ us) (s .changes)
+      go o (steps.stops {n = k} h) d a = absurd (no-both (ap (λ (x : ℕ). eqb x 0) a) (steps-above-zero k (h .listed)))
+      go o (steps.goes {a = w} h) d a = d .entries us
 
 pub remove-kept : (n budget : ℕ) (s : State) → Reads s → Reads (remove n budget s .state)
-unfolding remove removeStored refusedBy
+unfolding remove unlessFull refusedBy
 remove-kept n budget s r = go (findConstraint n (s .constraints)) refl
   where
-    cs : List Constraint
-    cs = dropConstraint n (s .constraints)
+    full : (c : Constraint) → findConstraint n (s .constraints) ≡ some c → (b : Bool) → goneFull (c .terms) s ≡ b → Reads (remove n budget s .state)
+    full c e true g = rw (e, g, remove, unlessFull) r
+    full c e false g = rw (e, g, remove, unlessFull) (stored-kept n budget s c r e (not-full (c .terms) s g))
 
     go : (o : Option Constraint) → findConstraint n (s .constraints) ≡ o → Reads (remove n budget s .state)
     go none e = rw (e, remove) r
-    go (some c) e =
-        rw (e, remove) (conclude-reads s (removeSteps budget (c .tag) (c .strength) (c .terms) (begin s)) (λ w. finish w cs (s .edits)) r
-        (ends-to _ _ (removeSteps budget (c .tag) (c .strength) (c .terms) (begin s))
-        (remove-ends budget (c .tag) (c .strength) (c .terms) (begin s) _ (λ n. tagsBy n cs (s .edits)) _ (λ n. usedBy n cs (s .edits)) (begin-good s r) plain tags terms)
-        (removed-reads s cs (s .edits) r stored (omega (arith, size)))))
-      where
-        by : findBy conNumber n (s .constraints) ≡ some c
-        by = sym (findConstraint-is n (s .constraints)) ∙ e
-
-        plain : begin s .artificial ≡ none
-        plain = unfold begin in refl
-
-        part : (f : Constraint → ℕ) → total f (s .constraints) ≡ f c + total f cs
-        part f = rw dropConstraint-is (drop-total conNumber f n (s .constraints) c by)
-
-        size : length (s .constraints) ≡ suc (length cs)
-        size = rw dropConstraint-is (drop-length conNumber n (s .constraints) c by)
-
-        tags : (m : ℕ) → tagsBy m (s .constraints) (s .edits) ≡ tagCode m (c .tag) + tagsBy m cs (s .edits)
-        tags m = omega (arith, part (λ (c : Constraint). tagCode m (c .tag)))
-
-        terms : (m : ℕ) → usedBy m (s .constraints) (s .edits) ≡ usesIn m (c .terms) + usedBy m cs (s .edits)
-        terms m = omega (arith, part (λ (c : Constraint). usesIn m (c .terms)))
-
-        old : Stored (s .constraints) (s .edits)
-        old = stored-in s r
-
-        all-left : (P : Constraint → Type 0) → All P (s .constraints) → All P cs
-        all-left P h = rw dropConstraint-is (drop-all conNumber P n (s .constraints) h)
-
-        stored : Stored cs (s .edits)
-        stored =
-            record {
-              few-tags = omega (arith, size, old .few-tags);
-              few-terms = all-left _ (old .few-terms);
-              constraints-up = rw dropConstraint-is (drop-up conNumber 0 n (s .constraints) (old .constraints-up));
-              edits-up = old .edits-up;
-              constraints-finite = all-left _ (old .constraints-finite);
-              constraint-kinds = all-left _ (old .constraint-kinds);
-              edits-finite = old .edits-finite;
-              edit-kinds = old .edit-kinds;
-              groups = all-left _ (old .groups);
-            }
+    go (some c) e = full c e (goneFull (c .terms) s) refl
 
 pub removed-rows : (n budget : ℕ) (s : State) (c : Constraint) → Reads s → findConstraint n (s .constraints) ≡ some c → (v : Work) → (checkFinite (removeConstraintEffects (c .tag) (c .strength) (begin s)) >>= dropMarker (c .tag .marker)) ≡ going v
     → (suc (length (purgeTag (c .tag) v .tableau .rows)) ≤ length (s .tableau .rows)) × Ends (λ u. length (u .tableau .rows) ≤ length (purgeTag (c .tag) v .tableau .rows)) (removeSteps budget (c .tag) (c .strength) (c .terms) (begin s))
@@ -244,26 +288,29 @@ removed-rows n budget s c r e v q =
     part f = rw dropConstraint-is (drop-total conNumber f n (s .constraints) c (sym (findConstraint-is n (s .constraints)) ∙ e))
 
 pub removeEdit-kept : (n budget : ℕ) (s : State) → Reads s → Reads (removeEdit n budget s .state)
-unfolding removeEdit refusedBy
+unfolding removeEdit removeEditStored unlessFull refusedBy
 removeEdit-kept n budget s r = go (findEdit n (s .edits)) refl
   where
     es : List Edit
     es = dropEdit n (s .edits)
 
-    go : (o : Option Edit) → findEdit n (s .edits) ≡ o → Reads (removeEdit n budget s .state)
-    go none e = rw (e, removeEdit) r
-    go (some c) e =
-        rw (e, removeEdit) (conclude-reads s (removeSteps budget (c .tag) (c .strength) (editTerms n) (begin s)) (λ w. finish w (s .constraints) es) r
+    full : (c : Edit) → findEdit n (s .edits) ≡ some c → (b : Bool) → goneFull (editTerms n) s ≡ b → Reads (removeEdit n budget s .state)
+    full c e true g = rw (e, g, removeEdit, unlessFull) r
+    full c e false g =
+        rw (e, g, removeEdit, unlessFull) (conclude-reads s (removeSteps budget (c .tag) (c .strength) (editTerms n) (begin s)) (λ w. finish w (s .constraints) es) r
         (ends-to _ _ (removeSteps budget (c .tag) (c .strength) (editTerms n) (begin s))
         (remove-ends budget (c .tag) (c .strength) (editTerms n) (begin s) _ (λ n. tagsBy n (s .constraints) es) _ (λ n. usedBy n (s .constraints) es)
-        (begin-good s r) plain tags terms)
-        (removed-reads s (s .constraints) es r stored (omega (arith, size)))))
+        (begin-good s r) plain tags terms room)
+        (removed-reads s (editTerms n) (s .constraints) es r stored (omega (arith, size)))))
       where
         by : findBy editNumber n (s .edits) ≡ some c
         by = sym (findEdit-is n (s .edits)) ∙ e
 
         plain : begin s .artificial ≡ none
         plain = unfold begin in refl
+
+        room : entriesBy (editTerms n) (begin s .changes) ≤ 32
+        room = unfold begin in not-full (editTerms n) s g
 
         part : (f : Edit → ℕ) → total f (s .edits) ≡ f c + total f es
         part f = rw dropEdit-is (drop-total editNumber f n (s .edits) c by)
@@ -296,3 +343,7 @@ removeEdit-kept n budget s r = go (findEdit n (s .edits)) refl
               edit-kinds = all-left _ (old .edit-kinds);
               groups = old .groups;
             }
+
+    go : (o : Option Edit) → findEdit n (s .edits) ≡ o → Reads (removeEdit n budget s .state)
+    go none e = rw (e, removeEdit) r
+    go (some c) e = full c e (goneFull (editTerms n) s) refl

@@ -12,7 +12,7 @@ use Rattle.steps.specs.Symbol.{Symbol}
 use Rattle.steps.specs.Row.{Row, untouched}
 use Rattle.steps.specs.State.{Tag, Basic, Variable, Constraint, Edit, State}
 use Rattle.steps.specs.Work.{Work, Outcome, refused, going, checkFinite, withTableau, withRows, withChanges, marking, findRow}
-use Rattle.steps.specs.Changes.{withFlag, clearChanged, valueOf, isNews, reported, fetchChanges}
+use Rattle.steps.specs.Changes.{withFlag, clearChanged, valueOf, isListed, reported, fetchChanges}
 use Rattle.steps.specs.Substitute.{rowsOf, marksOf, notedOf}
 use Rattle.steps.specs.Optimise.{dualOptimise}
 use Rattle.steps.specs.Add.{wholeWithin}
@@ -26,8 +26,9 @@ use Rattle.keeps.specs.Cells.{Fine, ok-to, fine-l, fine-r, write-finite,
 use Rattle.keeps.specs.RowOps.{RowOk, row-to}
 use Rattle.keeps.specs.Along.{Mem}
 use Rattle.keeps.specs.Fits.{bids, IsBasic, art-to, FitsW, fits-worse}
-use Rattle.keeps.specs.Frame.{Frame, frame-trans, mark-frame, clear-all}
+use Rattle.keeps.specs.Frame.{Frame, frame-trans, mark-frame, clear-all, gone-all}
 use Rattle.keeps.specs.Passes.{Ends, ends-bind, ends-to, check-ends, After, after-trans, dual-ends}
+use Rattle.keeps.specs.Waits.{none-waits}
 use Rattle.keeps.specs.Reads.{Reads, editNumber, varCode, tagCode, usedBy}
 use Rattle.keeps.specs.Good.{Vars, OldOk, vars-map, vars-clear, good-frame, good-to, tagsBy, begin-good, Stored, stored-in, finish-reads, clear-length}
 
@@ -110,6 +111,7 @@ shift-frame tag delta w =
       variables = clear-all (notedOf (shiftRows (shiftOf tag delta w) (w .tableau .rows))) (w .changes);
       plain = λ e. e;
       cutoff = refl;
+      gone = gone-all (notedOf (shiftRows (shiftOf tag delta w) (w .tableau .rows))) (w .changes);
     }
 
 shift-count : (tag : Tag) (delta : Float) (w : Work) → length (shiftConstants tag delta w .tableau .rows) ≡ length (w .tableau .rows)
@@ -240,7 +242,7 @@ pub fetch-kept : (s : State) → Reads s → Reads (fetchChanges s .state)
 unfolding fetchChanges reported
 fetch-kept s r =
     record {
-      few-variables = omega (arith, length-map vs (reported bs), cleared (s .changes .shouldClear), r .few-variables);
+      few-variables = omega (arith, length-map vs (reported gone bs), cleared (s .changes .shouldClear), r .few-variables);
       few-tags = r .few-tags;
       few-terms = r .few-terms;
       variables-up = vars .up;
@@ -258,8 +260,12 @@ fetch-kept s r =
       edit-kinds = r .edit-kinds;
       cutoff = r .cutoff;
       groups = r .groups;
+      waits = none-waits (map (reported gone bs) vs);
     }
   where
+    gone : List ℕ
+    gone = s .changes .gone
+
     bs : List Basic
     bs = s .tableau .rows
 
@@ -290,12 +296,12 @@ fetch-kept s r =
         go o (no-row q) = zero-finite
         go o (a-row b q) = find-all rowId (λ (b : Basic). RowOk (IsBasic bs) Unit (s .tableau .symbols) (b .row)) (v .symbol .id) bs b q (r .fits .rows) .0 tt
 
-    old : (v : Variable) → OldOk v → OldOk (reported bs v)
-    old v o = by (isNews bs v)
+    old : (v : Variable) → OldOk v → OldOk (reported gone bs v)
+    old v o = by (isListed gone bs v)
       where
         by : (t : Bool) → (isFinite (cond t (valueOf v bs) (v .old)) || isNan (cond t (valueOf v bs) (v .old))) ≡ true
         by true = ap (λ (b : Bool). b || isNan (valueOf v bs)) (value-finite v)
         by false = o
 
-    vars : Vars C U (map (reported bs) vs)
-    vars = vars-map (reported bs) (λ v. refl) (λ v. refl) (λ v. refl) C U vs old (cleared-vars (s .changes .shouldClear))
+    vars : Vars C U (map (reported gone bs) vs)
+    vars = vars-map (reported gone bs) (λ v. refl) (λ v. refl) (λ v. refl) C U vs old (cleared-vars (s .changes .shouldClear))

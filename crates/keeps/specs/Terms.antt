@@ -20,7 +20,7 @@ use Rattle.keeps.specs.Lists.{Same?, is, isnt, same, same?, times, membe
 use Rattle.keeps.specs.Keys.{find-none, find-times, keep-length, keep-times, keepVariable-is, findVariable-is}
 use Rattle.keeps.specs.Uses.{varNumber}
 use Rattle.keeps.specs.Good.{numbers-map, good-to}
-use Rattle.keeps.specs.Building.{Built, insertVariable-built, addVariable-built, once-vars}
+use Rattle.keeps.specs.Building.{Built, insertVariable-built, addVariable-built, once-vars, once-waits}
 
 -- ---- is the variable n live
 pub live-some : (n : ℕ) (vs : List Variable) (v : Variable) → findVariable n vs ≡ some v → 1 ≤ times n (map varNumber vs)
@@ -43,6 +43,7 @@ countUse-built K U N n b l h =
             vars = once-vars n (h .good .C) U (b .work .changes .variables) l (h .good .vars);
             owns = h .good .owns;
             cutoff = h .good .cutoff;
+            waits = once-waits n (b .work .changes .gone) (b .work .changes .variables) (h .good .waits);
           };
       row = h .row;
       plain = h .plain;

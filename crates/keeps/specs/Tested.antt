@@ -2,7 +2,7 @@
 use mathlib.Core.Path.{_≡_, refl, sym, _∙_}
 use mathlib.Core.List.{List, map}
 use mathlib.Core.Option.{none}
-use mathlib.Core.Bool.{Bool, true, _&&_, _||_}
+use mathlib.Core.Bool.{Bool, true, not, _&&_, _||_}
 use Prim.Native.Nat.{ℕ, zero, suc, _≤_}
 use native.Mathlib.Omega.{arith}
 use lib.Dec.{eqb, leb, ltb, leb→le, le→leb, ltb→lt, lt→ltb}
@@ -11,12 +11,14 @@ use lib.Ieee.{isNan}
 use Rattle.steps.specs.Number.{isFinite, allWhole}
 use Rattle.steps.specs.Symbol.{Symbol, isExternal}
 use Rattle.steps.specs.State.{Term, Basic, Variable, Constraint, State}
-use Rattle.steps.specs.Readable.{all, ascendFrom, ascend, distinct, allIn, code, live, liveIds, basics, basicIds, tags, owned, storedTerms, usesIn, numbers, countsInRange, numbersAscend, symbolsDistinct, idsBelowNext, rowsInRange, holdsNoBasic, noBasicCell, symbolsOwned, usesCounted, tableauFinite, constraintFinite, editFinite, numbersFinite, tagKinds, editKinds, kindsFit, cutoffInRange, groupsFit, readable}
+use Rattle.steps.specs.Changes.{member, neverReported}
+use Rattle.steps.specs.Readable.{all, ascendFrom, ascend, distinct, allIn, code, live, liveIds, basics, basicIds, tags, owned, storedTerms, usesIn, numbers, countsInRange, numbersAscend, symbolsDistinct, idsBelowNext, rowsInRange, holdsNoBasic, noBasicCell, symbolsOwned, usesCounted, tableauFinite, constraintFinite, editFinite, numbersFinite, tagKinds, editKinds, kindsFit, cutoffInRange, groupsFit, goneFits, readable}
 use Rattle.keeps.specs.Lists.{All, all-in, all-out, all-to, all-zip, times, member-in, member-out, allIn-in, allIn-out, distinct-in, distinct-out, ascendFrom-in, ascendFrom-out, ascend-in, ascend-out, Up, none-of, so, truly, both, left, right}
 use Rattle.keeps.specs.Along.{ids, Mem}
 use Rattle.keeps.specs.Fits.{Fits, all-map}
 use Rattle.keeps.specs.Codes.{codes, codes-mem, mem-codes, codes-once}
 use Rattle.keeps.specs.Uses.{varNumber, usesOf, uses-in, uses-out, uses-none, uses-live, uses-times}
+use Rattle.keeps.specs.Waits.{Waits}
 use Rattle.keeps.specs.Places.{cells-in, cells-out, along-finite, eqb-in, eqb-out}
 use Rattle.keeps.specs.Clauses.{and3, and4, Clauses, clauses-in, clauses-out}
 use Rattle.keeps.specs.Reads.{Reads, unmap, conNumber, editNumber, tags-length, owned-total, used-total}
@@ -125,6 +127,12 @@ module _ (s : State) where
       go zero q = uses-none n vs q ∙ sym (none-of _ (λ l. omega (arith, q, live-term (omega (arith, uses-times n (storedTerms s))))))
       go (suc k) q = uses-in U 0 vs u counted n (omega arith)
 
+  gone-in : goneFits s ≡ true → Waits (s .changes .gone) vs
+  unfolding goneFits
+  gone-in e =
+      let x = and3 (leb (length (s .changes .gone)) 32) (ascend (s .changes .gone)) (all (λ (v : Variable). not (member (v .number) (s .changes .gone)) || neverReported v) vs) e in
+      record { few = leb→le (length (s .changes .gone)) 32 (so (x .0)); up = ascend-in (s .changes .gone) (x .1); returned = all-in _ vs (x .2) }
+
   pub reads-in : readable s ≡ true → Reads s
   unfolding countsInRange rowsInRange numbersFinite kindsFit cutoffInRange groupsFit liveIds
   reads-in e =
@@ -152,6 +160,7 @@ module _ (s : State) where
         edit-kinds = all-in _ (s .edits) (kinds .2);
         cutoff = c .cutoff;
         groups = all-in _ (s .constraints) (c .groups);
+        waits = gone-in (c .gone);
       }
 
   -- ---- back to the test
@@ -232,6 +241,12 @@ module _ (s : State) where
     unfolding kindsFit
     kinds-out = both (both (all-out _ vs (r .externals)) (all-out _ (s .constraints) (r .constraint-kinds))) (all-out _ (s .edits) (r .edit-kinds))
 
+    gone-out : goneFits s ≡ true
+    unfolding goneFits
+    gone-out =
+        both (both (truly (leb (length (s .changes .gone)) 32) (le→leb (length (s .changes .gone)) 32 (r .waits .few))) (ascend-out (s .changes .gone) (r .waits .up)))
+        (all-out _ vs (r .waits .returned))
+
     pub reads-out : readable s ≡ true
     unfolding cutoffInRange groupsFit
     reads-out =
@@ -248,4 +263,5 @@ module _ (s : State) where
           kinds = kinds-out;
           cutoff = r .cutoff;
           groups = all-out _ (s .constraints) (r .groups);
+          gone = gone-out;
         })

@@ -38,18 +38,19 @@ placedText at p = record { offset = at; call = p }
 abbrev pub placedLine : Text → PlacedText
 placedLine x = placedText (x .offset) (placedBy (x .call))
 
--- of a fetch: its answer's two places, the two lists, and the tables
+-- of a fetch: its answer's two places, the three lists, and the tables
 pub record PlacedList : Type 0 where
   pub answer : List ℕ
   pub numbers : List ℕ
   pub values : List Float
+  pub gone : List ℕ
   pub tables : Sparse
 
-abbrev pub placedList : List ℕ → List ℕ → List Float → Sparse → PlacedList
-placedList a ns vs t = record { answer = a; numbers = ns; values = vs; tables = t }
+abbrev pub placedList : List ℕ → List ℕ → List Float → List ℕ → Sparse → PlacedList
+placedList a ns vs gs t = record { answer = a; numbers = ns; values = vs; gone = gs; tables = t }
 
 abbrev pub placedFetch : Fetch → PlacedList
-placedFetch f = placedList (f .number ∷ f .count ∷ []) (f .numbers) (f .values) (f .tables)
+placedFetch f = placedList (f .number ∷ f .count ∷ []) (f .numbers) (f .values) (f .gone) (f .tables)
 
 -- ---- from what is called to the places
 
@@ -59,5 +60,5 @@ call-placed {u = u} e f = ap (λ (l : List ℕ). placed l u) e ∙ ap placedBy f
 pub text-placed : {a : Answer} {at k : ℕ} {w : List ℕ} {u : Sparse} {x : Text} → k ≡ at → w ≡ inPlaces a → text at (called a u) ≡ x → placedText k (placed w u) ≡ placedLine x
 text-placed {a} {k = k} {u = u} d e f = ap (λ (l : List ℕ). placedText k (placed l u)) e ∙ ap (λ (y : ℕ). placedText y (placed (inPlaces a) u)) d ∙ ap placedLine f
 
-pub fetch-placed : {f : code.Fetched} {w ns : List ℕ} {vs : List Float} {u : Sparse} (t : Sparse) → w ≡ f .number ∷ f .count ∷ [] → fetchBy f ns vs u ≡ fetchOf t → placedList w ns vs u ≡ placedFetch (fetchOf t)
-fetch-placed {ns = ns} {vs} {u} t e g = ap (λ (l : List ℕ). placedList l ns vs u) e ∙ ap placedFetch g
+pub fetch-placed : {f : code.Fetched} {w ns gs : List ℕ} {vs : List Float} {u : Sparse} (t : Sparse) → w ≡ f .number ∷ f .count ∷ [] → fetchBy f ns vs gs u ≡ fetchOf t → placedList w ns vs gs u ≡ placedFetch (fetchOf t)
+fetch-placed {ns = ns} {gs} {vs} {u} t e g = ap (λ (l : List ℕ). placedList l ns vs gs u) e ∙ ap placedFetch g

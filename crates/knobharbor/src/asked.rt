@@ -12,6 +12,9 @@ ghost use Rattle.fetches.specs.Fetch.{fetchOf};
 ghost use Rattle.knobharbor.specs.Places.{placed, placedBy, placedList, placedFetch};
 use crate::places::put;
 use crate::places::put_fetched;
+use fetches::Flags;
+use fetches::Moved;
+use fetches::Numbers;
 use sparse::Bytes;
 use sparse::Keys;
 use sparse::Reals;
@@ -84,12 +87,13 @@ pub extern "C" fn knobharbor_fetch(
     reals: &mut Reals,
     values: &Values,
     answer: &mut [u32; 2],
-    numbers: &mut [u64; 32],
-    moved: &mut [f64; 32],
+    numbers: &mut Numbers,
+    moved: &mut Moved,
+    gone: &mut Flags,
 )
-    ensures { λ _. ⌜ placedList (now (answer .exit)) (now (numbers .exit)) (now (moved .exit)) (lent (words .exit) (keys .entry) (bytes .exit) (reals .exit) (values .entry)) ≡ placedFetch (fetchOf (lent (words .entry) (keys .entry) (bytes .entry) (reals .entry) (values .entry))) ⌝ }
+    ensures { λ _. ⌜ placedList (now (answer .exit)) (now (numbers .exit)) (now (moved .exit)) (now (gone .exit)) (lent (words .exit) (keys .entry) (bytes .exit) (reals .exit) (values .entry)) ≡ placedFetch (fetchOf (lent (words .entry) (keys .entry) (bytes .entry) (reals .entry) (values .entry))) ⌝ }
 {
-    let f = fetches::fetch_changes(words, keys, bytes, reals, values, numbers, moved);
+    let f = fetches::fetch_changes(words, keys, bytes, reals, values, numbers, moved, gone);
     put_fetched(answer, f);
 }
 

@@ -14,16 +14,16 @@ use Rattle.layout.specs.Laying.{laid-nil}
 use Rattle.sparse.specs.Sparse.{Sparse, read}
 use Rattle.sparse.specs.Fits.{Lengths}
 use Rattle.sparse_test.specs.Reads.{reads}
-use Rattle.fetches.specs.Fetch.{places, numbersOf, valuesOf, fetchIn, fetchOf}
+use Rattle.fetches.specs.Fetch.{places, numbersOf, valuesOf, flagsOf, fetchIn, fetchOf}
 use Rattle.lasting.specs.Promises.{Holds, fetch-holds}
 
--- accepted, and two lists of zeros
+-- accepted, and three lists of zeros
 abbrev Nothing : Sparse → Type 0
-Nothing t = (fetchOf t .number ≡ 0) × (fetchOf t .count ≡ 0) × (fetchOf t .numbers ≡ replicate places 0) × (fetchOf t .values ≡ replicate places zero64)
+Nothing t = (fetchOf t .number ≡ 0) × (fetchOf t .count ≡ 0) × (fetchOf t .numbers ≡ replicate places 0) × (fetchOf t .values ≡ replicate places zero64) × (fetchOf t .gone ≡ replicate places 0)
 
 none-listed : (t : Sparse) → reads t ≡ true → fetchChanges (read t) .list ≡ [] → Nothing t
-unfolding fetchOf fetchIn over numbersOf valuesOf
-none-listed t h e = rw (h, e) (refl, refl, laid-nil (λ (x _ : ℕ). x) 0 (replicate places 0), laid-nil (λ (x _ : Float). x) 0 (replicate places zero64))
+unfolding fetchOf fetchIn over numbersOf valuesOf flagsOf
+none-listed t h e = rw (h, e) (refl, refl, laid-nil (λ (x _ : ℕ). x) 0 (replicate places 0), laid-nil (λ (x _ : Float). x) 0 (replicate places zero64), laid-nil (λ (x _ : ℕ). x) 0 (replicate places 0))
 
 module _ (t : Sparse) (l : Lengths t) (h : reads t ≡ true) where
   left : Holds (fetchChanges (read t) .state) (fetchOf t .tables)

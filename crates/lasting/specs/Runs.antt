@@ -9,27 +9,23 @@ use mathlib.Core.Bool.{true}
 use mathlib.Core.List.{List, [], _∷_}
 use mathlib.Core.Option.{Option, none, some}
 use lib.Ieee.{Float}
-use lib.ListN.{length, replicate}
-use Rattle.steps.specs.Number.{zero64, cutoffFits}
+use Rattle.steps.specs.Number.{cutoffFits}
 use Rattle.steps.specs.State.{State}
-use Rattle.steps.specs.Changes.{Change, fetchChanges}
+use Rattle.steps.specs.Changes.{fetchChanges}
 use Rattle.steps.specs.Calls.{Answer, empty}
 use Rattle.keeps.specs.Lists.{All}
-use Rattle.keeps.specs.Tested.{reads-in}
-use Rattle.layout.specs.Layout.{over}
 use Rattle.sparse.specs.Sparse.{Sparse, read}
 use Rattle.sparse.specs.Fits.{Lengths}
 use Rattle.sparse_test.specs.Asked.{asked}
 use Rattle.lending.specs.Reset.{resetOf}
-use Rattle.sparse_test.specs.Meaning.{reads-readable}
-use Rattle.fetches.specs.Fetch.{numbersOf, valuesOf, Fetch, fetchOf, fetchIn, places}
-use Rattle.fetches.specs.Few.{fetch-room}
+use Rattle.fetches.specs.Fetch.{fetchOf}
 use Rattle.run.specs.Demand.{Call, drops, make, accepted, next, start, after, Best, None}
 use Rattle.run.specs.Run.{yes-stored, marked-best, marked-12}
 use Rattle.stall.specs.Stall.{allWays, passesOf, budgetOf, Demand3, NoSetTwice}
 use Rattle.stall.proofs.Whole.{marked-never-stalls}
 use Rattle.stall.proofs.DropSets.{marked-never-returns}
 use Rattle.lasting.specs.Promises.{Holds, reset-holds}
+use Rattle.lasting.specs.Fetched.{Lists, fetch-lists}
 use Rattle.lasting.specs.Public.{Public, publicOn, runCall, unfitNumber, TypedPublic, Steps, public-step}
 
 -- one call of a sequence, and the working room that is lent to it, with any content
@@ -67,14 +63,6 @@ answers cutoff t s ss = publicOn (s .call) (s .room) (tablesAfter cutoff t ss) .
 abbrev pub WholeOn : Float → Sparse → List Step → Type 0
 WholeOn cutoff t [] = Unit {0}
 WholeOn cutoff t (s ∷ ss) = WholeOn cutoff t ss × (answers cutoff t s ss .whole ≡ true)
-
--- what a fetch answers with this list: 0, how many are listed, and the two lists, "zero past its count"
-pub record Lists (l : List Change) (f : Fetch) : Type 0 where
-  pub number : f .number ≡ 0
-  pub count : f .count ≡ length l
-  pub room : length l ≤ places
-  pub numbers : f .numbers ≡ over 0 (numbersOf l) (replicate places 0)
-  pub values : f .values ≡ over 0 (valuesOf l) (replicate places zero64)
 
 -- ---- the tables hold the run's state
 
@@ -115,11 +103,7 @@ module _ (cutoff : Float) (fits : cutoffFits cutoff ≡ true) (t : Sparse) (long
 
   -- "Changes: `fetch_changes` toggles as in the crate": a fetch, by its contract, lists what the steps' fetch lists of the run's state
   pub tables-fetch : (ss : List Step) → All Lent ss → Lists (fetchChanges (after cutoff (callsOf ss) .state) .list) (fetchOf (tablesAfter cutoff t ss))
-  unfolding fetchOf fetchIn
-  tables-fetch ss h =
-      let held = tables-hold ss h in
-      let room : length (fetchChanges (read (tablesAfter cutoff t ss)) .list) ≤ places = fetch-room (read (tablesAfter cutoff t ss)) (reads-in _ (reads-readable (tablesAfter cutoff t ss) (held .reads))) in
-      rw (held .reads, ← held .state) (record { number = refl; count = refl; room = room; numbers = refl; values = refl })
+  tables-fetch ss h = fetch-lists (after cutoff (callsOf ss) .state) (tablesAfter cutoff t ss) (tables-hold ss h)
 
   -- ---- demand 2
 

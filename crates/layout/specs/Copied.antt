@@ -62,6 +62,7 @@ module _ (t : Tables) (q : Coded t) where
         symbols = rw (length-listOf _ _) (c .0);
         rows = rw (length-listOf _ _) (c .1);
         variables = rw (length-listOf _ _) (c .2);
+        gone = refl;
         constraints = rw (length-listOf _ _) (c .3);
         edits = rw (length-listOf _ _) (c .4);
         objective = length-listOf _ _ ∙ sym (length-listOf _ _);

@@ -201,7 +201,8 @@ read t =
             rows = basicsOf t;
             objective = cellsOf (symbolCount (t .head)) (getD (t .rows) 0 []);
           };
-      changes = record { variables = variablesOf t; shouldClear = eqb (clearFlag (t .head)) 1 };
+      -- nor for the variables that are gone: none wait
+      changes = record { variables = variablesOf t; gone = []; shouldClear = eqb (clearFlag (t .head)) 1 };
       constraints = constraintsOf t;
       edits = editsOf t;
       whole = eqb (wholeFlag (t .head)) 1;

@@ -196,4 +196,5 @@ module _ (s : State) (t : Tables) (fits : Fits s) (l : Lengths t) (w : Wide t) w
         bit-back (s .changes .shouldClear),
         bit-back (s .whole),
         ← fits .usual,
+        ← fits .gone,
       ) refl

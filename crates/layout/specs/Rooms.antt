@@ -45,12 +45,13 @@ abbrev pub Named : Option Symbol → Type 0
 Named none = Unit {0}
 Named (some s) = 0 < code s
 
--- a state of the usual cutoff and of one group, with room for each of its parts, a cell for each symbol in each row and in the objective
+-- a state of the usual cutoff and of one group in which no gone entry waits, with room for each of its parts, a cell for each symbol in each row and in the objective
 pub record Fits (s : State) : Type 0 where
   pub usual : s .tableau .cutoff ≡ usualCutoff
   pub symbols : length (s .tableau .symbols) ≤ 129
   pub rows : length (s .tableau .rows) ≤ 50
   pub variables : length (s .changes .variables) ≤ 32
+  pub gone : s .changes .gone ≡ []
   pub constraints : length (s .constraints) ≤ 48
   pub edits : length (s .edits) ≤ 48
   pub objective : length (s .tableau .objective) ≡ length (s .tableau .symbols)

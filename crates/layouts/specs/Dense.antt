@@ -1,4 +1,4 @@
--- The calls over the four dense tables: the test for 18, a changing call, a reset, a fetch. They are older than the choice of a cutoff and than groups: their cutoff is the usual one, and their constraints are in group 1.
+-- The calls over the four dense tables: the test for 18, a changing call, a reset, a fetch. They are older than the choice of a cutoff, than groups and than gone entries: their cutoff is the usual one, their constraints are in group 1, and none waits.
 use Prim.Native.Nat.{ℕ, _+_}
 use mathlib.Core.Bool.{Bool, true, _&&_, cond}
 use mathlib.Core.List.{List, []}
@@ -48,7 +48,7 @@ callOf f work t = cond (reads t && lengthsRight work) (callIn f t) (called refus
 unfoldable pub resetOf : Tables → Called
 resetOf t = cond (lengthsRight t) (callIn (reset usualCutoff) t) (called refused18 t)
 
--- the answer, 0 or 18; the two lists, and how many of their places are filled; the tables
+-- the answer, 0 or 18; the two lists, and how many of their places are filled; the tables. There is no list of gone flags.
 pub record Fetch : Type 0 where
   pub number : ℕ
   pub count : ℕ
@@ -56,7 +56,7 @@ pub record Fetch : Type 0 where
   pub values : List Float
   pub tables : Tables
 
--- "Fetch fills lists of 32 places, zero past its count", "all zero on 18"
+-- "zero past its count", "all zero on 18"; the lists are the caller's, as long as they are today
 unfoldable pub fetchOf : Tables → Fetch
 fetchOf t =
     let f : Fetched = fetchChanges (read t) in

@@ -1,4 +1,4 @@
--- A state of the usual cutoff and of group 1 alone that reads, with numbers that a u32 holds, has its place in the dense tables, and the tables that it is written into read as it. Assumes nothing.
+-- A state of the usual cutoff and of group 1 alone that reads and in which no gone entry waits, with numbers that a u32 holds, has its place in the dense tables, and the tables that it is written into read as it. Assumes nothing.
 use Prim.Native.Nat.{ℕ, zero, suc, _+_, _≤_, _<_}
 use mathlib.Core.Path.{_≡_, refl, sym, ap, _∙_, subst}
 use mathlib.Core.Bool.{true}
@@ -71,22 +71,33 @@ tag-named t xs h u = go (t .other) (λ n. unfold tagSymbols in h n)
 abbrev pub OneGroup : State → Type 0
 OneGroup s = All (λ (c : Constraint). c .group ≡ 1) (s .constraints)
 
-pub fits-of : (s : State) → Reads s → s .tableau .cutoff ≡ usualCutoff → OneGroup s → Fits s
-fits-of s r u g =
+-- the next fetch lists none as gone
+abbrev pub NoneWaits : State → Type 0
+NoneWaits s = s .changes .gone ≡ []
+
+-- what the dense tables have a place for: they have none for a cutoff, for a group or for a gone entry
+pub record Sayable (s : State) : Type 0 where
+  pub usual : s .tableau .cutoff ≡ usualCutoff
+  pub one : OneGroup s
+  pub none : NoneWaits s
+
+pub fits-of : (s : State) → Reads s → Sayable s → Fits s
+fits-of s r y =
     let few = few-symbols s r in
     let many = r .few-variables in
     let tags = r .few-tags in
     record {
-      usual = u;
+      usual = y .usual;
       symbols = omega arith;
       rows = omega (arith, r .few-rows);
       variables = many;
+      gone = y .none;
       constraints = omega arith;
       edits = omega arith;
       objective = along-length _ (s .tableau .symbols) (s .tableau .objective) (r .fits .objective);
       cells = λ d j k. along-length _ (s .tableau .symbols) (getD (s .tableau .rows) j d .row .cells) (all-place _ (s .tableau .rows) d j k (r .fits .rows) .1);
       terms = λ d j k. all-place _ (s .constraints) d j k (r .few-terms);
-      groups = λ d j k. all-place _ (s .constraints) d j k g;
+      groups = λ d j k. all-place _ (s .constraints) d j k (y .one);
       others = λ d j k. tag-named (getD (s .constraints) j d .tag) (s .tableau .symbols) (λ n. omega (arith, r .owns n, total-place (λ (c : Constraint). tagCode n (c .tag)) (s .constraints) d j k)) (r .fits .up);
       minuses = λ d j k. tag-named (getD (s .edits) j d .tag) (s .tableau .symbols) (λ n. omega (arith, r .owns n, total-place (λ (e : Edit). tagCode n (e .tag)) (s .edits) d j k)) (r .fits .up);
     }
@@ -118,12 +129,12 @@ write-wide s t l w =
 
 -- ---- the tables read as it
 
-module _ (s : State) (t : Tables) (r : Reads s) (usual : s .tableau .cutoff ≡ usualCutoff) (one : OneGroup s) (n : Narrow s) (l : Lengths t) (w : Wide t) where
+module _ (s : State) (t : Tables) (r : Reads s) (y : Sayable s) (n : Narrow s) (l : Lengths t) (w : Wide t) where
   abbrev u : Tables
   u = write s t
 
   pub written-reads : read u ≡ s
-  written-reads = read-write s t (fits-of s r usual one) l w
+  written-reads = read-write s t (fits-of s r y) l w
 
   variable-u32 : (j : ℕ) → j < variableCount (u .head) → isU32 (numberOf (getD (u .names) j [])) ≡ true
   unfolding read variablesOf variableOf
@@ -150,8 +161,8 @@ module _ (s : State) (t : Tables) (r : Reads s) (usual : s .tableau .cutoff ≡ 
   codes-fit : codesFit u ≡ true
   unfolding codesFit
   codes-fit =
-      let c = write-counts s t (fits-of s r usual one) l w in
-      let q = write-coded s t (fits-of s r usual one) l w in
+      let c = write-counts s t (fits-of s r y) l w in
+      let q = write-coded s t (fits-of s r y) l w in
       both (both (both (both (both id-u32 (le-leb _ 129 (c .0))) (le-leb _ 1 (q .0))) (le-leb _ 1 (q .1)))
       (at-all _ 0 (variableCount (u .head)) (λ j a k. both (variable-u32 j k) (le-leb _ 1 (q .2 j k)))))
       (at-all _ 0 (constraintCount (u .head)) (λ j a k. constraint-u32 j k))

@@ -13,8 +13,8 @@ use Rattle.laws.specs.Lists.{tab, listOf, tab-ext, sumFrom, sumIn}
 use Rattle.steps.specs.Number.{zero64}
 use Rattle.steps.specs.State.{State}
 use Rattle.cells.specs.Names.{cellRoom}
-use Rattle.sparse.specs.Places.{nextIdAt, symbolCountAt, rowCountAt, cellCountAt, variableCountAt, constraintCountAt, editCountAt, shouldClearAt, wholeAt, idsAt, variableNumbersAt, variableUsesAt, rowPlacesAt, variablePlacesAt, termCountsAt, wordsSize, bytesSize, realsSize}
-use Rattle.sparse.specs.Sparse.{Sparse, symbolCount, rowCount, cellCount, variableCount, constraintCount, editCount, symbolAt, variableOf, termsFrom, basicOf, symbolsOf, basicsOf, objectiveOf, read}
+use Rattle.sparse.specs.Places.{nextIdAt, symbolCountAt, rowCountAt, cellCountAt, variableCountAt, constraintCountAt, editCountAt, shouldClearAt, wholeAt, goneCountAt, goneNumbersAt, idsAt, variableNumbersAt, variableUsesAt, rowPlacesAt, variablePlacesAt, termCountsAt, wordsSize, bytesSize, realsSize}
+use Rattle.sparse.specs.Sparse.{Sparse, symbolCount, rowCount, cellCount, variableCount, constraintCount, editCount, goneCount, goneOf, symbolAt, variableOf, termsFrom, basicOf, symbolsOf, basicsOf, objectiveOf, read}
 use Rattle.sparse.specs.Fits.{Lengths}
 use Rattle.sparse.specs.Form.{indexAt, Counts, Form}
 use Rattle.sparse.specs.Copy.{putOver}
@@ -65,7 +65,7 @@ pub record Entered (t w : Sparse) : Type 0 where
   pub tableau : read w .tableau ≡ read t .tableau
   pub changes : read w .changes ≡ read t .changes
 
-changes-parts : (t : Sparse) → read t .changes ≡ record { variables = read t .changes .variables; shouldClear = eqb (getD (t .words) shouldClearAt 0) 1 }
+changes-parts : (t : Sparse) → read t .changes ≡ record { variables = read t .changes .variables; gone = goneOf t; shouldClear = eqb (getD (t .words) shouldClearAt 0) 1 }
 unfolding read
 changes-parts t = refl
 
@@ -112,8 +112,12 @@ module _ (t : Sparse) (w' : List ℕ) (same : SameNames (t .words) w') where
   unfolding read listOf
   variables-same = rw (count-same variableCountAt (omega arith), tab-ext (variableOf u) (variableOf t) 0 (variableCount t) (λ p a b. variable-same p)) refl
 
+  pub gone-same : goneOf u ≡ goneOf t
+  unfolding goneOf listOf
+  gone-same = rw (past-same goneCountAt (omega arith), tab-ext (λ j. getD w' (goneNumbersAt + j) 0) (λ j. getD (t .words) (goneNumbersAt + j) 0) 0 (goneCount t) (λ p a b. past-same (goneNumbersAt + p) (omega arith))) refl
+
   pub changes-same : getD w' shouldClearAt 0 ≡ getD (t .words) shouldClearAt 0 → read u .changes ≡ read t .changes
-  changes-same e = rw (changes-parts u, changes-parts t, variables-same, e) refl
+  changes-same e = rw (changes-parts u, changes-parts t, variables-same, gone-same, e) refl
 
   index-same : (p : ℕ) → indexAt u p ≡ indexAt t p
   unfolding indexAt
@@ -171,6 +175,7 @@ module _ (t : Sparse) (len : length (t .words) ≡ wordsSize) where
               constraints = omega (arith, k₅);
               edits = omega (arith, k₆);
               terms = omega (arith, bare-terms);
+              gone = rw (g goneCountAt (omega arith)) (f .counts .gone);
             };
         clear = rw bare-clear (f .clear);
         whole = rw bare-whole (f .whole);

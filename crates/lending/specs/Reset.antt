@@ -1,4 +1,4 @@
--- Reset: nine words and the cutoff are written, the rest lies past the counts. A cutoff outside the range changes no table.
+-- Reset: ten words and the cutoff are written, the rest lies past the counts. A cutoff outside the range changes no table.
 -- Assumes nothing.
 use Prim.Native.Nat.{ℕ, suc, _+_}
 use mathlib.Core.Path.{_≡_, refl, sym, ap, _∙_}
@@ -15,7 +15,7 @@ use Rattle.steps.specs.Calls.{Answer, empty, reset, refusedBy}
 use Rattle.steps.specs.Readable.{concat}
 use Rattle.steps.proofs.Cutoff.{reset-refused, reset-taken}
 use Rattle.cells.specs.Cells.{cells}
-use Rattle.sparse.specs.Places.{wholeAt, idsAt, variableNumbersAt, variableUsesAt, constraintNumbersAt, constraintGroupsAt, kindsAt, rowPlacesAt, variablePlacesAt, changedAt, constraintMarkersAt, constraintOthersAt, termCountsAt, editVariablesAt, editMarkersAt, editOthersAt, termsAt, constantsAt, oldValuesAt, objectiveAt, cutoffAt, constraintStrengthsAt, editStrengthsAt, suggestionsAt, coefficientsAt}
+use Rattle.sparse.specs.Places.{wholeAt, idsAt, variableNumbersAt, variableUsesAt, constraintNumbersAt, constraintGroupsAt, goneNumbersAt, kindsAt, rowPlacesAt, variablePlacesAt, changedAt, constraintMarkersAt, constraintOthersAt, termCountsAt, editVariablesAt, editMarkersAt, editOthersAt, termsAt, constantsAt, oldValuesAt, objectiveAt, cutoffAt, constraintStrengthsAt, editStrengthsAt, suggestionsAt, coefficientsAt}
 use Rattle.sparse.specs.Sparse.{Sparse, read}
 use Rattle.sparse.specs.Stretches.{lay}
 use Rattle.sparse.specs.Laying.{rowsLaid}
@@ -35,7 +35,7 @@ unfoldable pub resetOf : Float → Sparse → Called
 resetOf cutoff t = cond (cutoffFits cutoff) (callIn (reset cutoff) t) (called (refused24 t) t)
 
 unfoldable pub resetWords : List ℕ → List ℕ
-resetWords w = set (set (set (set (set (set (set (set (set w 0 1) 1 0) 2 0) 3 0) 4 0) 5 0) 6 0) 7 0) 8 1
+resetWords w = set (set (set (set (set (set (set (set (set (set w 0 1) 1 0) 2 0) 3 0) 4 0) 5 0) 6 0) 7 0) 8 1) 9 0
 
 -- an empty list changes nothing
 over-nil : {A : Type 0} (a : ℕ) (m : List A) → over a [] m ≡ m
@@ -46,8 +46,8 @@ reset-words : (cutoff : Float) (w : List ℕ) → lay (wordsOf (empty cutoff) 0)
 unfolding lay wordsOf headingOf empty bitOf resetWords
 reset-words cutoff w =
     let f : ℕ → ℕ → ℕ = λ x _. x in
-    over-nil constraintGroupsAt _ ∙ over-nil constraintNumbersAt _ ∙ over-nil variableUsesAt _ ∙ over-nil variableNumbersAt _ ∙ over-nil (idsAt + 1) _
-    ∙ (unfold over in laid-cons f 0 1 _ w 0 ∙ laid-cons f 1 0 _ _ 0 ∙ laid-cons f 2 0 _ _ 0 ∙ laid-cons f 3 0 _ _ 0 ∙ laid-cons f 4 0 _ _ 0 ∙ laid-cons f 5 0 _ _ 0 ∙ laid-cons f 6 0 _ _ 0 ∙ laid-cons f 7 0 _ _ 0 ∙ laid-cons f 8 1 _ _ 0 ∙ laid-nil f 9 _)
+    over-nil goneNumbersAt _ ∙ over-nil constraintGroupsAt _ ∙ over-nil constraintNumbersAt _ ∙ over-nil variableUsesAt _ ∙ over-nil variableNumbersAt _ ∙ over-nil (idsAt + 1) _
+    ∙ (unfold over in laid-cons f 0 1 _ w 0 ∙ laid-cons f 1 0 _ _ 0 ∙ laid-cons f 2 0 _ _ 0 ∙ laid-cons f 3 0 _ _ 0 ∙ laid-cons f 4 0 _ _ 0 ∙ laid-cons f 5 0 _ _ 0 ∙ laid-cons f 6 0 _ _ 0 ∙ laid-cons f 7 0 _ _ 0 ∙ laid-cons f 8 1 _ _ 0 ∙ laid-cons f 9 0 _ _ 0 ∙ laid-nil f 10 _)
 
 reset-bytes : (cutoff : Float) (b : List ℕ) → lay (bytesOf (empty cutoff)) b ≡ b
 unfolding lay bytesOf empty concat

@@ -168,6 +168,7 @@ fn reset_words(words: &mut Words)
     words[sparse::EDIT_COUNT] = 0;
     words[sparse::SHOULD_CLEAR] = 0;
     words[sparse::WHOLE] = 1;
+    words[sparse::GONE_COUNT] = 0;
 }
 
 // Reset takes any tables, so they need not read as a state: only then is there a mark.

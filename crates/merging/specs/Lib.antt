@@ -3,5 +3,4 @@ pub mod Merge
 pub mod Fronts
 pub mod Merging
 pub mod Paste
-pub mod Into
 pub mod Substituted

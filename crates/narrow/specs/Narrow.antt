@@ -1,4 +1,4 @@
--- Numbers that a u32 holds stay so: the next id, the variables' numbers and the constraints'. Assumes nothing.
+-- Numbers that a u32 holds stay so: the next id, the variables' numbers, the gone ones' and the constraints'. Assumes nothing.
 use Prim.Native.Nat.{ℕ, _+_, _-_, _≤_}
 use mathlib.Core.Path.{_≡_, refl}
 use mathlib.Core.Bool.{Bool, true, false, cond}
@@ -15,10 +15,10 @@ use Rattle.steps.specs.State.{Term, Relation, equal, strengthOf, Tag, Variable,
 use Rattle.steps.specs.Work.{Work, Outcome, refused, going}
 use Rattle.steps.specs.Changes.{clearChanged, withFlag, reported, fetchChanges}
 use Rattle.steps.specs.Edit.{editTerms, addEditSteps, suggestSteps}
-use Rattle.steps.specs.Tests.{firstRefusal, idsUsed, addTests, addEditTests, dropTests, groupOf, keptTerms, findConstraint, findEdit, keepConstraint, dropConstraint, keepEdit, dropEdit}
+use Rattle.steps.specs.Tests.{firstRefusal, idsUsed, addTests, addEditTests, dropTests, goneFull, groupOf, keptTerms, findConstraint, findEdit, keepConstraint, dropConstraint, keepEdit, dropEdit}
 use Rattle.steps.specs.Add.{Added, addSteps}
 use Rattle.steps.specs.Remove.{removeSteps}
-use Rattle.steps.specs.Calls.{Result, begin, finish, refusedBy, acceptedAs, conclude, concludeAdd, empty, add, removeStored, remove, onward, removeAll, allOrNone, dropGroup, addEdit, removeEdit, suggest}
+use Rattle.steps.specs.Calls.{Result, begin, finish, refusedBy, acceptedAs, conclude, concludeAdd, empty, add, removeStored, unlessFull, remove, onward, removeAll, allOrNone, dropGroup, addEdit, removeEditStored, removeEdit, suggest}
 use Rattle.steps.specs.Changing.{Changing, adds, removes, drops, addsEdit, removesEdit, suggests, made}
 use Rattle.keeps.specs.Lists.{All}
 use Rattle.keeps.specs.Keys.{keep-all, drop-all, keepConstraint-is, dropConstraint-is}
@@ -33,6 +33,7 @@ pub record Narrow (s : State) : Type 0 where
   pub next : isU32 (s .tableau .nextId) ≡ true
   pub variables : All (λ (v : Variable). isU32 (v .number) ≡ true) (s .changes .variables)
   pub constraints : All (λ (c : Constraint). isU32 (c .number) ≡ true) (s .constraints)
+  pub gone : All (λ (n : ℕ). isU32 n ≡ true) (s .changes .gone)
 
 -- what the types of the public calls say of their numbers
 abbrev pub Typed : Changing → Type 0
@@ -55,7 +56,7 @@ module _ (s : State) (h : Narrow s) where
   -- the steps took at most k ids
   after : (k : ℕ) (w : Work) (cs : List Constraint) (es : List Edit) → s .tableau .nextId + k ≤ 4294967295 → All (λ (c : Constraint). isU32 (c .number) ≡ true) cs → Near isU32 k (begin s) w → Narrow (finish w cs es)
   unfolding finish begin
-  after k w cs es room c a = record { next = held (w .tableau .nextId) (s .tableau .nextId + k) (a .next) room; variables = a .numbers (h .variables); constraints = c }
+  after k w cs es room c a = record { next = held (w .tableau .nextId) (s .tableau .nextId + k) (a .next) room; variables = a .numbers (h .variables, h .gone) .0; constraints = c; gone = a .numbers (h .variables, h .gone) .1 }
 
   concluded : (o : Outcome Work) (next : Work → State) → Ends (λ w. Narrow (next w)) o → Narrow (conclude s o next .state)
   unfolding conclude refusedBy acceptedAs
@@ -129,23 +130,32 @@ module _ (s : State) (h : Narrow s) where
       left : All (λ (c : Constraint). isU32 (c .number) ≡ true) (dropConstraint n (s .constraints))
       left = rw dropConstraint-is (drop-all (λ (c : Constraint). c .number) _ n (s .constraints) (h .constraints))
 
+  -- 25 leaves the state as it is
+  unless-full-narrow : (ts : List Term) (r : Result) → Narrow (r .state) → Narrow (unlessFull ts s r .state)
+  unfolding unlessFull refusedBy
+  unless-full-narrow ts r k = go (goneFull ts s)
+    where
+      go : (z : Bool) → Narrow ((elim z as (λ _. Result) [ true ↦ refusedBy 25 0 (s .whole) s | false ↦ r ]) .state)
+      go true = h
+      go false = k
+
   remove-narrow : (n budget : ℕ) → Narrow (remove n budget s .state)
   unfolding remove refusedBy
   remove-narrow n budget = go (findConstraint n (s .constraints))
     where
-      go : (o : Option Constraint) → Narrow ((elim o as (λ _. Result) [ none ↦ refusedBy 5 0 (s .whole) s | some c ↦ removeStored n c budget s ]) .state)
+      go : (o : Option Constraint) → Narrow ((elim o as (λ _. Result) [ none ↦ refusedBy 5 0 (s .whole) s | some c ↦ unlessFull (c .terms) s (removeStored n c budget s) ]) .state)
       go none = h
-      go (some c) = stored-narrow n c budget
+      go (some c) = unless-full-narrow (c .terms) (removeStored n c budget s) (stored-narrow n c budget)
 
   remove-edit-narrow : (n budget : ℕ) → Narrow (removeEdit n budget s .state)
   unfolding removeEdit refusedBy
   remove-edit-narrow n budget = go (findEdit n (s .edits))
     where
-      go : (o : Option Edit) → Narrow ((elim o as (λ _. Result) [ none ↦ refusedBy 8 0 (s .whole) s | some e ↦ conclude s (removeSteps budget (e .tag) (e .strength) (editTerms n) (begin s)) λ w. finish w (s .constraints) (dropEdit n (s .edits)) ]) .state)
+      go : (o : Option Edit) → Narrow ((elim o as (λ _. Result) [ none ↦ refusedBy 8 0 (s .whole) s | some e ↦ unlessFull (editTerms n) s (removeEditStored n e budget s) ]) .state)
       go none = h
       go (some e) =
-          concluded (removeSteps budget (e .tag) (e .strength) (editTerms n) (begin s)) (λ w. finish w (s .constraints) (dropEdit n (s .edits)))
-          (from _ _ (removeSteps budget (e .tag) (e .strength) (editTerms n) (begin s)) (remove-near isU32 budget (e .tag) (e .strength) (editTerms n) (begin s)) (λ w z. after 0 w (s .constraints) (dropEdit n (s .edits)) same-ids (h .constraints) z))
+          unless-full-narrow (editTerms n) (removeEditStored n e budget s) (unfold removeEditStored in concluded (removeSteps budget (e .tag) (e .strength) (editTerms n) (begin s)) (λ w. finish w (s .constraints) (dropEdit n (s .edits)))
+          (from _ _ (removeSteps budget (e .tag) (e .strength) (editTerms n) (begin s)) (remove-near isU32 budget (e .tag) (e .strength) (editTerms n) (begin s)) (λ w z. after 0 w (s .constraints) (dropEdit n (s .edits)) same-ids (h .constraints) z)))
 
   suggest-narrow : (n : ℕ) (new : Float) (budget : ℕ) → Narrow (suggest n new budget s .state)
   unfolding suggest refusedBy
@@ -163,7 +173,7 @@ module _ (s : State) (h : Narrow s) where
 
   pub fetch-narrow : Narrow (fetchChanges s .state)
   unfolding fetchChanges reported clearChanged withFlag
-  fetch-narrow = record { next = h .next; variables = all-map (reported (s .tableau .rows)) U32 (cond (s .changes .shouldClear) (clearChanged (s .changes .variables)) (s .changes .variables)) (go (s .changes .shouldClear)); constraints = h .constraints }
+  fetch-narrow = record { next = h .next; variables = all-map (reported (s .changes .gone) (s .tableau .rows)) U32 (cond (s .changes .shouldClear) (clearChanged (s .changes .variables)) (s .changes .variables)) (go (s .changes .shouldClear)); constraints = h .constraints; gone = tt }
     where
       U32 : Variable → Type 0
       U32 v = isU32 (v .number) ≡ true
@@ -216,4 +226,4 @@ made-narrow s h (suggests n x b) t = suggest-narrow s h n x b
 
 pub empty-narrow : (cutoff : Float) → Narrow (empty cutoff)
 unfolding empty isU32
-empty-narrow cutoff = record { next = refl; variables = tt; constraints = tt }
+empty-narrow cutoff = record { next = refl; variables = tt; constraints = tt; gone = tt }

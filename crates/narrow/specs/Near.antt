@@ -11,11 +11,11 @@ use Rattle.steps.specs.Symbol.{Symbol, isExternal, isError}
 use Rattle.steps.specs.Row.{Row}
 use Rattle.steps.specs.State.{Term, Tag, Variable, Edit}
 use Rattle.steps.specs.Work.{Work, Outcome, refused, going, _>>=_, refuse, checkFinite, withTableau, withRows, withObjective, withChanges, marking, countPivot, findRow, dropRow, purge}
-use Rattle.steps.specs.Changes.{withFlag, clearChanged, note}
+use Rattle.steps.specs.Changes.{withFlag, clearChanged, note, keepNumber, neverReported, tellGone}
 use Rattle.steps.specs.CreateRow.{withVariables, insertInObjective}
 use Rattle.steps.specs.Substitute.{pivot}
 use Rattle.steps.specs.Optimise.{Goal, theObjective, Choice, ended, stuck, pivotOn, choosePivot, countedPivot, optimise, chooseDualPivot, dualOptimise}
-use Rattle.steps.specs.Remove.{insertRowInObjective, removeMarkerEffects, removeConstraintEffects, getMarkerLeavingRow, noteLeaving, dropMarker, purgeTag, Fallen, useLess, dropUse, dropUses, removeSteps}
+use Rattle.steps.specs.Remove.{insertRowInObjective, removeMarkerEffects, removeConstraintEffects, getMarkerLeavingRow, noteLeaving, dropMarker, purgeTag, Fallen, useLess, lose, dropUse, dropUses, removeSteps}
 use Rattle.steps.specs.Edit.{suggestSteps, shiftConstants}
 use Rattle.keeps.specs.Lists.{All}
 use Rattle.keeps.specs.Reads.{unmap}
@@ -28,19 +28,22 @@ module _ (p : ℕ → Bool) where
   abbrev Named : Variable → Type 0
   Named v = p (v .number) ≡ true
 
-  -- each variable's number passes p
+  abbrev Passed : ℕ → Type 0
+  Passed n = p n ≡ true
+
+  -- each variable's number passes p, and each gone one's
   abbrev pub Numbered : Work → Type 0
-  Numbered w = All Named (w .changes .variables)
+  Numbered w = All Named (w .changes .variables) × All Passed (w .changes .gone)
 
   pub record Near (k : ℕ) (w v : Work) : Type 0 where
     pub next : v .tableau .nextId ≤ w .tableau .nextId + k
     pub numbers : Numbered w → Numbered v
 
-  pub near-same : (w v : Work) → v .tableau .nextId ≡ w .tableau .nextId → v .changes .variables ≡ w .changes .variables → Near 0 w v
-  near-same w v e q = record { next = omega (arith, e); numbers = λ h. rw q h }
+  pub near-same : (w v : Work) → v .tableau .nextId ≡ w .tableau .nextId → v .changes .variables ≡ w .changes .variables → v .changes .gone ≡ w .changes .gone → Near 0 w v
+  near-same w v e q g = record { next = omega (arith, e); numbers = λ h. (rw q (h .0), rw g (h .1)) }
 
   pub near-refl : (w : Work) → Near 0 w w
-  near-refl w = near-same w w refl refl
+  near-refl w = near-same w w refl refl refl
 
   pub near-then : {w v u : Work} {j k l : ℕ} → Near j w v → Near k v u → j + k ≤ l → Near l w u
   near-then a b c = record { next = omega (arith, a .next, b .next); numbers = λ h. b .numbers (a .numbers h) }
@@ -54,7 +57,7 @@ module _ (p : ℕ → Bool) where
   unfolding clearChanged withFlag
   near-frame {w} {v} f = record {
     next = omega (arith, f .next);
-    numbers = λ h. unmap (withFlag false) Named (v .changes .variables) (rw (f .variables) (all-map (withFlag false) Named (w .changes .variables) h));
+    numbers = λ h. (unmap (withFlag false) Named (v .changes .variables) (rw (f .variables) (all-map (withFlag false) Named (w .changes .variables) (h .0))), rw (f .gone) (h .1));
   }
 
   counted : (o : Outcome Work) (w : Work) → Ends (Near 0 w) o → Ends (Near 0 w) (o >>= λ v. going (countPivot v))
@@ -106,11 +109,11 @@ module _ (p : ℕ → Bool) where
 
   objective : (s : ℕ) (k : Float) (w : Work) → Near 0 w (insertInObjective s k w)
   unfolding insertInObjective marking withObjective withTableau
-  objective s k w = near-same w (insertInObjective s k w) refl refl
+  objective s k w = near-same w (insertInObjective s k w) refl refl refl
 
   row-objective : (r : Row) (k : Float) (w : Work) → Near 0 w (insertRowInObjective r k w)
   unfolding insertRowInObjective marking withObjective withTableau
-  row-objective r k w = near-same w (insertRowInObjective r k w) refl refl
+  row-objective r k w = near-same w (insertRowInObjective r k w) refl refl refl
 
   effect : (s : Symbol) (k : Float) (w : Work) → Near 0 w (removeMarkerEffects s k w)
   unfolding removeMarkerEffects
@@ -134,7 +137,7 @@ module _ (p : ℕ → Bool) where
 
   dropped : (s : ℕ) (w : Work) → Near 0 w (withRows (dropRow s (w .tableau .rows)) w)
   unfolding withRows withTableau
-  dropped s w = near-same w (withRows (dropRow s (w .tableau .rows)) w) refl refl
+  dropped s w = near-same w (withRows (dropRow s (w .tableau .rows)) w) refl refl refl
 
   noted : (l : Symbol) (w : Work) → Near 0 w (noteLeaving l w)
   unfolding noteLeaving
@@ -165,7 +168,7 @@ module _ (p : ℕ → Bool) where
 
   pub purged : (s : ℕ) (w : Work) → Near 0 w (purge s w)
   unfolding purge withTableau
-  purged s w = near-same w (purge s w) refl refl
+  purged s w = near-same w (purge s w) refl refl refl
 
   tag-purged : (tag : Tag) (w : Work) → Near 0 w (purgeTag tag w)
   unfolding purgeTag
@@ -175,9 +178,14 @@ module _ (p : ℕ → Bool) where
       go none = purged (tag .marker .id) w
       go (some x) = near-on (purged (x .id) w) (purged (tag .marker .id) (purge (x .id) w))
 
-  fewer : (n : ℕ) (vs : List Variable) → All Named vs → All Named (useLess n vs .variables)
+  -- the one that goes was among them
+  abbrev NamedIf : Option Variable → Type 0
+  NamedIf none = Unit {0}
+  NamedIf (some v) = Named v
+
+  fewer : (n : ℕ) (vs : List Variable) → All Named vs → All Named (useLess n vs .variables) × NamedIf (useLess n vs .gone)
   unfolding useLess
-  fewer n [] h = tt
+  fewer n [] h = (tt, tt)
   fewer n (v ∷ vs) h = go (lib.Dec.eqb n (v .number)) (lib.Dec.eqb (v .uses) 1) (fewer n vs (h .1))
     where
       rest : Fallen
@@ -186,28 +194,44 @@ module _ (p : ℕ → Bool) where
       less : Variable
       less = record { number = v .number; symbol = v .symbol; old = v .old; uses = v .uses - 1; changed = v .changed }
 
-      go : (b c : Bool) → All Named (rest .variables)
-          → All Named ((elim b as (λ _. Fallen) [ false ↦ record { variables = v ∷ rest .variables; gone = rest .gone } | true ↦ elim c as (λ _. Fallen) [ true ↦ record { variables = vs; gone = some (v .symbol) } | false ↦ record { variables = less ∷ vs; gone = none } ] ]) .variables)
-      go false c ih = (h .0, ih)
-      go true true ih = h .1
-      go true false ih = (h .0, h .1)
+      left : Bool → Bool → Fallen
+      left b c = elim b as (λ _. Fallen) [ false ↦ record { variables = v ∷ rest .variables; gone = rest .gone } | true ↦ elim c as (λ _. Fallen) [ true ↦ record { variables = vs; gone = some v } | false ↦ record { variables = less ∷ vs; gone = none } ] ]
+
+      go : (b c : Bool) → All Named (rest .variables) × NamedIf (rest .gone) → All Named (left b c .variables) × NamedIf (left b c .gone)
+      go false c ih = ((h .0, ih .0), ih .1)
+      go true true ih = (h .1, h .0)
+      go true false ih = ((h .0, h .1), tt)
+
+  kept-passed : (n : ℕ) (ns : List ℕ) → Passed n → All Passed ns → All Passed (keepNumber n ns)
+  unfolding keepNumber
+  kept-passed n [] e h = (e, tt)
+  kept-passed n (x ∷ ns) e h = go (lib.Dec.ltb n x) (lib.Dec.eqb n x) (kept-passed n ns e (h .1))
+    where
+      go : (a b : Bool) → All Passed (keepNumber n ns) → All Passed (elim a [ true ↦ n ∷ x ∷ ns | false ↦ elim b [ true ↦ x ∷ ns | false ↦ x ∷ keepNumber n ns ] ])
+      go true b ih = (e, h)
+      go false true ih = h
+      go false false ih = (h .0, ih)
+
+  told-passed : (v : Variable) (ns : List ℕ) → Named v → All Passed ns → All Passed (cond (neverReported v) ns (keepNumber (v .number) ns))
+  told-passed v ns e h = go (neverReported v)
+    where
+      go : (b : Bool) → All Passed (cond b ns (keepNumber (v .number) ns))
+      go true = h
+      go false = kept-passed (v .number) ns e h
 
   use-dropped : (t : Term) (w : Work) → Near 0 w (dropUse t w)
-  unfolding dropUse withVariables withChanges
-  use-dropped t w = go (useLess (t .variable) (w .changes .variables) .gone)
+  unfolding dropUse lose withVariables withChanges tellGone purge withTableau
+  use-dropped t w = go (fallen .gone) (λ h. fewer (t .variable) (w .changes .variables) h .1)
     where
-      left : List Variable
-      left = useLess (t .variable) (w .changes .variables) .variables
+      fallen : Fallen
+      fallen = useLess (t .variable) (w .changes .variables)
 
-      v : Work
-      v = withVariables left w
+      left : Work
+      left = withVariables (fallen .variables) w
 
-      first : Near 0 w v
-      first = record { next = omega arith; numbers = λ h. fewer (t .variable) (w .changes .variables) h }
-
-      go : (o : Option Symbol) → Near 0 w (elim o [ none ↦ v | some s ↦ purge (s .id) v ])
-      go none = first
-      go (some s) = near-on first (purged (s .id) v)
+      go : (o : Option Variable) → (All Named (w .changes .variables) → NamedIf o) → Near 0 w (elim o [ none ↦ left | some v ↦ lose v left ])
+      go none f = record { next = omega arith; numbers = λ h. (fewer (t .variable) (w .changes .variables) (h .0) .0, h .1) }
+      go (some v) f = record { next = omega arith; numbers = λ h. (fewer (t .variable) (w .changes .variables) (h .0) .0, told-passed v (w .changes .gone) (f (h .0)) (h .1)) }
 
   uses-dropped : (ts : List Term) (w : Work) → Near 0 w (dropUses ts w)
   unfolding dropUses

@@ -36,7 +36,7 @@ module _ (p : ℕ → Bool) where
 
   inserted : (s : ℕ) (k : Float) (b : Building) → At 0 b (insertInto s k b)
   unfolding insertInto written marking
-  inserted s k b = near-same p (b .work) (insertInto s k b .work) refl refl
+  inserted s k b = near-same p (b .work) (insertInto s k b .work) refl refl refl
 
   appended : (s : Symbol) (b : Building) → At 1 b (appendTo s b)
   unfolding appendTo appendSymbol withTableau
@@ -46,19 +46,19 @@ module _ (p : ℕ → Bool) where
   unfolding addVariable appendTo appendSymbol withVariables withChanges withTableau
   variable-added n b e = record {
     next = omega arith;
-    numbers = λ h. rw keepVariable-is (keep-all (λ (v : Variable). v .number) (λ (v : Variable). p (v .number) ≡ true) (record { number = n; symbol = newSymbol External (b .work); old = nan; uses = 0; changed = false }) (b .work .changes .variables) e h);
+    numbers = λ h. (rw keepVariable-is (keep-all (λ (v : Variable). v .number) (λ (v : Variable). p (v .number) ≡ true) (record { number = n; symbol = newSymbol External (b .work); old = nan; uses = 0; changed = false }) (b .work .changes .variables) e (h .0)), h .1);
   }
 
   counted : (n : ℕ) (b : Building) → At 0 b (countUse n b)
   unfolding countUse withVariables withChanges useOnce
-  counted n b = record { next = omega arith; numbers = λ h. all-map (useOnce n) (λ (v : Variable). p (v .number) ≡ true) (b .work .changes .variables) h }
+  counted n b = record { next = omega arith; numbers = λ h. (all-map (useOnce n) (λ (v : Variable). p (v .number) ≡ true) (b .work .changes .variables) (h .0), h .1) }
 
   variable-inserted : (s : Symbol) (k : Float) (b : Building) → At 0 b (insertVariable s k b)
   unfolding insertVariable
   variable-inserted s k b = go (findRow (s .id) (b .work .tableau .rows))
     where
       row : (r : Row) → At 0 b (written (insertRow (b .work .tableau .cutoff) r k (b .row)) (b .work))
-      row r = unfold written marking in near-same p (b .work) (written (insertRow (b .work .tableau .cutoff) r k (b .row)) (b .work) .work) refl refl
+      row r = unfold written marking in near-same p (b .work) (written (insertRow (b .work .tableau .cutoff) r k (b .row)) (b .work) .work) refl refl refl
 
       go : (o : Option Row) → At 0 b (elim o [ none ↦ insertInto (s .id) k b | some r ↦ written (insertRow (b .work .tableau .cutoff) r k (b .row)) (b .work) ])
       go none = inserted (s .id) k b
@@ -108,7 +108,7 @@ module _ (p : ℕ → Bool) where
   error-added s k strength b = near-then p (symbol-added s k b) (objective (addSymbol s k b .work)) (omega arith)
     where
       objective : (w : Work) → Near p 0 w (insertInObjective (s .id) strength w)
-      objective w = unfold insertInObjective marking withObjective withTableau in near-same p w (insertInObjective (s .id) strength w) refl refl
+      objective w = unfold insertInObjective marking withObjective withTableau in near-same p w (insertInObjective (s .id) strength w) refl refl refl
 
   abbrev Tagged : Building → Created → Type 0
   Tagged b c = Near p 2 (b .work) (c .work)
@@ -191,7 +191,7 @@ module _ (p : ℕ → Bool) where
 
   copy-gone : (w : Work) → Near p 0 w (withArtificial none w)
   unfolding withArtificial
-  copy-gone w = near-same p w (withArtificial none w) refl refl
+  copy-gone w = near-same p w (withArtificial none w) refl refl refl
 
   artificial-added : (budget : ℕ) (c : Created) → Ends (Near p 1 (c .work)) (addWithArtificialVariable budget c)
   unfolding addWithArtificialVariable refuse

@@ -19,8 +19,8 @@ use Rattle.zeros.specs.Plain.{Plain, PlainRow, zero-plain}
 use Rattle.zeros.specs.PlainCalls.{PlainState}
 use Rattle.cells.specs.Names.{rowSpan}
 use Rattle.cells.specs.Cells.{cellIn, cellAt, rowOf}
-use Rattle.sparse.specs.Places.{nextIdAt, variableNumbersAt, constraintNumbersAt}
-use Rattle.sparse.specs.Sparse.{Sparse, read, symbolCount, rowCount, cellCount, basicOf, basicsOf, variableCount, variableOf, constraintCount, constraintOf}
+use Rattle.sparse.specs.Places.{nextIdAt, variableNumbersAt, constraintNumbersAt, goneNumbersAt}
+use Rattle.sparse.specs.Sparse.{Sparse, read, symbolCount, rowCount, cellCount, basicOf, basicsOf, variableCount, variableOf, constraintCount, constraintOf, goneCount, goneOf}
 use Rattle.sparse.specs.Form.{Form}
 use Rattle.sparse_test.specs.Stretch.{most}
 use Rattle.sparse_test.specs.Reads.{greatestU32, reads}
@@ -36,13 +36,14 @@ all-tab P g i (suc n) h = (h i (omega arith) (omega arith), all-tab P g (suc i) 
 -- ---- numbers that the tables hold are u32
 
 pub narrow-of : (t : Sparse) → reads t ≡ true → Narrow (read t)
-unfolding isU32 read variableOf constraintOf listOf
+unfolding isU32 read variableOf constraintOf goneOf listOf
 narrow-of t h =
     let p = reads-parts t h in
     record {
       next = le-leb (getD (t .words) nextIdAt 0) greatestU32 (p .counts .next);
       variables = all-tab (λ (v : Variable). isU32 (v .number) ≡ true) (variableOf t) 0 (variableCount t) (λ j a b. le-leb (getD (t .words) (variableNumbersAt + j) 0) greatestU32 (most (t .words) variableNumbersAt (variableCount t) greatestU32 (p .numbers) j (omega (arith, b))));
       constraints = all-tab (λ (c : Constraint). isU32 (c .number) ≡ true) (constraintOf t) 0 (constraintCount t) (λ j a b. le-leb (getD (t .words) (constraintNumbersAt + j) 0) greatestU32 (most (t .words) constraintNumbersAt (constraintCount t) greatestU32 (p .constraints) j (omega (arith, b))));
+      gone = all-tab (λ (n : ℕ). isU32 n ≡ true) (λ j. getD (t .words) (goneNumbersAt + j) 0) 0 (goneCount t) (λ j a b. le-leb (getD (t .words) (goneNumbersAt + j) 0) greatestU32 (most (t .words) goneNumbersAt (goneCount t) greatestU32 (p .gone) j (omega (arith, b))));
     }
 
 -- ---- a cell that is present is not 0.0, and one that is not is +0.0

@@ -41,6 +41,7 @@ narrow-by s n =
       next = u32-le (s .tableau .nextId) (n .next);
       variables = λ j h. u32-le _ (all-place (λ (v : Variable). isU32 (v .number) ≡ true) (s .changes .variables) noVariable j h (n .variables));
       constraints = λ j h. u32-le _ (all-place (λ (c : Constraint). isU32 (c .number) ≡ true) (s .constraints) noConstraint j h (n .constraints));
+      gone = λ j h. u32-le _ (all-place (λ (m : ℕ). isU32 m ≡ true) (s .changes .gone) 0 j h (n .gone));
     }
 
 module _ (s : State) (t : Sparse) (r : readable s ≡ true) (n : Narrow s) (plain : PlainState s) (len : Lengths t) where

@@ -1,33 +1,35 @@
 -- Drop: the tests over tables are those of the steps, in their order; where one fails the drop is refused by its number.
 -- Assumes nothing.
 use Prim.Native.Nat.{ℕ, zero, suc, _+_}
-use mathlib.Core.Path.{_≡_, refl, ap, _∙_}
+use mathlib.Core.Path.{_≡_, refl, _∙_}
 use mathlib.Core.Bool.{Bool, true, false, not, cond}
 use mathlib.Core.List.{List, _∷_}
-use mathlib.Core.Option.{none, some}
+use mathlib.Core.Option.{none}
 use native.Mathlib.Nat.{sub-zero}
 use native.Mathlib.Omega.{arith}
 use lib.Dec.{eqb, eqb·suc-zero, ltb}
-use lib.ListN.{length, getD}
-use borrow.Author.Tests.{lt-ltb, le-ltb, not-false}
+use lib.ListN.{length}
+use borrow.Author.Tests.{lt-ltb, le-ltb}
 use Rattle.laws.specs.Loops.{seek, first}
 use Rattle.laws.specs.Lists.{tab, listOf}
 use Rattle.places.specs.Finding.{placeIn}
 use Rattle.steps.specs.State.{Constraint}
 use Rattle.steps.specs.Tests.{firstRefusal, groupOf, dropTests}
 use Rattle.steps.specs.Calls.{refusedBy, dropGroup}
-use Rattle.sparse.specs.Places.{constraintGroupsAt}
+use Rattle.steps.specs.Changing.{drops}
 use Rattle.sparse.specs.Lookup.{placeFrom}
 use Rattle.sparse.specs.Sparse.{Sparse, constraintCount, constraintOf, read}
-use Rattle.refusals.specs.Refusals.{constraintsIn, liveIn, groupIn, dropRefusal}
-use Rattle.refusals.specs.Passed.{passed}
+use Rattle.sparse_test.specs.Reads.{reads}
+use Rattle.refusals.specs.declared.gone.Taken.the-variants.{Group}
+use Rattle.refusals.specs.Refusals.{liveIn, groupIn, goneFullIn, dropRefusal}
+use Rattle.refusals.specs.Goes.{termsTaken, full-is}
+use Rattle.refusals.specs.Tested.{numberOr0, first-if, none-left}
+use Rattle.refusals.specs.Passed.{numbered, first-none}
+use Rattle.refusals.specs.Known.{refused-is}
 
 -- 27: "no constraint in the group"
 abbrev empty : ℕ → List Constraint → Bool
 empty g cs = eqb (length (groupOf g cs)) 0
-
-abbrev numberBy : Bool → Bool → ℕ
-numberBy a b = cond a 26 (cond b 27 0)
 
 -- along a list that is read place by place
 module _ (g : ℕ) (f : ℕ → Constraint) (k : ℕ) where
@@ -53,30 +55,22 @@ module _ (t : Sparse) (g : ℕ) where
   unfolding read constraintOf liveIn placeFrom
   no-group = none-is g (constraintOf t) (constraintCount t)
 
-  abbrev refuses : ℕ
-  refuses = dropRefusal g (t .words)
+  module _ (good : reads t ≡ true) where
+    abbrev refuses : ℕ
+    refuses = dropRefusal g (t .words) (t .bytes) (t .reals)
 
-  pub drop-passes : refuses ≡ 0 → firstRefusal (dropTests g (read t)) ≡ none
-  unfolding dropRefusal firstRefusal dropTests
-  drop-passes e =
-      let a = passed (eqb g 0) 26 _ (omega arith) e in
-      let b = passed (not (groupIn (t .words) (constraintCount t) g)) 27 0 (omega arith) (a .1) in
-      rw (a .0, no-group ∙ b .0) refl
+    -- "Drop: 18, 26, 27, 25."
+    drop-refusal : numberOr0 (firstRefusal (dropTests g (read t))) ≡ refuses
+    unfolding dropTests dropRefusal termsTaken
+    drop-refusal =
+        first-if 26 _ (eqb g 0) _ _ refl λ _.
+        first-if 27 _ (not (groupIn (t .words) (constraintCount t) g)) _ _ no-group λ _.
+        first-if 25 _ (goneFullIn (t .words) (t .bytes) (t .reals) (Group g)) _ _ (full-is t good (Group g)) λ _. none-left
 
-  pub drop-refused : (budget : ℕ) → (refuses ≡ 0 → ⊥) → dropGroup g budget (read t) ≡ refusedBy refuses 0 (read t .whole) (read t)
-  unfolding dropRefusal firstRefusal dropTests
-  drop-refused budget h = go (eqb g 0) refl (not (groupIn (t .words) (constraintCount t) g)) no-group h
-    where
-      go : (a : Bool) → eqb g 0 ≡ a → (b : Bool) → empty g (read t .constraints) ≡ b → (numberBy a b ≡ 0 → ⊥)
-          → dropGroup g budget (read t) ≡ refusedBy (numberBy a b) 0 (read t .whole) (read t)
-      go true e b f k = unfold dropGroup in rw (e, dropGroup) refl
-      go false e true f k = unfold dropGroup in rw (e, f, dropGroup) refl
-      go false e false f k = absurd (k refl)
+    pub drop-refused : (budget : ℕ) → (refuses ≡ 0 → ⊥) → dropGroup g budget (read t) ≡ refusedBy refuses 0 (read t .whole) (read t)
+    drop-refused budget = refused-is (drops g budget) (read t) drop-refusal
 
--- the group's number is above 0, and one of its constraints is live
-pub drop-passed : (g : ℕ) (w : List ℕ) → dropRefusal g w ≡ 0 → (eqb g 0 ≡ false) × (groupIn w (constraintsIn w) g ≡ true)
-unfolding dropRefusal
-drop-passed g w e =
-    let a = passed (eqb g 0) 26 _ (omega arith) e in
-    let b = passed (not (groupIn w (constraintsIn w) g)) 27 0 (omega arith) (a .1) in
-    (a .0, not-false _ (b .0))
+    -- the group's number is above 0, one of its constraints is live, and there is room for the gone entries that the whole drop makes
+    pub drop-passes : refuses ≡ 0 → firstRefusal (dropTests g (read t)) ≡ none
+    unfolding dropTests numbered
+    drop-passes h = first-none (dropTests g (read t)) refl (drop-refusal ∙ h)

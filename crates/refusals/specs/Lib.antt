@@ -1,5 +1,6 @@
 -- The tests before the steps, over the lent sparse tables: as the code runs them, and what they mean.
 pub mod Refusals
+pub mod Goes
 pub mod New
 pub mod Tested
 pub mod Passed

@@ -10,7 +10,8 @@ use Rattle.steps.specs.Number.{belowZero, isFinite}
 use Rattle.steps.specs.Strength.{required}
 use Rattle.sparse.specs.Places.{constraintNumbersAt}
 use Rattle.terms.specs.declared.Pack.{Pack}
-use Rattle.refusals.specs.Refusals.{constraintsIn, liveIn, editedIn, groupIn, constraintsFullIn, variablesFullIn, idsUsedIn, roomRefusal, inputRefusal, addRefusal, editPack, addEditRefusal, suggestRefusal, removeRefusal, removeEditRefusal, dropRefusal}
+use Rattle.refusals.specs.declared.gone.Taken.{Taken}
+use Rattle.refusals.specs.Refusals.{constraintsIn, liveIn, editedIn, groupIn, goneFullIn, constraintsFullIn, variablesFullIn, idsUsedIn, roomRefusal, inputRefusal, addRefusal, editPack, addEditRefusal, suggestRefusal, removeRefusal, removeEditRefusal, dropRefusal}
 
 low : (b : Bool) (k y : ℕ) → k ≤ 27 → y ≤ 27 → cond b k y ≤ 27
 low true k y h q = h
@@ -35,14 +36,17 @@ pub suggest-low : (x : ℕ) (new : Float) (w b : List ℕ) → suggestRefusal x 
 unfolding suggestRefusal
 suggest-low x new w b = low (not (isFinite new)) 1 _ (omega arith) (low (not (editedIn w b x)) 8 0 (omega arith) (omega arith))
 
-pub remove-low : (x : ℕ) (w : List ℕ) → removeRefusal x w ≤ 27
+full-low : (w b : List ℕ) (r : List Float) (x : Taken) → cond (goneFullIn w b r x) 25 0 ≤ 27
+full-low w b r x = low (goneFullIn w b r x) 25 0 (omega arith) (omega arith)
+
+pub remove-low : (x : ℕ) (w b : List ℕ) (r : List Float) → removeRefusal x w b r ≤ 27
 unfolding removeRefusal
-remove-low x w = low (not (liveIn w constraintNumbersAt (constraintsIn w) x)) 5 0 (omega arith) (omega arith)
+remove-low x w b r = low (not (liveIn w constraintNumbersAt (constraintsIn w) x)) 5 _ (omega arith) (full-low w b r _)
 
-pub remove-edit-low : (x : ℕ) (w b : List ℕ) → removeEditRefusal x w b ≤ 27
+pub remove-edit-low : (x : ℕ) (w b : List ℕ) (r : List Float) → removeEditRefusal x w b r ≤ 27
 unfolding removeEditRefusal
-remove-edit-low x w b = low (not (editedIn w b x)) 8 0 (omega arith) (omega arith)
+remove-edit-low x w b r = low (not (editedIn w b x)) 8 _ (omega arith) (full-low w b r _)
 
-pub drop-low : (g : ℕ) (w : List ℕ) → dropRefusal g w ≤ 27
+pub drop-low : (g : ℕ) (w b : List ℕ) (r : List Float) → dropRefusal g w b r ≤ 27
 unfolding dropRefusal
-drop-low g w = low (eqb g 0) 26 _ (omega arith) (low (not (groupIn w (constraintsIn w) g)) 27 0 (omega arith) (omega arith))
+drop-low g w b r = low (eqb g 0) 26 _ (omega arith) (low (not (groupIn w (constraintsIn w) g)) 27 _ (omega arith) (full-low w b r _))

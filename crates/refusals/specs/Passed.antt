@@ -25,14 +25,14 @@ use Rattle.refusals.specs.Tested.{numberOr0, add-refusal, add-edit-refus
 
 -- ---- the number as the steps have it
 
-unfoldable numbered : List Test → Bool
+unfoldable pub numbered : List Test → Bool
 numbered [] = true
 numbered (t ∷ ts) = ltb 0 (t .number) && numbered ts
 
 abbrev chosen : Bool → ℕ → Option ℕ → Option ℕ
 chosen b k o = elim b [ true ↦ some k | false ↦ o ]
 
-first-none : (ts : List Test) → numbered ts ≡ true → numberOr0 (firstRefusal ts) ≡ 0 → firstRefusal ts ≡ none
+pub first-none : (ts : List Test) → numbered ts ≡ true → numberOr0 (firstRefusal ts) ≡ 0 → firstRefusal ts ≡ none
 unfolding firstRefusal numbered numberOr0
 first-none [] h e = refl
 first-none (t ∷ ts) h e = go (t .fails) e (first-none ts (and-right (ltb 0 (t .number)) (numbered ts) h))
@@ -42,7 +42,7 @@ first-none (t ∷ ts) h e = go (t .fails) e (first-none ts (and-right (ltb 0 (t 
     go true q r = absurd (let l = ltb-true 0 (t .number) (and-left (ltb 0 (t .number)) (numbered ts) h) in omega (arith, q, l))
     go false q r = r q
 
-some-is : (o : Option ℕ) → (numberOr0 o ≡ 0 → ⊥) → o ≡ some (numberOr0 o)
+pub some-is : (o : Option ℕ) → (numberOr0 o ≡ 0 → ⊥) → o ≡ some (numberOr0 o)
 unfolding numberOr0
 some-is none h = absurd (h refl)
 some-is (some n) h = refl

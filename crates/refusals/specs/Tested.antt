@@ -16,7 +16,7 @@ use Rattle.steps.specs.State as steps
 use Rattle.steps.specs.Edit.{editTerms}
 use Rattle.steps.specs.Tests.{Test, _if_, firstRefusal, newVariables, hasConstraint, hasEdit, constraintsFull, variablesFull, idsUsed, keptTerms, addTests, addEditTests}
 use Rattle.laws.specs.Lists.{listOf, length-tab}
-use Rattle.sparse.specs.Places.{constraintNumbersAt}
+use Rattle.sparse.specs.Places.{mostVariables, mostConstraints, constraintNumbersAt}
 use Rattle.sparse.specs.Sparse.{Sparse, variableCount, constraintCount, editCount, read}
 use Rattle.sparse_test.specs.Reads.{reads}
 use Rattle.sparse_test.specs.Meaning.{reads-form}
@@ -36,12 +36,12 @@ numberOr0 none = 0
 numberOr0 (some n) = n
 
 -- a test more before the others: they matter where it passes
-first-if : (k : ℕ) (a b : Bool) (ts : List Test) (y : ℕ) → a ≡ b → (b ≡ false → numberOr0 (firstRefusal ts) ≡ y) → numberOr0 (firstRefusal (k if a ∷ ts)) ≡ cond b k y
+pub first-if : (k : ℕ) (a b : Bool) (ts : List Test) (y : ℕ) → a ≡ b → (b ≡ false → numberOr0 (firstRefusal ts) ≡ y) → numberOr0 (firstRefusal (k if a ∷ ts)) ≡ cond b k y
 unfolding firstRefusal numberOr0
 first-if k a true ts y e r = rw e refl
 first-if k a false ts y e r = rw e (r refl)
 
-none-left : numberOr0 (firstRefusal []) ≡ 0
+pub none-left : numberOr0 (firstRefusal []) ≡ 0
 unfolding firstRefusal numberOr0
 none-left = refl
 
@@ -68,7 +68,7 @@ module _ (t : Sparse) (good : reads t ≡ true) where
 
   constraints-full : constraintsFull (read t) ≡ constraintsFullIn (t .words)
   unfolding constraintsFull constraintsFullIn read listOf
-  constraints-full = ap (λ (k : ℕ). leb 48 (k + length (read t .edits))) (length-tab _ 0 (constraintCount t)) ∙ ap (λ (k : ℕ). leb 48 (constraintCount t + k)) (length-tab _ 0 (editCount t))
+  constraints-full = ap (λ (k : ℕ). leb mostConstraints (k + length (read t .edits))) (length-tab _ 0 (constraintCount t)) ∙ ap (λ (k : ℕ). leb mostConstraints (constraintCount t + k)) (length-tab _ 0 (editCount t))
 
   ids-used : idsUsed (read t) ≡ idsUsedIn (t .words)
   unfolding idsUsed idsUsedIn read
@@ -88,9 +88,9 @@ module _ (t : Sparse) (good : reads t ≡ true) where
   variables-full : (p : Pack) → variablesFull (termsOf p) (read t) ≡ variablesFullIn cutoff (t .words) p
   unfolding variablesFull variablesFullIn
   variables-full p =
-      ap (λ (l : List steps.Term). ltb 32 (length (variablesOf t) + length (newVariables (variablesOf t) [] l))) (ap (λ (u : Float). keptTerms u (termsOf p)) cutoff-is ∙ sym (kept-terms cutoff p))
-      ∙ ap (λ (k : ℕ). ltb 32 (length (variablesOf t) + k)) (new-is t (keptOf cutoff p))
-      ∙ ap (λ (k : ℕ). ltb 32 (k + newIn (t .words) (variableCount t) (keptOf cutoff p))) variables-count
+      ap (λ (l : List steps.Term). ltb mostVariables (length (variablesOf t) + length (newVariables (variablesOf t) [] l))) (ap (λ (u : Float). keptTerms u (termsOf p)) cutoff-is ∙ sym (kept-terms cutoff p))
+      ∙ ap (λ (k : ℕ). ltb mostVariables (length (variablesOf t) + k)) (new-is t (keptOf cutoff p))
+      ∙ ap (λ (k : ℕ). ltb mostVariables (k + newIn (t .words) (variableCount t) (keptOf cutoff p))) variables-count
 
   room-refusal : (p : Pack) (ts : List steps.Term) → termsOf p ≡ ts
       → numberOr0 (firstRefusal (10 if constraintsFull (read t) ∷ 9 if variablesFull ts (read t) ∷ 11 if idsUsed (read t) ∷ [])) ≡ roomRefusal cutoff (t .words) p

@@ -1,13 +1,21 @@
-// The tests before the steps, over the lent sparse tables' words and bytes: 18 is the reading test's. A test gives the number of the first refusal, 0 if there is none.
+// The tests before the steps, over the lent sparse tables' words, bytes and reals: 18 is the reading test's. A test gives the number of the first refusal, 0 if there is none.
+pub mod gone;
+
 ghost use mathlib.Core.Path.{_≡_};
 ghost use mathlib.Core.Bool.{cond};
 ghost use Prim.Native.Nat.{_+_, _<_, _≤_};
 ghost use Rattle.sparse.specs.Places.{mostVariables, mostConstraints, variableNumbersAt, constraintNumbersAt, wordsSize};
 ghost use Rattle.sparse.specs.Lookup.{Ascends};
-ghost use Rattle.refusals.specs.Refusals.{variablesIn, constraintsIn, editsIn, liveIn, editedIn, groupPlace, groupIn, firstOf, newAt, newIn, constraintsFullIn, variablesFullIn, idsUsedIn, roomRefusal, inputRefusal, addRefusal, editPack, addEditRefusal, suggestRefusal, removeRefusal, removeEditRefusal, dropRefusal};
+ghost use Rattle.refusals.specs.Refusals.{variablesIn, constraintsIn, editsIn, liveIn, editedIn, Tabled, groupPlace, groupIn, firstOf, newAt, newIn, constraintsFullIn, variablesFullIn, idsUsedIn, roomRefusal, inputRefusal, addRefusal, editPack, addEditRefusal, suggestRefusal, removeRefusal, removeEditRefusal, dropRefusal};
+use gone::Taken;
+use gone::gone_full;
 use sparse::Bytes;
+use sparse::Reals;
 use sparse::Words;
 use sparse::lookup::look_up;
+
+// As many as the words have numbers for.
+const MOST_CONSTRAINTS: usize = sparse::CONSTRAINT_GROUPS - sparse::CONSTRAINT_NUMBERS;
 
 // A test that fails gives its number, one that passes what the tests after it give.
 fn refusal(fails: bool, number: u64, rest: u64) -> u64
@@ -114,7 +122,7 @@ fn constraints_full(words: &Words) -> bool
     requires { ⌜ editsIn (now words) ≤ mostConstraints ⌝ }
     ensures { λ r. ⌜ r ≡ constraintsFullIn (now (words .entry)) ⌝ }
 {
-    48 <= words[sparse::CONSTRAINT_COUNT] + words[sparse::EDIT_COUNT]
+    MOST_CONSTRAINTS as u64 <= words[sparse::CONSTRAINT_COUNT] + words[sparse::EDIT_COUNT]
 }
 
 fn variables_full(words: &Words, cutoff: f64, p: terms::Pack) -> bool
@@ -124,7 +132,7 @@ fn variables_full(words: &Words, cutoff: f64, p: terms::Pack) -> bool
 {
     let v = words[sparse::VARIABLE_COUNT];
     let kept = terms::kept(cutoff, p);
-    32 < v + new_variables(words, v as usize, kept)
+    (sparse::MOST_VARIABLES as u64) < v + new_variables(words, v as usize, kept)
 }
 
 fn ids_used(words: &Words) -> bool
@@ -219,39 +227,42 @@ pub fn suggest_tests(words: &Words, bytes: &Bytes, n: u32, new: f64) -> u64
     requires { ⌜ Ascends (now words) variableNumbersAt (variablesIn (now words)) ⌝ }
     ensures { λ r. ⌜ r ≡ suggestRefusal n new (now (words .entry)) (now (bytes .entry)) ⌝ }
 {
-    let known = remove_edit_tests(words, bytes, n);
+    let known = refusal(!is_edited(words, bytes, n as u64), 8, 0);
     refusal(!rows::number::is_finite(new), 1, known)
 }
 
-// "Remove: 18, 5."
-pub fn remove_tests(words: &Words, n: u32) -> u64
-    requires { ⌜ constraintsIn (now words) ≤ mostConstraints ⌝ }
+// "Remove: 18, 5, 25."
+pub fn remove_tests(words: &Words, bytes: &Bytes, reals: &Reals, n: u32) -> u64
+    requires { ⌜ Tabled (now words) (now bytes) ⌝ }
     requires { ⌜ Ascends (now words) constraintNumbersAt (constraintsIn (now words)) ⌝ }
-    ensures { λ r. ⌜ r ≡ removeRefusal n (now (words .entry)) ⌝ }
+    ensures { λ r. ⌜ r ≡ removeRefusal n (now (words .entry)) (now (bytes .entry)) (now (reals .entry)) ⌝ }
 {
     let c = words[sparse::CONSTRAINT_COUNT] as usize;
+    let full = refusal(gone_full(words, bytes, reals, Taken::Constraint(n)), 25, 0);
     refusal(
         !is_live(words, sparse::CONSTRAINT_NUMBERS, c, n as u64),
         5,
-        0,
+        full,
     )
 }
 
-// "Remove edit: 18, 8."
-pub fn remove_edit_tests(words: &Words, bytes: &Bytes, n: u32) -> u64
-    requires { ⌜ variablesIn (now words) ≤ mostVariables ⌝ }
+// "Remove edit: 18, 8, 25."
+pub fn remove_edit_tests(words: &Words, bytes: &Bytes, reals: &Reals, n: u32) -> u64
+    requires { ⌜ Tabled (now words) (now bytes) ⌝ }
     requires { ⌜ editsIn (now words) ≤ mostConstraints ⌝ }
     requires { ⌜ Ascends (now words) variableNumbersAt (variablesIn (now words)) ⌝ }
-    ensures { λ r. ⌜ r ≡ removeEditRefusal n (now (words .entry)) (now (bytes .entry)) ⌝ }
+    ensures { λ r. ⌜ r ≡ removeEditRefusal n (now (words .entry)) (now (bytes .entry)) (now (reals .entry)) ⌝ }
 {
-    refusal(!is_edited(words, bytes, n as u64), 8, 0)
+    let full = refusal(gone_full(words, bytes, reals, Taken::Edit(n)), 25, 0);
+    refusal(!is_edited(words, bytes, n as u64), 8, full)
 }
 
-// "Drop: 18, 26, 27."
-pub fn drop_tests(words: &Words, g: u16) -> u64
-    requires { ⌜ constraintsIn (now words) ≤ mostConstraints ⌝ }
-    ensures { λ r. ⌜ r ≡ dropRefusal g (now (words .entry)) ⌝ }
+// "Drop: 18, 26, 27, 25." 25 once for the whole drop.
+pub fn drop_tests(words: &Words, bytes: &Bytes, reals: &Reals, g: u16) -> u64
+    requires { ⌜ Tabled (now words) (now bytes) ⌝ }
+    ensures { λ r. ⌜ r ≡ dropRefusal g (now (words .entry)) (now (bytes .entry)) (now (reals .entry)) ⌝ }
 {
-    let none = refusal(!group_lives(words, g), 27, 0);
+    let full = refusal(gone_full(words, bytes, reals, Taken::Group(g)), 25, 0);
+    let none = refusal(!group_lives(words, g), 27, full);
     refusal(g == 0, 26, none)
 }

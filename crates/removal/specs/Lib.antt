@@ -4,5 +4,7 @@ pub mod Bound
 pub mod Effects
 pub mod Marker
 pub mod Tag
+pub mod Alike
+pub mod Room
 pub mod Uses
 pub mod Steps

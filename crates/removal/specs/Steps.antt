@@ -1,19 +1,21 @@
 -- Remove's steps over tables, put together from the code's calls.
 -- Assumes nothing.
 use Prim.Native.Nat.{ℕ, _-_}
-use mathlib.Core.Path.{_≡_, refl, ap, _∙_}
+use mathlib.Core.Path.{_≡_, refl, sym, ap, _∙_, subst}
 use mathlib.Core.Bool.{true, false}
 use mathlib.Core.List.{List}
 use lib.Dec.{eqb}
 use lib.Ieee.{Float}
 use Rattle.laws.specs.Lists.{listOf, map-tab}
+use Rattle.steps.specs.Number.{Mark}
 use Rattle.steps.specs.State.{Term, Tag}
 use Rattle.steps.specs.Work.{Work, Outcome, refused, going, _>>=_, checkFinite}
 use Rattle.steps.specs.Optimise.{optimise, theObjective}
 use Rattle.steps.specs.Remove.{removeConstraintEffects, dropMarker, purgeTag, dropUses, removeSteps}
+use Rattle.keeps.specs.Fits.{FitsW}
 use Rattle.layout.specs.Copy.{most16}
 use Rattle.rows.specs.Marks.{markOf}
-use Rattle.sparse.specs.Sparse.{Sparse, symbolAt, symbolsOf}
+use Rattle.sparse.specs.Sparse.{Sparse, symbolAt, symbolsOf, read}
 use Rattle.terms.specs.declared.Pack.{Pack}
 use Rattle.terms.specs.Terms.{termOf, termIn, termsOf}
 use Rattle.waist.specs.declared.ending.Ended.{Ended}
@@ -23,8 +25,10 @@ use Rattle.waist.specs.Ending.{outcomeOf, Goes}
 use Rattle.waist.specs.Tags.{tagAt}
 use Rattle.removal.specs.Reading.{symbol-same}
 use Rattle.removal.specs.Bound.{Reached, reached-is, goes-given, after-refused, after-going, reached-made}
-use Rattle.removal.specs.Marker.{drop-symbols, reached-symbols}
+use Rattle.removal.specs.Marker.{drop-symbols, ends-reached, reached-symbols}
 use Rattle.removal.specs.Tag.{TagLives, tag-kept, tag-same}
+use Rattle.removal.specs.Alike.{Alike, passed-alike}
+use Rattle.removal.specs.Room.{Room, work-changes, room-alike}
 use Rattle.removal.specs.Uses.{usesFrom, UsedBy, uses-of}
 
 bind-same : (o : Outcome Work) (f g : Work → Outcome Work) → ((v : Work) → f v ≡ g v) → (o >>= f) ≡ (o >>= g)
@@ -96,14 +100,22 @@ module _ (budget marker other : ℕ) (strength : Float) (numbers : List ℕ) (co
             pub passed-stands : Standing false (markOf (r₃ .wrote)) u₃
             passed-stands = goes-given r₃ u₃ on₃ (f .1)
 
+            -- there is room for the same terms as before the steps
+            pub passed-room : (a : Mark) → start ≡ workOf false a 0 t → Standing false a t → (terms : List Term) → Room terms (read t .changes) → Room terms (read u₃ .changes)
+            passed-room a e s terms m =
+                let k = ends-reached (Alike start) (first >>= drop >>= pass) r₃ u₃ (passed-alike budget tag strength start (subst FitsW (sym e) (s .fits))) passed on₃ in
+                let c : read t .changes ≡ start .changes = sym (work-changes false a 0 t) ∙ ap (λ (w : Work). w .changes) (sym e) in
+                subst (Room terms) (work-changes false (markOf (r₃ .wrote)) (r₃ .pivots) u₃) (room-alike terms start (workOf false (markOf (r₃ .wrote)) (r₃ .pivots) u₃) k (subst (Room terms) c m))
+
             pub removed : (v : Sparse) → Makes false false (markOf (r₃ .wrote)) (markOf (r₃ .wrote)) (dropUses (usesFrom numbers count 0)) u₃ v → Whole r₃ v
             removed v n = whole-by r₃ v (after-going r₃ u₃ fall passed r₃ v on₃ (reached-made r₃ u₃ v (dropUses (usesFrom numbers count 0)) on₃ n))
 
 -- ---- the terms of a pack
 
+pub pack-used : (p : Pack) (count : ℕ) → count ≡ most16 (p .count) → UsedBy (p .vars) count (termsOf p)
+unfolding termsOf termOf termIn listOf
+pack-used p count e = rw e (map-tab (λ (t : Term). t .variable) (λ j. termOf (termIn p j)) 0 (most16 (p .count)))
+
 pub removed-pack : (budget : ℕ) (tag : Tag) (strength : Float) (p : Pack) (count : ℕ) (w : Work) (r : Ended) (u : Sparse) → count ≡ most16 (p .count) → Removes budget tag strength (p .vars) count w r u
     → (outcomeOf false r u ≡ removeSteps budget tag strength (termsOf p) w) × Goes false r u
-removed-pack budget tag strength p count w r u e c = (c .0 (termsOf p) used, c .1)
-  where
-    used : UsedBy (p .vars) count (termsOf p)
-    used = unfold termsOf termOf termIn listOf in (rw e (map-tab (λ (t : Term). t .variable) (λ j. termOf (termIn p j)) 0 (most16 (p .count))))
+removed-pack budget tag strength p count w r u e c = (c .0 (termsOf p) (pack-used p count e), c .1)

@@ -10,6 +10,7 @@ ghost use Rattle.steps.specs.Number.{Mark};
 ghost use Rattle.steps.specs.Work.{checkFinite};
 ghost use Rattle.steps.specs.Remove.{removeConstraintEffects, purgeTag, removeSteps};
 ghost use Rattle.rows.specs.Marks.{markOf};
+ghost use Rattle.sparse.specs.Sparse.{read};
 ghost use Rattle.terms.specs.Terms.{termsOf};
 ghost use Rattle.waist.specs.Working.{lent, workOf};
 ghost use Rattle.waist.specs.Standing.{Standing, Makes};
@@ -17,6 +18,8 @@ ghost use Rattle.waist.specs.Ending.{outcomeOf, Goes};
 ghost use Rattle.waist.specs.Tags.{tagAt};
 ghost use Rattle.waist.specs.Lowering.{nearPlace};
 ghost use Rattle.removal.specs.Tag.{Stands, TagLives};
+ghost use Rattle.removal.specs.Room.{Room};
+ghost use Rattle.removal.specs.Uses.{usesFrom};
 ghost use Rattle.removal.specs.Steps.{Removes};
 use crate::effects::remove_constraint_effects;
 use crate::marker::drop_marker;
@@ -113,6 +116,7 @@ fn remove_by(
     requires { ⌜ Standing false (markOf before) (lent words keys bytes reals values) ⌝ }
     requires { ⌜ TagLives marker other (lent words keys bytes reals values) ⌝ }
     requires { ⌜ count ≤ 16 ⌝ }
+    requires { ⌜ Room (usesFrom (now numbers) count 0) (read (lent words keys bytes reals values) .changes) ⌝ }
     ensures { λ r. ⌜ Removes budget (tagAt (lent (words .entry) (keys .entry) (bytes .entry) (reals .entry) (values .entry)) marker other) strength (now (numbers .entry)) count (workOf false (markOf before) 0 (lent (words .entry) (keys .entry) (bytes .entry) (reals .entry) (values .entry))) r (lent (words .exit) (keys .exit) (bytes .exit) (reals .exit) (values .exit)) ⌝ }
 {
     let taken = take_effects(
@@ -161,7 +165,7 @@ fn remove_by(
     passed
 }
 
-// Remove's steps on a stored constraint, or on an edit as one of one term, by the places of its tag; 0 is no other symbol.
+// Remove's steps on a stored constraint, or on an edit as one of one term, by the places of its tag; 0 is no other symbol. 25 "stands before the steps of removal": there is room for the entries that they make.
 pub fn remove_steps(
     words: &mut Words,
     keys: &mut Keys,
@@ -177,6 +181,7 @@ pub fn remove_steps(
 ) -> Ended
     requires { ⌜ Standing false (markOf before) (lent words keys bytes reals values) ⌝ }
     requires { ⌜ TagLives marker other (lent words keys bytes reals values) ⌝ }
+    requires { ⌜ Room (termsOf p) (read (lent words keys bytes reals values) .changes) ⌝ }
     ensures { λ r. ⌜ outcomeOf false r (lent (words .exit) (keys .exit) (bytes .exit) (reals .exit) (values .exit)) ≡ removeSteps budget (tagAt (lent (words .entry) (keys .entry) (bytes .entry) (reals .entry) (values .entry)) marker other) strength (termsOf p) (workOf false (markOf before) 0 (lent (words .entry) (keys .entry) (bytes .entry) (reals .entry) (values .entry))) ⌝ }
     ensures { λ r. ⌜ Goes false r (lent (words .exit) (keys .exit) (bytes .exit) (reals .exit) (values .exit)) ⌝ }
 {

@@ -1,23 +1,27 @@
-// "Use counts fall; a variable at zero goes with its row and cells and leaves the changed set without notice."
+// "Use counts fall; a variable at zero goes with its row and cells and leaves the changed set; the next fetch lists it as gone if it was reported."
 ghost use mathlib.Core.Path.{_≡_};
 ghost use mathlib.Core.Bool.{false};
+ghost use mathlib.Core.List.{[], _∷_};
 ghost use Prim.Native.Nat.{_≤_};
 ghost use Rattle.steps.specs.Number.{Mark};
 ghost use Rattle.steps.specs.Remove.{dropUse, dropUses};
+ghost use Rattle.sparse.specs.Sparse.{read};
 ghost use Rattle.waist.specs.Working.{lent};
 ghost use Rattle.waist.specs.Standing.{Standing, Makes};
 ghost use Rattle.removal.specs.Tag.{Stands};
+ghost use Rattle.removal.specs.Room.{Room};
 ghost use Rattle.removal.specs.Uses.{useOf, usesFrom};
 use sparse::Bytes;
 use sparse::Keys;
 use sparse::Reals;
 use sparse::Values;
 use sparse::Words;
+use variables::gone::tell_gone;
 use variables::less::Gone;
 use variables::less::use_less;
 use waist::symbols::purge;
 
-// One use of the variable less: one that goes is purged.
+// One use of the variable less: one that goes is told, and purged.
 fn drop_use(
     words: &mut Words,
     keys: &mut Keys,
@@ -27,12 +31,14 @@ fn drop_use(
     n: u64,
 )
     requires { ⌜ Stands (lent words keys bytes reals values) ⌝ }
+    requires { ⌜ Room (useOf n ∷ []) (read (lent words keys bytes reals values) .changes) ⌝ }
     ensures { λ _. ⌜ ((a : Mark) → Standing false a (lent (words .entry) (keys .entry) (bytes .entry) (reals .entry) (values .entry)) → Makes false false a a (dropUse (useOf n)) (lent (words .entry) (keys .entry) (bytes .entry) (reals .entry) (values .entry)) (lent (words .exit) (keys .exit) (bytes .exit) (reals .exit) (values .exit))) ⌝ }
 {
     let g = use_less(words, bytes, reals, n);
-    let Gone::Place(p) = g else {
+    let Gone::Place(p, unreported) = g else {
         return;
     };
+    tell_gone(words, n, unreported);
     purge(words, keys, bytes, reals, values, p);
 }
 
@@ -54,6 +60,7 @@ pub fn drop_uses(
 )
     requires { ⌜ Stands (lent words keys bytes reals values) ⌝ }
     requires { ⌜ count ≤ 16 ⌝ }
+    requires { ⌜ Room (usesFrom (now numbers) count 0) (read (lent words keys bytes reals values) .changes) ⌝ }
     ensures { λ _. ⌜ ((a : Mark) → Standing false a (lent (words .entry) (keys .entry) (bytes .entry) (reals .entry) (values .entry)) → Makes false false a a (dropUses (usesFrom (now (numbers .entry)) count 0)) (lent (words .entry) (keys .entry) (bytes .entry) (reals .entry) (values .entry)) (lent (words .exit) (keys .exit) (bytes .exit) (reals .exit) (values .exit))) ⌝ }
 {
     let mut j = 0;

@@ -16,8 +16,8 @@ use Rattle.steps.specs.Work.{Work, Outcome, refused, going, checkFinite, markin
 use Rattle.steps.specs.Add.{wholeWithin, wholeTerms, wholeInputs, Added, addSteps}
 use Rattle.steps.specs.Remove.{removeSteps}
 use Rattle.steps.specs.Edit.{editTerms, addEditSteps, shiftConstants, suggestSteps}
-use Rattle.steps.specs.Tests.{Test, firstRefusal, addTests, addEditTests, keptTerms, variablesFull, constraintsFull, idsUsed, hasConstraint, hasEdit, findConstraint, keepConstraint, dropConstraint, findEdit, keepEdit, dropEdit}
-use Rattle.steps.specs.Calls.{Result, begin, finish, refusedBy, acceptedAs, conclude, concludeAdd, add, remove, addEdit, removeEdit, suggest, removeStored}
+use Rattle.steps.specs.Tests.{goneFull, Test, firstRefusal, addTests, addEditTests, keptTerms, variablesFull, constraintsFull, idsUsed, hasConstraint, hasEdit, findConstraint, keepConstraint, dropConstraint, findEdit, keepEdit, dropEdit}
+use Rattle.steps.specs.Calls.{Result, begin, finish, refusedBy, acceptedAs, conclude, concludeAdd, add, unlessFull, remove, addEdit, removeEditStored, removeEdit, suggest, removeStored}
 use Rattle.steps.proofs.After.{says-whole}
 use Rattle.steps.proofs.AfterRemove.{shift-after}
 use Rattle.bridge.specs.Nums.{whole-if}
@@ -256,15 +256,20 @@ module _ (z : Float) (fz : cutoffFits z ≡ true) (s : State) (h : Sound s) wher
       stores w = finish w (dropConstraint n (s .constraints)) (s .edits)
 
   pub remove-twin : (n b : ℕ) → remove n b s .answer .whole ≡ true → Twin z (remove n b s) (remove n b (recutS z s))
-  unfolding remove
+  unfolding remove unlessFull goneFull
   remove-twin n b = go (findConstraint n (s .constraints)) (findC-u (λ (c : Constraint). Unbroken (c .strength)) n (s .constraints) (h .strengths))
     where
       at : Option Constraint → State → Result
-      at o s = elim o as (λ _. Result) [ none ↦ refusedBy 5 0 (s .whole) s | some c ↦ removeStored n c b s ]
+      at o s = elim o as (λ _. Result) [ none ↦ refusedBy 5 0 (s .whole) s | some c ↦ unlessFull (c .terms) s (removeStored n c b s) ]
 
       go : (o : Option Constraint) → HoldsC (λ (c : Constraint). Unbroken (c .strength)) o → at o s .answer .whole ≡ true → Twin z (at o s) (at o (recutS z s))
       go none u w = refused-twin 5 0 (s .whole)
-      go (some c) u w = stored-twin n c u b w
+      go (some c) u w = full (goneFull (c .terms) s) w
+        where
+          full : (f : Bool) → elim f as (λ _. Result) [ true ↦ refusedBy 25 0 (s .whole) s | false ↦ removeStored n c b s ] .answer .whole ≡ true
+              → Twin z (elim f as (λ _. Result) [ true ↦ refusedBy 25 0 (s .whole) s | false ↦ removeStored n c b s ]) (elim f as (λ _. Result) [ true ↦ refusedBy 25 0 (s .whole) (recutS z s) | false ↦ removeStored n c b (recutS z s) ])
+          full true w = refused-twin 25 0 (s .whole)
+          full false w = stored-twin n c u b w
 
   pub addEdit-twin : (n : ℕ) (k : Float) (b : ℕ) → addEdit n k b s .answer .whole ≡ true → Twin z (addEdit n k b s) (addEdit n k b (recutS z s))
   unfolding addEdit addEditSteps strengthOf
@@ -285,21 +290,29 @@ module _ (z : Float) (fz : cutoffFits z ≡ true) (s : State) (h : Sound s) wher
           (λ a p. finish-sound (a .work) (s .constraints) _ p (h .strengths) (keepE-u (λ (e : Edit). Unbroken (e .strength) × Unbroken (e .suggestion)) _ (s .edits) (A .1 .strength, zero-unbroken) (h .edits)))
 
   pub removeEdit-twin : (n b : ℕ) → removeEdit n b s .answer .whole ≡ true → Twin z (removeEdit n b s) (removeEdit n b (recutS z s))
-  unfolding removeEdit
+  unfolding removeEdit removeEditStored unlessFull goneFull
   removeEdit-twin n b = go (findEdit n (s .edits)) (findE-u (λ (e : Edit). Unbroken (e .strength) × Unbroken (e .suggestion)) n (s .edits) (h .edits))
     where
       stores : State → Work → State
       stores s w = finish w (s .constraints) (dropEdit n (s .edits))
 
       at : Option Edit → State → Result
-      at o s = elim o as (λ _. Result) [ none ↦ refusedBy 8 0 (s .whole) s | some e ↦ conclude s (removeSteps b (e .tag) (e .strength) (editTerms n) (begin s)) (stores s) ]
+      at o s = elim o as (λ _. Result) [ none ↦ refusedBy 8 0 (s .whole) s | some e ↦ unlessFull (editTerms n) s (removeEditStored n e b s) ]
 
       go : (o : Option Edit) → HoldsE (λ (e : Edit). Unbroken (e .strength) × Unbroken (e .suggestion)) o → at o s .answer .whole ≡ true → Twin z (at o s) (at o (recutS z s))
       go none u w = refused-twin 8 0 (s .whole)
-      go (some e) u w =
-          concluded (removeSteps b (e .tag) (e .strength) (editTerms n) (begin s)) (removeSteps b (e .tag) (e .strength) (editTerms n) (begin (recutS z s)))
-          (removed b (e .tag) (e .strength) (u .0) (editTerms n) (steps-mark (removeSteps b (e .tag) (e .strength) (editTerms n) (begin s)) (stores s) w)) (stores s) (stores (recutS z s)) (λ v. finished v _ _)
-          (λ v p. finish-sound v (s .constraints) (dropEdit n (s .edits)) p (h .strengths) (dropE-u (λ (e : Edit). Unbroken (e .strength) × Unbroken (e .suggestion)) n (s .edits) (h .edits)))
+      go (some e) u w = full (goneFull (editTerms n) s) w
+        where
+          made : Unbroken (e .strength) → removeEditStored n e b s .answer .whole ≡ true → Twin z (removeEditStored n e b s) (removeEditStored n e b (recutS z s))
+          made u w =
+              concluded (removeSteps b (e .tag) (e .strength) (editTerms n) (begin s)) (removeSteps b (e .tag) (e .strength) (editTerms n) (begin (recutS z s)))
+              (removed b (e .tag) (e .strength) u (editTerms n) (steps-mark (removeSteps b (e .tag) (e .strength) (editTerms n) (begin s)) (stores s) w)) (stores s) (stores (recutS z s)) (λ v. finished v _ _)
+              (λ v p. finish-sound v (s .constraints) (dropEdit n (s .edits)) p (h .strengths) (dropE-u (λ (e : Edit). Unbroken (e .strength) × Unbroken (e .suggestion)) n (s .edits) (h .edits)))
+
+          full : (f : Bool) → elim f as (λ _. Result) [ true ↦ refusedBy 25 0 (s .whole) s | false ↦ removeEditStored n e b s ] .answer .whole ≡ true
+              → Twin z (elim f as (λ _. Result) [ true ↦ refusedBy 25 0 (s .whole) s | false ↦ removeEditStored n e b s ]) (elim f as (λ _. Result) [ true ↦ refusedBy 25 0 (s .whole) (recutS z s) | false ↦ removeEditStored n e b (recutS z s) ])
+          full true w = refused-twin 25 0 (s .whole)
+          full false w = made (u .0) w
 
   pub suggest-twin : (n : ℕ) (x : Float) (b : ℕ) → suggest n x b s .answer .whole ≡ true → Twin z (suggest n x b s) (suggest n x b (recutS z s))
   unfolding suggest

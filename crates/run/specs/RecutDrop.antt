@@ -12,7 +12,7 @@ use Rattle.steps.specs.Number.{cutoffFits, Mark, saysWhole}
 use Rattle.steps.specs.State.{Constraint, State}
 use Rattle.steps.specs.Work.{Work, Outcome}
 use Rattle.steps.specs.Remove.{removeSteps}
-use Rattle.steps.specs.Tests.{member, firstRefusal, dropTests, groupOf, dropConstraint}
+use Rattle.steps.specs.Tests.{member, firstRefusal, dropTests, groupOf, dropConstraint, goneFull}
 use Rattle.steps.specs.Calls.{Result, begin, finish, refusedBy, acceptedAs, conclude, removeStored, onward, removeAll, allOrNone, dropGroup}
 use Rattle.steps.proofs.After.{says-whole}
 use Rattle.steps.proofs.Ends.{Within, Ends, stops, goes}
@@ -118,7 +118,7 @@ module _ (z : Float) (fz : cutoffFits z ≡ true) where
       go false ih = ih
 
   pub drop-twin : (s : State) → Sound s → (g b : ℕ) → dropGroup g b s .answer .whole ≡ true → Twin z (dropGroup g b s) (dropGroup g b (recutS z s))
-  unfolding dropGroup dropTests
+  unfolding dropGroup dropTests goneFull
   drop-twin s h g b = go (firstRefusal (dropTests g s))
     where
       all : State → Result

@@ -9,14 +9,14 @@ use Rattle.exact.specs.Unbroken.{Unbroken, neg-unbroken, add-unbroken, sub-unbr
 use Rattle.steps.specs.Number.{zero64, objectiveBound, constantBound, _-₆₄_, _*₆₄_, cutoffFits, allWhole, wholeIf}
 use Rattle.steps.specs.Symbol.{Symbol, isExternal, isError, isSymbol, absent, coefficientFor}
 use Rattle.steps.specs.Row.{Row, Cell, cellValues, cellMarks, insertCells, untouched}
-use Rattle.steps.specs.State.{Term, Tag, Basic, Edit}
+use Rattle.steps.specs.State.{Term, Tag, Basic, Edit, Variable}
 use Rattle.steps.specs.Work.{Work, Outcome, going, _>>=_, refuse, checkFinite, withTableau, withChanges, marking, withRows, withObjective, findRow, dropRow, purge}
-use Rattle.steps.specs.Changes.{note}
+use Rattle.steps.specs.Changes.{note, tellGone}
 use Rattle.steps.specs.CreateRow.{insertInObjective, withVariables}
 use Rattle.steps.specs.Substitute.{rowsOf, pivot}
 use Rattle.steps.specs.Optimise.{theObjective, optimise, dualOptimise}
 use Rattle.steps.specs.Add.{wholeWithin}
-use Rattle.steps.specs.Remove.{insertRowInObjective, removeMarkerEffects, removeConstraintEffects, getMarkerLeavingRow, noteLeaving, dropMarker, purgeTag, useLess, dropUse, dropUses, removeSteps}
+use Rattle.steps.specs.Remove.{insertRowInObjective, removeMarkerEffects, removeConstraintEffects, getMarkerLeavingRow, noteLeaving, dropMarker, purgeTag, useLess, lose, dropUse, dropUses, removeSteps}
 use Rattle.steps.specs.Edit.{isBasicRow, ownShift, cellShift, shiftOf, shiftRow, shiftRows, shiftConstants, suggestSteps}
 use Rattle.bridge.specs.Runs.{markOf, optimise-mark, dual-mark}
 use Rattle.run.specs.RemoveMarks.{drop-mark, purge-mark, uses-mark}
@@ -136,7 +136,7 @@ module _ (z : Float) (fz : cutoffFits z ≡ true) where
       go (some x) = then (purge (tag .marker .id)) (purge-twin (tag .marker .id)) (purge-twin (x .id) w p)
 
   use-twin : (t : Term) (w : Work) → Plain w → Twin z (dropUse t w) (dropUse t (recut z w))
-  unfolding dropUse withVariables withChanges
+  unfolding dropUse lose withVariables withChanges
   use-twin t w p = go (useLess (t .variable) (w .changes .variables) .gone)
     where
       v : Work
@@ -145,12 +145,15 @@ module _ (z : Float) (fz : cutoffFits z ≡ true) where
       q : Plain v
       q = record { rows = p .rows; objective = p .objective; artificial = p .artificial; fits = p .fits }
 
-      at : Option Symbol → Work → Work
-      at o v = elim o as (λ _. Work) [ none ↦ v | some s ↦ purge (s .id) v ]
+      at : Option Variable → Work → Work
+      at o v = elim o as (λ _. Work) [ none ↦ v | some x ↦ lose x v ]
 
-      go : (o : Option Symbol) → Twin z (at o v) (at o (recut z v))
+      told : (x : Variable) → Plain (withChanges (tellGone x (v .changes)) v)
+      told x = record { rows = p .rows; objective = p .objective; artificial = p .artificial; fits = p .fits }
+
+      go : (o : Option Variable) → Twin z (at o v) (at o (recut z v))
       go none = (refl, q)
-      go (some s) = purge-twin (s .id) v q
+      go (some x) = purge-twin (x .symbol .id) (withChanges (tellGone x (v .changes)) v) (told x)
 
   uses-twin : (ts : List Term) (w : Work) → Plain w → Twin z (dropUses ts w) (dropUses ts (recut z w))
   unfolding dropUses

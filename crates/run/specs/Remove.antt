@@ -1,7 +1,7 @@
--- A REMOVAL KEEPS THE INVARIANT of a whole run, of a constraint and of an edit, accepted or refused; and it is refused 5 (8 for an edit) or 14 only. Assumes nothing.
+-- A REMOVAL KEEPS THE INVARIANT of a whole run, of a constraint and of an edit, accepted or refused; and it is refused 5 (8 for an edit), 25 or 14 only. Assumes nothing.
 use mathlib.Core.Path.{_≡_, refl, sym, ap, _∙_, subst}
 use mathlib.Core.Logic.{_⊎_, inl, inr}
-use mathlib.Core.Bool.{true}
+use mathlib.Core.Bool.{Bool, true, false}
 use mathlib.Core.List.{List, map}
 use mathlib.Core.Option.{Option, none, some}
 use Prim.Native.Nat.{ℕ, _+_, _<_}
@@ -11,9 +11,9 @@ use Rattle.steps.specs.Number.{allWhole, saysWhole}
 use Rattle.steps.specs.State.{Term, strengthOf, Tag, Constraint, Edit}
 use Rattle.steps.specs.Work.{Work, Outcome, refused, going}
 use Rattle.steps.specs.Edit.{editTerms}
-use Rattle.steps.specs.Tests.{findConstraint, dropConstraint, findEdit, dropEdit}
+use Rattle.steps.specs.Tests.{findConstraint, dropConstraint, findEdit, dropEdit, goneFull}
 use Rattle.steps.specs.Remove.{removeSteps}
-use Rattle.steps.specs.Calls.{Result, begin, finish, refusedBy, acceptedAs, conclude, remove, removeEdit, removeStored}
+use Rattle.steps.specs.Calls.{Result, begin, finish, refusedBy, acceptedAs, conclude, unlessFull, remove, removeEditStored, removeEdit, removeStored}
 use Rattle.steps.specs.Readable.{readable, usesIn}
 use Rattle.steps.proofs.After.{says-whole}
 use Rattle.keeps.specs.Lists.{Up}
@@ -29,10 +29,10 @@ use Rattle.run.specs.RemoveUses.{Unnamed}
 use Rattle.run.specs.RemoveEnds.{Removed, Ends, steps-end}
 use Rattle.run.specs.RemoveStored.{edit-terms, split-constraint, split-edit, unnamed, constraints-less, edits-beside, edits-less, constraints-beside}
 
--- what is known of a call that removes: `tested` is the refusal of its test before the steps
+-- what is known of a call that removes: `tested` is the refusal of its own test before the steps, and 25 that of both
 pub record After (c : Call) (tested : ℕ) (m : Moment) : Type 0 where
   pub inv : Inv (next c m)
-  pub number : (make c (m .state) .answer .number ≡ 0) ⊎ ((make c (m .state) .answer .number ≡ tested) ⊎ (make c (m .state) .answer .number ≡ 14))
+  pub number : (make c (m .state) .answer .number ≡ 0) ⊎ ((make c (m .state) .answer .number ≡ tested) ⊎ ((make c (m .state) .answer .number ≡ 25) ⊎ (make c (m .state) .answer .number ≡ 14)))
 
 -- ---- the moment after: cs and es are what is stored then
 module _ (m : Moment) (I : Inv m) (k : Key) (h : Held) (found : findHeld k (I .held) ≡ some h) (cs : List Constraint) (es : List Edit)
@@ -90,7 +90,7 @@ module _ (m : Moment) (I : Inv m) (k : Key) (h : Held) (found : findHeld k (I .h
     unfolding conclude markOf refusedBy acceptedAs
     ended (refused n p q) e z w = record {
       inv = unchanged c m n p (saysWhole q) e (ap (λ (i : ℕ). eqb i 0) (z .0)) I;
-      number = inr (inr (ap (λ (r : Result). r .answer .number) e ∙ z .0));
+      number = inr (inr (inr (ap (λ (r : Result). r .answer .number) e ∙ z .0)));
     }
     ended (going x) e z w = record {
       inv = changed c m x (finish x cs es) e (subst (λ (l : List Demand). Inv (record { state = finish x cs es; live = l })) (sym gone) (after-inv x z w));
@@ -114,7 +114,7 @@ steps-same budget s {t} {u} {a} {b} {ts} {us} p q r = ap (λ (t : Tag). removeSt
 
 -- ---- a constraint
 remove-after : (m : Moment) (n b : ℕ) → Inv m → readable (m .state) ≡ true → make (removes n b) (m .state) .answer .whole ≡ true → After (removes n b) 5 m
-unfolding make remove removeStored accepted
+unfolding make remove removeStored unlessFull accepted
 remove-after m n b I R = at (findConstraint n (m .state .constraints)) refl (findHeld (ofConstraint n) (I .held)) refl (I .constraints n)
   where
     r : Reads (m .state)
@@ -127,9 +127,11 @@ remove-after m n b I R = at (findConstraint n (m .state .constraints)) refl (fin
         e = rw (q, remove) refl
     at none q (some h) f a w = absurd a
     at (some d) q none f a w = absurd a
-    at (some d) q (some h) f a w = answered m I (ofConstraint n) h f (dropConstraint n (m .state .constraints)) (m .state .edits) split
-        (unnamed (dropConstraint n (m .state .constraints)) (m .state .edits) (withoutHeld (ofConstraint n) (I .held)) (once-out (ofConstraint n) (I .held) (I .once)) con edi) (r .variables-up) con edi b (removes n b) 5 refl is w
+    at (some d) q (some h) f a w = full (goneFull (d .terms) (m .state)) refl
       where
+        refused-full : goneFull (d .terms) (m .state) ≡ true → make (removes n b) (m .state) ≡ refusedBy 25 0 (m .state .whole) (m .state)
+        refused-full g = rw (q, g, remove, unlessFull) refl
+
         con : (i : ℕ) → ConstraintAt (findConstraint i (dropConstraint n (m .state .constraints))) (findHeld (ofConstraint i) (withoutHeld (ofConstraint n) (I .held)))
         con = constraints-less (m .state .constraints) (m .state .edits) (I .held) (I .once) (I .constraints) (I .edits) n (r .constraints-up)
 
@@ -141,12 +143,17 @@ remove-after m n b I R = at (findConstraint n (m .state .constraints)) refl (fin
             r .uses x ∙ split-constraint x n (m .state .constraints) (m .state .edits) d q
             ∙ ap (λ (ts : List Term). usesIn x ts + usedBy x (dropConstraint n (m .state .constraints)) (m .state .edits)) (a .terms)
 
-        is : make (removes n b) (m .state) ≡ conclude (m .state) (removeSteps b (h .tag) (strengthOf (h .demand .relation)) (nonZeroTerms (h .demand .terms)) (begin (m .state))) (λ w. finish w (dropConstraint n (m .state .constraints)) (m .state .edits))
-        is = rw (q, remove) (ap (λ (t : Outcome Work). conclude (m .state) t (λ w. finish w (dropConstraint n (m .state .constraints)) (m .state .edits))) (steps-same b (begin (m .state)) (a .tag) (a .strength) (a .terms)))
+        is : goneFull (d .terms) (m .state) ≡ false → make (removes n b) (m .state) ≡ conclude (m .state) (removeSteps b (h .tag) (strengthOf (h .demand .relation)) (nonZeroTerms (h .demand .terms)) (begin (m .state))) (λ w. finish w (dropConstraint n (m .state .constraints)) (m .state .edits))
+        is g = rw (q, g, remove, unlessFull) (ap (λ (t : Outcome Work). conclude (m .state) t (λ w. finish w (dropConstraint n (m .state .constraints)) (m .state .edits))) (steps-same b (begin (m .state)) (a .tag) (a .strength) (a .terms)))
+
+        full : (t : Bool) → goneFull (d .terms) (m .state) ≡ t → After (removes n b) 5 m
+        full true g = record { inv = unchanged (removes n b) m 25 0 (m .state .whole) (refused-full g) refl I; number = inr (inr (inl (ap (λ (r : Result). r .answer .number) (refused-full g) ∙ unfold refusedBy in refl))) }
+        full false g = answered m I (ofConstraint n) h f (dropConstraint n (m .state .constraints)) (m .state .edits) split
+            (unnamed (dropConstraint n (m .state .constraints)) (m .state .edits) (withoutHeld (ofConstraint n) (I .held)) (once-out (ofConstraint n) (I .held) (I .once)) con edi) (r .variables-up) con edi b (removes n b) 5 refl (is g) w
 
 -- ---- an edit
 removeEdit-after : (m : Moment) (u b : ℕ) → Inv m → readable (m .state) ≡ true → make (removesEdit u b) (m .state) .answer .whole ≡ true → After (removesEdit u b) 8 m
-unfolding make removeEdit accepted
+unfolding make removeEdit removeEditStored unlessFull accepted
 removeEdit-after m u b I R = at (findEdit u (m .state .edits)) refl (findHeld (ofEdit u) (I .held)) refl (I .edits u)
   where
     r : Reads (m .state)
@@ -159,9 +166,11 @@ removeEdit-after m u b I R = at (findEdit u (m .state .edits)) refl (findHeld (o
         e = rw (q, removeEdit) refl
     at none q (some h) f a w = absurd a
     at (some d) q none f a w = absurd a
-    at (some d) q (some h) f a w = answered m I (ofEdit u) h f (m .state .constraints) (dropEdit u (m .state .edits)) split
-        (unnamed (m .state .constraints) (dropEdit u (m .state .edits)) (withoutHeld (ofEdit u) (I .held)) (once-out (ofEdit u) (I .held) (I .once)) con edi) (r .variables-up) con edi b (removesEdit u b) 8 refl is w
+    at (some d) q (some h) f a w = full (goneFull (editTerms u) (m .state)) refl
       where
+        refused-full : goneFull (editTerms u) (m .state) ≡ true → make (removesEdit u b) (m .state) ≡ refusedBy 25 0 (m .state .whole) (m .state)
+        refused-full g = rw (q, g, removeEdit, unlessFull) refl
+
         con : (i : ℕ) → ConstraintAt (findConstraint i (m .state .constraints)) (findHeld (ofConstraint i) (withoutHeld (ofEdit u) (I .held)))
         con = constraints-beside (m .state .constraints) (m .state .edits) (I .held) (I .once) (I .constraints) (I .edits) u
 
@@ -179,8 +188,13 @@ removeEdit-after m u b I R = at (findEdit u (m .state .edits)) refl (findHeld (o
         own-strength : d .strength ≡ strengthOf (h .demand .relation)
         own-strength = sym (ap strengthOf (a .relation) ∙ unfold strengthOf in refl)
 
-        is : make (removesEdit u b) (m .state) ≡ conclude (m .state) (removeSteps b (h .tag) (strengthOf (h .demand .relation)) (nonZeroTerms (h .demand .terms)) (begin (m .state))) (λ w. finish w (m .state .constraints) (dropEdit u (m .state .edits)))
-        is = rw (q, removeEdit) (ap (λ (t : Outcome Work). conclude (m .state) t (λ w. finish w (m .state .constraints) (dropEdit u (m .state .edits)))) (steps-same b (begin (m .state)) (a .tag) own-strength own-terms))
+        is : goneFull (editTerms u) (m .state) ≡ false → make (removesEdit u b) (m .state) ≡ conclude (m .state) (removeSteps b (h .tag) (strengthOf (h .demand .relation)) (nonZeroTerms (h .demand .terms)) (begin (m .state))) (λ w. finish w (m .state .constraints) (dropEdit u (m .state .edits)))
+        is g = rw (q, g, removeEdit, unlessFull) (ap (λ (t : Outcome Work). conclude (m .state) t (λ w. finish w (m .state .constraints) (dropEdit u (m .state .edits)))) (steps-same b (begin (m .state)) (a .tag) own-strength own-terms))
+
+        full : (t : Bool) → goneFull (editTerms u) (m .state) ≡ t → After (removesEdit u b) 8 m
+        full true g = record { inv = unchanged (removesEdit u b) m 25 0 (m .state .whole) (refused-full g) refl I; number = inr (inr (inl (ap (λ (r : Result). r .answer .number) (refused-full g) ∙ unfold refusedBy in refl))) }
+        full false g = answered m I (ofEdit u) h f (m .state .constraints) (dropEdit u (m .state .edits)) split
+            (unnamed (m .state .constraints) (dropEdit u (m .state .edits)) (withoutHeld (ofEdit u) (I .held)) (once-out (ofEdit u) (I .held) (I .once)) con edi) (r .variables-up) con edi b (removesEdit u b) 8 refl (is g) w
 
 -- ---- A REMOVAL KEEPS THE INVARIANT
 pub remove-inv : (m : Moment) (n b : ℕ) → Inv m → readable (m .state) ≡ true → make (removes n b) (m .state) .answer .whole ≡ true → Inv (next (removes n b) m)
@@ -191,9 +205,9 @@ removeEdit-inv m u b I R w = removeEdit-after m u b I R w .inv
 
 -- ---- and answers nothing but these
 pub remove-refusals : (m : Moment) (n b : ℕ) → Inv m → readable (m .state) ≡ true → make (removes n b) (m .state) .answer .whole ≡ true
-    → (make (removes n b) (m .state) .answer .number ≡ 0) ⊎ ((make (removes n b) (m .state) .answer .number ≡ 5) ⊎ (make (removes n b) (m .state) .answer .number ≡ 14))
+    → (make (removes n b) (m .state) .answer .number ≡ 0) ⊎ ((make (removes n b) (m .state) .answer .number ≡ 5) ⊎ ((make (removes n b) (m .state) .answer .number ≡ 25) ⊎ (make (removes n b) (m .state) .answer .number ≡ 14)))
 remove-refusals m n b I R w = remove-after m n b I R w .number
 
 pub removeEdit-refusals : (m : Moment) (u b : ℕ) → Inv m → readable (m .state) ≡ true → make (removesEdit u b) (m .state) .answer .whole ≡ true
-    → (make (removesEdit u b) (m .state) .answer .number ≡ 0) ⊎ ((make (removesEdit u b) (m .state) .answer .number ≡ 8) ⊎ (make (removesEdit u b) (m .state) .answer .number ≡ 14))
+    → (make (removesEdit u b) (m .state) .answer .number ≡ 0) ⊎ ((make (removesEdit u b) (m .state) .answer .number ≡ 8) ⊎ ((make (removesEdit u b) (m .state) .answer .number ≡ 25) ⊎ (make (removesEdit u b) (m .state) .answer .number ≡ 14)))
 removeEdit-refusals m u b I R w = removeEdit-after m u b I R w .number

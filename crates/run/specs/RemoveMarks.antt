@@ -18,11 +18,12 @@ use Rattle.steps.specs.Number.{Mark, allWhole, notWhole, notFinite, belowZero}
 use Rattle.steps.specs.Strength.{required}
 use Rattle.steps.specs.Symbol.{Symbol}
 use Rattle.steps.specs.Row.{Row}
-use Rattle.steps.specs.State.{Term, Tag, Relation, atMost, equal, atLeast, strengthOf}
+use Rattle.steps.specs.State.{Term, Tag, Relation, atMost, equal, atLeast, strengthOf, Variable}
 use Rattle.steps.specs.Work.{Work, Outcome, refused, going, _>>=_, refuse, checkFinite, withRows, withTableau, withChanges, findRow, dropRow, purge}
 use Rattle.steps.specs.CreateRow.{withVariables}
 use Rattle.steps.specs.Substitute.{pivot}
-use Rattle.steps.specs.Remove.{getMarkerLeavingRow, noteLeaving, dropMarker, purgeTag, Fallen, useLess, dropUse, dropUses}
+use Rattle.steps.specs.Changes.{tellGone}
+use Rattle.steps.specs.Remove.{getMarkerLeavingRow, noteLeaving, dropMarker, purgeTag, useLess, lose, dropUse, dropUses}
 use Rattle.bridge.specs.Finds.{none≢some}
 use Rattle.bridge.specs.Runs.{markOf, pivot-mark}
 use Rattle.run.specs.Inv.{formOf, Shaped}
@@ -61,15 +62,15 @@ purge-mark tag w = go (tag .other)
     go (some o) = cut (tag .marker .id) (purge (o .id) w) .mark ∙ cut (o .id) w .mark
 
 use-mark : (t : Term) (w : Work) → dropUse t w .mark ≡ w .mark
-unfolding dropUse withVariables withChanges
-use-mark t w = go (useLess (t .variable) (w .changes .variables))
+unfolding dropUse lose withVariables withChanges
+use-mark t w = go (useLess (t .variable) (w .changes .variables) .gone)
   where
-    by : (f : Fallen) (o : Option Symbol) → (elim o as (λ x. Work) [ none ↦ withVariables (f .variables) w | some s ↦ purge (s .id) (withVariables (f .variables) w) ]) .mark ≡ w .mark
-    by f none = refl
-    by f (some s) = cut (s .id) (withVariables (f .variables) w) .mark
+    left : Work
+    left = withVariables (useLess (t .variable) (w .changes .variables) .variables) w
 
-    go : (f : Fallen) → (elim (f .gone) as (λ x. Work) [ none ↦ withVariables (f .variables) w | some s ↦ purge (s .id) (withVariables (f .variables) w) ]) .mark ≡ w .mark
-    go f = by f (f .gone)
+    go : (o : Option Variable) → (elim o as (λ x. Work) [ none ↦ left | some v ↦ lose v left ]) .mark ≡ w .mark
+    go none = refl
+    go (some v) = cut (v .symbol .id) (withChanges (tellGone v (left .changes)) left) .mark
 
 pub uses-mark : (ts : List Term) (w : Work) → dropUses ts w .mark ≡ w .mark
 unfolding dropUses

@@ -23,9 +23,9 @@ use Rattle.simplex.specs.Gone.{tag-kind, not-variable}
 use Rattle.steps.specs.Symbol.{Symbol}
 use Rattle.steps.specs.State.{Term, Variable, Changes}
 use Rattle.steps.specs.Work.{Work, withChanges, purge}
-use Rattle.steps.specs.Changes.{findVariable}
+use Rattle.steps.specs.Changes.{findVariable, tellGone}
 use Rattle.steps.specs.CreateRow.{withVariables}
-use Rattle.steps.specs.Remove.{Fallen, useLess, dropUse, dropUses}
+use Rattle.steps.specs.Remove.{Fallen, useLess, lose, dropUse, dropUses}
 use Rattle.steps.specs.Readable.{usesIn}
 use Rattle.bridge.specs.Rows.{In}
 use Rattle.bridge.specs.Finds.{none≢some}
@@ -193,14 +193,14 @@ module _ (sym name : ℕ → ℕ) (held : List Held) (K : ℕ → ℕ) (S : Stat
     }
 
     -- it goes: no demand names it
-    goes : (u : Variable) → findVariable x us ≡ some u → u .uses ≡ 1 → (ws : List Variable) → Looks x none us ws → Went ts w (purge (u .symbol .id) (withVariables ws w))
-    unfolding withVariables withChanges
-    goes u e one ws L = subst (λ (c : ℕ). Went ts w (purge c (withVariables ws w))) (back (column u e .0)) (record {
+    goes : (u : Variable) → findVariable x us ≡ some u → u .uses ≡ 1 → (ws : List Variable) → Looks x none us ws → Went ts w (lose u (withVariables ws w))
+    unfolding lose tellGone withVariables withChanges
+    goes u e one ws L = subst (λ (c : ℕ). Went ts w (purge c told)) (back (column u e .0)) (record {
       kind′ = at (sym x) external kind;
-      used = purge-using kind ts (withVariables ws w) W (sym x) in-n c≢0 F (column u e .3) apart;
-      nextId = cut (sym x) (withVariables ws w) .nextId;
-      mark = cut (sym x) (withVariables ws w) .mark;
-      pivots = cut (sym x) (withVariables ws w) .pivots;
+      used = purge-using kind ts told W (sym x) in-n c≢0 F (column u e .3) apart;
+      nextId = cut (sym x) told .nextId;
+      mark = cut (sym x) told .mark;
+      pivots = cut (sym x) told .pivots;
     })
       where
         unnamed : Unnamed x held
@@ -220,24 +220,28 @@ module _ (sym name : ℕ → ℕ) (held : List Held) (K : ℕ → ℕ) (S : Stat
             all-zip {P = λ (h : Held). All (λ (t : Term). findVariable (t .variable) us ≢ none) (nonZeroTerms (h .demand .terms))}
             (λ (h : Held) a b. all-zip {P = λ (t : Term). findVariable (t .variable) us ≢ none} (λ (t : Term) k m q. k (back (L .others (t .variable) m) ∙ q)) (nonZeroTerms (h .demand .terms)) a b) held (U .known) unnamed
 
-        W : Using sym name held K S kind ts (withVariables ws w)
-        W = renamed kind t ts w U ws none L tt tt (λ ne. absurd (ne refl)) kn
+        told : Work
+        told = withChanges (tellGone u (withVariables ws w .changes)) (withVariables ws w)
 
-        apart : (y : ℕ) → findVariable y (withVariables ws w .changes .variables) ≢ none → sym y ≢ sym x
+        W : Using sym name held K S kind ts told
+        W = let R = renamed kind t ts w U ws none L tt tt (λ ne. absurd (ne refl)) kn in
+            record { read = record { good = R .read .good; models = R .read .models; reads = R .read .reads; bare = R .read .bare }; rest = R .rest; room = R .room; ids = R .ids; vars = R .vars; names = R .names; single = R .single; known = R .known; counts = R .counts }
+
+        apart : (y : ℕ) → findVariable y (told .changes .variables) ≢ none → sym y ≢ sym x
         apart y ne = by-number y x (λ p. absurd (ne (ap (λ (z : ℕ). findVariable z ws) p ∙ L .own))) (λ p. other-name y p (λ q. ne (L .others y p ∙ q)) (found u e))
 
     step : Went ts w (dropUse t w)
     unfolding dropUse
     step = go (useLess x us) (use-less x us (U .single))
       where
-        go : (f : Fallen) → Fell x us f → Went ts w (elim (f .gone) [ none ↦ withVariables (f .variables) w | some s ↦ purge (s .id) (withVariables (f .variables) w) ])
+        go : (f : Fallen) → Fell x us f → Went ts w (elim (f .gone) [ none ↦ withVariables (f .variables) w | some gone ↦ lose gone (withVariables (f .variables) w) ])
         go f (absent a g L) =
-            subst (λ (o : Option Symbol). Went ts w (elim o [ none ↦ withVariables (f .variables) w | some s ↦ purge (s .id) (withVariables (f .variables) w) ])) (back g)
+            subst (λ (o : Option Variable). Went ts w (elim o [ none ↦ withVariables (f .variables) w | some gone ↦ lose gone (withVariables (f .variables) w) ])) (back g)
             (stays-on (f .variables) none L tt tt (λ ne. absurd (ne refl)) (λ b q. b a))
         go f (last u a o g L) =
-            subst (λ (o : Option Symbol). Went ts w (elim o [ none ↦ withVariables (f .variables) w | some s ↦ purge (s .id) (withVariables (f .variables) w) ])) (back g) (goes u a o (f .variables) L)
+            subst (λ (o : Option Variable). Went ts w (elim o [ none ↦ withVariables (f .variables) w | some gone ↦ lose gone (withVariables (f .variables) w) ])) (back g) (goes u a o (f .variables) L)
         go f (fewer u a o g L) =
-            subst (λ (o : Option Symbol). Went ts w (elim o [ none ↦ withVariables (f .variables) w | some s ↦ purge (s .id) (withVariables (f .variables) w) ])) (back g)
+            subst (λ (o : Option Variable). Went ts w (elim o [ none ↦ withVariables (f .variables) w | some gone ↦ lose gone (withVariables (f .variables) w) ])) (back g)
             (stays-on (f .variables) (some (lessUse u)) L (unfold lessUse in column u a) (unfold lessUse in omega (arith, count u a)) (λ _. U .names x (found u a)) (λ _ q. none≢some (back q)))
 
   -- ---- all the terms of the demand that goes

@@ -176,10 +176,11 @@ module _ (cut : Float) (fits : cutoffFits cut ≡ true) where
   finite-yes : (c : Changing) (s : State) → made c s .answer .whole ≡ true → made c s .answer .number ≢ 13
   finite-yes c s w e = true≢false (sym w ∙ not-finite-says-no c s e)
 
-  none-of : (k j : ℕ) → k ≢ 0 → k ≢ j → k ≢ 14 → (k ≡ 0) ⊎ ((k ≡ j) ⊎ (k ≡ 14)) → ⊥
-  none-of k j a b c (inl p) = a p
-  none-of k j a b c (inr (inl p)) = b p
-  none-of k j a b c (inr (inr p)) = c p
+  none-of : (k j : ℕ) → k ≢ 0 → k ≢ j → k ≢ 25 → k ≢ 14 → (k ≡ 0) ⊎ ((k ≡ j) ⊎ ((k ≡ 25) ⊎ (k ≡ 14))) → ⊥
+  none-of k j a b c d (inl p) = a p
+  none-of k j a b c d (inr (inl p)) = b p
+  none-of k j a b c d (inr (inr (inl p))) = c p
+  none-of k j a b c d (inr (inr (inr p))) = d p
 
   zero≢12 : _≡_ {A = ℕ} 0 12 → ⊥
   zero≢12 p = omega arith
@@ -212,23 +213,23 @@ module _ (cut : Float) (fits : cutoffFits cut ≡ true) where
       each (finite-yes c (after cut cs .state) w) (add-15 artificial-ends (after cut cs) g n ts k r b (inv-before c cs w) w) (other-number 16 c (after cut cs .state) tt) (other-number 17 c (after cut cs .state) tt)
   marked-numbers (removes n b) cs w =
       let c : Changing = changing.removes n b in
-      each (finite-yes c (after cut cs .state) w) (away 15 (λ p. omega arith) (λ p. omega arith) (λ p. omega arith)) (other-number 16 c (after cut cs .state) tt) (away 17 (λ p. omega arith) (λ p. omega arith) (λ p. omega arith))
+      each (finite-yes c (after cut cs .state) w) (away 15 (λ p. omega arith) (λ p. omega arith) (λ p. omega arith) (λ p. omega arith)) (other-number 16 c (after cut cs .state) tt) (away 17 (λ p. omega arith) (λ p. omega arith) (λ p. omega arith) (λ p. omega arith))
     where
-      away : (k : ℕ) → k ≢ 0 → k ≢ 5 → k ≢ 14 → make (removes n b) (after cut cs .state) .answer .number ≢ k
-      away k p q r e = none-of k 5 p q r (subst (λ (j : ℕ). (j ≡ 0) ⊎ ((j ≡ 5) ⊎ (j ≡ 14))) e (remove-refusals (after cut cs) n b (inv-before (changing.removes n b) cs w) (after-reads cs) w))
+      away : (k : ℕ) → k ≢ 0 → k ≢ 5 → k ≢ 25 → k ≢ 14 → make (removes n b) (after cut cs .state) .answer .number ≢ k
+      away k p q r s e = none-of k 5 p q r s (subst (λ (j : ℕ). (j ≡ 0) ⊎ ((j ≡ 5) ⊎ ((j ≡ 25) ⊎ (j ≡ 14)))) e (remove-refusals (after cut cs) n b (inv-before (changing.removes n b) cs w) (after-reads cs) w))
   marked-numbers (drops g b) cs w =
       let c : Changing = changing.drops g b in
       let N = drop-refusals (after cut cs) g b (inv-before c cs w) (after-reads cs) w in
-      each (finite-yes c (after cut cs .state) w) (N 15 (λ p. omega arith) (λ p. omega arith) (λ p. omega arith) (λ p. omega arith)) (other-number 16 c (after cut cs .state) tt) (N 17 (λ p. omega arith) (λ p. omega arith) (λ p. omega arith) (λ p. omega arith))
+      each (finite-yes c (after cut cs .state) w) (N 15 (λ p. omega arith) (λ p. omega arith) ((λ p. omega arith), (λ p. omega arith), λ p. omega arith)) (other-number 16 c (after cut cs .state) tt) (N 17 (λ p. omega arith) (λ p. omega arith) ((λ p. omega arith), (λ p. omega arith), λ p. omega arith))
   marked-numbers (addsEdit v k b) cs w =
       let c : Changing = changing.addsEdit v k b in
       each (finite-yes c (after cut cs .state) w) (addEdit-15 artificial-ends (after cut cs) v k b (inv-before c cs w) w) (other-number 16 c (after cut cs .state) tt) (other-number 17 c (after cut cs .state) tt)
   marked-numbers (removesEdit v b) cs w =
       let c : Changing = changing.removesEdit v b in
-      each (finite-yes c (after cut cs .state) w) (away 15 (λ p. omega arith) (λ p. omega arith) (λ p. omega arith)) (other-number 16 c (after cut cs .state) tt) (away 17 (λ p. omega arith) (λ p. omega arith) (λ p. omega arith))
+      each (finite-yes c (after cut cs .state) w) (away 15 (λ p. omega arith) (λ p. omega arith) (λ p. omega arith) (λ p. omega arith)) (other-number 16 c (after cut cs .state) tt) (away 17 (λ p. omega arith) (λ p. omega arith) (λ p. omega arith) (λ p. omega arith))
     where
-      away : (k : ℕ) → k ≢ 0 → k ≢ 8 → k ≢ 14 → make (removesEdit v b) (after cut cs .state) .answer .number ≢ k
-      away k p q r e = none-of k 8 p q r (subst (λ (j : ℕ). (j ≡ 0) ⊎ ((j ≡ 8) ⊎ (j ≡ 14))) e (removeEdit-refusals (after cut cs) v b (inv-before (changing.removesEdit v b) cs w) (after-reads cs) w))
+      away : (k : ℕ) → k ≢ 0 → k ≢ 8 → k ≢ 25 → k ≢ 14 → make (removesEdit v b) (after cut cs .state) .answer .number ≢ k
+      away k p q r s e = none-of k 8 p q r s (subst (λ (j : ℕ). (j ≡ 0) ⊎ ((j ≡ 8) ⊎ ((j ≡ 25) ⊎ (j ≡ 14)))) e (removeEdit-refusals (after cut cs) v b (inv-before (changing.removesEdit v b) cs w) (after-reads cs) w))
   marked-numbers (suggests v x b) cs w =
       let c : Changing = changing.suggests v x b in
       each (finite-yes c (after cut cs .state) w) (other-number 15 c (after cut cs .state) tt) (suggest-16 (after cut cs) v x b (inv-before c cs w) w) (other-number 17 c (after cut cs .state) tt)

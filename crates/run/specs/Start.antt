@@ -115,7 +115,7 @@ unfolding fetchChanges
 fetched s =
     same-trans (s .changes .variables) (cond (s .changes .shouldClear) (clearChanged (s .changes .variables)) (s .changes .variables)) _
     (same-cond (s .changes .shouldClear) (s .changes .variables) (clearChanged (s .changes .variables)) (s .changes .variables) (same-clear (s .changes .variables)) (same-refl (s .changes .variables)))
-    (same-reported (s .tableau .rows) (cond (s .changes .shouldClear) (clearChanged (s .changes .variables)) (s .changes .variables)))
+    (same-reported (s .changes .gone) (s .tableau .rows) (cond (s .changes .shouldClear) (clearChanged (s .changes .variables)) (s .changes .variables)))
 
 -- the invariant reads only the tables' numbers and the variables' names
 pub fetch-inv : (m : Moment) → Inv m → Inv (next fetches m)

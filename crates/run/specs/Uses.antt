@@ -64,7 +64,7 @@ pub record Looks (n : ℕ) (t : Option Variable) (vs us : List Variable) : Type 
 
 pub data Fell (n : ℕ) (vs : List Variable) (f : Fallen) : Type 0 where
   absent : findVariable n vs ≡ none → f .gone ≡ none → Looks n none vs (f .variables) → Fell n vs f
-  last : (v : Variable) → findVariable n vs ≡ some v → v .uses ≡ 1 → f .gone ≡ some (v .symbol) → Looks n none vs (f .variables) → Fell n vs f
+  last : (v : Variable) → findVariable n vs ≡ some v → v .uses ≡ 1 → f .gone ≡ some v → Looks n none vs (f .variables) → Fell n vs f
   fewer : (v : Variable) → findVariable n vs ≡ some v → v .uses ≢ 1 → f .gone ≡ none → Looks n (some (lessUse v)) vs (f .variables) → Fell n vs f
 
 -- a variable with another number in front
@@ -104,14 +104,14 @@ use-less n (v ∷ vs) s = go (eqb n (v .number)) refl (num? n v) (use-less n vs 
     }
 
     own : eqb n (v .number) ≡ true → n ≡ v .number → (t : Bool) → eqb (v .uses) 1 ≡ t
-        → Fell n (v ∷ vs) (elim t [ true ↦ record { variables = vs; gone = some (v .symbol) } | false ↦ record { variables = lessUse v ∷ vs; gone = none } ])
+        → Fell n (v ∷ vs) (elim t [ true ↦ record { variables = vs; gone = some v } | false ↦ record { variables = lessUse v ∷ vs; gone = none } ])
     own e p true q = last v (var-hit n v vs e) (eqb→eq (v .uses) 1 (subst T (sym q) tt)) refl (drop e p)
     own e p false q = fewer v (var-hit n v vs e) (λ o. subst T q (subst (λ (y : ℕ). T (eqb (v .uses) y)) o (eqb-refl (v .uses)))) refl (less e p)
 
     go : (t : Bool) → eqb n (v .number) ≡ t → Num? n v → Fell n vs (useLess n vs)
         → Fell n (v ∷ vs) (elim t [
           | false ↦ record { variables = v ∷ useLess n vs .variables; gone = useLess n vs .gone }
-          | true ↦ elim (eqb (v .uses) 1) [ true ↦ record { variables = vs; gone = some (v .symbol) } | false ↦ record { variables = lessUse v ∷ vs; gone = none } ]
+          | true ↦ elim (eqb (v .uses) 1) [ true ↦ record { variables = vs; gone = some v } | false ↦ record { variables = lessUse v ∷ vs; gone = none } ]
         ])
     go true q (is e p) ih = own e p (eqb (v .uses) 1) refl
     go true q (isnt e p) ih = absurd (true≢false (sym q ∙ e))

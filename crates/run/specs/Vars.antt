@@ -82,9 +82,9 @@ same-kept vs ws e v =
     alike-trans (findVariable v vs) (findVariable v (clearChanged vs)) (findVariable v ws) (same-clear vs v)
     (alike-sym (findVariable v ws) (findVariable v (clearChanged vs)) (subst (λ (l : List Variable). AlikeAt (findVariable v ws) (findVariable v l)) e (same-clear ws v)))
 
-pub same-reported : (rows : List Basic) (vs : List Variable) → Same vs (map (reported rows) vs)
+pub same-reported : (gone : List ℕ) (rows : List Basic) (vs : List Variable) → Same vs (map (reported gone rows) vs)
 unfolding reported
-same-reported rows vs = same-map (reported rows) (λ a. record { number = refl; symbol = refl; uses = refl }) vs
+same-reported gone rows vs = same-map (reported gone rows) (λ a. record { number = refl; symbol = refl; uses = refl }) vs
 
 -- ---- what the invariant says of variables goes over
 

@@ -190,17 +190,17 @@ module _ (call : Call) (p : Pack) (t : Sparse) (a b : List ℕ) (i j : ℕ) wher
 
 -- ---- no answer is long
 
-by-short : (c : Called) → length (saidBy c .text) ≤ 1236
+by-short : (c : Called) → length (saidBy c .text) ≤ 2452
 unfolding saidBy
 by-short c = omega (arith, answer-short (c .answer .number) (c .answer .pivots) (c .answer .whole))
 
-float-short : (x : Float) → length (floatText x) ≤ 1236
+float-short : (x : Float) → length (floatText x) ≤ 2452
 float-short x = omega (arith, hex-length 16 (toBits binary64 x))
 
-flag-short : (b : Bool) → length (flagText b) ≤ 1236
+flag-short : (b : Bool) → length (flagText b) ≤ 2452
 flag-short b = omega (arith, flag-length b)
 
-reply-short : (o : Option session.Call) (t : Sparse) → length (replyOf o t .text) ≤ 1236
+reply-short : (o : Option session.Call) (t : Sparse) → length (replyOf o t .text) ≤ 2452
 unfolding replyOf
 reply-short none t = omega arith
 reply-short (some (resets x)) t = by-short (resetOf x t)
@@ -232,5 +232,5 @@ module _ (line : List ℕ) (held : ℕ) (t : Sparse) where
   held-line h e = rw (le-leb held 4096 h, e) (line-reply (format.callOf (wordsOf (take held line))) t)
 
 -- as it is said, and there is room for it
-pub held-said : {s : Said} (o : Option session.Call) (t : Sparse) (a b : List ℕ) (i j : ℕ) {u : Sparse} → s ≡ replyOf o t → i ≤ 6000 → Spoken (replyOf o t) a b i j u → (Spoken s a b i j u) × (j ≤ 8000)
+pub held-said : {s : Said} (o : Option session.Call) (t : Sparse) (a b : List ℕ) (i j : ℕ) {u : Sparse} → s ≡ replyOf o t → i ≤ 5000 → Spoken (replyOf o t) a b i j u → (Spoken s a b i j u) × (j ≤ 8000)
 held-said o t a b i j e h p = let q = reply-short o t in (rw e p, omega (arith, p .0 .0))

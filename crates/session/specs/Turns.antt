@@ -1,12 +1,12 @@
 -- On tables that read as a state, every call's answer is the text of the steps' reply, and the tables afterwards are the steps' state written back.
 use Prim.Native.Nat.{ℕ, _+_, _≤_, _<_}
-use mathlib.Core.Path.{_≡_, refl, sym, _∙_, subst}
+use mathlib.Core.Path.{_≡_, refl, sym, ap, _∙_, subst}
 use mathlib.Core.Bool.{Bool, true, false}
-use mathlib.Core.List.{List}
+use mathlib.Core.List.{List, map}
 use mathlib.Core.Option.{some}
 use native.Mathlib.Nat.{zero-add}
 use native.Mathlib.Omega.{arith}
-use lib.Dec.{T}
+use lib.Dec.{T, eqb}
 use lib.ListN.{length, getD, replicate, length-replicate, length-map, List·getD-map}
 use lib.Ieee.{nan}
 use Rattle.steps.specs.Number.{zero64}
@@ -14,7 +14,7 @@ use Rattle.steps.specs.Changes.{Change, fetchChanges}
 use Rattle.steps.specs.Session.{Call, turn, answered, resets, adds, removes, drops, addsEdit, removesEdit, suggests, valueOf, fetches, hasConstraints, hasEdits, creates, clips, reads as readsAid, dumps, setsNext}
 use Rattle.laws.specs.Lists.{listOf-is, laid-in}
 use Rattle.keeps.specs.Tested.{reads-in}
-use Rattle.layout.specs.Layout.{over}
+use Rattle.layout.specs.Layout.{bitOf, over}
 use Rattle.sparse.specs.Sparse.{Sparse, read}
 use Rattle.sparse.specs.Write.{write}
 use Rattle.sparse.specs.Written.{write-read}
@@ -23,7 +23,7 @@ use Rattle.sparse_test.specs.Meaning.{reads-form, reads-readable}
 use Rattle.sparse_test.specs.Asked.{asked}
 use Rattle.lending.specs.Lending.{callIn, callOf}
 use Rattle.lending.specs.Reset.{reset-read}
-use Rattle.fetches.specs.Fetch.{numbersOf, valuesOf, fetchOf, fetchIn, places}
+use Rattle.fetches.specs.Fetch.{numbersOf, valuesOf, flagsOf, fetchOf, fetchIn, places}
 use Rattle.fetches.specs.Few.{fetch-room}
 use Rattle.text.specs.Answers.{listedAt, listedIn, replyText}
 use Rattle.session.specs.Said.{Said, said, fetchSaid}
@@ -52,33 +52,42 @@ ofDocument readsAid = false
 ofDocument dumps = false
 ofDocument (setsNext n) = false
 
--- ---- what a fetch puts at the front of its two lists is its list
+-- ---- what a fetch puts at the front of its three lists is its list
 
-module _ (l : List Change) (few : length l ≤ 32) where
+module _ (l : List Change) (few : length l ≤ places) where
   abbrev none-at : Change
-  none-at = record { variable = 0; new = nan }
+  none-at = record { variable = 0; new = nan; gone = false }
+
+  -- a part of the entries, over a list of zeros
+  part-at : {A : Type 0} (f : Change → A) (z : A) (j : ℕ) → j < length l → getD (over 0 (map f l) (replicate places z)) j (f none-at) ≡ f (getD l j none-at)
+  unfolding over
+  part-at f z j h =
+      let e : 0 + j ≡ j = zero-add j in
+      let k : length (map f l) ≡ length l = length-map l f in
+      let m : length (replicate places z) ≡ places = length-replicate places z in
+      rw e at (laid-in (λ x _. x) 0 (map f l) (replicate places z) j (f none-at) (f none-at) (omega (arith, h, k)) (omega (arith, h, few, m, e)))
+      ∙ List·getD-map f l j none-at
 
   number-at : (j : ℕ) → j < length l → getD (over 0 (numbersOf l) (replicate places 0)) j 0 ≡ getD l j none-at .variable
-  unfolding over numbersOf
-  number-at j h =
-      let e : 0 + j ≡ j = zero-add j in
-      let k : length (numbersOf l) ≡ length l = length-map l (λ (c : Change). c .variable) in
-      let m : length {A = ℕ} (replicate places 0) ≡ 32 = length-replicate {A = ℕ} places 0 in
-      rw e at (laid-in (λ x _. x) 0 (numbersOf l) (replicate places 0) j 0 0 (omega (arith, h, k)) (omega (arith, h, few, m, e)))
-      ∙ List·getD-map (λ (c : Change). c .variable) l j none-at
+  unfolding numbersOf
+  number-at = part-at (λ (c : Change). c .variable) 0
 
   value-at : (j : ℕ) → j < length l → getD (over 0 (valuesOf l) (replicate places zero64)) j nan ≡ getD l j none-at .new
-  unfolding over valuesOf
-  value-at j h =
-      let e : 0 + j ≡ j = zero-add j in
-      let k : length (valuesOf l) ≡ length l = length-map l (λ (c : Change). c .new) in
-      let m : length (replicate places zero64) ≡ 32 = length-replicate places zero64 in
-      rw e at (laid-in (λ x _. x) 0 (valuesOf l) (replicate places zero64) j nan nan (omega (arith, h, k)) (omega (arith, h, few, m, e)))
-      ∙ List·getD-map (λ (c : Change). c .new) l j none-at
+  unfolding valuesOf
+  value-at = part-at (λ (c : Change). c .new) zero64
 
-  listed-back : listedIn (length l) (over 0 (numbersOf l) (replicate places 0)) (over 0 (valuesOf l) (replicate places zero64)) ≡ l
+  flag-back : (b : Bool) → eqb (bitOf b) 1 ≡ b
+  unfolding bitOf
+  flag-back true = refl
+  flag-back false = refl
+
+  gone-at : (j : ℕ) → j < length l → eqb (getD (over 0 (flagsOf l) (replicate places 0)) j 0) 1 ≡ getD l j none-at .gone
+  unfolding flagsOf bitOf
+  gone-at j h = ap (λ (x : ℕ). eqb x 1) (part-at (λ (c : Change). bitOf (c .gone)) 0 j h) ∙ flag-back (getD l j none-at .gone)
+
+  listed-back : listedIn (length l) (over 0 (numbersOf l) (replicate places 0)) (over 0 (valuesOf l) (replicate places zero64)) (over 0 (flagsOf l) (replicate places 0)) ≡ l
   unfolding listedIn
-  listed-back = listOf-is (listedAt (over 0 (numbersOf l) (replicate places 0)) (over 0 (valuesOf l) (replicate places zero64))) l none-at λ j h. rw (number-at j h, value-at j h) refl
+  listed-back = listOf-is (listedAt (over 0 (numbersOf l) (replicate places 0)) (over 0 (valuesOf l) (replicate places zero64)) (over 0 (flagsOf l) (replicate places 0))) l none-at λ j h. rw (number-at j h, value-at j h, gone-at j h) refl
 
 -- ---- call by call
 

@@ -73,13 +73,23 @@ fn say_fetch(
     out: &mut Out,
     at: usize,
 ) -> usize
-    requires { ⌜ at ≤ 6000 ⌝ }
+    requires { ⌜ at ≤ 5000 ⌝ }
     ensures { λ z. ⌜ Spoken (fetchSaid (fetchOf (lent (words .entry) (keys .entry) (bytes .entry) (reals .entry) (values .entry)))) (now (out .entry)) (now (out .exit)) at z (lent (words .exit) (keys .entry) (bytes .exit) (reals .exit) (values .entry)) ⌝ }
 {
-    let mut numbers = [0u64; 32];
-    let mut moved = [0.0f64; 32];
-    let f = fetches::fetch_changes(words, keys, bytes, reals, values, &mut numbers, &mut moved);
-    writing::put_fetch(out, at, &numbers, &moved, f.count)
+    let mut numbers: fetches::Numbers = [0; fetches::PLACES];
+    let mut moved: fetches::Moved = [0.0; fetches::PLACES];
+    let mut gone: fetches::Flags = [0; fetches::PLACES];
+    let f = fetches::fetch_changes(
+        words,
+        keys,
+        bytes,
+        reals,
+        values,
+        &mut numbers,
+        &mut moved,
+        &mut gone,
+    );
+    writing::put_fetch(out, at, &numbers, &moved, &gone, f.count)
 }
 
 fn ask(
@@ -92,7 +102,7 @@ fn ask(
     out: &mut Out,
     at: usize,
 ) -> usize
-    requires { ⌜ at ≤ 6000 ⌝ }
+    requires { ⌜ at ≤ 5000 ⌝ }
     ensures { λ z. ⌜ Wrote (now (out .entry)) (now (out .exit)) at z (askedText q (lent (words .entry) (keys .entry) (bytes .entry) (reals .entry) (values .entry))) ⌝ }
 {
     match q {
@@ -129,7 +139,7 @@ fn answer(
     out: &mut Out,
     at: usize,
 ) -> usize
-    requires { ⌜ at ≤ 6000 ⌝ }
+    requires { ⌜ at ≤ 5000 ⌝ }
     ensures { λ z. ⌜ Spoken (replyOf (callFrom call p) (lent (words .entry) (keys .entry) (bytes .entry) (reals .entry) (values .entry))) (now (out .entry)) (now (out .exit)) at z (lent (words .exit) (keys .exit) (bytes .exit) (reals .exit) (values .exit)) ⌝ }
 {
     match call {
@@ -166,7 +176,7 @@ pub fn answer_held(
     out: &mut Out,
     at: usize,
 ) -> usize
-    requires { ⌜ at ≤ 6000 ⌝ }
+    requires { ⌜ at ≤ 5000 ⌝ }
     ensures { λ z. ⌜ Spoken (heldReply (heldOf (now (line .entry)) held) (lent (words .entry) (keys .entry) (bytes .entry) (reals .entry) (values .entry))) (now (out .entry)) (now (out .exit)) at z (lent (words .exit) (keys .exit) (bytes .exit) (reals .exit) (values .exit)) ⌝ }
     ensures { λ z. ⌜ z ≤ 8000 ⌝ }
 {

@@ -68,10 +68,10 @@ pub fn flush(out: &Out, p: Place) -> Place
 // What waits is written if there may be no room for another answer.
 fn with_room(out: &Out, p: Place) -> Place
     requires { ⌜ p .at ≤ 8192 ⌝ }
-    ensures { λ q. ⌜ q .at ≤ 6000 ⌝ }
+    ensures { λ q. ⌜ q .at ≤ 5000 ⌝ }
     ensures { λ q. ⌜ q .end ≡ p .end ⌝ }
 {
-    if p.at <= 6000 {
+    if p.at <= 5000 {
         return p;
     }
     flush(out, p)

@@ -123,7 +123,8 @@ module _ (g x budget : ℕ) (p : Pack) (constant : Float) (relation : steps.Rela
         → (Comes t (closed (e .wrote) u)) × (readable (brought (keepConstraint (record { number = x; group = g; strength = strength; terms = termsOf q; tag = tagAt (closed (e .wrote) u) marker other }) (read t .constraints)) (read t .edits) (closed (e .wrote) u)) ≡ true)
     addition-comes ts is goes on q k strength s =
         let st = went e u goes on in
-        (closed-comes (e .wrote) u st t (en .reads), rw (record-is ts is q k strength s st) (added-reads (add g x (termsIn ts) constant relation budget) t e u (again ts is) on st (tagAt u marker other) _ stored (λ tag. read t .edits) (call-is ts is) (outcome ts is)))
+        let r = added-reads (add g x (termsIn ts) constant relation budget) t e u (again ts is) on st (tagAt u marker other) _ stored (λ tag. read t .edits) (call-is ts is) (outcome ts is) in
+        (closed-comes (e .wrote) u st t (en .reads) (stored (tagAt u marker other)) (read t .edits) r, rw (record-is ts is q k strength s st) r)
 
     module _ (a : code.Answer) (says : answerOf a ≡ answered e) where
       pub addition-refused : (e .number ≡ 0 → ⊥) → (v : Sparse) → Adds g x p constant relation budget a t v

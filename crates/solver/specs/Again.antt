@@ -81,6 +81,7 @@ agree-self t =
       uses = λ j a. refl;
       constraintNumbers = λ j a. refl;
       constraintGroups = λ j a. refl;
+      gone = λ j a. refl;
       kinds = λ p a b. refl;
       rowPlaces = λ p a b. refl;
       owners = λ j a. refl;

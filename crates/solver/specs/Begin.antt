@@ -23,13 +23,14 @@ use Rattle.cells.specs.Names.{rowSpan, lastPlace}
 use Rattle.cells.specs.Cells.{Present}
 use Rattle.merging.specs.Merge.{Placed}
 use Rattle.places.specs.Finding.{all-at}
-use Rattle.sparse.specs.Places.{mostRows, wholeAt, nextIdAt, idsAt, variableNumbersAt, constraintNumbersAt, kindsAt, rowPlacesAt, variablePlacesAt, rowCountAt, symbolCountAt, variableCountAt}
+use Rattle.sparse.specs.Places.{mostRows, mostVariables, mostConstraints, wholeAt, nextIdAt, idsAt, variableNumbersAt, constraintNumbersAt, kindsAt, rowPlacesAt, variablePlacesAt, rowCountAt, symbolCountAt, variableCountAt}
 use Rattle.sparse.specs.Lookup.{Ascends}
 use Rattle.sparse.specs.Sparse.{Sparse, symbolCount, rowCount, cellCount, variableCount, constraintCount, editCount, symbolAt, otherAt, variableOf, constraintOf, editOf, symbolsOf, basicsOf, read}
 use Rattle.sparse.specs.Widths.{symbols-read, rows-read}
 use Rattle.sparse.specs.Form.{Counts, Form}
 use Rattle.sparse.specs.Fits.{Lengths}
 use Rattle.sparse.specs.Repack as packed
+use Rattle.sparse.specs.Copy.{headingEnd}
 use Rattle.sparse_test.specs.Reads.{reads}
 use Rattle.sparse_test.specs.Stretch.{ascends}
 use Rattle.sparse_test.specs.Meaning.{reads-form, reads-readable}
@@ -147,7 +148,7 @@ module _ (t w : Sparse) (en : Entered t w) where
   pub rows-at-start : rowCount t ≤ constraintCount t + editCount t
   rows-at-start = tests .counts .rows
 
-  pub tags-at-start : constraintCount t + editCount t ≤ 48
+  pub tags-at-start : constraintCount t + editCount t ≤ mostConstraints
   tags-at-start = tests .counts .tags
 
   pub symbols-at-start : symbolCount t ≤ variableCount t + 2 * (constraintCount t + editCount t)
@@ -155,7 +156,7 @@ module _ (t w : Sparse) (en : Entered t w) where
 
   -- ---- what the copy agrees in
 
-  abbrev was : (m : ℕ) → m < 9 → getD (w .words) m 0 ≡ getD (bareWords (t .words)) m 0
+  abbrev was : (m : ℕ) → m < headingEnd → getD (w .words) m 0 ≡ getD (bareWords (t .words)) m 0
   was = en .agrees .heading
 
   row-place : (i : ℕ) → 1 ≤ i → i ≤ rowCount w → getD (w .bytes) (rowPlacesAt + i) 0 ≡ getD (t .bytes) (rowPlacesAt + i) 0
@@ -254,7 +255,7 @@ module _ (t w : Sparse) (en : Entered t w) where
   new-same terms = rw (cutoff-same, en .changes) refl
 
   pub opening-at-start : (terms : List Term) (constant : Float) → isFinite constant ≡ true → length terms ≤ 16
-      → constraintCount t + editCount t < 48 → variableCount t + newIn terms t ≤ 32 → getD (t .words) nextIdAt 0 ≤ 4_294_900_000
+      → constraintCount t + editCount t < mostConstraints → variableCount t + newIn terms t ≤ mostVariables → getD (t .words) nextIdAt 0 ≤ 4_294_900_000
       → Opening (storedMark (t .words)) terms constant w
   opening-at-start terms constant finite few room variables numbers =
       record {

@@ -14,14 +14,16 @@ use Rattle.steps.specs.Number.{zero64, allWhole, notWhole, notFinite, wholeIf, 
 use Rattle.steps.specs.Symbol.{absent}
 use Rattle.steps.specs.State.{Constraint, Edit, State}
 use Rattle.steps.specs.Calls.{finish}
+use Rattle.steps.specs.Readable.{readable}
+use Rattle.keeps.specs.Tested.{reads-in}
 use Rattle.layout.specs.Layout.{bitOf}
 use Rattle.layout.specs.Back.{bit-back}
-use Rattle.layout.specs.Copied.{bit-small}
+use Rattle.layout.specs.Copied.{bit-small, length-listOf}
 use Rattle.cells.specs.Names.{rowSpan, lastPlace, cellRoom}
 use Rattle.cells.specs.Cells.{Present}
 use Rattle.merging.specs.Merge.{Placed}
-use Rattle.sparse.specs.Places.{symbolCountAt, rowCountAt, cellCountAt, variableCountAt, constraintCountAt, editCountAt, shouldClearAt, wholeAt, idsAt, variableNumbersAt, wordsSize}
-use Rattle.sparse.specs.Sparse.{Sparse, symbolCount, rowCount, cellCount, variableCount, constraintCount, editCount, termsFrom, otherAt, read}
+use Rattle.sparse.specs.Places.{mostGone, symbolCountAt, rowCountAt, cellCountAt, variableCountAt, constraintCountAt, editCountAt, shouldClearAt, wholeAt, idsAt, variableNumbersAt, wordsSize}
+use Rattle.sparse.specs.Sparse.{Sparse, symbolCount, rowCount, cellCount, variableCount, constraintCount, editCount, goneCount, goneOf, termsFrom, otherAt, read}
 use Rattle.sparse.specs.Form.{Form}
 use Rattle.sparse.specs.Fits.{Lengths}
 use Rattle.sparse.specs.Repack as packed
@@ -61,6 +63,14 @@ closed wrote u = record { words = closedWords wrote (u .words); keys = u .keys; 
 absent-ne : (x : Float) → absent x ≡ false → ne x zero64 ≡ true
 unfolding ne absent
 absent-ne x h = rw h refl
+
+gone-count : (t : Sparse) → length (read t .changes .gone) ≡ goneCount t
+unfolding read goneOf
+gone-count t = length-listOf (goneCount t) _
+
+-- "At most 32 gone entries wait."
+gone-few : (t : Sparse) (cs : List Constraint) (es : List Edit) → readable (brought cs es t) ≡ true → goneCount t ≤ mostGone
+gone-few t cs es good = omega (arith, reads-in (brought cs es t) good .waits .few, gone-count t)
 
 whole-is : (t : Sparse) → read t .whole ≡ eqb (getD (t .words) wholeAt 0) 1
 unfolding read
@@ -131,8 +141,8 @@ module _ (wrote : Wrote) (u : Sparse) (st : Standing false (markOf wrote) u) whe
   unfolding linesOf
   few-cells = let a = held-few (rowCount u) (cellCount u) (u .keys) (u .values) (st .sound .held) in let b = st .sound .few in omega (arith, a, b)
 
-  pub closed-form : Form (closed wrote u)
-  closed-form =
+  closed-form : goneCount (closed wrote u) ≤ mostGone → Form (closed wrote u)
+  closed-form few-gone =
       let n : (m : ℕ) → m < constraintCountAt → getD w' m 0 ≡ getD (u .words) m 0 = count-same u w' same in
       let g : (m : ℕ) → wholeAt < m → getD w' m 0 ≡ getD (u .words) m 0 = past-same u w' same in
       let k₁ : symbolCount (closed wrote u) ≡ symbolCount u = n symbolCountAt (omega arith) in
@@ -151,6 +161,7 @@ module _ (wrote : Wrote) (u : Sparse) (st : Standing false (markOf wrote) u) whe
               constraints = omega (arith, no-constraints);
               edits = omega (arith, no-edits);
               terms = omega (arith, no-terms);
+              gone = few-gone;
             };
         clear = rw clear (st .owners .clear);
         whole = rw flag (bit-small (saysYes wrote));
@@ -173,13 +184,14 @@ module _ (wrote : Wrote) (u : Sparse) (st : Standing false (markOf wrote) u) whe
   unfolding closedWords
   closed-long = length-set w₂ editCountAt 0 ∙ length-set w₁ constraintCountAt 0 ∙ length-set (u .words) wholeAt (bitOf (saysYes wrote)) ∙ long
 
-  pub closed-comes : (t : Sparse) → reads t ≡ true → Comes t (closed wrote u)
-  closed-comes t r =
+  -- the records that come over make a state with it
+  pub closed-comes : (t : Sparse) → reads t ≡ true → (cs : List Constraint) (es : List Edit) → readable (brought cs es (closed wrote u)) ≡ true → Comes t (closed wrote u)
+  closed-comes t r cs es again =
       let k : variableCount (closed wrote u) ≡ variableCount u = count-same u w' same variableCountAt (omega arith) in
       let h = st .sound .held in
       record {
         lent = r;
-        form = closed-form;
+        form = closed-form (gone-few (closed wrote u) cs es again);
         lengths = (closed-long, h .wide, st .sound .named .wide, st .sound .long, h .wides);
         apart = λ i j a b. st .owners .apart i j a (omega (arith, b, k));
       }

@@ -9,7 +9,7 @@ use native.Mathlib.Nat.{zero-add, sub-zero}
 use native.Mathlib.Omega.{arith}
 use lib.Dec.{eqb, eqb·suc-zero}
 use lib.ListN.{length, getD}
-use borrow.Author.Tests.{ltb-true, lt-ltb, eq-eqb, ne-eqb}
+use borrow.Author.Tests.{ltb-true, eq-eqb, ne-eqb}
 use Rattle.laws.specs.Given.{Then, then-given}
 use Rattle.laws.specs.Lists.{tab, listOf}
 use Rattle.steps.specs.State.{Constraint, State}
@@ -17,7 +17,8 @@ use Rattle.steps.specs.Tests.{groupOf, firstRefusal, dropTests}
 use Rattle.steps.specs.Calls.{Answer, Result, remove, dropGroup}
 use Rattle.keeps.specs.Reads.{Reads}
 use Rattle.keeps.specs.Tested.{reads-in}
-use Rattle.places.specs.Finding.{placeIn, place-live}
+use Rattle.keeps.specs.Groups.{Removable, group-removable}
+use Rattle.places.specs.Finding.{placeIn}
 use Rattle.cells.specs.Seek.{first-elim}
 use Rattle.sparse.specs.Places.{wholeAt, constraintNumbersAt, constraintGroupsAt}
 use Rattle.sparse.specs.Lookup.{placeFrom}
@@ -27,11 +28,13 @@ use Rattle.sparse_test.specs.Reads.{greatestU32, reads}
 use Rattle.sparse_test.specs.Meaning.{reads-form, reads-readable, reads-parts}
 use Rattle.lending.specs.declared.Answer as code
 use Rattle.lending.specs.Lending.{answerOf}
-use Rattle.refusals.specs.Refusals.{liveIn, groupPlace, groupIn, dropRefusal}
+use Rattle.refusals.specs.Refusals.{liveIn, groupPlace, groupIn, removeRefusal, dropRefusal}
+use Rattle.refusals.specs.Tested.{numberOr0}
+use Rattle.refusals.specs.Known.{remove-refusal}
 use Rattle.refusals.specs.Groups.{no-group, drop-refused}
 use Rattle.solver.specs.Begin.{constraints-count}
 use Rattle.solver.specs.Concluding.{Done, byTest, done-by-test}
-use Rattle.solver.specs.Dropping.{dropping, later, turn-refused, turn-accepted, turn-fewer, turn-spent, dropping-ended, group-first, drop-accepted, drop-answers}
+use Rattle.solver.specs.Dropping.{dropping, later, turn-tested, turn-refused, turn-accepted, turn-removable, turn-fewer, turn-spent, dropping-ended, group-first, drop-accepted, drop-answers}
 
 -- the number of the group's first constraint
 abbrev pub number-first : Sparse → ℕ → ℕ
@@ -86,12 +89,7 @@ module _ (g : ℕ) (u : Sparse) (good : reads u ≡ true) (live : groupIn (u .wo
   pub first-small : number-first u g ≤ greatestU32
   first-small = most (u .words) constraintNumbersAt (constraintCount u) greatestU32 (reads-parts u good .constraints) _ (place-in u g live)
 
-  -- its number is live
-  pub first-live : liveIn (u .words) constraintNumbersAt (constraintCount u) (number-first u g) ≡ true
-  unfolding liveIn placeFrom
-  first-live = lt-ltb _ _ (place-live (λ j. getD (u .words) (constraintNumbersAt + j) 0) (constraintCount u) (number-first u g) (groupPlace (u .words) (constraintCount u) g) (place-in u g live) refl)
-
-  module _ (b : ℕ) where
+  module _ (can : Removable (groupOf g (read u .constraints)) (read u)) (b : ℕ) where
     abbrev first : Constraint
     first = constraintOf u (groupPlace (u .words) (constraintCount u) g)
 
@@ -104,20 +102,30 @@ module _ (g : ℕ) (u : Sparse) (good : reads u ≡ true) (live : groupIn (u .wo
     one-is : remove (first .number) b (read u) ≡ one
     one-is = ap (λ (n : ℕ). remove n b (read u)) (number-is u g (groupPlace (u .words) (constraintCount u) g))
 
+    -- it is live, and may go
+    pub first-free : removeRefusal (number-first u g) (u .words) (u .bytes) (u .reals) ≡ 0
+    unfolding numberOr0
+    first-free =
+        let q = rw (number-is u g (groupPlace (u .words) (constraintCount u) g)) at (turn-tested g b (read u) facts first rest (head-of u g live .1) can) in
+        sym (remove-refusal u good (number-first u g)) ∙ ap numberOr0 q
+
     first-spent : one .answer .pivots ≤ b
-    first-spent = rw one-is at (turn-spent g b (read u) (facts .constraints-up) first rest (head-of u g live .1))
+    first-spent = rw one-is at (turn-spent g b (read u) facts first rest (head-of u g live .1) can)
 
     pub first-within : (a : code.Answer) {j : ℕ} → j ≡ groupPlace (u .words) (constraintCount u) g → answerOf a ≡ remove (getD (u .words) (constraintNumbersAt + j) 0) b (read u) .answer → a .pivots ≤ b
     first-within a e says = let s = rw e at says in omega (arith, ap (λ (x : Answer). x .pivots) s, first-spent)
 
     first-refused : eqb (one .answer .number) 0 ≡ false → dropping g b (read u) ≡ one
-    first-refused = rw one-is at (turn-refused g b (read u) (facts .constraints-up) first rest (head-of u g live .1))
+    first-refused = rw one-is at (turn-refused g b (read u) facts first rest (head-of u g live .1) can)
 
     first-accepted : eqb (one .answer .number) 0 ≡ true → dropping g b (read u) ≡ later (one .answer .pivots) (dropping g (b - one .answer .pivots) (one .state))
-    first-accepted = rw one-is at (turn-accepted g b (read u) (facts .constraints-up) first rest (head-of u g live .1))
+    first-accepted = rw one-is at (turn-accepted g b (read u) facts first rest (head-of u g live .1) can)
+
+    first-others : eqb (one .answer .number) 0 ≡ true → Removable (groupOf g (one .state .constraints)) (one .state)
+    first-others = rw one-is at (turn-removable g b (read u) facts first rest (head-of u g live .1) can)
 
     first-fewer : eqb (one .answer .number) 0 ≡ true → length (one .state .constraints) < length (read u .constraints)
-    first-fewer = rw one-is at (turn-fewer g b (read u) (facts .constraints-up) first rest (head-of u g live .1))
+    first-fewer = rw one-is at (turn-fewer g b (read u) facts first rest (head-of u g live .1) can)
 
 -- what its removal ensures, after p pivots
 abbrev pub Went : ℕ → ℕ → ℕ → code.Answer → Sparse → Sparse → Type 0
@@ -136,10 +144,17 @@ went-by g budget p t u a r e d good says =
 pub record Halfway (g budget : ℕ) (t u : Sparse) (p : ℕ) : Type 0 where
   pub reads : reads u ≡ true
   pub spent : p ≤ budget
+  pub removable : Removable (groupOf g (read u .constraints)) (read u)
   pub same : later p (dropping g (budget - p) (read u)) ≡ dropping g budget (read t)
 
-pub at-start : (g budget : ℕ) (t : Sparse) → reads t ≡ true → Halfway g budget t t 0
-at-start g budget t good = record { reads = good; spent = omega arith; same = rw (sub-zero budget, zero-add (dropping g budget (read t) .answer .pivots)) refl }
+pub at-start : (g budget : ℕ) (t : Sparse) → reads t ≡ true → firstRefusal (dropTests g (read t)) ≡ none → Halfway g budget t t 0
+at-start g budget t good passed =
+    record {
+      reads = good;
+      spent = omega arith;
+      removable = group-removable g (read t) (reads-in (read t) (reads-readable t good)) passed;
+      same = rw (sub-zero budget, zero-add (dropping g budget (read t) .answer .pivots)) refl;
+    }
 
 module _ (g budget : ℕ) (t u : Sparse) (p : ℕ) (half : Halfway g budget t u p) (live : groupIn (u .words) (constraintCount u) g ≡ true) (r : code.Answer) (v : Sparse) (went : Went g budget p r u v) where
   abbrev gone : Result
@@ -153,7 +168,7 @@ module _ (g budget : ℕ) (t u : Sparse) (p : ℕ) (half : Halfway g budget t u 
 
   pub halfway-refused : (r .number ≡ 0 → ⊥) → Done (dropping g budget) r t v
   halfway-refused off =
-      let q = first-refused g u (half .reads) live (budget - p) (ne-eqb _ 0 (λ e. off (number-same ∙ e))) in
+      let q = first-refused g u (half .reads) live (half .removable) (budget - p) (ne-eqb _ 0 (λ e. off (number-same ∙ e))) in
       let e : dropping g budget (read t) ≡ later p gone = sym (half .same) ∙ ap (later p) q in
       let b : eqb (r .number) 0 ≡ false = ne-eqb (r .number) 0 off in
       (went .0 .0 ∙ sym (ap (λ (x : Result). x .answer) e), rw b tt, rw b tt)
@@ -170,19 +185,20 @@ module _ (g budget : ℕ) (t u : Sparse) (p : ℕ) (half : Halfway g budget t u 
 
     pub halfway-fewer : constraintCount v < constraintCount u
     halfway-fewer =
-        let l = first-fewer g u (half .reads) live (budget - p) taken in
+        let l = first-fewer g u (half .reads) live (half .removable) (budget - p) taken in
         omega (arith, l, constraints-count v, constraints-count u, ap (λ (s : State). length (s .constraints)) state-is)
 
     pub halfway-on : Halfway g budget t v (r .pivots)
     halfway-on =
-        let q = first-accepted g u (half .reads) live (budget - p) taken in
+        let q = first-accepted g u (half .reads) live (half .removable) (budget - p) taken in
         let m : ℕ = gone .answer .pivots in
         let x : Result = dropping g (budget - p - m) (gone .state) in
         let a : p + m + x .answer .pivots ≡ p + (m + x .answer .pivots) = omega arith in
         let d : budget - (p + m) ≡ budget - p - m = omega arith in
         record {
           reads = then-given _ yes (went .1);
-          spent = omega (arith, pivots-same, first-spent g u (half .reads) live (budget - p), half .spent);
+          spent = omega (arith, pivots-same, first-spent g u (half .reads) live (half .removable) (budget - p), half .spent);
+          removable = rw state-is (first-others g u (half .reads) live (half .removable) (budget - p) taken);
           same = rw (pivots-same, state-is, d, a) (sym (ap (later p) q) ∙ half .same);
         }
 
@@ -198,8 +214,8 @@ halfway-ended g budget t u p half gone r says =
 
 -- ---- the call
 
-pub drop-by-test : (g budget : ℕ) (t u : Sparse) (a : code.Answer) {k : ℕ} → k ≡ dropRefusal g (t .words) → (k ≡ 0 → ⊥) → answerOf a ≡ byTest k (t .words) → Done (dropGroup g budget) a t u
-drop-by-test g budget t u a {k} q h says = done-by-test (dropGroup g budget) a t u k (drop-refused t g budget (λ z. h (q ∙ z)) ∙ rw (← q) refl) h says
+pub drop-by-test : (g budget : ℕ) (t u : Sparse) (a : code.Answer) {k : ℕ} → reads t ≡ true → k ≡ dropRefusal g (t .words) (t .bytes) (t .reals) → (k ≡ 0 → ⊥) → answerOf a ≡ byTest k (t .words) → Done (dropGroup g budget) a t u
+drop-by-test g budget t u a {k} good q h says = done-by-test (dropGroup g budget) a t u k (drop-refused t g good budget (λ z. h (q ∙ z)) ∙ rw (← q) refl) h says
 
 -- t is lent, w the room with all its records
 pub drop-done : (g budget : ℕ) (t w u : Sparse) (r : code.Answer) → read w ≡ read t → firstRefusal (dropTests g (read t)) ≡ none → Done (dropping g budget) r w u → Done (dropGroup g budget) r t u

@@ -1,7 +1,7 @@
 -- The removals of a drop, over states: each takes the first constraint of the group in the state that the one before it left.
 -- Assumes nothing.
 use Prim.Native.Nat.{ℕ, zero, suc, _+_, _-_, _≤_, _<_}
-use mathlib.Core.Path.{_≡_, refl, sym, ap, _∙_}
+use mathlib.Core.Path.{_≡_, refl, sym, ap, _∙_, subst}
 use mathlib.Core.Logic.{_≢_}
 use mathlib.Core.Bool.{Bool, true, false, false≢true}
 use mathlib.Core.List.{List, [], _∷_, map}
@@ -12,15 +12,15 @@ use lib.ListN.{length}
 use borrow.Author.Tests.{eqb-true}
 use Rattle.laws.specs.Lists.{tab}
 use Rattle.steps.specs.State.{Constraint, State}
-use Rattle.steps.specs.Tests.{groupOf, dropConstraint, dropTests, firstRefusal}
+use Rattle.steps.specs.Tests.{groupOf, dropConstraint, removeTests, dropTests, firstRefusal}
 use Rattle.steps.specs.Calls.{Result, refusedBy, remove, removeStored, onward, removeAll, allOrNone, dropGroup}
 use Rattle.steps.specs.Changing.{removes}
 use Rattle.steps.proofs.Budgets.{within-budget}
 use Rattle.keeps.specs.Lists.{Same?, is, isnt, same?, Up}
 use Rattle.keeps.specs.Keys.{drop-length, dropConstraint-is, findConstraint-is}
 use Rattle.keeps.specs.Lookup.{eq-no, eq-yes}
-use Rattle.keeps.specs.Reads.{conNumber}
-use Rattle.keeps.specs.Groups.{Found, group-found, remove-found, removed-constraints}
+use Rattle.keeps.specs.Reads.{Reads, conNumber}
+use Rattle.keeps.specs.Groups.{Removable, first-found, remove-found, first-tested, removed-constraints, others-removable}
 
 -- the whole removals of the group's constraints
 abbrev pub dropping : ℕ → ℕ → State → Result
@@ -85,15 +85,19 @@ group-rest g i (c ∷ cs) d ds u e = go (eqb g (c .group)) refl (group-rest g (s
 
 -- ---- one turn
 
-module _ (g b : ℕ) (s : State) (up : Up 0 (map conNumber (s .constraints))) (d : Constraint) (ds : List Constraint) (group : groupOf g (s .constraints) ≡ d ∷ ds) where
+module _ (g b : ℕ) (s : State) (r : Reads s) (d : Constraint) (ds : List Constraint) (group : groupOf g (s .constraints) ≡ d ∷ ds) (can : Removable (groupOf g (s .constraints)) s) where
   abbrev one : Result
   one = remove (d .number) b s
 
-  found : Found (s .constraints) d
-  found = (rw group at (group-found g (s .constraints) up .0)) .0
+  first : Removable (d ∷ ds) s
+  first = subst (λ (cs : List Constraint). Removable cs s) group can
 
   one-is : one ≡ removeStored (d .number) d b s
-  one-is = remove-found d b s found
+  one-is = remove-found d ds b s first
+
+  -- 25 was tested once for all of them: the one removal's own tests pass
+  pub turn-tested : firstRefusal (removeTests (d .number) s) ≡ none
+  turn-tested = first-tested d ds b s first
 
   turn-is : dropping g b s ≡ onward one (removeAll ds (b - one .answer .pivots) (one .state))
   turn-is = rw group (unfold removeAll in rw one-is refl)
@@ -105,11 +109,18 @@ module _ (g b : ℕ) (s : State) (up : Up 0 (map conNumber (s .constraints))) (d
   turn-spent = within-budget (removes (d .number) b) s
 
   module _ (on : eqb (one .answer .number) 0 ≡ true) where
+    stored-on : removeStored (d .number) d b s .answer .number ≡ 0
+    stored-on = ap (λ (r : Result). r .answer .number) (sym one-is) ∙ eqb-true (one .answer .number) 0 on
+
     left : one .state .constraints ≡ dropConstraint (d .number) (s .constraints)
-    left = ap (λ (r : Result). r .state .constraints) one-is ∙ removed-constraints d b s found (ap (λ (r : Result). r .answer .number) (sym one-is) ∙ eqb-true (one .answer .number) 0 on)
+    left = ap (λ (r : Result). r .state .constraints) one-is ∙ removed-constraints d ds b s first stored-on
 
     rest : groupOf g (one .state .constraints) ≡ ds
-    rest = ap (groupOf g) left ∙ group-rest g 0 (s .constraints) d ds up group
+    rest = ap (groupOf g) left ∙ group-rest g 0 (s .constraints) d ds (r .constraints-up) group
+
+    -- the others find room still
+    pub turn-removable : Removable (groupOf g (one .state .constraints)) (one .state)
+    turn-removable = rw rest (subst (λ (q : Result). Removable ds (q .state)) (sym one-is) (others-removable d ds b s first r stored-on))
 
     pub turn-accepted : dropping g b s ≡ later (one .answer .pivots) (dropping g (b - one .answer .pivots) (one .state))
     turn-accepted = turn-is ∙ rw rest (unfold onward in rw (on, onward) refl)
@@ -117,7 +128,7 @@ module _ (g b : ℕ) (s : State) (up : Up 0 (map conNumber (s .constraints))) (d
     -- a constraint less is left
     pub turn-fewer : length (one .state .constraints) < length (s .constraints)
     turn-fewer =
-        let n = drop-length conNumber (d .number) (s .constraints) d (sym (findConstraint-is (d .number) (s .constraints)) ∙ found) in
+        let n = drop-length conNumber (d .number) (s .constraints) d (sym (findConstraint-is (d .number) (s .constraints)) ∙ first-found d ds b s first) in
         let m : length (one .state .constraints) ≡ length (dropConstraint (d .number) (s .constraints)) = ap length left in
         omega (arith, n, m, ap length (dropConstraint-is (d .number) (s .constraints)))
 

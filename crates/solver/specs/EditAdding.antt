@@ -102,7 +102,8 @@ module _ (x budget : ℕ) (strength : Float) (t w : Sparse) (en : Entered t w) (
     pub edit-comes : Goes false e u → e .number ≡ 0 → (Comes t (closed (e .wrote) u)) × (readable (brought (read t .constraints) (keepEdit (edit-of clipped (tagAt (closed (e .wrote) u) marker other)) (read t .edits)) (closed (e .wrote) u)) ≡ true)
     edit-comes goes on =
         let st = went e u goes on in
-        (closed-comes (e .wrote) u st t (en .reads), rw (edit-is st) (added-reads (addEdit x strength budget) t e u again on st (tagAt u marker other) _ (λ tag. read t .constraints) stored call-is outcome))
+        let q = added-reads (addEdit x strength budget) t e u again on st (tagAt u marker other) _ (λ tag. read t .constraints) stored call-is outcome in
+        (closed-comes (e .wrote) u st t (en .reads) (read t .constraints) (stored (tagAt u marker other)) q, rw (edit-is st) q)
 
     module _ (a : code.Answer) (says : answerOf a ≡ answered e) where
       pub edit-add-refused : (e .number ≡ 0 → ⊥) → (v : Sparse) → Done (addEdit x strength budget) a t v

@@ -11,8 +11,8 @@ use lib.ListN.{getD}
 use Rattle.steps.specs.State.{Tag, Edit, State}
 use Rattle.steps.specs.Remove.{removeSteps}
 use Rattle.steps.specs.Edit.{editTerms}
-use Rattle.steps.specs.Tests.{findEdit, dropEdit}
-use Rattle.steps.specs.Calls.{begin, finish, conclude, removeEdit}
+use Rattle.steps.specs.Tests.{findEdit, dropEdit, goneFull}
+use Rattle.steps.specs.Calls.{begin, finish, conclude, removeEditStored, unlessFull, removeEdit}
 use Rattle.steps.specs.Readable.{readable, tagKinds, editKinds}
 use Rattle.steps.specs.Symbol.{isError}
 use Rattle.layout.specs.Rooms.{both}
@@ -23,6 +23,7 @@ use Rattle.keeps.specs.Reads.{editNumber, tagCode}
 use Rattle.stored.specs.Ended.{all-at}
 use Rattle.stored.specs.Ends.{edits-read}
 use Rattle.removal.specs.Tag.{TagLives}
+use Rattle.removal.specs.Room.{Room, room-begins}
 use Rattle.solver.specs.TagsLive.{tag-lives}
 use Rattle.keeps.specs.Keeps.{removeEdit-reads}
 use Rattle.sparse.specs.Places.{constraintNumbersAt, constraintMarkersAt, constraintOthersAt, constraintStrengthsAt, editMarkersAt, editOthersAt, editStrengthsAt, suggestionsAt}
@@ -42,7 +43,7 @@ use Rattle.lending.specs.Entered.{Entered}
 use Rattle.terms.specs.declared.Pack.{Pack}
 use Rattle.terms.specs.Terms.{termsOf}
 use Rattle.refusals.specs.Refusals as refusals
-use Rattle.refusals.specs.Refusals.{liveIn, editedIn}
+use Rattle.refusals.specs.Refusals.{editedIn}
 use Rattle.refusals.specs.Known as known
 use Rattle.waist.specs.Tags.{tagAt}
 use Rattle.solver.specs.Bringing.{brought, Comes, Ends}
@@ -54,17 +55,20 @@ use Rattle.solver.specs.Placed.{edit-found, editPlace, edit-placed}
 
 -- ---- refused by a test
 
-pub remove-edit-by-test : (x budget : ℕ) (t w u : Sparse) (a : code.Answer) {k : ℕ} → Entered t w → k ≡ refusals.removeEditRefusal x (t .words) (t .bytes) → (k ≡ 0 → ⊥) → answerOf a ≡ byTest k (t .words) → Done (removeEdit x budget) a t u
+pub remove-edit-by-test : (x budget : ℕ) (t w u : Sparse) (a : code.Answer) {k : ℕ} → Entered t w → k ≡ refusals.removeEditRefusal x (t .words) (t .bytes) (t .reals) → (k ≡ 0 → ⊥) → answerOf a ≡ byTest k (t .words) → Done (removeEdit x budget) a t u
 remove-edit-by-test x budget t w u a {k} en q h says = done-by-test (removeEdit x budget) a t u k (known.remove-edit-refused t (en .reads) x budget (λ z. h (q ∙ z)) ∙ rw (← q) refl) h says
 
 -- ---- the call on what is live
 
-remove-edit-known : (x budget : ℕ) (s : State) (c : Edit) → findEdit x (s .edits) ≡ some c
+remove-edit-known : (x budget : ℕ) (s : State) (c : Edit) → findEdit x (s .edits) ≡ some c → goneFull (editTerms x) s ≡ false
     → removeEdit x budget s ≡ conclude s (removeSteps budget (c .tag) (c .strength) (editTerms x) (begin s)) (λ w. finish w (s .constraints) (dropEdit x (s .edits)))
-unfolding removeEdit
-remove-edit-known x budget s c a = rw (a, removeEdit) refl
+unfolding removeEdit removeEditStored unlessFull
+remove-edit-known x budget s c a g = rw (a, g, removeEdit, unlessFull) refl
 
-module _ (x budget : ℕ) (t w : Sparse) (en : Entered t w) (k : ℕ) (live : editedIn (t .words) (t .bytes) x ≡ true) (placed : k ≡ editPlace (t .words) (t .bytes) x) where
+module _ (x budget : ℕ) (t w : Sparse) (en : Entered t w) (k : ℕ) (passes : refusals.removeEditRefusal x (t .words) (t .bytes) (t .reals) ≡ 0) (placed : k ≡ editPlace (t .words) (t .bytes) x) where
+  live : editedIn (t .words) (t .bytes) x ≡ true
+  live = known.remove-edit-passed x (t .words) (t .bytes) (t .reals) passes .0
+
   abbrev marker : ℕ
   marker = getD (t .bytes) (editMarkersAt + k) 0
 
@@ -97,11 +101,18 @@ module _ (x budget : ℕ) (t w : Sparse) (en : Entered t w) (k : ℕ) (live : ed
   unfolding editOf
   strength-is = refl
 
-  call-is : removeEdit x budget (read t) ≡ conclude (read t) (removeSteps budget (editOf t k .tag) (editOf t k .strength) (editTerms x) (begin (read t))) (λ w. finish w (read t .constraints) (dropEdit x (read t .edits)))
-  call-is = remove-edit-known x budget (read t) (editOf t k) (subst (λ (n : ℕ). findEdit n (read t .edits) ≡ some (editOf t k)) number-is (edit-found t (reads-at-start t w en) k in-range))
-
   found : findEdit x (read t .edits) ≡ some (editOf t k)
   found = subst (λ (n : ℕ). findEdit n (read t .edits) ≡ some (editOf t k)) number-is (edit-found t (reads-at-start t w en) k in-range)
+
+  -- 25 is not given
+  room : goneFull (editTerms x) (read t) ≡ false
+  room = known.remove-edit-room t (en .reads) x (known.remove-edit-passed x (t .words) (t .bytes) (t .reals) passes .1)
+
+  pub removal-room : (before : Wrote) → markOf before ≡ storedMark (t .words) → (p : Pack) → p ≡ refusals.editPack x → Room (termsOf p) (read w .changes)
+  removal-room before begun p one = room-begins (termsOf p) (read t) (markOf before) w (begun-is t w en before begun) (reads-at-start t w en) (rw (one, edit-terms x) room)
+
+  call-is : removeEdit x budget (read t) ≡ conclude (read t) (removeSteps budget (editOf t k .tag) (editOf t k .strength) (editTerms x) (begin (read t))) (λ w. finish w (read t .constraints) (dropEdit x (read t .edits)))
+  call-is = remove-edit-known x budget (read t) (editOf t k) found room
 
   stored-tag : tagAt t marker other ≡ editOf t k .tag
   unfolding tagAt editOf
@@ -129,7 +140,8 @@ module _ (x budget : ℕ) (t w : Sparse) (en : Entered t w) (k : ℕ) (live : ed
     pub removal-comes : Goes false e u → e .number ≡ 0 → (Comes t (closed (e .wrote) u)) × (readable (brought (read t .constraints) (dropEdit (editOf t k .variable) (read t .edits)) (closed (e .wrote) u)) ≡ true)
     removal-comes goes on =
         let st = went e u goes on in
-        (closed-comes (e .wrote) u st t (en .reads), rw number-is (accepted-reads (removeEdit x budget) t e u again on st _ (read t .constraints) (dropEdit x (read t .edits)) call-is outcome))
+        let q = accepted-reads (removeEdit x budget) t e u again on st _ (read t .constraints) (dropEdit x (read t .edits)) call-is outcome in
+        (closed-comes (e .wrote) u st t (en .reads) (read t .constraints) (dropEdit x (read t .edits)) q, rw number-is q)
 
     module _ (a : code.Answer) (says : answerOf a ≡ answered e) where
       pub edit-refused : (e .number ≡ 0 → ⊥) → (v : Sparse) → Done (removeEdit x budget) a t v

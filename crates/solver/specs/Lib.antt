@@ -7,11 +7,11 @@ pub mod Concluding
 pub mod Placed
 pub mod StoredTerms
 pub mod TagsLive
+pub mod Carrying
+pub mod Suggesting
+pub mod Brings
 pub mod Removing
 pub mod EditRemoving
-pub mod Suggesting
-pub mod Carrying
-pub mod Brings
 pub mod Adding
 pub mod EditAdding
 pub mod Change

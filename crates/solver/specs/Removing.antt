@@ -10,8 +10,8 @@ use lib.Ieee.{Float, nan}
 use lib.ListN.{getD}
 use Rattle.steps.specs.State.{Tag, Constraint, State}
 use Rattle.steps.specs.Remove.{removeSteps}
-use Rattle.steps.specs.Tests.{findConstraint, dropConstraint}
-use Rattle.steps.specs.Calls.{begin, finish, conclude, removeStored, remove}
+use Rattle.steps.specs.Tests.{findConstraint, dropConstraint, goneFull}
+use Rattle.steps.specs.Calls.{begin, finish, conclude, removeStored, unlessFull, remove}
 use Rattle.steps.specs.Readable.{readable, tagKinds}
 use Rattle.keeps.specs.Lists.{times}
 use Rattle.keeps.specs.Keys.{drop-total, findConstraint-is}
@@ -23,6 +23,7 @@ use Rattle.stored.specs.Moved.{Moved}
 use Rattle.stored.specs.Ended.{all-at, roomOf}
 use Rattle.stored.specs.Ends.{constraints-read}
 use Rattle.removal.specs.Tag.{TagLives}
+use Rattle.removal.specs.Room.{Room, room-begins}
 use Rattle.solver.specs.TagsLive.{tag-lives}
 use Rattle.keeps.specs.Keeps.{remove-reads}
 use Rattle.sparse.specs.Places.{constraintNumbersAt, constraintMarkersAt, constraintOthersAt, constraintStrengthsAt, editMarkersAt, editOthersAt, editStrengthsAt, suggestionsAt}
@@ -42,7 +43,7 @@ use Rattle.lending.specs.Entered.{Entered}
 use Rattle.terms.specs.declared.Pack.{Pack}
 use Rattle.terms.specs.Terms.{termsOf}
 use Rattle.refusals.specs.Refusals as refusals
-use Rattle.refusals.specs.Refusals.{liveIn, editedIn}
+use Rattle.refusals.specs.Refusals.{liveIn}
 use Rattle.refusals.specs.Known as known
 use Rattle.waist.specs.Tags.{tagAt}
 use Rattle.solver.specs.Bringing.{brought, Comes}
@@ -54,17 +55,20 @@ use Rattle.solver.specs.Placed.{constraint-found, constraint-placed}
 
 -- ---- refused by a test
 
-pub remove-by-test : (x budget : ℕ) (t w u : Sparse) (a : code.Answer) {k : ℕ} → Entered t w → k ≡ refusals.removeRefusal x (t .words) → (k ≡ 0 → ⊥) → answerOf a ≡ byTest k (t .words) → Done (remove x budget) a t u
+pub remove-by-test : (x budget : ℕ) (t w u : Sparse) (a : code.Answer) {k : ℕ} → Entered t w → k ≡ refusals.removeRefusal x (t .words) (t .bytes) (t .reals) → (k ≡ 0 → ⊥) → answerOf a ≡ byTest k (t .words) → Done (remove x budget) a t u
 remove-by-test x budget t w u a {k} en q h says = done-by-test (remove x budget) a t u k (known.remove-refused t (en .reads) x budget (λ z. h (q ∙ z)) ∙ rw (← q) refl) h says
 
 -- ---- the call on what is live
 
-remove-known : (x budget : ℕ) (s : State) (c : Constraint) → findConstraint x (s .constraints) ≡ some c
+remove-known : (x budget : ℕ) (s : State) (c : Constraint) → findConstraint x (s .constraints) ≡ some c → goneFull (c .terms) s ≡ false
     → remove x budget s ≡ conclude s (removeSteps budget (c .tag) (c .strength) (c .terms) (begin s)) (λ w. finish w (dropConstraint x (s .constraints)) (s .edits))
-unfolding remove removeStored
-remove-known x budget s c a = rw (a, remove) refl
+unfolding remove removeStored unlessFull
+remove-known x budget s c a g = rw (a, g, remove, unlessFull) refl
 
-module _ (x budget : ℕ) (t w : Sparse) (en : Entered t w) (k : ℕ) (live : liveIn (t .words) constraintNumbersAt (constraintCount t) x ≡ true) (placed : k ≡ placeFrom (t .words) constraintNumbersAt (constraintCount t) x) where
+module _ (x budget : ℕ) (t w : Sparse) (en : Entered t w) (k : ℕ) (passes : refusals.removeRefusal x (t .words) (t .bytes) (t .reals) ≡ 0) (placed : k ≡ placeFrom (t .words) constraintNumbersAt (constraintCount t) x) where
+  live : liveIn (t .words) constraintNumbersAt (constraintCount t) x ≡ true
+  live = known.remove-passed x (t .words) (t .bytes) (t .reals) passes .0
+
   abbrev marker : ℕ
   marker = getD (t .bytes) (constraintMarkersAt + k) 0
 
@@ -97,11 +101,18 @@ module _ (x budget : ℕ) (t w : Sparse) (en : Entered t w) (k : ℕ) (live : li
   unfolding constraintOf
   strength-is = refl
 
-  call-is : remove x budget (read t) ≡ conclude (read t) (removeSteps budget (constraintOf t k .tag) (constraintOf t k .strength) (constraintOf t k .terms) (begin (read t))) (λ w. finish w (dropConstraint x (read t .constraints)) (read t .edits))
-  call-is = remove-known x budget (read t) (constraintOf t k) (subst (λ (n : ℕ). findConstraint n (read t .constraints) ≡ some (constraintOf t k)) number-is (constraint-found t (reads-at-start t w en) k in-range))
-
   found : findConstraint x (read t .constraints) ≡ some (constraintOf t k)
   found = subst (λ (n : ℕ). findConstraint n (read t .constraints) ≡ some (constraintOf t k)) number-is (constraint-found t (reads-at-start t w en) k in-range)
+
+  -- 25 is not given
+  room : goneFull (constraintOf t k .terms) (read t) ≡ false
+  room = known.remove-room t (en .reads) x (known.remove-passed x (t .words) (t .bytes) (t .reals) passes .1) found
+
+  pub removal-room : (before : Wrote) → markOf before ≡ storedMark (t .words) → (p : Pack) → termsOf p ≡ constraintOf t k .terms → Room (termsOf p) (read w .changes)
+  removal-room before begun p terms = room-begins (termsOf p) (read t) (markOf before) w (begun-is t w en before begun) (reads-at-start t w en) (rw terms room)
+
+  call-is : remove x budget (read t) ≡ conclude (read t) (removeSteps budget (constraintOf t k .tag) (constraintOf t k .strength) (constraintOf t k .terms) (begin (read t))) (λ w. finish w (dropConstraint x (read t .constraints)) (read t .edits))
+  call-is = remove-known x budget (read t) (constraintOf t k) found room
 
   stored-tag : tagAt t marker other ≡ constraintOf t k .tag
   unfolding tagAt constraintOf
@@ -127,7 +138,8 @@ module _ (x budget : ℕ) (t w : Sparse) (en : Entered t w) (k : ℕ) (live : li
     removal-comes : Goes false e u → e .number ≡ 0 → (Comes t (closed (e .wrote) u)) × (readable (brought (dropConstraint (constraintOf t k .number) (read t .constraints)) (read t .edits) (closed (e .wrote) u)) ≡ true)
     removal-comes goes on =
         let st = went e u goes on in
-        (closed-comes (e .wrote) u st t (en .reads), rw number-is (accepted-reads (remove x budget) t e u again on st _ (dropConstraint x (read t .constraints)) (read t .edits) call-is outcome))
+        let q = accepted-reads (remove x budget) t e u again on st _ (dropConstraint x (read t .constraints)) (read t .edits) call-is outcome in
+        (closed-comes (e .wrote) u st t (en .reads) (dropConstraint x (read t .constraints)) (read t .edits) q, rw number-is q)
 
     pub removal-stores : Goes false e u → e .number ≡ 0 → (Stores (t .words) (t .bytes)) × (Stores (closedWords (e .wrote) (u .words)) (u .bytes))
     removal-stores goes on = stores-both t (closed (e .wrote) u) (removal-comes goes on .0)

@@ -113,7 +113,8 @@ module _ (x budget : ℕ) (new : Float) (t w : Sparse) (en : Entered t w) (k : �
     pub drag-comes : Goes false e u → e .number ≡ 0 → (Comes t (closed (e .wrote) u)) × (readable (brought (read t .constraints) (keepEdit (suggested new edit) (dropEdit (edit .variable) (read t .edits))) (closed (e .wrote) u)) ≡ true)
     drag-comes goes on =
         let st = went e u goes on in
-        (closed-comes (e .wrote) u st t (en .reads), ap (λ (n : ℕ). readable (brought (read t .constraints) (keepEdit (suggested new edit) (dropEdit n (read t .edits))) (closed (e .wrote) u))) number-is ∙ accepted-reads (suggest x new budget) t e u again on st _ (read t .constraints) (keepEdit (suggested new edit) (dropEdit x (read t .edits))) call-is outcome)
+        let q = accepted-reads (suggest x new budget) t e u again on st _ (read t .constraints) (keepEdit (suggested new edit) (dropEdit x (read t .edits))) call-is outcome in
+        (closed-comes (e .wrote) u st t (en .reads) (read t .constraints) (keepEdit (suggested new edit) (dropEdit x (read t .edits))) q, ap (λ (n : ℕ). readable (brought (read t .constraints) (keepEdit (suggested new edit) (dropEdit n (read t .edits))) (closed (e .wrote) u))) number-is ∙ q)
 
     module _ (a : code.Answer) (says : answerOf a ≡ answered e) where
       pub drag-refused : (e .number ≡ 0 → ⊥) → (v : Sparse) → Done (suggest x new budget) a t v

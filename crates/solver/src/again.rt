@@ -4,10 +4,9 @@ ghost use mathlib.Core.Bool.{true};
 ghost use lib.Dec.{eqb};
 ghost use Rattle.laws.specs.Given.{Then};
 ghost use Rattle.steps.specs.Calls.{remove};
-ghost use Rattle.sparse.specs.Places.{constraintNumbersAt};
 ghost use Rattle.sparse.specs.Sparse.{read};
 ghost use Rattle.sparse_test.specs.Reads.{reads};
-ghost use Rattle.refusals.specs.Refusals.{constraintsIn, liveIn};
+ghost use Rattle.refusals.specs.Refusals.{removeRefusal};
 ghost use Rattle.waist.specs.Working.{lent};
 ghost use Rattle.lending.specs.Entered.{bareWords, Entered};
 ghost use Rattle.solver.specs.Concluding.{Done};
@@ -49,7 +48,7 @@ fn bare(words: &mut Words)
     words[sparse::EDIT_COUNT] = 0;
 }
 
-// The room's own records are copied aside and stand for the lent ones: the constraint n is live among them.
+// The room's own records are copied aside and stand for the lent ones: the constraint n is live among them, and may go.
 pub fn remove_again(
     words: &mut Words,
     keys: &mut Keys,
@@ -60,7 +59,7 @@ pub fn remove_again(
     budget: u32,
 ) -> Answer
     requires { ⌜ reads (lent words keys bytes reals values) ≡ true ⌝ }
-    requires { ⌜ liveIn (now words) constraintNumbersAt (constraintsIn (now words)) n ≡ true ⌝ }
+    requires { ⌜ removeRefusal n (now words) (now bytes) (now reals) ≡ 0 ⌝ }
     ensures { λ r. ⌜ Done (remove n budget) r (lent (words .entry) (keys .entry) (bytes .entry) (reals .entry) (values .entry)) (lent (words .exit) (keys .exit) (bytes .exit) (reals .exit) (values .exit)) ⌝ }
     ensures { λ r. ⌜ Then (eqb (r .number) 0) (reads (lent (words .exit) (keys .exit) (bytes .exit) (reals .exit) (values .exit)) ≡ true) ⌝ }
 {

@@ -1,8 +1,12 @@
 // Drop: "Dropping a group removes its constraints by ascending number, all or none, under one budget."
 ghost use mathlib.Core.Path.{_≡_};
 ghost use mathlib.Core.Bool.{true};
+ghost use mathlib.Core.Option.{none};
 ghost use Prim.Native.Nat.{_≤_};
+ghost use Rattle.steps.specs.Tests.{firstRefusal, groupOf, dropTests};
 ghost use Rattle.steps.specs.Calls.{dropGroup};
+ghost use Rattle.keeps.specs.Groups.{Removable};
+ghost use Rattle.sparse.specs.Sparse.{read};
 ghost use Rattle.sparse_test.specs.Reads.{reads};
 ghost use Rattle.refusals.specs.Refusals.{constraintsIn, groupIn};
 ghost use Rattle.waist.specs.Working.{lent};
@@ -34,6 +38,7 @@ fn drop_first(
     requires { ⌜ reads (lent words keys bytes reals values) ≡ true ⌝ }
     requires { ⌜ groupIn (now words) (constraintsIn (now words)) g ≡ true ⌝ }
     requires { ⌜ pivots ≤ budget ⌝ }
+    requires { ⌜ Removable (groupOf g (read (lent words keys bytes reals values) .constraints)) (read (lent words keys bytes reals values)) ⌝ }
     ensures { λ r. ⌜ Went g budget pivots r (lent (words .entry) (keys .entry) (bytes .entry) (reals .entry) (values .entry)) (lent (words .exit) (keys .exit) (bytes .exit) (reals .exit) (values .exit)) ⌝ }
 {
     let j = refusals::group_place(words, g);
@@ -46,7 +51,7 @@ fn drop_first(
     }
 }
 
-// The whole removals one after the other, in a room that holds the state.
+// The whole removals one after the other, in a room that holds the state. The drop's tests passed, so that each of them finds room for its gone entries.
 fn drop_all(
     words: &mut Words,
     keys: &mut Keys,
@@ -57,6 +62,7 @@ fn drop_all(
     budget: u32,
 ) -> Answer
     requires { ⌜ reads (lent words keys bytes reals values) ≡ true ⌝ }
+    requires { ⌜ firstRefusal (dropTests g (read (lent words keys bytes reals values))) ≡ none ⌝ }
     ensures { λ r. ⌜ Done (dropping g budget) r (lent (words .entry) (keys .entry) (bytes .entry) (reals .entry) (values .entry)) (lent (words .exit) (keys .exit) (bytes .exit) (reals .exit) (values .exit)) ⌝ }
 {
     let mut pivots = 0;
@@ -74,7 +80,7 @@ fn drop_all(
     }
 }
 
-// "Drop: 18, 26, 27."
+// "Drop: 18, 26, 27, 25."
 pub fn drop(
     words: &Words,
     keys: &Keys,
@@ -92,7 +98,7 @@ pub fn drop(
     requires { ⌜ Entered (lent words keys bytes reals values) (lent wwords wkeys wbytes wreals wvalues) ⌝ }
     ensures { λ r. ⌜ Done (dropGroup g budget) r (lent (words .entry) (keys .entry) (bytes .entry) (reals .entry) (values .entry)) (lent (wwords .exit) (wkeys .exit) (wbytes .exit) (wreals .exit) (wvalues .exit)) ⌝ }
 {
-    let number = refusals::drop_tests(words, g);
+    let number = refusals::drop_tests(words, bytes, reals, g);
     if number != 0 {
         return by_test(words, number);
     }

@@ -1,9 +1,7 @@
 // Remove.
 ghost use mathlib.Core.Path.{_≡_};
-ghost use mathlib.Core.Bool.{true};
 ghost use Rattle.steps.specs.Calls.{remove};
-ghost use Rattle.sparse.specs.Places.{constraintNumbersAt};
-ghost use Rattle.refusals.specs.Refusals.{constraintsIn, liveIn};
+ghost use Rattle.refusals.specs.Refusals.{removeRefusal};
 ghost use Rattle.solver.specs.Concluding.{Done, EnteredFrom, DoneFrom};
 ghost use Rattle.waist.specs.Working.{lent};
 ghost use Rattle.lending.specs.Entered.{Entered};
@@ -21,7 +19,7 @@ use sparse::Words;
 use sparse::lookup::look_up;
 use stored::records::drop_constraint;
 
-// The test passed: the constraint is live. The lent tables' cells are not read: those of the room are theirs.
+// The tests passed: the constraint is live, and there is room for the gone entries. The lent tables' cells are not read: those of the room are theirs.
 pub fn remove_known(
     words: &Words,
     bytes: &Bytes,
@@ -35,7 +33,7 @@ pub fn remove_known(
     budget: u32,
 ) -> Answer
     requires { ⌜ EnteredFrom (now words) (now bytes) (now reals) (lent wwords wkeys wbytes wreals wvalues) ⌝ }
-    requires { ⌜ liveIn (now words) constraintNumbersAt (constraintsIn (now words)) n ≡ true ⌝ }
+    requires { ⌜ removeRefusal n (now words) (now bytes) (now reals) ≡ 0 ⌝ }
     ensures { λ r. ⌜ DoneFrom (remove n budget) r (now (words .entry)) (now (bytes .entry)) (now (reals .entry)) (lent (wwords .entry) (wkeys .entry) (wbytes .entry) (wreals .entry) (wvalues .entry)) (lent (wwords .exit) (wkeys .exit) (wbytes .exit) (wreals .exit) (wvalues .exit)) ⌝ }
 {
     let before = stored_mark(words);
@@ -67,7 +65,7 @@ pub fn remove_known(
     answer_of(e)
 }
 
-// "Remove: 18, 5."
+// "Remove: 18, 5, 25."
 pub fn remove(
     words: &Words,
     keys: &Keys,
@@ -85,7 +83,7 @@ pub fn remove(
     requires { ⌜ Entered (lent words keys bytes reals values) (lent wwords wkeys wbytes wreals wvalues) ⌝ }
     ensures { λ r. ⌜ Done (remove n budget) r (lent (words .entry) (keys .entry) (bytes .entry) (reals .entry) (values .entry)) (lent (wwords .exit) (wkeys .exit) (wbytes .exit) (wreals .exit) (wvalues .exit)) ⌝ }
 {
-    let number = refusals::remove_tests(words, n);
+    let number = refusals::remove_tests(words, bytes, reals, n);
     if number != 0 {
         return by_test(words, number);
     }

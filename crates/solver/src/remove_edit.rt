@@ -1,8 +1,7 @@
 // Remove edit.
 ghost use mathlib.Core.Path.{_≡_};
-ghost use mathlib.Core.Bool.{true};
 ghost use Rattle.steps.specs.Calls.{removeEdit};
-ghost use Rattle.refusals.specs.Refusals.{editedIn};
+ghost use Rattle.refusals.specs.Refusals.{removeEditRefusal};
 ghost use Rattle.solver.specs.Concluding.{Done};
 ghost use Rattle.waist.specs.Working.{lent};
 ghost use Rattle.lending.specs.Entered.{Entered};
@@ -18,7 +17,7 @@ use sparse::Reals;
 use sparse::Values;
 use sparse::Words;
 
-// The test passed: the variable has an edit.
+// The tests passed: the variable has an edit, and there is room for the gone entry.
 fn remove_edit_known(
     words: &Words,
     keys: &Keys,
@@ -34,7 +33,7 @@ fn remove_edit_known(
     budget: u32,
 ) -> Answer
     requires { ⌜ Entered (lent words keys bytes reals values) (lent wwords wkeys wbytes wreals wvalues) ⌝ }
-    requires { ⌜ editedIn (now words) (now bytes) n ≡ true ⌝ }
+    requires { ⌜ removeEditRefusal n (now words) (now bytes) (now reals) ≡ 0 ⌝ }
     ensures { λ r. ⌜ Done (removeEdit n budget) r (lent (words .entry) (keys .entry) (bytes .entry) (reals .entry) (values .entry)) (lent (wwords .exit) (wkeys .exit) (wbytes .exit) (wreals .exit) (wvalues .exit)) ⌝ }
 {
     let before = stored_mark(words);
@@ -77,7 +76,7 @@ fn remove_edit_known(
     answer_of(e)
 }
 
-// "Remove edit: 18, 8."
+// "Remove edit: 18, 8, 25."
 pub fn remove_edit(
     words: &Words,
     keys: &Keys,
@@ -95,7 +94,7 @@ pub fn remove_edit(
     requires { ⌜ Entered (lent words keys bytes reals values) (lent wwords wkeys wbytes wreals wvalues) ⌝ }
     ensures { λ r. ⌜ Done (removeEdit n budget) r (lent (words .entry) (keys .entry) (bytes .entry) (reals .entry) (values .entry)) (lent (wwords .exit) (wkeys .exit) (wbytes .exit) (wreals .exit) (wvalues .exit)) ⌝ }
 {
-    let number = refusals::remove_edit_tests(words, bytes, n);
+    let number = refusals::remove_edit_tests(words, bytes, reals, n);
     if number != 0 {
         return by_test(words, number);
     }

@@ -16,20 +16,21 @@ use Rattle.cells.specs.Names.{rowSpan}
 use Rattle.cells.specs.Cells.{Ascending, cellAt, rowOf}
 use Rattle.cells.specs.Seek.{first-within}
 use Rattle.cells.specs.Reads.{cell-within}
-use Rattle.sparse.specs.Places.{idsAt, variableNumbersAt, variableUsesAt, constraintNumbersAt, constraintGroupsAt, kindsAt, rowPlacesAt, variablePlacesAt, changedAt, constraintMarkersAt, constraintOthersAt, termCountsAt, editVariablesAt, editMarkersAt, editOthersAt, termsAt, constantsAt, oldValuesAt, objectiveAt, cutoffAt, constraintStrengthsAt, editStrengthsAt, suggestionsAt, coefficientsAt, wordsSize, bytesSize, realsSize}
-use Rattle.sparse.specs.Sparse.{Sparse, symbolCount, rowCount, cellCount, variableCount, constraintCount, editCount, symbolAt, otherAt, numberAt, variableOf, termsFrom, termOf, constraintOf, editOf, basicOf, symbolsOf, basicsOf, objectiveOf, read}
+use Rattle.sparse.specs.Places.{idsAt, variableNumbersAt, variableUsesAt, constraintNumbersAt, constraintGroupsAt, goneNumbersAt, kindsAt, rowPlacesAt, variablePlacesAt, changedAt, constraintMarkersAt, constraintOthersAt, termCountsAt, editVariablesAt, editMarkersAt, editOthersAt, termsAt, constantsAt, oldValuesAt, objectiveAt, cutoffAt, constraintStrengthsAt, editStrengthsAt, suggestionsAt, coefficientsAt, wordsSize, bytesSize, realsSize}
+use Rattle.sparse.specs.Sparse.{Sparse, symbolCount, rowCount, cellCount, variableCount, constraintCount, editCount, goneCount, symbolAt, otherAt, numberAt, variableOf, termsFrom, termOf, constraintOf, editOf, basicOf, symbolsOf, basicsOf, objectiveOf, goneOf, read}
 use Rattle.sparse.specs.Concat.{sum-ext, sum-in, sum-le}
 use Rattle.sparse.specs.Repack.{Held}
 use Rattle.sparse.specs.Form.{indexAt, Counts, At, Form}
 
 -- u has what t has, wherever t's counts reach
 pub record Agree (t u : Sparse) : Type 0 where
-  pub heading : (j : ℕ) → j < 9 → getD (u .words) j 0 ≡ getD (t .words) j 0
+  pub heading : (j : ℕ) → j < 10 → getD (u .words) j 0 ≡ getD (t .words) j 0
   pub ids : (p : ℕ) → 1 ≤ p → p ≤ symbolCount t → getD (u .words) (idsAt + p) 0 ≡ getD (t .words) (idsAt + p) 0
   pub numbers : (j : ℕ) → j < variableCount t → getD (u .words) (variableNumbersAt + j) 0 ≡ getD (t .words) (variableNumbersAt + j) 0
   pub uses : (j : ℕ) → j < variableCount t → getD (u .words) (variableUsesAt + j) 0 ≡ getD (t .words) (variableUsesAt + j) 0
   pub constraintNumbers : (j : ℕ) → j < constraintCount t → getD (u .words) (constraintNumbersAt + j) 0 ≡ getD (t .words) (constraintNumbersAt + j) 0
   pub constraintGroups : (j : ℕ) → j < constraintCount t → getD (u .words) (constraintGroupsAt + j) 0 ≡ getD (t .words) (constraintGroupsAt + j) 0
+  pub gone : (j : ℕ) → j < goneCount t → getD (u .words) (goneNumbersAt + j) 0 ≡ getD (t .words) (goneNumbersAt + j) 0
   pub kinds : (p : ℕ) → 1 ≤ p → p ≤ symbolCount t → getD (u .bytes) (kindsAt + p) 0 ≡ getD (t .bytes) (kindsAt + p) 0
   pub rowPlaces : (p : ℕ) → 1 ≤ p → p ≤ rowCount t → getD (u .bytes) (rowPlacesAt + p) 0 ≡ getD (t .bytes) (rowPlacesAt + p) 0
   pub owners : (j : ℕ) → j < variableCount t → getD (u .bytes) (variablePlacesAt + j) 0 ≡ getD (t .bytes) (variablePlacesAt + j) 0
@@ -88,6 +89,10 @@ module _ (t u : Sparse) (same : Agree t u) where
   unfolding rowOf
   row-same i = tab-ext _ _ 1 (symbolCount t) λ p a b. cell-same (i * rowSpan + p)
 
+  gone-same : goneOf u ≡ goneOf t
+  unfolding goneOf
+  gone-same = rw (same .heading 9 (omega arith)) (list-ext _ _ _ (same .gone))
+
   module _ (form : Form t) where
     basic-same : (i : ℕ) → 1 ≤ i → i ≤ rowCount t → basicOf u i ≡ basicOf t i
     unfolding basicOf
@@ -127,7 +132,7 @@ module _ (t u : Sparse) (same : Agree t u) where
         let vs : listOf (variableCount t) (variableOf u) ≡ listOf (variableCount t) (variableOf t) = list-ext _ _ _ variable-same in
         let cs : listOf (constraintCount t) (constraintOf u) ≡ listOf (constraintCount t) (constraintOf t) = list-ext _ _ _ constraint-same in
         let es : listOf (editCount t) (editOf u) ≡ listOf (editCount t) (editOf t) = list-ext _ _ _ edit-same in
-        rw (h 0 (omega arith), h 1 (omega arith), h 2 (omega arith), h 4 (omega arith), h 5 (omega arith), h 6 (omega arith), h 7 (omega arith), h 8 (omega arith), same .cutoff, xs, bs, os, vs, cs, es) refl
+        rw (h 0 (omega arith), h 1 (omega arith), h 2 (omega arith), h 4 (omega arith), h 5 (omega arith), h 6 (omega arith), h 7 (omega arith), h 8 (omega arith), same .cutoff, xs, bs, os, vs, gone-same, cs, es) refl
 
     at-same : (p : ℕ) → At t p → At u p
     at-same p l = (l .0, rw (same .heading 1 (omega arith)) (l .1))
@@ -144,6 +149,7 @@ module _ (t u : Sparse) (same : Agree t u) where
           constraints = rw (h 5 (omega arith)) (c .constraints);
           edits = rw (h 6 (omega arith)) (c .edits);
           terms = rw (h 5 (omega arith), terms-same (constraintCount t) (omega arith)) (c .terms);
+          gone = rw (h 9 (omega arith)) (c .gone);
         }
 
     held-same : Held (u .keys) (u .values) (cellCount t) (symbolCount t) (rowCount t)

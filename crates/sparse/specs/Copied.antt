@@ -8,8 +8,8 @@ use native.Mathlib.Omega.{arith}
 use lib.Ieee.{Float, nan}
 use lib.ListN.{length, getD}
 use Rattle.laws.specs.Lists.{tab, getD-tab, length-tab}
-use Rattle.sparse.specs.Places.{nextIdAt, idsAt, variableNumbersAt, variableUsesAt, constraintNumbersAt, constraintGroupsAt, kindsAt, rowPlacesAt, variablePlacesAt, changedAt, constraintMarkersAt, constraintOthersAt, termCountsAt, editVariablesAt, editMarkersAt, editOthersAt, termsAt, constantsAt, oldValuesAt, objectiveAt, cutoffAt, constraintStrengthsAt, editStrengthsAt, suggestionsAt, coefficientsAt, wordsSize, bytesSize, realsSize}
-use Rattle.sparse.specs.Sparse.{Sparse, symbolCount, rowCount, cellCount, variableCount, constraintCount, editCount, termsFrom, read}
+use Rattle.sparse.specs.Places.{nextIdAt, idsAt, variableNumbersAt, variableUsesAt, constraintNumbersAt, constraintGroupsAt, goneNumbersAt, kindsAt, rowPlacesAt, variablePlacesAt, changedAt, constraintMarkersAt, constraintOthersAt, termCountsAt, editVariablesAt, editMarkersAt, editOthersAt, termsAt, constantsAt, oldValuesAt, objectiveAt, cutoffAt, constraintStrengthsAt, editStrengthsAt, suggestionsAt, coefficientsAt, wordsSize, bytesSize, realsSize}
+use Rattle.sparse.specs.Sparse.{Sparse, symbolCount, rowCount, cellCount, variableCount, constraintCount, editCount, goneCount, termsFrom, read}
 use Rattle.sparse.specs.Stretches.{Stretch, Within, lay, lay-in, length-lay, copied-at, length-copied}
 use Rattle.sparse.specs.Fits.{Lengths}
 use Rattle.sparse.specs.Form.{Counts, Form}
@@ -27,7 +27,8 @@ module _ (t w : Sparse) (c : Counts t) (len : Lengths w) where
       let v = c .variables in
       let k = c .symbols in
       let m = c .constraints in
-      (omega (arith, l constraintGroupsAt (constraintCount t), m), (omega (arith, l constraintNumbersAt (constraintCount t), m), (omega (arith, l variableUsesAt (variableCount t), v), (omega (arith, l variableNumbersAt (variableCount t), v), (omega (arith, l (idsAt + 1) (symbolCount t), k), (omega (arith, l 0 9), tt))))))
+      let g = c .gone in
+      (omega (arith, l goneNumbersAt (goneCount t), g), (omega (arith, l constraintGroupsAt (constraintCount t), m), (omega (arith, l constraintNumbersAt (constraintCount t), m), (omega (arith, l variableUsesAt (variableCount t), v), (omega (arith, l variableNumbersAt (variableCount t), v), (omega (arith, l (idsAt + 1) (symbolCount t), k), (omega (arith, l 0 headingEnd), tt)))))))
 
   within-bytes : Within bytesSize (liveBytes t)
   unfolding liveBytes
@@ -58,7 +59,7 @@ module _ (t w : Sparse) (c : Counts t) (len : Lengths w) where
   abbrev none : {A : Type 0} → Stretch A
   none = record { at = 0; list = [] }
 
-  word : (i a n j : ℕ) → i < 6 → getD (liveWords t) i none ≡ (record { at = a; list = tab (λ j. getD (t .words) j 0) a n }) → j < n → getD (u .words) (a + j) 0 ≡ getD (t .words) (a + j) 0
+  word : (i a n j : ℕ) → i < 7 → getD (liveWords t) i none ≡ (record { at = a; list = tab (λ j. getD (t .words) j 0) a n }) → j < n → getD (u .words) (a + j) 0 ≡ getD (t .words) (a + j) 0
   unfolding putOver
   word i a n j h q k =
       let g : ℕ → ℕ = λ j. getD (t .words) j 0 in
@@ -89,12 +90,13 @@ module _ (t w : Sparse) (c : Counts t) (len : Lengths w) where
   unfolding liveWords liveBytes liveReals
   copy-agrees =
       record {
-        heading = λ j h. rw (zero-add j) at (word 5 nextIdAt headingEnd j (omega arith) refl h);
-        ids = λ p a b. from-one (u .words) (t .words) 0 idsAt p a (word 4 (idsAt + 1) (symbolCount t) (p - 1) (omega arith) refl (omega (arith, a, b)));
-        numbers = λ j h. word 3 variableNumbersAt (variableCount t) j (omega arith) refl h;
-        uses = λ j h. word 2 variableUsesAt (variableCount t) j (omega arith) refl h;
-        constraintNumbers = λ j h. word 1 constraintNumbersAt (constraintCount t) j (omega arith) refl h;
-        constraintGroups = λ j h. word 0 constraintGroupsAt (constraintCount t) j (omega arith) refl h;
+        heading = λ j h. rw (zero-add j) at (word 6 nextIdAt headingEnd j (omega arith) refl h);
+        ids = λ p a b. from-one (u .words) (t .words) 0 idsAt p a (word 5 (idsAt + 1) (symbolCount t) (p - 1) (omega arith) refl (omega (arith, a, b)));
+        numbers = λ j h. word 4 variableNumbersAt (variableCount t) j (omega arith) refl h;
+        uses = λ j h. word 3 variableUsesAt (variableCount t) j (omega arith) refl h;
+        constraintNumbers = λ j h. word 2 constraintNumbersAt (constraintCount t) j (omega arith) refl h;
+        constraintGroups = λ j h. word 1 constraintGroupsAt (constraintCount t) j (omega arith) refl h;
+        gone = λ j h. word 0 goneNumbersAt (goneCount t) j (omega arith) refl h;
         kinds = λ p a b. from-one (u .bytes) (t .bytes) 0 kindsAt p a (byte 10 (kindsAt + 1) (symbolCount t) (p - 1) (omega arith) refl (omega (arith, a, b)));
         rowPlaces = λ p a b. from-one (u .bytes) (t .bytes) 0 rowPlacesAt p a (byte 9 (rowPlacesAt + 1) (rowCount t) (p - 1) (omega arith) refl (omega (arith, a, b)));
         owners = λ j h. byte 8 variablePlacesAt (variableCount t) j (omega arith) refl h;

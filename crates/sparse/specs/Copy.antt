@@ -3,17 +3,18 @@ use Prim.Native.Nat.{ℕ, _+_}
 use mathlib.Core.List.{List, [], _∷_}
 use lib.Ieee.{Float, nan}
 use lib.ListN.{getD}
-use Rattle.sparse.specs.Places.{nextIdAt, wholeAt, idsAt, variableNumbersAt, variableUsesAt, constraintNumbersAt, constraintGroupsAt, kindsAt, rowPlacesAt, variablePlacesAt, changedAt, constraintMarkersAt, constraintOthersAt, termCountsAt, editVariablesAt, editMarkersAt, editOthersAt, termsAt, constantsAt, oldValuesAt, objectiveAt, cutoffAt, constraintStrengthsAt, editStrengthsAt, suggestionsAt, coefficientsAt}
-use Rattle.sparse.specs.Sparse.{Sparse, symbolCount, rowCount, cellCount, variableCount, constraintCount, editCount, termsFrom}
+use Rattle.sparse.specs.Places.{nextIdAt, goneCountAt, idsAt, variableNumbersAt, variableUsesAt, constraintNumbersAt, constraintGroupsAt, goneNumbersAt, kindsAt, rowPlacesAt, variablePlacesAt, changedAt, constraintMarkersAt, constraintOthersAt, termCountsAt, editVariablesAt, editMarkersAt, editOthersAt, termsAt, constantsAt, oldValuesAt, objectiveAt, cutoffAt, constraintStrengthsAt, editStrengthsAt, suggestionsAt, coefficientsAt}
+use Rattle.sparse.specs.Sparse.{Sparse, symbolCount, rowCount, cellCount, variableCount, constraintCount, editCount, goneCount, termsFrom}
 use Rattle.sparse.specs.Stretches.{Stretch, part, lay, copied}
 
--- the counts and flags: the next id is the first of them, the whole mark the last
+-- the counts and flags: the next id is the first of them, the count of the gone the last
 abbrev pub headingEnd : ℕ
-headingEnd = wholeAt + 1
+headingEnd = goneCountAt + 1
 
 unfoldable pub liveWords : Sparse → List (Stretch ℕ)
 liveWords t =
-    part 0 (t .words) constraintGroupsAt (constraintCount t)
+    part 0 (t .words) goneNumbersAt (goneCount t)
+    ∷ part 0 (t .words) constraintGroupsAt (constraintCount t)
     ∷ part 0 (t .words) constraintNumbersAt (constraintCount t)
     ∷ part 0 (t .words) variableUsesAt (variableCount t)
     ∷ part 0 (t .words) variableNumbersAt (variableCount t)

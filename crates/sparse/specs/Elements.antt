@@ -21,7 +21,7 @@ use Rattle.layout.specs.Laying.{getD-map, tab-from}
 use Rattle.layout.specs.Back.{bit-back}
 use Rattle.cells.specs.Cells.{rowOf}
 use Rattle.cells.specs.Seek.{first-elim, first-at}
-use Rattle.sparse.specs.Places.{idsAt, variableNumbersAt, variableUsesAt, constraintNumbersAt, constraintGroupsAt, kindsAt, rowPlacesAt, variablePlacesAt, changedAt, constraintMarkersAt, constraintOthersAt, termCountsAt, editVariablesAt, editMarkersAt, editOthersAt, termsAt, constantsAt, oldValuesAt, objectiveAt, cutoffAt, constraintStrengthsAt, editStrengthsAt, suggestionsAt, coefficientsAt, wordsSize, bytesSize, realsSize}
+use Rattle.sparse.specs.Places.{idsAt, variableNumbersAt, variableUsesAt, constraintNumbersAt, constraintGroupsAt, goneNumbersAt, kindsAt, rowPlacesAt, variablePlacesAt, changedAt, constraintMarkersAt, constraintOthersAt, termCountsAt, editVariablesAt, editMarkersAt, editOthersAt, termsAt, constantsAt, oldValuesAt, objectiveAt, cutoffAt, constraintStrengthsAt, editStrengthsAt, suggestionsAt, coefficientsAt, wordsSize, bytesSize, realsSize}
 use Rattle.sparse.specs.Sparse.{Sparse, symbolAt, otherAt, numberAt, variableOf, termsFrom, termOf, constraintOf, editOf, basicOf, symbolsOf, basicsOf, objectiveOf, read}
 use Rattle.sparse.specs.Stretches.{Stretch, Within, lay-in}
 use Rattle.sparse.specs.Concat.{sum-ext, sum-in, before, concat-at}
@@ -59,7 +59,8 @@ module _ (s : State) (t : Sparse) (fits : Fits s) (len : Lengths t) where
       let d = length-map vs (λ (v : Variable). v .number) in
       let e = length-map xs (λ (x : Symbol). x .id) in
       let g = length-map (s .constraints) (λ (c : Constraint). c .group) in
-      (omega (arith, g, c), (omega (arith, a, c), (omega (arith, b, v), (omega (arith, d, v), (omega (arith, e, k), (omega arith, tt))))))
+      let n = fits .gone in
+      (omega (arith, n), (omega (arith, g, c), (omega (arith, a, c), (omega (arith, b, v), (omega (arith, d, v), (omega (arith, e, k), (omega arith, tt)))))))
 
   within-bytes : Within bytesSize (bytesOf s)
   unfolding bytesOf
@@ -103,7 +104,7 @@ module _ (s : State) (t : Sparse) (fits : Fits s) (len : Lengths t) where
 
   -- ---- each element
 
-  word : (i j : ℕ) → i < 6 → j < length (getD (wordsOf s size) i (record { at = 0; list = [] }) .list) → getD (t' .words) (getD (wordsOf s size) i (record { at = 0; list = [] }) .at + j) 0 ≡ getD (getD (wordsOf s size) i (record { at = 0; list = [] }) .list) j 0
+  word : (i j : ℕ) → i < 7 → j < length (getD (wordsOf s size) i (record { at = 0; list = [] }) .list) → getD (t' .words) (getD (wordsOf s size) i (record { at = 0; list = [] }) .at + j) 0 ≡ getD (getD (wordsOf s size) i (record { at = 0; list = [] }) .list) j 0
   unfolding write wordsOf
   word i j h k = lay-in wordsSize (wordsOf s size) (t .words) within-words (omega (arith, len .0)) i j 0 h k
 
@@ -115,29 +116,33 @@ module _ (s : State) (t : Sparse) (fits : Fits s) (len : Lengths t) where
   unfolding write realsOf
   real i j h k = lay-in realsSize (realsOf s) (t .reals) within-reals (omega (arith, len .3)) i j nan h k
 
-  pub heading-back : (j : ℕ) → j < 9 → getD (t' .words) j 0 ≡ getD (headingOf s size) j 0
+  pub heading-back : (j : ℕ) → j < 10 → getD (t' .words) j 0 ≡ getD (headingOf s size) j 0
   unfolding wordsOf headingOf
-  heading-back j h = rw (zero-add j) at (word 5 j (omega arith) h)
+  heading-back j h = rw (zero-add j) at (word 6 j (omega arith) h)
 
   pub id-back : (j : ℕ) → j < length xs → getD (t' .words) (idsAt + 1 + j) 0 ≡ getD xs j noSymbol .id
   unfolding wordsOf
-  id-back j h = through (λ (x : Symbol). x .id) xs j 0 noSymbol h (word 4 j (omega arith))
+  id-back j h = through (λ (x : Symbol). x .id) xs j 0 noSymbol h (word 5 j (omega arith))
 
   pub number-back : (j : ℕ) → j < length vs → getD (t' .words) (variableNumbersAt + j) 0 ≡ getD vs j noVariable .number
   unfolding wordsOf
-  number-back j h = through (λ (v : Variable). v .number) vs j 0 noVariable h (word 3 j (omega arith))
+  number-back j h = through (λ (v : Variable). v .number) vs j 0 noVariable h (word 4 j (omega arith))
 
   pub uses-back : (j : ℕ) → j < length vs → getD (t' .words) (variableUsesAt + j) 0 ≡ getD vs j noVariable .uses
   unfolding wordsOf
-  uses-back j h = through (λ (v : Variable). v .uses) vs j 0 noVariable h (word 2 j (omega arith))
+  uses-back j h = through (λ (v : Variable). v .uses) vs j 0 noVariable h (word 3 j (omega arith))
 
   pub constraint-number : (j : ℕ) → j < length (s .constraints) → getD (t' .words) (constraintNumbersAt + j) 0 ≡ getD (s .constraints) j noConstraint .number
   unfolding wordsOf
-  constraint-number j h = through (λ (c : Constraint). c .number) (s .constraints) j 0 noConstraint h (word 1 j (omega arith))
+  constraint-number j h = through (λ (c : Constraint). c .number) (s .constraints) j 0 noConstraint h (word 2 j (omega arith))
 
   pub group-back : (j : ℕ) → j < length (s .constraints) → getD (t' .words) (constraintGroupsAt + j) 0 ≡ getD (s .constraints) j noConstraint .group
   unfolding wordsOf
-  group-back j h = through (λ (c : Constraint). c .group) (s .constraints) j 0 noConstraint h (word 0 j (omega arith))
+  group-back j h = through (λ (c : Constraint). c .group) (s .constraints) j 0 noConstraint h (word 1 j (omega arith))
+
+  pub gone-back : (j : ℕ) → j < length (s .changes .gone) → getD (t' .words) (goneNumbersAt + j) 0 ≡ getD (s .changes .gone) j 0
+  unfolding wordsOf
+  gone-back j h = word 0 j (omega arith) h
 
   pub kind-laid : (j : ℕ) → j < length xs → getD (t' .bytes) (kindsAt + 1 + j) 0 ≡ kindCode (getD xs j noSymbol .kind)
   unfolding bytesOf

@@ -7,7 +7,7 @@ use lib.ListN.{length, getD}
 use Rattle.steps.specs.Symbol.{Symbol}
 use Rattle.steps.specs.State.{State}
 use Rattle.cells.specs.Names.{cellRoom, lastPlace}
-use Rattle.sparse.specs.Places.{mostRows, mostVariables, mostConstraints, mostTerms, wordsSize, bytesSize, realsSize}
+use Rattle.sparse.specs.Places.{mostRows, mostVariables, mostConstraints, mostTerms, mostGone, wordsSize, bytesSize, realsSize}
 use Rattle.sparse.specs.Sparse.{Sparse}
 use Rattle.sparse.specs.Laying.{Room, Settled}
 use Rattle.sparse.specs.Write.{noSymbol, noBasic, noVariable, noTerm, noConstraint, noEdit, placeOf, indexOf, allTerms, cellsOf}
@@ -32,6 +32,7 @@ pub record Fits (s : State) : Type 0 where
   pub constraints : length (s .constraints) ≤ mostConstraints
   pub edits : length (s .edits) ≤ mostConstraints
   pub terms : length (allTerms s) ≤ mostTerms
+  pub gone : length (s .changes .gone) ≤ mostGone
   pub objective : length (s .tableau .objective) ≡ length (s .tableau .symbols)
   pub wide : (q : ℕ) → q < length (s .tableau .rows) → length (getD (cellsOf (s .tableau)) q []) ≡ length (s .tableau .symbols)
   -- no cell is -0.0: an absent cell reads as 0.0

@@ -9,9 +9,9 @@ use borrow.Author.Tests.{eqb-true}
 use Rattle.laws.specs.Loops.{first}
 use Rattle.cells.specs.Names.{lastPlace, cellRoom}
 use Rattle.cells.specs.Seek.{first-elim, first-at}
-use Rattle.sparse.specs.Places.{mostRows, mostVariables, mostConstraints, mostTerms, shouldClearAt, wholeAt, idsAt, variableNumbersAt, kindsAt, rowPlacesAt, variablePlacesAt, changedAt, constraintMarkersAt, constraintOthersAt, editVariablesAt, editMarkersAt, editOthersAt, termsAt}
+use Rattle.sparse.specs.Places.{mostRows, mostVariables, mostConstraints, mostTerms, mostGone, shouldClearAt, wholeAt, idsAt, variableNumbersAt, kindsAt, rowPlacesAt, variablePlacesAt, changedAt, constraintMarkersAt, constraintOthersAt, editVariablesAt, editMarkersAt, editOthersAt, termsAt}
 use Rattle.sparse.specs.Lookup.{Ascends}
-use Rattle.sparse.specs.Sparse.{Sparse, symbolCount, rowCount, cellCount, variableCount, constraintCount, editCount, numberAt, termsFrom}
+use Rattle.sparse.specs.Sparse.{Sparse, symbolCount, rowCount, cellCount, variableCount, constraintCount, editCount, goneCount, numberAt, termsFrom}
 use Rattle.sparse.specs.Repack.{Held}
 
 -- which variable's symbol stands at place p; how many variables there are, if none's
@@ -38,6 +38,7 @@ pub record Counts (t : Sparse) : Type 0 where
   pub constraints : constraintCount t ≤ mostConstraints
   pub edits : editCount t ≤ mostConstraints
   pub terms : termsFrom t (constraintCount t) ≤ mostTerms
+  pub gone : goneCount t ≤ mostGone
 
 -- a symbol's place
 abbrev pub At : Sparse → ℕ → Type 0

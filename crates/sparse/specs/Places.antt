@@ -16,7 +16,11 @@ mostConstraints = 48
 abbrev pub mostTerms : ℕ
 mostTerms = 768
 
--- ---- words: the next id, counts and flags; then the symbols' ids, the variables' numbers and uses, the constraints' numbers and groups
+-- "At most 32 gone entries wait."
+abbrev pub mostGone : ℕ
+mostGone = 32
+
+-- ---- words: the next id, counts and flags; then the symbols' ids, the variables' numbers and uses, the constraints' numbers and groups, the gone variables' numbers
 abbrev pub nextIdAt : ℕ
 nextIdAt = 0
 
@@ -44,6 +48,9 @@ shouldClearAt = 7
 abbrev pub wholeAt : ℕ
 wholeAt = 8
 
+abbrev pub goneCountAt : ℕ
+goneCountAt = 9
+
 abbrev pub idsAt : ℕ
 idsAt = 15
 
@@ -59,8 +66,11 @@ constraintNumbersAt = 210
 abbrev pub constraintGroupsAt : ℕ
 constraintGroupsAt = 258
 
+abbrev pub goneNumbersAt : ℕ
+goneNumbersAt = 306
+
 abbrev pub wordsSize : ℕ
-wordsSize = 306
+wordsSize = 338
 
 -- ---- bytes: the symbols' kinds and the rows' symbols; the variables' symbols and changed flags; the constraints' marker, other, count of terms; the edits' variable, marker, other; the terms' variables
 abbrev pub kindsAt : ℕ

@@ -18,13 +18,13 @@ use Rattle.layout.specs.Laying.{getD-map, tab-from}
 use Rattle.layout.specs.Back.{bit-back}
 use Rattle.cells.specs.Cells.{rowOf}
 use Rattle.cells.specs.Seek.{first-elim, first-at}
-use Rattle.sparse.specs.Places.{idsAt, variableNumbersAt, kindsAt, rowPlacesAt, variablePlacesAt, termCountsAt, termsAt, constantsAt, objectiveAt, cutoffAt, coefficientsAt}
-use Rattle.sparse.specs.Sparse.{Sparse, variableCount, symbolAt, otherAt, numberAt, variableOf, termsFrom, termOf, constraintOf, editOf, basicOf, symbolsOf, basicsOf, objectiveOf, read}
+use Rattle.sparse.specs.Places.{idsAt, variableNumbersAt, goneNumbersAt, kindsAt, rowPlacesAt, variablePlacesAt, termCountsAt, termsAt, constantsAt, objectiveAt, cutoffAt, coefficientsAt}
+use Rattle.sparse.specs.Sparse.{Sparse, variableCount, symbolAt, otherAt, numberAt, variableOf, termsFrom, termOf, constraintOf, editOf, basicOf, symbolsOf, basicsOf, objectiveOf, goneOf, read}
 use Rattle.sparse.specs.Concat.{sum-ext, sum-in, sum-le, before, concat-at, concat-length}
 use Rattle.sparse.specs.Laying.{rows-back}
 use Rattle.sparse.specs.Write.{noSymbol, noBasic, noVariable, noTerm, noConstraint, noEdit, placeOf, otherPlace, indexOf, numberPlace, allTerms, cellsOf, laidOf, headingOf, write}
 use Rattle.sparse.specs.Fits.{Lengths, Live, LiveOther, Fits}
-use Rattle.sparse.specs.Elements.{heading-back, id-back, number-back, uses-back, constraint-number, group-back, kind-laid, row-place, variable-place, changed-back, marker-place, other-place, count-back, edit-variable, plus-place, minus-place, term-place, constant-back, old-back, cost-back, cutoff-back, strength-back, edit-strength, suggestion-back, coefficient-back}
+use Rattle.sparse.specs.Elements.{heading-back, id-back, number-back, uses-back, constraint-number, group-back, gone-back, kind-laid, row-place, variable-place, changed-back, marker-place, other-place, count-back, edit-variable, plus-place, minus-place, term-place, constant-back, old-back, cost-back, cutoff-back, strength-back, edit-strength, suggestion-back, coefficient-back}
 
 kind-back : (k : Kind) → kindOf (kindCode k) ≡ k
 unfolding kindOf kindCode
@@ -58,7 +58,7 @@ module _ (s : State) (t : Sparse) (fits : Fits s) (len : Lengths t) where
   abbrev size : ℕ
   size = laidOf (s .tableau) t .size
 
-  head : (j : ℕ) → j < 9 → getD (t' .words) j 0 ≡ getD (headingOf s size) j 0
+  head : (j : ℕ) → j < 10 → getD (t' .words) j 0 ≡ getD (headingOf s size) j 0
   head = heading-back s t fits len
 
   -- ---- symbols by place
@@ -168,6 +168,10 @@ module _ (s : State) (t : Sparse) (fits : Fits s) (len : Lengths t) where
       let e : Edit = getD (s .edits) i noEdit in
       rw (edit-variable s t fits len i h, named-back (e .variable) (fits .edited i h), edit-strength s t fits len i h, plus-place s t fits len i h, live-back (e .tag .marker) (fits .pluses i h), minus-place s t fits len i h, other-back (e .tag .other) (fits .minuses i h), suggestion-back s t fits len i h) refl
 
+  gone-all : goneOf t' ≡ s .changes .gone
+  unfolding goneOf headingOf
+  gone-all = rw (head 9 (omega arith)) (listOf-is (λ j. getD (t' .words) (goneNumbersAt + j) 0) (s .changes .gone) 0 (gone-back s t fits len))
+
   -- ---- the state
 
   pub read-write : read t' ≡ s
@@ -176,4 +180,4 @@ module _ (s : State) (t : Sparse) (fits : Fits s) (len : Lengths t) where
       let v : listOf (length vs) (variableOf t') ≡ vs = listOf-is (variableOf t') vs noVariable variable-back in
       let c : listOf (length (s .constraints)) (constraintOf t') ≡ s .constraints = listOf-is (constraintOf t') (s .constraints) noConstraint constraint-back in
       let e : listOf (length (s .edits)) (editOf t') ≡ s .edits = listOf-is (editOf t') (s .edits) noEdit edit-back in
-      rw (cutoff-back s t fits len, symbols-back, head 0 (omega arith), basics-back, objective-back, head 4 (omega arith), v, head 7 (omega arith), bit-back (s .changes .shouldClear), head 5 (omega arith), c, head 6 (omega arith), e, head 8 (omega arith), bit-back (s .whole)) refl
+      rw (cutoff-back s t fits len, symbols-back, head 0 (omega arith), basics-back, objective-back, head 4 (omega arith), v, gone-all, head 7 (omega arith), bit-back (s .changes .shouldClear), head 5 (omega arith), c, head 6 (omega arith), e, head 8 (omega arith), bit-back (s .whole)) refl

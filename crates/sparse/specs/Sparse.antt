@@ -14,7 +14,7 @@ use Rattle.steps.specs.Symbol.{Symbol}
 use Rattle.steps.specs.State.{Term, Basic, Variable, Constraint, Edit, State}
 use Rattle.layout.specs.Layout.{kindOf}
 use Rattle.cells.specs.Cells.{rowOf}
-use Rattle.sparse.specs.Places.{nextIdAt, symbolCountAt, rowCountAt, cellCountAt, variableCountAt, constraintCountAt, editCountAt, shouldClearAt, wholeAt, idsAt, variableNumbersAt, variableUsesAt, constraintNumbersAt, constraintGroupsAt, kindsAt, rowPlacesAt, variablePlacesAt, changedAt, constraintMarkersAt, constraintOthersAt, termCountsAt, editVariablesAt, editMarkersAt, editOthersAt, termsAt, constantsAt, oldValuesAt, objectiveAt, cutoffAt, constraintStrengthsAt, editStrengthsAt, suggestionsAt, coefficientsAt}
+use Rattle.sparse.specs.Places.{nextIdAt, symbolCountAt, rowCountAt, cellCountAt, variableCountAt, constraintCountAt, editCountAt, shouldClearAt, wholeAt, goneCountAt, idsAt, variableNumbersAt, variableUsesAt, constraintNumbersAt, constraintGroupsAt, goneNumbersAt, kindsAt, rowPlacesAt, variablePlacesAt, changedAt, constraintMarkersAt, constraintOthersAt, termCountsAt, editVariablesAt, editMarkersAt, editOthersAt, termsAt, constantsAt, oldValuesAt, objectiveAt, cutoffAt, constraintStrengthsAt, editStrengthsAt, suggestionsAt, coefficientsAt}
 
 pub record Sparse : Type 0 where
   -- u64
@@ -47,6 +47,9 @@ constraintCount t = getD (t .words) constraintCountAt 0
 
 abbrev pub editCount : Sparse → ℕ
 editCount t = getD (t .words) editCountAt 0
+
+abbrev pub goneCount : Sparse → ℕ
+goneCount t = getD (t .words) goneCountAt 0
 
 -- ---- symbols by place
 
@@ -116,11 +119,15 @@ basicsOf t = tab (basicOf t) 1 (rowCount t)
 unfoldable pub objectiveOf : Sparse → List Float
 objectiveOf t = tab (λ p. getD (t .reals) (objectiveAt + p) nan) 1 (symbolCount t)
 
+-- the numbers that the next fetch lists as gone
+unfoldable pub goneOf : Sparse → List ℕ
+goneOf t = listOf (goneCount t) λ j. getD (t .words) (goneNumbersAt + j) 0
+
 unfoldable pub read : Sparse → State
 read t =
     record {
       tableau = record { cutoff = getD (t .reals) cutoffAt nan; symbols = symbolsOf t; nextId = getD (t .words) nextIdAt 0; rows = basicsOf t; objective = objectiveOf t };
-      changes = record { variables = listOf (variableCount t) (variableOf t); shouldClear = eqb (getD (t .words) shouldClearAt 0) 1 };
+      changes = record { variables = listOf (variableCount t) (variableOf t); gone = goneOf t; shouldClear = eqb (getD (t .words) shouldClearAt 0) 1 };
       constraints = listOf (constraintCount t) (constraintOf t);
       edits = listOf (editCount t) (editOf t);
       whole = eqb (getD (t .words) wholeAt 0) 1;

@@ -12,7 +12,7 @@ use Rattle.steps.specs.State.{Term, Basic, Tag, Variable, Constraint, Edit, Tab
 use Rattle.steps.specs.Readable.{concat, kindCode}
 use Rattle.layout.specs.Layout.{bitOf}
 use Rattle.cells.specs.Cells.{Cells, cells}
-use Rattle.sparse.specs.Places.{nextIdAt, idsAt, variableNumbersAt, variableUsesAt, constraintNumbersAt, constraintGroupsAt, kindsAt, rowPlacesAt, variablePlacesAt, changedAt, constraintMarkersAt, constraintOthersAt, termCountsAt, editVariablesAt, editMarkersAt, editOthersAt, termsAt, constantsAt, oldValuesAt, objectiveAt, cutoffAt, constraintStrengthsAt, editStrengthsAt, suggestionsAt, coefficientsAt}
+use Rattle.sparse.specs.Places.{nextIdAt, idsAt, variableNumbersAt, variableUsesAt, constraintNumbersAt, constraintGroupsAt, goneNumbersAt, kindsAt, rowPlacesAt, variablePlacesAt, changedAt, constraintMarkersAt, constraintOthersAt, termCountsAt, editVariablesAt, editMarkersAt, editOthersAt, termsAt, constantsAt, oldValuesAt, objectiveAt, cutoffAt, constraintStrengthsAt, editStrengthsAt, suggestionsAt, coefficientsAt}
 use Rattle.sparse.specs.Sparse.{Sparse}
 use Rattle.sparse.specs.Stretches.{Stretch, from, lay}
 use Rattle.sparse.specs.Laying.{rowsLaid}
@@ -72,12 +72,13 @@ laidOf b t = rowsLaid (length (b .symbols)) 1 (cellsOf b) (cells (t .keys) (t .v
 
 unfoldable pub headingOf : State → ℕ → List ℕ
 headingOf s n =
-    s .tableau .nextId ∷ length (s .tableau .symbols) ∷ length (s .tableau .rows) ∷ n ∷ length (s .changes .variables) ∷ length (s .constraints) ∷ length (s .edits) ∷ bitOf (s .changes .shouldClear) ∷ bitOf (s .whole) ∷ []
+    s .tableau .nextId ∷ length (s .tableau .symbols) ∷ length (s .tableau .rows) ∷ n ∷ length (s .changes .variables) ∷ length (s .constraints) ∷ length (s .edits) ∷ bitOf (s .changes .shouldClear) ∷ bitOf (s .whole) ∷ length (s .changes .gone) ∷ []
 
 -- with n cells
 unfoldable pub wordsOf : State → ℕ → List (Stretch ℕ)
 wordsOf s n =
-    from constraintGroupsAt (map (λ (c : Constraint). c .group) (s .constraints))
+    from goneNumbersAt (s .changes .gone)
+    ∷ from constraintGroupsAt (map (λ (c : Constraint). c .group) (s .constraints))
     ∷ from constraintNumbersAt (map (λ (c : Constraint). c .number) (s .constraints))
     ∷ from variableUsesAt (map (λ (v : Variable). v .uses) (s .changes .variables))
     ∷ from variableNumbersAt (map (λ (v : Variable). v .number) (s .changes .variables))

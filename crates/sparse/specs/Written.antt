@@ -20,8 +20,8 @@ use Rattle.layout.specs.Laying.{tab-from}
 use Rattle.layout.specs.Copied.{length-listOf, getD-listOf}
 use Rattle.cells.specs.Cells.{Cells, cells, rowOf}
 use Rattle.cells.specs.Seek.{first-elim, first-at}
-use Rattle.sparse.specs.Places.{idsAt, variableNumbersAt, variableUsesAt, constraintNumbersAt, constraintGroupsAt, kindsAt, rowPlacesAt, variablePlacesAt, changedAt, constraintMarkersAt, constraintOthersAt, termCountsAt, editVariablesAt, editMarkersAt, editOthersAt, termsAt, constantsAt, oldValuesAt, objectiveAt, cutoffAt, constraintStrengthsAt, editStrengthsAt, suggestionsAt, coefficientsAt}
-use Rattle.sparse.specs.Sparse.{Sparse, symbolCount, rowCount, cellCount, variableCount, constraintCount, editCount, symbolAt, otherAt, numberAt, variableOf, termsFrom, termOf, constraintOf, editOf, basicOf, symbolsOf, basicsOf, objectiveOf, read}
+use Rattle.sparse.specs.Places.{idsAt, variableNumbersAt, variableUsesAt, constraintNumbersAt, constraintGroupsAt, goneNumbersAt, kindsAt, rowPlacesAt, variablePlacesAt, changedAt, constraintMarkersAt, constraintOthersAt, termCountsAt, editVariablesAt, editMarkersAt, editOthersAt, termsAt, constantsAt, oldValuesAt, objectiveAt, cutoffAt, constraintStrengthsAt, editStrengthsAt, suggestionsAt, coefficientsAt}
+use Rattle.sparse.specs.Sparse.{Sparse, symbolCount, rowCount, cellCount, variableCount, constraintCount, editCount, goneCount, symbolAt, otherAt, numberAt, variableOf, termsFrom, termOf, constraintOf, editOf, basicOf, symbolsOf, basicsOf, objectiveOf, goneOf, read}
 use Rattle.sparse.specs.Stretches.{Stretch, part, lay, copied, over-itself, lay-itself, copied-itself}
 use Rattle.sparse.specs.Concat.{listed-concat}
 use Rattle.sparse.specs.Repack.{repacked}
@@ -142,10 +142,18 @@ module _ (w : Sparse) (form : Form w) where
 
   -- ---- words
 
-  heading-is : headingOf (read w) (cellCount w) ≡ tab (λ j. getD (w .words) j 0) 0 9
+  gone-many : length (goneOf w) ≡ goneCount w
+  unfolding goneOf
+  gone-many = length-listOf (goneCount w) _
+
+  heading-is : headingOf (read w) (cellCount w) ≡ tab (λ j. getD (w .words) j 0) 0 10
   unfolding headingOf read tab basicsOf
   heading-is =
-      rw (many, length-tab (basicOf w) 1 (rowCount w), length-listOf (variableCount w) (variableOf w), length-listOf (constraintCount w) (constraintOf w), length-listOf (editCount w) (editOf w), bit-read (getD (w .words) 7 0) (form .clear), bit-read (getD (w .words) 8 0) (form .whole)) refl
+      rw (many, length-tab (basicOf w) 1 (rowCount w), length-listOf (variableCount w) (variableOf w), length-listOf (constraintCount w) (constraintOf w), length-listOf (editCount w) (editOf w), bit-read (getD (w .words) 7 0) (form .clear), bit-read (getD (w .words) 8 0) (form .whole), gone-many) refl
+
+  gone-is : goneOf w ≡ tab (λ j. getD (w .words) j 0) goneNumbersAt (goneCount w)
+  unfolding goneOf listOf
+  gone-is = tab-from (λ j. getD (w .words) j 0) goneNumbersAt 0 (goneCount w)
 
   words-are : wordsOf (read w) (cellCount w) ≡ liveWords w
   unfolding wordsOf liveWords read listOf symbolsOf
@@ -157,6 +165,7 @@ module _ (w : Sparse) (form : Form w) where
         part-is (λ (v : Variable). v .uses) (variableOf w) (λ j. getD (w .words) j 0) 0 variableUsesAt (variableCount w) (λ j h. unfold variableOf in rw (zero-add j) refl),
         part-is (λ (c : Constraint). c .number) (constraintOf w) (λ j. getD (w .words) j 0) 0 constraintNumbersAt (constraintCount w) (λ j h. unfold constraintOf in rw (zero-add j) refl),
         part-is (λ (c : Constraint). c .group) (constraintOf w) (λ j. getD (w .words) j 0) 0 constraintGroupsAt (constraintCount w) (λ j h. unfold constraintOf in rw (zero-add j) refl),
+        gone-is,
       ) refl
 
   -- ---- bytes
@@ -289,7 +298,7 @@ put-itself t =
     let b : (a n : ℕ) → over a (tab (λ j. getD (t .bytes) j 0) a n) (t .bytes) ≡ t .bytes = over-itself 0 (t .bytes) in
     let r : (a n : ℕ) → over a (tab (λ j. getD (t .reals) j nan) a n) (t .reals) ≡ t .reals = over-itself nan (t .reals) in
     rw (
-      lay-itself (liveWords t) (t .words) (u _ _, (u _ _, (u _ _, (u _ _, (u _ _, (u _ _, tt)))))),
+      lay-itself (liveWords t) (t .words) (u _ _, (u _ _, (u _ _, (u _ _, (u _ _, (u _ _, (u _ _, tt))))))),
       lay-itself (liveBytes t) (t .bytes) (b _ _, (b _ _, (b _ _, (b _ _, (b _ _, (b _ _, (b _ _, (b _ _, (b _ _, (b _ _, (b _ _, tt))))))))))),
       lay-itself (liveReals t) (t .reals) (r _ _, (r _ _, (r _ _, (r _ _, (r _ _, (r _ _, (r _ _, (r _ _, tt)))))))),
       copied-itself 0 (cellCount t) (t .keys),

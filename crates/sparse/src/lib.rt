@@ -21,7 +21,10 @@ pub const MOST_ROWS: usize = 50;
 
 pub const MOST_VARIABLES: usize = 32;
 
-// ---- words: the next id, counts and flags; then the symbols' ids, the variables' numbers and uses, the constraints' numbers and groups
+// "At most 32 gone entries wait."
+pub const MOST_GONE: usize = 32;
+
+// ---- words: the next id, counts and flags; then the symbols' ids, the variables' numbers and uses, the constraints' numbers and groups, the gone variables' numbers
 pub const NEXT_ID: usize = 0;
 
 pub const SYMBOL_COUNT: usize = 1;
@@ -40,6 +43,8 @@ pub const SHOULD_CLEAR: usize = 7;
 
 pub const WHOLE: usize = 8;
 
+pub const GONE_COUNT: usize = 9;
+
 pub const IDS: usize = 15;
 
 pub const VARIABLE_NUMBERS: usize = 146;
@@ -50,7 +55,9 @@ pub const CONSTRAINT_NUMBERS: usize = 210;
 
 pub const CONSTRAINT_GROUPS: usize = 258;
 
-pub const WORDS_SIZE: usize = 306;
+pub const GONE_NUMBERS: usize = 306;
+
+pub const WORDS_SIZE: usize = 338;
 
 // ---- bytes: the symbols' kinds and the rows' symbols; the variables' symbols and changed flags; the constraints' marker, other, count of terms; the edits' variable, marker, other; the terms' variables
 pub const KINDS: usize = 0;

@@ -10,8 +10,8 @@ use Rattle.laws.specs.Lists.{tab}
 use Rattle.layout.specs.Layout.{over}
 use Rattle.layout.specs.Laying.{remade, stretch}
 use Rattle.steps.specs.Number.{zero64}
-use Rattle.sparse.specs.Places.{nextIdAt, idsAt, variableNumbersAt, variableUsesAt, constraintNumbersAt, constraintGroupsAt, kindsAt, rowPlacesAt, variablePlacesAt, changedAt, constraintMarkersAt, constraintOthersAt, termCountsAt, editVariablesAt, editMarkersAt, editOthersAt, termsAt, constantsAt, oldValuesAt, objectiveAt, cutoffAt, constraintStrengthsAt, editStrengthsAt, suggestionsAt, coefficientsAt}
-use Rattle.sparse.specs.Sparse.{Sparse, symbolCount, rowCount, cellCount, variableCount, constraintCount, editCount, termsFrom}
+use Rattle.sparse.specs.Places.{nextIdAt, idsAt, variableNumbersAt, variableUsesAt, constraintNumbersAt, constraintGroupsAt, goneNumbersAt, kindsAt, rowPlacesAt, variablePlacesAt, changedAt, constraintMarkersAt, constraintOthersAt, termCountsAt, editVariablesAt, editMarkersAt, editOthersAt, termsAt, constantsAt, oldValuesAt, objectiveAt, cutoffAt, constraintStrengthsAt, editStrengthsAt, suggestionsAt, coefficientsAt}
+use Rattle.sparse.specs.Sparse.{Sparse, symbolCount, rowCount, cellCount, variableCount, constraintCount, editCount, goneCount, termsFrom}
 use Rattle.sparse.specs.Stretches.{Stretch, part, lay, copied}
 use Rattle.sparse.specs.Copy.{headingEnd, liveWords, liveBytes, liveReals, putOver}
 
@@ -26,10 +26,10 @@ pub part-runs : {A : Type 0} (d : A) (from : List A) (a n : ℕ) (to : List A) �
 unfolding putPart over
 part-runs d from a n to = stretch d from (tab (λ j. getD from j d) a n) a n (a + n) to refl refl
 
--- ---- table by table: k symbols, r rows, v variables, c constraints, e edits, m terms
+-- ---- table by table: k symbols, r rows, v variables, c constraints, e edits, m terms, g gone
 
-unfoldable pub wordsOver : List ℕ → ℕ → ℕ → ℕ → List ℕ → List ℕ
-wordsOver w k v c to = putPart 0 w constraintGroupsAt c (putPart 0 w constraintNumbersAt c (putPart 0 w variableUsesAt v (putPart 0 w variableNumbersAt v (putPart 0 w (idsAt + 1) k (putPart 0 w nextIdAt headingEnd to)))))
+unfoldable pub wordsOver : List ℕ → ℕ → ℕ → ℕ → ℕ → List ℕ → List ℕ
+wordsOver w k v c g to = putPart 0 w goneNumbersAt g (putPart 0 w constraintGroupsAt c (putPart 0 w constraintNumbersAt c (putPart 0 w variableUsesAt v (putPart 0 w variableNumbersAt v (putPart 0 w (idsAt + 1) k (putPart 0 w nextIdAt headingEnd to))))))
 
 -- the variables' and the symbols' and the rows'
 unfoldable pub namesOver : List ℕ → ℕ → ℕ → ℕ → List ℕ → List ℕ
@@ -46,7 +46,7 @@ realsOver f k r v c e m to =
 abbrev allOver : Sparse → Sparse → Sparse
 allOver w t =
     record {
-      words = wordsOver (w .words) (symbolCount w) (variableCount w) (constraintCount w) (t .words);
+      words = wordsOver (w .words) (symbolCount w) (variableCount w) (constraintCount w) (goneCount w) (t .words);
       keys = putPart 0 (w .keys) 0 (cellCount w) (t .keys);
       bytes = recordsOver (w .bytes) (constraintCount w) (editCount w) (termsFrom w (constraintCount w)) (namesOver (w .bytes) (symbolCount w) (rowCount w) (variableCount w) (t .bytes));
       reals = realsOver (w .reals) (symbolCount w) (rowCount w) (variableCount w) (constraintCount w) (editCount w) (termsFrom w (constraintCount w)) (t .reals);
@@ -60,7 +60,7 @@ over-is w t = refl
 -- the five of them are the live part of w over t
 pub all-over : (w t : Sparse) {m : ℕ} {a b d names : List ℕ} {f g : List Float}
     → m ≡ termsFrom w (constraintCount w)
-    → a ≡ wordsOver (w .words) (symbolCount w) (variableCount w) (constraintCount w) (t .words)
+    → a ≡ wordsOver (w .words) (symbolCount w) (variableCount w) (constraintCount w) (goneCount w) (t .words)
     → b ≡ putPart 0 (w .keys) 0 (cellCount w) (t .keys)
     → g ≡ putPart nan (w .values) 0 (cellCount w) (t .values)
     → names ≡ namesOver (w .bytes) (symbolCount w) (rowCount w) (variableCount w) (t .bytes)

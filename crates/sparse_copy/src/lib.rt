@@ -39,7 +39,8 @@ pub fn put_over(
     let v = wwords[sparse::VARIABLE_COUNT] as usize;
     let c = wwords[sparse::CONSTRAINT_COUNT] as usize;
     let e = wwords[sparse::EDIT_COUNT] as usize;
-    put::put_words(words, wwords, k, v, c);
+    let g = wwords[sparse::GONE_COUNT] as usize;
+    put::put_words(words, wwords, k, v, c, g);
     put::put_keys(keys, wkeys, n);
     put::put_values(values, wvalues, n);
     put::put_names(bytes, wbytes, k, r, v);

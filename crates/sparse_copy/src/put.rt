@@ -1,9 +1,9 @@
-// The live part of each table over another's: k symbols, r rows, v variables, c constraints, e edits, m terms, n cells.
+// The live part of each table over another's: k symbols, r rows, v variables, c constraints, e edits, m terms, n cells, g gone.
 ghost use mathlib.Core.Path.{_≡_};
 ghost use Prim.Native.Nat.{_+_, _≤_};
 ghost use lib.Ieee.{nan};
 ghost use Rattle.cells.specs.Names.{cellRoom, lastPlace};
-ghost use Rattle.sparse.specs.Places.{mostRows, mostVariables, mostConstraints, mostTerms, wordsSize, bytesSize, realsSize};
+ghost use Rattle.sparse.specs.Places.{mostRows, mostVariables, mostConstraints, mostTerms, mostGone, wordsSize, bytesSize, realsSize};
 ghost use Rattle.sparse_copy.specs.Over.{putPart, wordsOver, namesOver, recordsOver, realsOver};
 use sparse::Bytes;
 use sparse::Keys;
@@ -69,18 +69,20 @@ pub fn put_values(to: &mut Values, from: &Values, n: usize)
     }
 }
 
-pub fn put_words(to: &mut Words, from: &Words, k: usize, v: usize, c: usize)
+pub fn put_words(to: &mut Words, from: &Words, k: usize, v: usize, c: usize, g: usize)
     requires { ⌜ k ≤ lastPlace ⌝ }
     requires { ⌜ v ≤ mostVariables ⌝ }
     requires { ⌜ c ≤ mostConstraints ⌝ }
-    ensures { λ _. ⌜ now (to .exit) ≡ wordsOver (now (from .entry)) k v c (now (to .entry)) ⌝ }
+    requires { ⌜ g ≤ mostGone ⌝ }
+    ensures { λ _. ⌜ now (to .exit) ≡ wordsOver (now (from .entry)) k v c g (now (to .entry)) ⌝ }
 {
-    words_part(to, from, sparse::NEXT_ID, sparse::WHOLE + 1);
+    words_part(to, from, sparse::NEXT_ID, sparse::GONE_COUNT + 1);
     words_part(to, from, sparse::IDS + 1, k);
     words_part(to, from, sparse::VARIABLE_NUMBERS, v);
     words_part(to, from, sparse::VARIABLE_USES, v);
     words_part(to, from, sparse::CONSTRAINT_NUMBERS, c);
     words_part(to, from, sparse::CONSTRAINT_GROUPS, c);
+    words_part(to, from, sparse::GONE_NUMBERS, g);
 }
 
 pub fn put_names(to: &mut Bytes, from: &Bytes, k: usize, r: usize, v: usize)

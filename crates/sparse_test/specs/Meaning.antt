@@ -21,8 +21,8 @@ use Rattle.cells.specs.Cells.{ascendsOf, presentOf}
 use Rattle.cells.specs.Load.{ascends-true}
 use Rattle.places.specs.Finding.{all-at, at-all}
 use Rattle.places.specs.Listed.{join, listed-at, at-listed, ascend-list, from-list}
-use Rattle.sparse.specs.Places.{mostVariables, mostConstraints, mostTerms, nextIdAt, shouldClearAt, wholeAt, idsAt, variableNumbersAt, constraintNumbersAt, kindsAt, rowPlacesAt, variablePlacesAt, changedAt, constraintMarkersAt, constraintOthersAt, termCountsAt, editVariablesAt, editMarkersAt, editOthersAt, termsAt}
-use Rattle.sparse.specs.Sparse.{Sparse, symbolCount, rowCount, cellCount, variableCount, constraintCount, editCount, termsFrom, termOf, constraintOf, read}
+use Rattle.sparse.specs.Places.{mostVariables, mostConstraints, mostTerms, mostGone, nextIdAt, shouldClearAt, wholeAt, idsAt, variableNumbersAt, constraintNumbersAt, goneNumbersAt, kindsAt, rowPlacesAt, variablePlacesAt, changedAt, constraintMarkersAt, constraintOthersAt, termCountsAt, editVariablesAt, editMarkersAt, editOthersAt, termsAt}
+use Rattle.sparse.specs.Sparse.{Sparse, symbolCount, rowCount, cellCount, variableCount, constraintCount, editCount, goneCount, termsFrom, termOf, constraintOf, read}
 use Rattle.sparse.specs.Concat.{sum-most}
 use Rattle.sparse.specs.Repack.{Held}
 use Rattle.sparse.specs.Form.{indexAt, Counts, At, Form}
@@ -40,6 +40,7 @@ pub record Counted (t : Sparse) : Type 0 where
   pub variables : variableCount t ≤ mostVariables
   pub clear : getD (t .words) shouldClearAt 0 ≤ 1
   pub whole : getD (t .words) wholeAt 0 ≤ 1
+  pub gone : goneCount t ≤ mostGone
   pub constraints : constraintCount t ≤ mostConstraints
   pub edits : editCount t ≤ mostConstraints
   pub tags : constraintCount t + editCount t ≤ mostConstraints
@@ -49,7 +50,8 @@ pub counted : (t : Sparse) → countsFit t ≡ true → Counted t
 unfolding countsFit
 counted t q =
     let a = both _ _ q in
-    let b = both _ _ (a .0) in
+    let n = both _ _ (a .0) in
+    let b = both _ _ (n .0) in
     let c = both _ _ (b .0) in
     let d = both _ _ (c .0) in
     let e = both _ _ (d .0) in
@@ -66,6 +68,7 @@ counted t q =
       variables = leb-true _ _ (d .1);
       clear = leb-true _ _ (c .1);
       whole = leb-true _ _ (b .1);
+      gone = leb-true _ _ (n .1);
       constraints = leb-true _ _ (r₁ .0);
       edits = leb-true _ _ (r₂ .0);
       tags = leb-true _ _ (r₃ .0);
@@ -75,7 +78,7 @@ counted t q =
 pub recounted : (t : Sparse) → Counted t → countsFit t ≡ true
 unfolding countsFit
 recounted t c =
-    join (join (join (join (join (join (join (lt-ltb _ _ (c .above)) (le-leb _ _ (c .next))) (le-leb _ _ (c .symbols))) (le-leb _ _ (c .cells))) (le-leb _ _ (c .variables))) (le-leb _ _ (c .clear))) (le-leb _ _ (c .whole)))
+    join (join (join (join (join (join (join (join (lt-ltb _ _ (c .above)) (le-leb _ _ (c .next))) (le-leb _ _ (c .symbols))) (le-leb _ _ (c .cells))) (le-leb _ _ (c .variables))) (le-leb _ _ (c .clear))) (le-leb _ _ (c .whole))) (le-leb _ _ (c .gone)))
     (join (le-leb _ _ (c .constraints)) (join (le-leb _ _ (c .edits)) (join (le-leb _ _ (c .tags)) (le-leb _ _ (c .rows)))))
 
 pub record FormParts (t : Sparse) : Type 0 where
@@ -93,11 +96,13 @@ pub record FormParts (t : Sparse) : Type 0 where
   pub edited : namedIn t editVariablesAt (editCount t) ≡ true
   pub pluses : liveIn t editMarkersAt (editCount t) ≡ true
   pub minuses : mostIn (t .bytes) editOthersAt (editCount t) (symbolCount t) ≡ true
+  pub gone : mostIn (t .words) goneNumbersAt (goneCount t) greatestU32 ≡ true
 
 pub form-parts : (t : Sparse) → formFits t ≡ true → FormParts t
 unfolding formFits
 form-parts t q =
-    let a = both _ _ q in
+    let z = both _ _ q in
+    let a = both _ _ (z .0) in
     let b = both _ _ (a .0) in
     let c = both _ _ (b .0) in
     let d = both _ _ (c .0) in
@@ -125,12 +130,13 @@ form-parts t q =
       edited = c .1;
       pluses = b .1;
       minuses = a .1;
+      gone = z .1;
     }
 
 pub form-joined : (t : Sparse) → FormParts t → formFits t ≡ true
 unfolding formFits
 form-joined t p =
-    join (join (join (join (join (join (join (join (join (join (join (join (join (recounted t (p .counts)) (p .kinds)) (p .rows)) (p .cells)) (p .numbers)) (p .owners)) (p .changed)) (p .constraints)) (p .markers)) (p .others)) (p .named)) (p .edited)) (p .pluses)) (p .minuses)
+    join (join (join (join (join (join (join (join (join (join (join (join (join (join (recounted t (p .counts)) (p .kinds)) (p .rows)) (p .cells)) (p .numbers)) (p .owners)) (p .changed)) (p .constraints)) (p .markers)) (p .others)) (p .named)) (p .edited)) (p .pluses)) (p .minuses)) (p .gone)
 
 -- ---- what they say of each place
 
@@ -211,7 +217,7 @@ module _ (t : Sparse) where
       let r = c .rows in
       let g = c .tags in
       record {
-        counts = record { symbols = c .symbols; rows = omega (arith, r, g); cells = c .cells; variables = c .variables; constraints = c .constraints; edits = c .edits; terms = terms };
+        counts = record { symbols = c .symbols; rows = omega (arith, r, g); cells = c .cells; variables = c .variables; constraints = c .constraints; edits = c .edits; terms = terms; gone = c .gone };
         clear = c .clear;
         whole = c .whole;
         ids = ids;

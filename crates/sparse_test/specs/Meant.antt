@@ -21,9 +21,9 @@ use Rattle.keeps.specs.Clauses.{and3, and4, Clauses, clauses-in, clauses-out}
 use Rattle.places.specs.Finding.{at-all, Apart}
 use Rattle.places.specs.Listed.{join, same, ascend-list}
 use Rattle.places.specs.Shares.{finiteIn}
-use Rattle.sparse.specs.Places.{nextIdAt, idsAt, variableNumbersAt, constraintNumbersAt, kindsAt, rowPlacesAt, variablePlacesAt, changedAt, constraintMarkersAt, constraintOthersAt, termCountsAt, editVariablesAt, editMarkersAt, editOthersAt, termsAt, constantsAt, objectiveAt, cutoffAt, constraintStrengthsAt, editStrengthsAt, suggestionsAt, coefficientsAt}
+use Rattle.sparse.specs.Places.{nextIdAt, idsAt, variableNumbersAt, constraintNumbersAt, goneNumbersAt, kindsAt, rowPlacesAt, variablePlacesAt, changedAt, constraintMarkersAt, constraintOthersAt, termCountsAt, editVariablesAt, editMarkersAt, editOthersAt, termsAt, constantsAt, objectiveAt, cutoffAt, constraintStrengthsAt, editStrengthsAt, suggestionsAt, coefficientsAt}
 use Rattle.sparse.specs.Lookup.{Ascends}
-use Rattle.sparse.specs.Sparse.{Sparse, symbolCount, rowCount, cellCount, variableCount, constraintCount, editCount, numberAt, termsFrom, basicOf, basicsOf, variableOf, read}
+use Rattle.sparse.specs.Sparse.{Sparse, symbolCount, rowCount, cellCount, variableCount, constraintCount, editCount, goneCount, goneOf, numberAt, termsFrom, basicOf, basicsOf, variableOf, read}
 use Rattle.sparse.specs.Form.{indexAt, index-named, At}
 use Rattle.sparse_test.specs.Stretch.{ascendIn, betweenIn, mostIn, ascends, between, in-between, most, in-most}
 use Rattle.sparse_test.specs.Reads.{greatestU32, countsFit, liveIn, namedIn, cellsFit, formFits, reads}
@@ -34,7 +34,7 @@ use Rattle.sparse_test.specs.Parts.{Parts, parts, joined}
 use Rattle.sparse_test.specs.Injective.{each-list, list-each, both-lists, first-list, second-list, distinct-apart}
 use Rattle.sparse_test.specs.Owners.{IdsUp, Owns, fit-owns, owns-fit, owns-distinct, Placed, placed, all-placed}
 use Rattle.sparse_test.specs.Uses.{NumbersUp, number-is, uses-counted, counted-uses}
-use Rattle.sparse_test.specs.Records.{all-ext, externals-are, constraint-kinds-are, groups-are, edit-kinds-are, olds-are, constraints-finite-are, edits-finite-are}
+use Rattle.sparse_test.specs.Records.{all-ext, externals-are, constraint-kinds-are, groups-are, gone-ascend, notTold, returned-are, edit-kinds-are, olds-are, constraints-finite-are, edits-finite-are}
 use Rattle.sparse_test.specs.Tableau.{ids-in, ordered, orderly, RowsLive, rows-up, rows-live, Clear, no-basic, basic-no}
 use Rattle.sparse_test.specs.Cells.{cells-form, cells-clear, cells-finite, finite-cells, form-keys, form-costs, form-values}
 
@@ -50,6 +50,10 @@ module _ (t : Sparse) where
   variable-count : length (read t .changes .variables) ≡ variableCount t
   unfolding read
   variable-count = length-listOf (variableCount t) (variableOf t)
+
+  gone-count : length (read t .changes .gone) ≡ goneCount t
+  unfolding read goneOf
+  gone-count = length-listOf (goneCount t) (λ j. getD (t .words) (goneNumbersAt + j) 0)
 
   row-count : length (read t .tableau .rows) ≡ rowCount t
   unfolding read basicsOf
@@ -141,6 +145,7 @@ module _ (t : Sparse) where
           edited = named-in editVariablesAt (editCount t) (list-each Named (λ i. byte (editVariablesAt + i)) (editCount t) (second-list Named ts es (used .1)));
           pluses = live-in editMarkersAt (editCount t) (l .pluses);
           minuses = in-most (t .bytes) editOthersAt (editCount t) k (l .minuses);
+          gone = p .gone;
         }
 
     counts-clause : steps.countsInRange (read t) ≡ true
@@ -183,6 +188,10 @@ module _ (t : Sparse) where
         let l = placed t (owning .1) in
         join (join (externals-are t (λ i h. kind-near (p .kinds) _ (l .variables i h)) ∙ p .externals) (constraint-kinds-are t ∙ p .tags)) (edit-kinds-are t ∙ join (p .errors) (p .editTags))
 
+    gone-clause : steps.goneFits (read t) ≡ true
+    unfolding steps.goneFits
+    gone-clause = join (join (ap (λ (n : ℕ). leb n 32) gone-count ∙ le-leb _ _ (p .counts .gone)) (gone-ascend t ∙ p .goneUp)) (returned-are t ∙ p .returned)
+
     tested-reads : reads t ≡ true
     unfolding reads
     tested-reads =
@@ -200,6 +209,7 @@ module _ (t : Sparse) where
           kinds = kinds-clause;
           cutoff = cutoff-is ∙ p .cutoff;
           groups = groups-are t ∙ p .groups;
+          gone = gone-clause;
         }))
 
   -- ---- and the state's gives the code's
@@ -278,6 +288,10 @@ module _ (t : Sparse) where
     unfolding steps.kindsFit
     kinds-of = and3 (steps.all (λ (v : Variable). isExternal (v .symbol)) (read t .changes .variables)) (steps.all (λ (c : Constraint). steps.tagKinds (c .strength) (c .tag)) (read t .constraints)) (steps.all steps.editKinds (read t .edits)) (c .kinds)
 
+    gone-of : (leb (length (read t .changes .gone)) 32 ≡ true) × (steps.ascend (read t .changes .gone) ≡ true) × (steps.all (notTold t) (read t .changes .variables) ≡ true)
+    unfolding steps.goneFits
+    gone-of = and3 (leb (length (read t .changes .gone)) 32) (steps.ascend (read t .changes .gone)) (steps.all (notTold t) (read t .changes .variables)) (c .gone)
+
     reads-tested : tested t ≡ true
     reads-tested =
         let l = all-placed t placed-of in
@@ -300,6 +314,8 @@ module _ (t : Sparse) where
           constraintsUp = sym constraints-up ∙ u .1;
           constraints = f .constraints;
           groups = sym (groups-are t) ∙ c .groups;
+          goneUp = sym (gone-ascend t) ∙ gone-of .1;
+          gone = f .gone;
           kinds = f .kinds;
           changed = f .changed;
           termCounts = in-most (t .bytes) termCountsAt (constraintCount t) 16 (few-in t few-of);
@@ -323,6 +339,7 @@ module _ (t : Sparse) where
           costs = form-costs t (f .cells) clear;
           keys = form-keys t (f .cells) clear;
           values = form-values t (f .cells) clear cells;
+          returned = sym (returned-are t) ∙ gone-of .2;
         })
 
 -- 18 is given exactly if the tables have not the sparse form, or the state that is read is not one

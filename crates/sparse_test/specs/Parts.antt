@@ -9,12 +9,12 @@ use Rattle.layout.specs.Rooms.{both}
 use Rattle.steps.specs.Number.{cutoffFits}
 use Rattle.places.specs.Listed.{join}
 use Rattle.places.specs.Shares.{finiteIn}
-use Rattle.sparse.specs.Places.{nextIdAt, idsAt, variableNumbersAt, constraintNumbersAt, constraintGroupsAt, kindsAt, rowPlacesAt, changedAt, constraintMarkersAt, constraintOthersAt, termCountsAt, editMarkersAt, editOthersAt, constantsAt, objectiveAt, cutoffAt, constraintStrengthsAt, editStrengthsAt, suggestionsAt, coefficientsAt}
-use Rattle.sparse.specs.Sparse.{Sparse, symbolCount, rowCount, cellCount, variableCount, constraintCount, editCount, termsFrom}
+use Rattle.sparse.specs.Places.{nextIdAt, idsAt, variableNumbersAt, constraintNumbersAt, constraintGroupsAt, goneNumbersAt, kindsAt, rowPlacesAt, changedAt, constraintMarkersAt, constraintOthersAt, termCountsAt, editMarkersAt, editOthersAt, constantsAt, objectiveAt, cutoffAt, constraintStrengthsAt, editStrengthsAt, suggestionsAt, coefficientsAt}
+use Rattle.sparse.specs.Sparse.{Sparse, symbolCount, rowCount, cellCount, variableCount, constraintCount, editCount, goneCount, termsFrom}
 use Rattle.sparse_test.specs.Stretch.{ascendIn, betweenIn, mostIn, aboveZeroIn}
 use Rattle.sparse_test.specs.Reads.{greatestU32}
 use Rattle.sparse_test.specs.Meaning.{Counted, counted, recounted}
-use Rattle.sparse_test.specs.Tested.{wordsFit, bytesFit, ownedFit, externalsIn, tagsFit, errorsIn, kindsFit, oldsFit, realsFit, editsUp, usesFit, costsFit, keysFit, valuesFit, termCount, contentFits, tested}
+use Rattle.sparse_test.specs.Tested.{wordsFit, bytesFit, ownedFit, externalsIn, tagsFit, errorsIn, kindsFit, oldsFit, returnedFit, realsFit, editsUp, usesFit, costsFit, keysFit, valuesFit, termCount, contentFits, tested}
 
 pub record Parts (t : Sparse) : Type 0 where
   pub counts : Counted t
@@ -25,6 +25,8 @@ pub record Parts (t : Sparse) : Type 0 where
   pub constraintsUp : ascendIn (t .words) constraintNumbersAt (constraintCount t) ≡ true
   pub constraints : mostIn (t .words) constraintNumbersAt (constraintCount t) greatestU32 ≡ true
   pub groups : aboveZeroIn (t .words) constraintGroupsAt (constraintCount t) ≡ true
+  pub goneUp : ascendIn (t .words) goneNumbersAt (goneCount t) ≡ true
+  pub gone : mostIn (t .words) goneNumbersAt (goneCount t) greatestU32 ≡ true
   pub kinds : mostIn (t .bytes) (kindsAt + 1) (symbolCount t) 3 ≡ true
   pub changed : mostIn (t .bytes) changedAt (variableCount t) 1 ≡ true
   pub termCounts : mostIn (t .bytes) termCountsAt (constraintCount t) 16 ≡ true
@@ -48,6 +50,7 @@ pub record Parts (t : Sparse) : Type 0 where
   pub costs : costsFit (t .reals) (t .bytes) (rowCount t) ≡ true
   pub keys : keysFit (t .keys) (t .bytes) (cellCount t) (symbolCount t) (rowCount t) ≡ true
   pub values : valuesFit (t .values) (cellCount t) ≡ true
+  pub returned : returnedFit (t .words) (t .reals) (variableCount t) (goneCount t) ≡ true
 
 pub parts : (t : Sparse) → tested t ≡ true → Parts t
 unfolding tested wordsFit bytesFit contentFits kindsFit realsFit termCount termsFrom
@@ -55,7 +58,9 @@ parts t q =
     let a = both _ _ q in
     let b = both _ _ (a .1) in
     let c = both _ _ (b .1) in
-    let w₁ = both _ _ (b .0) in
+    let g₁ = both _ _ (b .0) in
+    let g₂ = both _ _ (g₁ .0) in
+    let w₁ = both _ _ (g₂ .0) in
     let w₂ = both _ _ (w₁ .0) in
     let w₃ = both _ _ (w₂ .0) in
     let w₄ = both _ _ (w₃ .0) in
@@ -65,7 +70,8 @@ parts t q =
     let b₂ = both _ _ (b₁ .0) in
     let b₃ = both _ _ (b₂ .0) in
     let b₄ = both _ _ (b₃ .0) in
-    let c₁ = both _ _ (c .1) in
+    let c₀ = both _ _ (c .1) in
+    let c₁ = both _ _ (c₀ .0) in
     let c₂ = both _ _ (c₁ .0) in
     let c₃ = both _ _ (c₂ .0) in
     let c₄ = both _ _ (c₃ .0) in
@@ -91,6 +97,8 @@ parts t q =
       constraintsUp = w₃ .1;
       constraints = w₂ .1;
       groups = w₁ .1;
+      goneUp = g₂ .1;
+      gone = g₁ .1;
       kinds = b₄ .0;
       changed = b₄ .1;
       termCounts = b₃ .1;
@@ -114,15 +122,16 @@ parts t q =
       costs = c₃ .1;
       keys = c₂ .1;
       values = c₁ .1;
+      returned = c₀ .1;
     }
 
 pub joined : (t : Sparse) → Parts t → tested t ≡ true
 unfolding tested wordsFit bytesFit contentFits kindsFit realsFit termCount termsFrom
 joined t p =
     join (recounted t (p .counts))
-    (join (join (join (join (join (join (join (p .idsUp) (p .ids)) (p .numbersUp)) (p .numbers)) (p .constraintsUp)) (p .constraints)) (p .groups))
+    (join (join (join (join (join (join (join (join (join (p .idsUp) (p .ids)) (p .numbersUp)) (p .numbers)) (p .constraintsUp)) (p .constraints)) (p .groups)) (p .goneUp)) (p .gone))
     (join (join (join (join (join (p .kinds) (p .changed)) (p .termCounts)) (p .rowsUp)) (p .rows))
-    (join (join (join (join (join (join (join (p .owned)
+    (join (join (join (join (join (join (join (join (p .owned)
     (join (join (join (p .externals) (p .tags)) (p .errors)) (p .editTags)))
     (join (join (join (join (join (join (join (p .constants) (p .olds)) (p .objective)) (p .strengths)) (p .editStrengths)) (p .suggestions)) (p .coefficients)) (p .cutoff)))
-    (p .edits)) (p .uses)) (p .costs)) (p .keys)) (p .values))))
+    (p .edits)) (p .uses)) (p .costs)) (p .keys)) (p .values)) (p .returned))))

@@ -7,8 +7,8 @@ use Rattle.laws.specs.Lists.{allIn}
 use Rattle.steps.specs.Readable.{readable}
 use Rattle.cells.specs.Names.{rowSpan, lastPlace, cellRoom}
 use Rattle.cells.specs.Cells.{ascendsOf, presentOf}
-use Rattle.sparse.specs.Places.{mostVariables, mostConstraints, nextIdAt, shouldClearAt, wholeAt, variableNumbersAt, constraintNumbersAt, kindsAt, rowPlacesAt, variablePlacesAt, changedAt, constraintMarkersAt, constraintOthersAt, editVariablesAt, editMarkersAt, editOthersAt, termsAt}
-use Rattle.sparse.specs.Sparse.{Sparse, symbolCount, rowCount, cellCount, variableCount, constraintCount, editCount, termsFrom, read}
+use Rattle.sparse.specs.Places.{mostVariables, mostConstraints, mostGone, nextIdAt, shouldClearAt, wholeAt, variableNumbersAt, constraintNumbersAt, goneNumbersAt, kindsAt, rowPlacesAt, variablePlacesAt, changedAt, constraintMarkersAt, constraintOthersAt, editVariablesAt, editMarkersAt, editOthersAt, termsAt}
+use Rattle.sparse.specs.Sparse.{Sparse, symbolCount, rowCount, cellCount, variableCount, constraintCount, editCount, goneCount, termsFrom, read}
 use Rattle.sparse.specs.Form.{indexAt}
 use Rattle.sparse_test.specs.Stretch.{betweenIn, mostIn}
 
@@ -26,6 +26,7 @@ countsFit t =
     && leb (variableCount t) mostVariables
     && leb (getD (t .words) shouldClearAt 0) 1
     && leb (getD (t .words) wholeAt 0) 1
+    && leb (goneCount t) mostGone
     && (leb (constraintCount t) mostConstraints && (leb (editCount t) mostConstraints && (leb (constraintCount t + editCount t) mostConstraints && leb (rowCount t) (constraintCount t + editCount t))))
 
 -- each of the n bytes from place a on is the place of a live symbol
@@ -61,6 +62,7 @@ formFits t =
     && namedIn t editVariablesAt (editCount t)
     && liveIn t editMarkersAt (editCount t)
     && mostIn (t .bytes) editOthersAt (editCount t) (symbolCount t)
+    && mostIn (t .words) goneNumbersAt (goneCount t) greatestU32
 
 -- 18 is given exactly if this is false
 unfoldable pub reads : Sparse → Bool

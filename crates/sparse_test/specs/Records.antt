@@ -2,13 +2,13 @@
 -- Assumes nothing.
 use Prim.Native.Nat.{ℕ, zero, suc, _+_, _≤_, _<_}
 use mathlib.Core.Path.{_≡_, refl, sym, ap, _∙_}
-use mathlib.Core.Bool.{Bool, true, false, _&&_, _||_, cond}
+use mathlib.Core.Bool.{Bool, true, false, not, _&&_, _||_, cond}
 use mathlib.Core.List.{List, [], _∷_, _++_, map}
 use mathlib.Core.Option.{none, some}
 use native.Mathlib.Nat.{not-suc-le-zero, le-of-suc-le-suc}
 use native.Mathlib.Omega.{arith}
 use lib.Dec.{eqb, ltb}
-use lib.Ieee.{Float, nan, isNan}
+use lib.Ieee.{Float, nan, isNan, ne}
 use lib.ListN.{getD}
 use Rattle.laws.specs.Lists.{listOf, allIn}
 use Rattle.layout.specs.Layout.{kindOf}
@@ -16,16 +16,19 @@ use Rattle.layout.specs.Rooms.{both}
 use Rattle.steps.specs.Number.{isFinite}
 use Rattle.steps.specs.Symbol.{Error, Slack, Dummy, External, isExternal, isError}
 use Rattle.steps.specs.State.{Term, Variable, Constraint, Edit}
+use Rattle.steps.specs.Changes.{neverReported}
+use Rattle.steps.specs.Tests.{member}
 use Rattle.steps.specs.Readable as steps
 use Rattle.keeps.specs.Clauses.{and3, and4}
 use Rattle.places.specs.Finding.{all-at, at-all}
-use Rattle.places.specs.Listed.{join, same, all-list, at-listed, listed-at}
+use Rattle.places.specs.Listed.{join, same, all-list, at-listed, listed-at, member-list, ascend-list}
 use Rattle.places.specs.Shares.{finiteIn}
-use Rattle.sparse.specs.Places.{constraintGroupsAt, kindsAt, variablePlacesAt, constraintMarkersAt, constraintOthersAt, editMarkersAt, editOthersAt, oldValuesAt, constraintStrengthsAt, editStrengthsAt, suggestionsAt, coefficientsAt}
-use Rattle.sparse.specs.Sparse.{Sparse, variableCount, constraintCount, editCount, symbolAt, otherAt, variableOf, termsFrom, constraintOf, editOf, read}
+use Rattle.sparse.specs.Places.{variableNumbersAt, constraintGroupsAt, goneNumbersAt, kindsAt, variablePlacesAt, constraintMarkersAt, constraintOthersAt, editMarkersAt, editOthersAt, oldValuesAt, constraintStrengthsAt, editStrengthsAt, suggestionsAt, coefficientsAt}
+use Rattle.sparse.specs.Lookup.{placeFrom}
+use Rattle.sparse.specs.Sparse.{Sparse, variableCount, constraintCount, editCount, goneCount, goneOf, symbolAt, otherAt, variableOf, termsFrom, constraintOf, editOf, read}
 use Rattle.sparse.specs.Written.{termAt, terms-are}
-use Rattle.sparse_test.specs.Stretch.{aboveZeroIn}
-use Rattle.sparse_test.specs.Tested.{kindAt, externalsIn, tagOfKinds, tagsFit, errorsIn, oldsFit}
+use Rattle.sparse_test.specs.Stretch.{ascendIn, aboveZeroIn}
+use Rattle.sparse_test.specs.Tested.{kindAt, externalsIn, tagOfKinds, tagsFit, errorsIn, oldsFit, returnedFit}
 
 -- ---- tests over places that say the same
 
@@ -110,6 +113,25 @@ module _ (t : Sparse) where
   pub groups-are : steps.groupsFit (read t) ≡ aboveZeroIn (t .words) constraintGroupsAt (constraintCount t)
   unfolding steps.groupsFit read constraintOf aboveZeroIn
   groups-are = all-list (λ (c : Constraint). ltb 0 (c .group)) (constraintCount t) (constraintOf t)
+
+  -- ---- the gone numbers
+
+  abbrev gone : ℕ → ℕ
+  gone j = getD (t .words) (goneNumbersAt + j) 0
+
+  pub gone-ascend : steps.ascend (read t .changes .gone) ≡ ascendIn (t .words) goneNumbersAt (goneCount t)
+  unfolding read goneOf ascendIn
+  gone-ascend = ascend-list (goneCount t) gone
+
+  -- not among the gone, or back and not reported
+  abbrev pub notTold : Variable → Bool
+  notTold v = not (member (v .number) (read t .changes .gone)) || neverReported v
+
+  pub returned-are : steps.all notTold (read t .changes .variables) ≡ returnedFit (t .words) (t .reals) (variableCount t) (goneCount t)
+  unfolding read variableOf goneOf returnedFit placeFrom neverReported
+  returned-are =
+      all-list notTold (variableCount t) (variableOf t)
+      ∙ all-ext _ _ 0 (variableCount t) λ j a b. ap (λ (x : Bool). not x || ne (real (oldValuesAt + j)) (real (oldValuesAt + j))) (member-list (goneCount t) gone (getD (t .words) (variableNumbersAt + j) 0))
 
   errors-are : steps.all (λ (e : Edit). isError (e .tag .marker)) (read t .edits) ≡ errorsIn (t .bytes) (editCount t)
   unfolding read errorsIn kindAt symbolAt editOf kindOf

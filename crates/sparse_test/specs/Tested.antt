@@ -4,7 +4,7 @@ use mathlib.Core.Bool.{Bool, true, not, _&&_, _||_, cond}
 use mathlib.Core.List.{List}
 use mathlib.Core.Option.{none, some}
 use lib.Dec.{eqb, leb, ltb}
-use lib.Ieee.{Float, nan, isNan}
+use lib.Ieee.{Float, nan, isNan, ne}
 use lib.ListN.{getD, replicate}
 use Rattle.laws.specs.Loops.{run}
 use Rattle.laws.specs.Lists.{listOf, allIn, sumIn}
@@ -18,15 +18,16 @@ use Rattle.cells.specs.Names.{rowSpan}
 use Rattle.cells.specs.Cells.{ascendsOf, presentOf}
 use Rattle.places.specs.Finding.{placeIn}
 use Rattle.places.specs.Shares.{Shares, shares, take, noneLeft, stock, finiteIn}
-use Rattle.sparse.specs.Places.{nextIdAt, idsAt, variableNumbersAt, variableUsesAt, constraintNumbersAt, constraintGroupsAt, kindsAt, rowPlacesAt, variablePlacesAt, changedAt, constraintMarkersAt, constraintOthersAt, termCountsAt, editVariablesAt, editMarkersAt, editOthersAt, termsAt, constantsAt, oldValuesAt, objectiveAt, cutoffAt, constraintStrengthsAt, editStrengthsAt, suggestionsAt, coefficientsAt}
-use Rattle.sparse.specs.Sparse.{Sparse, symbolCount, rowCount, cellCount, variableCount, constraintCount, editCount}
+use Rattle.sparse.specs.Places.{nextIdAt, idsAt, variableNumbersAt, variableUsesAt, constraintNumbersAt, constraintGroupsAt, goneNumbersAt, kindsAt, rowPlacesAt, variablePlacesAt, changedAt, constraintMarkersAt, constraintOthersAt, termCountsAt, editVariablesAt, editMarkersAt, editOthersAt, termsAt, constantsAt, oldValuesAt, objectiveAt, cutoffAt, constraintStrengthsAt, editStrengthsAt, suggestionsAt, coefficientsAt}
+use Rattle.sparse.specs.Lookup.{placeFrom}
+use Rattle.sparse.specs.Sparse.{Sparse, symbolCount, rowCount, cellCount, variableCount, constraintCount, editCount, goneCount}
 use Rattle.sparse_test.specs.Stretch.{ascendIn, betweenIn, mostIn, aboveZeroIn}
 use Rattle.sparse_test.specs.Reads.{greatestU32, countsFit}
 
--- ---- words: ids and numbers in order, groups
+-- ---- words: ids and numbers in order, groups, gone numbers
 
-unfoldable pub wordsFit : List ℕ → ℕ → ℕ → ℕ → Bool
-wordsFit w k v c =
+unfoldable pub wordsFit : List ℕ → ℕ → ℕ → ℕ → ℕ → Bool
+wordsFit w k v c g =
     ascendIn w (idsAt + 1) k
     && betweenIn w (idsAt + 1) k 1 (getD w nextIdAt 0)
     && ascendIn w variableNumbersAt v
@@ -34,6 +35,8 @@ wordsFit w k v c =
     && ascendIn w constraintNumbersAt c
     && mostIn w constraintNumbersAt c greatestU32
     && aboveZeroIn w constraintGroupsAt c
+    && ascendIn w goneNumbersAt g
+    && mostIn w goneNumbersAt g greatestU32
 
 -- ---- bytes: kinds, flags, counts of terms; rows' symbols in order
 
@@ -104,6 +107,10 @@ kindsFit b r v c e =
 
 unfoldable pub oldsFit : List Float → ℕ → Bool
 oldsFit r v = allIn (λ i. isFinite (getD r (oldValuesAt + i) nan) || isNan (getD r (oldValuesAt + i) nan)) 0 v
+
+-- "a variable whose number is among them has NaN for its old value", which alone differs from itself
+unfoldable pub returnedFit : List ℕ → List Float → ℕ → ℕ → Bool
+returnedFit w r v g = allIn (λ i. not (ltb (placeFrom w goneNumbersAt g (getD w (variableNumbersAt + i) 0)) g) || ne (getD r (oldValuesAt + i) nan) (getD r (oldValuesAt + i) nan)) 0 v
 
 -- m terms
 unfoldable pub realsFit : List Float → ℕ → ℕ → ℕ → ℕ → ℕ → ℕ → Bool
@@ -181,8 +188,9 @@ contentFits t =
     && costsFit (t .reals) (t .bytes) (rowCount t)
     && keysFit (t .keys) (t .bytes) (cellCount t) (symbolCount t) (rowCount t)
     && valuesFit (t .values) (cellCount t)
+    && returnedFit (t .words) (t .reals) (variableCount t) (goneCount t)
 
 unfoldable pub tested : Sparse → Bool
 tested t =
     countsFit t
-    && (wordsFit (t .words) (symbolCount t) (variableCount t) (constraintCount t) && (bytesFit (t .bytes) (symbolCount t) (rowCount t) (variableCount t) (constraintCount t) && contentFits t))
+    && (wordsFit (t .words) (symbolCount t) (variableCount t) (constraintCount t) (goneCount t) && (bytesFit (t .bytes) (symbolCount t) (rowCount t) (variableCount t) (constraintCount t) && contentFits t))

@@ -10,9 +10,10 @@ use lib.Ieee.{Float}
 use lib.ListN.{getD}
 use Rattle.layout.specs.Rooms.{both}
 use Rattle.cells.specs.Names.{lastPlace, cellRoom}
-use Rattle.sparse.specs.Places.{mostRows, mostVariables, mostConstraints, nextIdAt, symbolCountAt, rowCountAt, cellCountAt, variableCountAt, constraintCountAt, editCountAt, shouldClearAt, wholeAt, kindsAt, rowPlacesAt, changedAt, termCountsAt}
-use Rattle.sparse.specs.Sparse.{Sparse, symbolCount, rowCount, variableCount, constraintCount}
-use Rattle.sparse_test.specs.Stretch.{ascendIn, betweenIn, mostIn}
+use Rattle.sparse.specs.Places.{mostRows, mostVariables, mostConstraints, mostGone, nextIdAt, symbolCountAt, rowCountAt, cellCountAt, variableCountAt, constraintCountAt, editCountAt, shouldClearAt, wholeAt, goneCountAt, idsAt, variableNumbersAt, constraintNumbersAt, constraintGroupsAt, goneNumbersAt, kindsAt, rowPlacesAt, changedAt, termCountsAt}
+use Rattle.sparse.specs.Lookup.{Ascends}
+use Rattle.sparse.specs.Sparse.{Sparse, symbolCount, rowCount, variableCount, constraintCount, goneCount}
+use Rattle.sparse_test.specs.Stretch.{ascendIn, betweenIn, mostIn, aboveZeroIn, ascends}
 use Rattle.sparse_test.specs.Reads.{greatestU32, countsFit, reads}
 use Rattle.sparse_test.specs.Tested.{wordsFit, bytesFit, contentFits, tested}
 use Rattle.sparse_test.specs.Meaning.{Counted, counted}
@@ -33,6 +34,7 @@ countsIn w =
     && leb (getD w variableCountAt 0) mostVariables
     && leb (getD w shouldClearAt 0) 1
     && leb (getD w wholeAt 0) 1
+    && leb (getD w goneCountAt 0) mostGone
     && roomFor (getD w constraintCountAt 0) (getD w editCountAt 0) (getD w rowCountAt 0)
 
 module _ (t : Sparse) where
@@ -47,7 +49,7 @@ module _ (t : Sparse) where
   rows-few c = omega (arith, c .rows, c .tags)
 
   abbrev words-test : Bool
-  words-test = wordsFit (t .words) (symbolCount t) (variableCount t) (constraintCount t)
+  words-test = wordsFit (t .words) (symbolCount t) (variableCount t) (constraintCount t) (goneCount t)
 
   abbrev bytes-test : Bool
   bytes-test = bytesFit (t .bytes) (symbolCount t) (rowCount t) (variableCount t) (constraintCount t)
@@ -62,6 +64,17 @@ module _ (t : Sparse) where
           let x = both (a && b && c && d) f q in
           let y = both (a && b && c) d (x .0) in
           both (a && b) c (y .0) .1
+
+  pub gone-up : {x : Bool} → x ≡ words-test → x ≡ true → Ascends (t .words) goneNumbersAt (goneCount t)
+  unfolding wordsFit
+  gone-up e h =
+      let w : List ℕ = t .words in
+      let n : Bool = ascendIn w (idsAt + 1) (symbolCount t) && betweenIn w (idsAt + 1) (symbolCount t) 1 (getD w nextIdAt 0) && ascendIn w variableNumbersAt (variableCount t) && mostIn w variableNumbersAt (variableCount t) greatestU32 in
+      ascends w goneNumbersAt (goneCount t)
+      (last n (ascendIn w constraintNumbersAt (constraintCount t)) (mostIn w constraintNumbersAt (constraintCount t) greatestU32) (aboveZeroIn w constraintGroupsAt (constraintCount t)) (ascendIn w goneNumbersAt (goneCount t)) (mostIn w goneNumbersAt (goneCount t) greatestU32) (sym e ∙ h))
+    where
+      last : (n a b c d f : Bool) → (n && a && b && c && d && f) ≡ true → d ≡ true
+      last n a b c d f q = both (n && a && b && c) d (both (n && a && b && c && d) f q .0) .1
 
   -- ---- the early ends
 

@@ -24,14 +24,14 @@ use Rattle.cells.specs.Cells.{ascendsOf, presentOf}
 use Rattle.cells.specs.Reads.{ascending-lt}
 use Rattle.places.specs.Finding.{at-all, placeIn, place-live}
 use Rattle.places.specs.Listed.{join}
-use Rattle.sparse.specs.Places.{kindsAt, rowPlacesAt, variableNumbersAt, constraintNumbersAt, variablePlacesAt, changedAt, constraintMarkersAt, constraintOthersAt, editVariablesAt, editMarkersAt, editOthersAt, termsAt}
-use Rattle.sparse.specs.Sparse.{Sparse, symbolCount, rowCount, cellCount, variableCount, constraintCount, editCount, termsFrom, read}
+use Rattle.sparse.specs.Places.{kindsAt, rowPlacesAt, variableNumbersAt, constraintNumbersAt, goneNumbersAt, variablePlacesAt, changedAt, constraintMarkersAt, constraintOthersAt, editVariablesAt, editMarkersAt, editOthersAt, termsAt}
+use Rattle.sparse.specs.Sparse.{Sparse, symbolCount, rowCount, cellCount, variableCount, constraintCount, editCount, goneCount, termsFrom, read}
 use Rattle.sparse.specs.Concat.{sum-ext, sum-in, concat-length}
 use Rattle.sparse.specs.Repack.{Held}
 use Rattle.sparse.specs.HeldLaid.{rows-held, rows-size}
 use Rattle.sparse.specs.Write.{noSymbol, noBasic, noVariable, noTerm, noConstraint, noEdit, placeOf, otherPlace, indexOf, numberPlace, allTerms, cellsOf, laidOf, headingOf, write}
 use Rattle.sparse.specs.Fits.{Lengths, Live, LiveOther, Fits}
-use Rattle.sparse.specs.Elements.{heading-back, number-back, constraint-number, kind-laid, row-place, variable-place, changed-back, marker-place, other-place, count-back, edit-variable, plus-place, minus-place, term-place}
+use Rattle.sparse.specs.Elements.{heading-back, number-back, constraint-number, gone-back, kind-laid, row-place, variable-place, changed-back, marker-place, other-place, count-back, edit-variable, plus-place, minus-place, term-place}
 use Rattle.sparse.specs.ReadBack.{read-write}
 use Rattle.sparse.specs.Form.{indexAt, At}
 use Rattle.sparse_test.specs.Stretch.{mostIn, in-between, in-most}
@@ -43,6 +43,7 @@ pub record Narrow (s : State) : Type 0 where
   pub next : s .tableau .nextId ≤ greatestU32
   pub variables : (j : ℕ) → j < length (s .changes .variables) → getD (s .changes .variables) j noVariable .number ≤ greatestU32
   pub constraints : (j : ℕ) → j < length (s .constraints) → getD (s .constraints) j noConstraint .number ≤ greatestU32
+  pub gone : (j : ℕ) → j < length (s .changes .gone) → getD (s .changes .gone) j 0 ≤ greatestU32
 
 kind-small : (k : Kind) → kindCode k ≤ 3
 unfolding kindCode
@@ -64,7 +65,7 @@ module _ (s : State) (t : Sparse) (fits : Fits s) (len : Lengths t) (narrow : Na
   abbrev size : ℕ
   size = laidOf (s .tableau) t .size
 
-  head : (j : ℕ) → j < 9 → getD (u .words) j 0 ≡ getD (headingOf s size) j 0
+  head : (j : ℕ) → j < 10 → getD (u .words) j 0 ≡ getD (headingOf s size) j 0
   head = heading-back s t fits len
 
   facts : Reads s
@@ -93,6 +94,10 @@ module _ (s : State) (t : Sparse) (fits : Fits s) (len : Lengths t) (narrow : Na
   edits-are : editCount u ≡ length (s .edits)
   unfolding headingOf
   edits-are = head 6 (omega arith)
+
+  gone-are : goneCount u ≡ length (s .changes .gone)
+  unfolding headingOf
+  gone-are = head 9 (omega arith)
 
   -- ---- the cells
 
@@ -135,6 +140,7 @@ module _ (s : State) (t : Sparse) (fits : Fits s) (len : Lengths t) (narrow : Na
         variables = rw variables-are (fits .variables);
         clear = rw (head 7 (omega arith)) (bit-small (s .changes .shouldClear));
         whole = rw (head 8 (omega arith)) (bit-small (s .whole));
+        gone = rw gone-are (fits .gone);
         constraints = rw constraints-are (fits .constraints);
         edits = rw edits-are (fits .edits);
         tags = rw (constraints-are, edits-are) c;
@@ -187,6 +193,7 @@ module _ (s : State) (t : Sparse) (fits : Fits s) (len : Lengths t) (narrow : Na
         edited = rw edits-are (nameds editVariablesAt (length (s .edits)) λ j h. rw (edit-variable s t fits len j h) (index-live (getD (s .edits) j noEdit .variable) (fits .edited j h)));
         pluses = rw edits-are (lives editMarkersAt (length (s .edits)) λ j h. rw (plus-place s t fits len j h) (at-place (getD (s .edits) j noEdit .tag .marker) (fits .pluses j h)));
         minuses = rw edits-are (in-most (u .bytes) editOthersAt (length (s .edits)) (symbolCount u) λ j h. rw (minus-place s t fits len j h) (at-other (getD (s .edits) j noEdit .tag .other) (fits .minuses j h)));
+        gone = rw gone-are (in-most (u .words) goneNumbersAt (length (s .changes .gone)) greatestU32 λ j h. rw (gone-back s t fits len j h) (narrow .gone j h));
       }
 
   pub written-reads : reads u ≡ true

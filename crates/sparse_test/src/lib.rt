@@ -4,7 +4,8 @@ ghost use mathlib.Core.Bool.{true};
 ghost use Prim.Native.Nat.{_≤_};
 ghost use lib.ListN.{getD};
 ghost use Rattle.cells.specs.Names.{lastPlace, cellRoom};
-ghost use Rattle.sparse.specs.Places.{mostRows, mostVariables, mostConstraints, mostTerms, symbolCountAt, rowCountAt, cellCountAt, variableCountAt, constraintCountAt, editCountAt, termCountsAt};
+ghost use Rattle.sparse.specs.Places.{mostRows, mostVariables, mostConstraints, mostTerms, mostGone, symbolCountAt, rowCountAt, cellCountAt, variableCountAt, constraintCountAt, editCountAt, goneCountAt, goneNumbersAt, termCountsAt};
+ghost use Rattle.sparse.specs.Lookup.{Ascends};
 ghost use Rattle.sparse_test.specs.Stretch.{mostIn};
 ghost use Rattle.sparse_test.specs.Reads.{reads};
 ghost use Rattle.sparse_test.specs.Tested.{wordsFit, bytesFit, contentFits, termCount};
@@ -48,6 +49,7 @@ fn counts_fit(words: &Words) -> bool
         & (words[sparse::VARIABLE_COUNT] <= 32)
         & (words[sparse::SHOULD_CLEAR] <= 1)
         & (words[sparse::WHOLE] <= 1)
+        & (words[sparse::GONE_COUNT] <= 32)
         & room_for(
             words[sparse::CONSTRAINT_COUNT],
             words[sparse::EDIT_COUNT],
@@ -55,11 +57,12 @@ fn counts_fit(words: &Words) -> bool
         )
 }
 
-fn words_fit(words: &Words, k: usize, v: usize, c: usize) -> bool
+fn words_fit(words: &Words, k: usize, v: usize, c: usize, g: usize) -> bool
     requires { ⌜ k ≤ lastPlace ⌝ }
     requires { ⌜ v ≤ mostVariables ⌝ }
     requires { ⌜ c ≤ mostConstraints ⌝ }
-    ensures { λ r. ⌜ r ≡ wordsFit (now (words .entry)) k v c ⌝ }
+    requires { ⌜ g ≤ mostGone ⌝ }
+    ensures { λ r. ⌜ r ≡ wordsFit (now (words .entry)) k v c g ⌝ }
 {
     stretch::words_ascend(words, sparse::IDS + 1, k)
         & stretch::words_between(words, sparse::IDS + 1, k, 1, words[sparse::NEXT_ID])
@@ -68,6 +71,8 @@ fn words_fit(words: &Words, k: usize, v: usize, c: usize) -> bool
         & stretch::words_ascend(words, sparse::CONSTRAINT_NUMBERS, c)
         & stretch::words_most(words, sparse::CONSTRAINT_NUMBERS, c, GREATEST_U32)
         & stretch::words_above_zero(words, sparse::CONSTRAINT_GROUPS, c)
+        & stretch::words_ascend(words, sparse::GONE_NUMBERS, g)
+        & stretch::words_most(words, sparse::GONE_NUMBERS, g, GREATEST_U32)
 }
 
 fn bytes_fit(bytes: &Bytes, k: usize, r: usize, v: usize, c: usize) -> bool
@@ -108,6 +113,8 @@ fn content_fits(words: &Words, keys: &Keys, bytes: &Bytes, reals: &Reals, values
     requires { ⌜ getD (now words) constraintCountAt 0 ≤ mostConstraints ⌝ }
     requires { ⌜ getD (now words) editCountAt 0 ≤ mostConstraints ⌝ }
     requires { ⌜ mostIn (now bytes) termCountsAt (getD (now words) constraintCountAt 0) 16 ≡ true ⌝ }
+    requires { ⌜ getD (now words) goneCountAt 0 ≤ mostGone ⌝ }
+    requires { ⌜ Ascends (now words) goneNumbersAt (getD (now words) goneCountAt 0) ⌝ }
     ensures { λ b. ⌜ b ≡ contentFits (tables (now (words .entry)) (now (keys .entry)) (now (bytes .entry)) (now (reals .entry)) (now (values .entry))) ⌝ }
 {
     let k = words[sparse::SYMBOL_COUNT] as usize;
@@ -116,6 +123,7 @@ fn content_fits(words: &Words, keys: &Keys, bytes: &Bytes, reals: &Reals, values
     let v = words[sparse::VARIABLE_COUNT] as usize;
     let c = words[sparse::CONSTRAINT_COUNT] as usize;
     let e = words[sparse::EDIT_COUNT] as usize;
+    let g = words[sparse::GONE_COUNT] as usize;
     let m = term_count(bytes, c);
     let mut index = uses::no_index();
     uses::fill_index(&mut index, bytes, v);
@@ -127,6 +135,7 @@ fn content_fits(words: &Words, keys: &Keys, bytes: &Bytes, reals: &Reals, values
         & tableau::costs_fit(reals, bytes, r)
         & tableau::keys_fit(keys, bytes, n, k, r)
         & tableau::values_fit(values, n)
+        & records::returned_fit(words, reals, v, g)
 }
 
 pub fn reads_as_state(
@@ -144,7 +153,8 @@ pub fn reads_as_state(
     let k = words[sparse::SYMBOL_COUNT] as usize;
     let v = words[sparse::VARIABLE_COUNT] as usize;
     let c = words[sparse::CONSTRAINT_COUNT] as usize;
-    if !words_fit(words, k, v, c) {
+    let g = words[sparse::GONE_COUNT] as usize;
+    if !words_fit(words, k, v, c, g) {
         return false;
     }
     if !bytes_fit(bytes, k, words[sparse::ROW_COUNT] as usize, v, c) {

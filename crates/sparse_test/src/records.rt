@@ -1,16 +1,19 @@
-// The records' part of the test: kinds, finite numbers, the cutoff.
+// The records' part of the test: kinds, finite numbers, the cutoff, variables that are back.
 ghost use mathlib.Core.Path.{_≡_};
 ghost use Prim.Native.Nat.{_+_, _≤_};
 ghost use Rattle.steps.specs.Number.{cutoffFits};
 ghost use Rattle.steps.specs.Readable.{tagKinds};
 ghost use Rattle.cells.specs.Names.{lastPlace};
-ghost use Rattle.sparse.specs.Places.{mostRows, mostVariables, mostConstraints, mostTerms, bytesSize, realsSize};
-ghost use Rattle.sparse_test.specs.Tested.{kindAt, externalsIn, tagOfKinds, tagsFit, errorsIn, kindsFit, oldsFit, realsFit};
+ghost use Rattle.sparse.specs.Places.{mostRows, mostVariables, mostConstraints, mostTerms, mostGone, goneNumbersAt, bytesSize, realsSize};
+ghost use Rattle.sparse.specs.Lookup.{Ascends};
+ghost use Rattle.sparse_test.specs.Tested.{kindAt, externalsIn, tagOfKinds, tagsFit, errorsIn, kindsFit, oldsFit, returnedFit, realsFit};
 use crate::stretch::reals_finite;
 use crate::stretch::wide;
 use places::old_fits;
 use sparse::Bytes;
 use sparse::Reals;
+use sparse::Words;
+use sparse::lookup::look_up;
 
 // The greatest cutoff that reset takes.
 const GREATEST_CUTOFF: f64 = 0.000001;
@@ -116,6 +119,29 @@ fn olds_fit(reals: &Reals, v: usize) -> bool
     let mut i = 0;
     while i < v {
         ok = ok & old_fits(reals[sparse::OLD_VALUES + i]);
+        i += 1;
+    }
+    ok
+}
+
+// "a variable whose number is among them has NaN for its old value": NaN alone differs from itself.
+pub fn returned_fit(words: &Words, reals: &Reals, v: usize, g: usize) -> bool
+    requires { ⌜ v ≤ mostVariables ⌝ }
+    requires { ⌜ g ≤ mostGone ⌝ }
+    requires { ⌜ Ascends (now words) goneNumbersAt g ⌝ }
+    ensures { λ r. ⌜ r ≡ returnedFit (now (words .entry)) (now (reals .entry)) v g ⌝ }
+{
+    let mut ok = true;
+    let mut i = 0;
+    while i < v {
+        let p = look_up(
+            words,
+            sparse::GONE_NUMBERS,
+            g,
+            words[sparse::VARIABLE_NUMBERS + i],
+        );
+        let old = reals[sparse::OLD_VALUES + i];
+        ok = ok & (!(p < g) | (old != old));
         i += 1;
     }
     ok

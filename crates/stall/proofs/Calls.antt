@@ -16,8 +16,8 @@ use Rattle.steps.specs.Work.{Work, Outcome, refused, going}
 use Rattle.steps.specs.Add.{Added, addSteps}
 use Rattle.steps.specs.Remove.{removeSteps}
 use Rattle.steps.specs.Edit.{editTerms, addEditSteps, suggestSteps}
-use Rattle.steps.specs.Tests.{firstRefusal, addTests, addEditTests, dropTests, groupOf, findConstraint, findEdit, keepConstraint, dropConstraint, keepEdit, dropEdit, keptTerms}
-use Rattle.steps.specs.Calls.{Answer, Result, begin, finish, refusedBy, acceptedAs, conclude, concludeAdd, add, remove, removeStored, onward, removeAll, allOrNone, dropGroup, addEdit, removeEdit, suggest}
+use Rattle.steps.specs.Tests.{firstRefusal, addTests, addEditTests, dropTests, groupOf, findConstraint, findEdit, keepConstraint, dropConstraint, keepEdit, dropEdit, keptTerms, goneFull}
+use Rattle.steps.specs.Calls.{Answer, Result, begin, finish, refusedBy, acceptedAs, conclude, concludeAdd, add, remove, removeStored, onward, removeAll, allOrNone, dropGroup, addEdit, removeEdit, suggest, unlessFull, removeEditStored}
 use Rattle.steps.specs.Changing.{Changing}
 use Rattle.steps.proofs.After.{says-whole}
 use Rattle.steps.proofs.Numbers.{ofSteps, test-number}
@@ -26,7 +26,7 @@ use Rattle.bridge.specs.Runs.{markOf}
 use Rattle.run.specs.Demand.{Call, resets, fetches, adds, removes, drops, addsEdit, removesEdit, suggests, make}
 use Rattle.run.specs.Drop.{onward-refused, onward-accepted}
 use Rattle.run.specs.RecutDrop.{Ending, refuses, accepts, stored-ending, removeAll-yes}
-use Rattle.stall.specs.Stall.{PassStart, outcomeOf, pivotsOf, allPivots, allWays, addPasses, removePasses, dropPasses, suggestPasses, passesOf, budgetOf, NoReturn, Level, Fewer, SomeWay, Demand3, Counted, moment, refusalOf, UsedUp, Some, Shares, TheCalls}
+use Rattle.stall.specs.Stall.{PassStart, outcomeOf, pivotsOf, allPivots, allWays, addPasses, removePasses, dropPasses, suggestPasses, passesOf, budgetOf, NoReturn, Level, Fewer, SomeWay, Demand3, Counted, moment, refusalOf, UsedUp, Some, Shares, TheCalls, passesUnless}
 use Rattle.stall.proofs.Turns.{pivotsAt, moments, all-used}
 use Rattle.stall.proofs.Pass.{Starts, Unmarred, returns-not, level, fewer}
 use Rattle.stall.proofs.Accounts.{Told, workOf, add-told, remove-told, suggest-told}
@@ -84,30 +84,42 @@ edit-answers v k b s = go (firstRefusal (addEditTests v (clip k) s)) refl
     go (some x) e = tested b x s (λ q. subst (λ (k : ℕ). T (not (ofSteps k))) q (test-number (Changing.addsEdit v k b) s x e .1))
 
 remove-answers : (n b : ℕ) (s : State) → Answers b (passesOf (removes n b) s) (make (removes n b) s)
-unfolding passesOf make remove removeStored
+unfolding passesOf passesUnless make remove removeStored unlessFull
 remove-answers n b s = go (findConstraint n (s .constraints))
   where
     next : Work → State
     next w = finish w (dropConstraint n (s .constraints)) (s .edits)
 
+    full : (c : Constraint) (t : Bool)
+        → Answers b (elim t [ true ↦ [] | false ↦ removePasses b (c .tag) (c .strength) (begin s) ])
+        (elim t [ true ↦ refusedBy 25 0 (s .whole) s | false ↦ conclude s (removeSteps b (c .tag) (c .strength) (c .terms) (begin s)) next ])
+    full c true = tested b 25 s (λ q. omega (arith, q))
+    full c false = concluded b (removePasses b (c .tag) (c .strength) (begin s)) s (removeSteps b (c .tag) (c .strength) (c .terms) (begin s)) next (remove-told b (c .tag) (c .strength) (c .terms) (begin s) (fresh s))
+
     go : (o : Option Constraint)
-        → Answers b (elim o [ none ↦ [] | some c ↦ removePasses b (c .tag) (c .strength) (begin s) ])
-        (elim o [ none ↦ refusedBy 5 0 (s .whole) s | some c ↦ conclude s (removeSteps b (c .tag) (c .strength) (c .terms) (begin s)) next ])
+        → Answers b (elim o [ none ↦ [] | some c ↦ passesUnless (c .terms) s (removePasses b (c .tag) (c .strength) (begin s)) ])
+        (elim o [ none ↦ refusedBy 5 0 (s .whole) s | some c ↦ unlessFull (c .terms) s (conclude s (removeSteps b (c .tag) (c .strength) (c .terms) (begin s)) next) ])
     go none = tested b 5 s (λ q. omega (arith, q))
-    go (some c) = concluded b (removePasses b (c .tag) (c .strength) (begin s)) s (removeSteps b (c .tag) (c .strength) (c .terms) (begin s)) next (remove-told b (c .tag) (c .strength) (c .terms) (begin s) (fresh s))
+    go (some c) = full c (goneFull (c .terms) s)
 
 unedit-answers : (v b : ℕ) (s : State) → Answers b (passesOf (removesEdit v b) s) (make (removesEdit v b) s)
-unfolding passesOf make removeEdit
+unfolding passesOf passesUnless make removeEdit removeEditStored unlessFull
 unedit-answers v b s = go (findEdit v (s .edits))
   where
     next : Work → State
     next w = finish w (s .constraints) (dropEdit v (s .edits))
 
+    full : (e : Edit) (t : Bool)
+        → Answers b (elim t [ true ↦ [] | false ↦ removePasses b (e .tag) (e .strength) (begin s) ])
+        (elim t [ true ↦ refusedBy 25 0 (s .whole) s | false ↦ conclude s (removeSteps b (e .tag) (e .strength) (editTerms v) (begin s)) next ])
+    full e true = tested b 25 s (λ q. omega (arith, q))
+    full e false = concluded b (removePasses b (e .tag) (e .strength) (begin s)) s (removeSteps b (e .tag) (e .strength) (editTerms v) (begin s)) next (remove-told b (e .tag) (e .strength) (editTerms v) (begin s) (fresh s))
+
     go : (o : Option Edit)
-        → Answers b (elim o [ none ↦ [] | some e ↦ removePasses b (e .tag) (e .strength) (begin s) ])
-        (elim o [ none ↦ refusedBy 8 0 (s .whole) s | some e ↦ conclude s (removeSteps b (e .tag) (e .strength) (editTerms v) (begin s)) next ])
+        → Answers b (elim o [ none ↦ [] | some e ↦ passesUnless (editTerms v) s (removePasses b (e .tag) (e .strength) (begin s)) ])
+        (elim o [ none ↦ refusedBy 8 0 (s .whole) s | some e ↦ unlessFull (editTerms v) s (conclude s (removeSteps b (e .tag) (e .strength) (editTerms v) (begin s)) next) ])
     go none = tested b 8 s (λ q. omega (arith, q))
-    go (some e) = concluded b (removePasses b (e .tag) (e .strength) (begin s)) s (removeSteps b (e .tag) (e .strength) (editTerms v) (begin s)) next (remove-told b (e .tag) (e .strength) (editTerms v) (begin s) (fresh s))
+    go (some e) = full e (goneFull (editTerms v) s)
 
 -- ---- a drop: its removals one after the other
 

@@ -22,8 +22,10 @@ use Rattle.steps.specs.Readable.{readable}
 use Rattle.steps.specs.Changing as changing
 use Rattle.bridge.specs.Rows.{Sym?, is, isnt, sym?}
 use Rattle.bridge.specs.Finds.{UpRows, find-hit, find-miss, find-none, find-drop-other}
+use Rattle.keeps.specs.Tested.{reads-in}
+use Rattle.keeps.specs.Groups.{Removable, group-removable, first-found, others-removable}
 use Rattle.run.specs.Demand.{Call, drops, make, after}
-use Rattle.run.specs.Drop.{removed-reads, Removable, group-removable, first-found, others-removable}
+use Rattle.run.specs.Drop.{removed-reads}
 use Rattle.run.specs.RecutDrop.{Ending, refuses, accepts, stored-ending}
 use Rattle.run.specs.DropRows.{markerGone, removal-rows}
 use Rattle.run.specs.Run.{after-reads}
@@ -104,7 +106,7 @@ before-pass d b s n p m e = unfold removeStored removeSteps conclude refusedBy _
 removals-fall : (ds : List Constraint) (b : ℕ) (s : State) → readable s ≡ true → Removable ds s → Falls (length (s .tableau .rows)) (dropPasses ds b s)
 unfolding dropPasses removePasses Falls
 removals-fall [] b s R f = tt
-removals-fall (d ∷ ds) b s R f = by-start (markerGone d s) refl (stored-ending (d .number) d b s) (λ e. removals-fall ds (b - one .answer .pivots) (one .state) (removed-reads d b s R (first-found d ds s f)) (others-removable d ds b s f e))
+removals-fall (d ∷ ds) b s R f = by-start (markerGone d s) refl (stored-ending (d .number) d b s) (λ e. removals-fall ds (b - one .answer .pivots) (one .state) (removed-reads d ds b s R f) (others-removable d ds b s f (reads-in s R) e))
   where
     one : Result
     one = removeStored (d .number) d b s
@@ -124,7 +126,7 @@ removals-fall (d ∷ ds) b s R f = by-start (markerGone d s) refl (stored-ending
         → Falls (length (s .tableau .rows)) (objectivePass b (purgeTag (d .tag)) o ++ at (eqb (one .answer .number) 0))
     by-start (refused n p m) e E on = unfold objectivePass in rest (length (s .tableau .rows)) (λ z. subst (λ (t : State). length (t .tableau .rows) ≤ length (s .tableau .rows)) (sym (before-pass d b s n p m e)) (omega arith)) E on
     by-start (going v) e E on =
-        let h = removal-rows d b s R (first-found d ds s f) v e in
+        let h = removal-rows d b s R (first-found d ds b s f) v e in
         unfold objectivePass Falls in (h .0, rest (length (purgeTag (d .tag) v .tableau .rows)) (h .1) E on)
 
 -- ---- no set twice
@@ -160,11 +162,11 @@ all-apart n (p ∷ ps) f s m r = (r .0, each ps (below (rowsAt p) ps (f .1)), al
 
 passes-fall : (g b : ℕ) (s : State) → readable s ≡ true → Falls (length (s .tableau .rows)) (passesOf (drops g b) s)
 unfolding passesOf
-passes-fall g b s R = go (firstRefusal (dropTests g s))
+passes-fall g b s R = go (firstRefusal (dropTests g s)) refl
   where
-    go : (o : Option ℕ) → Falls (length (s .tableau .rows)) (elim o as (λ _. List PassStart) [ some x ↦ [] | none ↦ dropPasses (groupOf g (s .constraints)) b s ])
-    go (some x) = unfold Falls in tt
-    go none = removals-fall (groupOf g (s .constraints)) b s R (group-removable g s R)
+    go : (o : Option ℕ) → firstRefusal (dropTests g s) ≡ o → Falls (length (s .tableau .rows)) (elim o as (λ _. List PassStart) [ some x ↦ [] | none ↦ dropPasses (groupOf g (s .constraints)) b s ])
+    go (some x) e = unfold Falls in tt
+    go none e = removals-fall (groupOf g (s .constraints)) b s R (group-removable g s (reads-in s R) e)
 
 -- the mark of the drop's own answer is enough
 pub marked-never-returns : (cut : Float) → cutoffFits cut ≡ true → (cs : List Call) (g b : ℕ) → make (drops g b) (after cut cs .state) .answer .whole ≡ true → NoSetTwice (passesOf (drops g b) (after cut cs .state))

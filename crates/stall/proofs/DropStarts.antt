@@ -1,22 +1,24 @@
 -- Every pass of a drop in a whole run starts from a good tableau: each of its removals is one of a whole run. Assumes nothing.
 use Prim.Native.Nat.{ℕ, _-_}
-use mathlib.Core.Path.{_≡_, sym, ap, _∙_, subst}
+use mathlib.Core.Path.{_≡_, refl, sym, _∙_, subst}
 use mathlib.Core.List.{List, [], _∷_, _++_}
 use mathlib.Core.Option.{Option, none, some}
 use mathlib.Core.Bool.{Bool, true, false}
 use lib.Dec.{eqb, eqb·suc-zero}
 use Rattle.simplex.specs.Choose.{All}
 use Rattle.steps.specs.State.{Constraint}
-use Rattle.steps.specs.Tests.{firstRefusal, dropTests, groupOf, findConstraint}
+use Rattle.steps.specs.Tests.{firstRefusal, dropTests, groupOf}
 use Rattle.steps.specs.Calls.{Result, begin, removeStored, removeAll, allOrNone, dropGroup}
 use Rattle.steps.specs.Readable.{readable}
-use Rattle.run.specs.Demand.{ofConstraint, without, removes, drops, make, Moment}
+use Rattle.keeps.specs.Tested.{reads-in}
+use Rattle.keeps.specs.Groups.{Removable, group-removable, first-found, others-removable}
+use Rattle.run.specs.Demand.{ofConstraint, without, drops, make, Moment}
 use Rattle.run.specs.Inv.{Inv}
-use Rattle.run.specs.Drop.{onward-whole, none-whole, removed-inv, removed-reads, Removable, group-removable, first-found, others-removable}
+use Rattle.run.specs.Drop.{onward-whole, none-whole, removed-inv, removed-reads}
 use Rattle.run.specs.RecutDrop.{Ending, refuses, accepts, stored-ending, removeAll-yes}
 use Rattle.stall.specs.Stall.{PassStart, removePasses, dropPasses, passesOf}
 use Rattle.stall.proofs.Pass.{Starts, Unmarred}
-use Rattle.stall.proofs.RemoveStarts.{remove-starts}
+use Rattle.stall.proofs.RemoveStarts.{stored-starts}
 
 left : (Q : PassStart → Type 0) (ps qs : List PassStart) → All Q (ps ++ qs) → All Q ps
 left Q [] qs a = tt
@@ -30,19 +32,12 @@ both : (Q : PassStart → Type 0) (ps qs : List PassStart) → All Q ps → All 
 both Q [] qs a c = c
 both Q (p ∷ ps) qs a c = (a .0, both Q ps qs (a .1) c)
 
--- the pass of one removal
-own-starts : (m : Moment) → Inv m → (d : Constraint) (b : ℕ) → findConstraint (d .number) (m .state .constraints) ≡ some d → All Unmarred (removePasses b (d .tag) (d .strength) (begin (m .state))) → All Starts (removePasses b (d .tag) (d .strength) (begin (m .state)))
-own-starts m I d b f u = subst (All Starts) is (remove-starts m I (d .number) b (subst (All Unmarred) (sym is) u))
-  where
-    is : passesOf (removes (d .number) b) (m .state) ≡ removePasses b (d .tag) (d .strength) (begin (m .state))
-    is = unfold passesOf in ap (λ (o : Option Constraint). elim o as (λ _. List PassStart) [ none ↦ [] | some c ↦ removePasses b (c .tag) (c .strength) (begin (m .state)) ]) f
-
 all-start : (ds : List Constraint) (b : ℕ) (m : Moment) → Inv m → readable (m .state) ≡ true → Removable ds (m .state) → removeAll ds b (m .state) .answer .whole ≡ true
     → All Unmarred (dropPasses ds b (m .state)) → All Starts (dropPasses ds b (m .state))
 unfolding dropPasses removeAll
 all-start [] b m I R f w u = tt
 all-start (d ∷ ds) b m I R f w u =
-    both Starts own rest-passes (own-starts m I d b (first-found d ds (m .state) f) (left Unmarred own rest-passes u)) (go (stored-ending (d .number) d b (m .state)) (all-start ds (b - one .answer .pivots) after) (right Unmarred own rest-passes u))
+    both Starts own rest-passes (stored-starts m I (d .number) b d (first-found d ds b (m .state) f) (left Unmarred own rest-passes u)) (go (stored-ending (d .number) d b (m .state)) (all-start ds (b - one .answer .pivots) after) (right Unmarred own rest-passes u))
   where
     one : Result
     one = removeStored (d .number) d b (m .state)
@@ -69,20 +64,20 @@ all-start (d ∷ ds) b m I R f w u =
     go (refuses k e _) on v = subst (λ (n : ℕ). All Starts (at (eqb n 0))) (sym e) (subst (λ (t : Bool). All Starts (at t)) (sym (eqb·suc-zero k)) tt)
     go (accepts e q _) on v =
         let went : rest .answer .whole ≡ true = sym (onward-whole one rest e) ∙ w in
-        let I′ : Inv after = removed-inv m d b I R (first-found d ds (m .state) f) e (q ∙ removeAll-yes ds (b - one .answer .pivots) (one .state) went) in
+        let I′ : Inv after = removed-inv m d ds b I R f e (q ∙ removeAll-yes ds (b - one .answer .pivots) (one .state) went) in
         subst (λ (n : ℕ). All Starts (at (eqb n 0))) (sym e)
-        (on I′ (removed-reads d b (m .state) R (first-found d ds (m .state) f)) (others-removable d ds b (m .state) f e) went
+        (on I′ (removed-reads d ds b (m .state) R f) (others-removable d ds b (m .state) f (reads-in (m .state) R) e) went
         (subst (λ (n : ℕ). All Unmarred (at (eqb n 0))) e v))
 
 pub drop-starts : (m : Moment) → Inv m → readable (m .state) ≡ true → (g b : ℕ) → make (drops g b) (m .state) .answer .whole ≡ true → All Unmarred (passesOf (drops g b) (m .state)) → All Starts (passesOf (drops g b) (m .state))
 unfolding passesOf make dropGroup
-drop-starts m I R g b = go (firstRefusal (dropTests g (m .state)))
+drop-starts m I R g b = go (firstRefusal (dropTests g (m .state))) refl
   where
     ds : List Constraint
     ds = groupOf g (m .state .constraints)
 
-    go : (o : Option ℕ)
+    go : (o : Option ℕ) → firstRefusal (dropTests g (m .state)) ≡ o
         → elim o as (λ _. Result) [ some x ↦ Rattle.steps.specs.Calls.refusedBy x 0 (m .state .whole) (m .state) | none ↦ allOrNone (m .state) (removeAll ds b (m .state)) ] .answer .whole ≡ true
         → All Unmarred (elim o as (λ _. List PassStart) [ some x ↦ [] | none ↦ dropPasses ds b (m .state) ]) → All Starts (elim o as (λ _. List PassStart) [ some x ↦ [] | none ↦ dropPasses ds b (m .state) ])
-    go (some x) w u = tt
-    go none w u = all-start ds b m I R (group-removable g (m .state) R) (sym (none-whole (m .state) (removeAll ds b (m .state))) ∙ w) u
+    go (some x) e w u = tt
+    go none e w u = all-start ds b m I R (group-removable g (m .state) (reads-in (m .state) R) e) (sym (none-whole (m .state) (removeAll ds b (m .state))) ∙ w) u

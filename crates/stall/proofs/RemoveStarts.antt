@@ -3,22 +3,24 @@ use Prim.Native.Nat.{ℕ, _-_}
 use mathlib.Core.Path.{_≡_, refl, sym, ap, _∙_, subst}
 use mathlib.Core.List.{List, []}
 use mathlib.Core.Option.{Option, none, some}
+use mathlib.Core.Bool.{Bool, true, false}
 use lib.Ieee.{Float}
 use Rattle.simplex.specs.Ord.{0ℤ}
 use Rattle.simplex.specs.Choose.{All}
 use Rattle.steps.specs.Number.{Mark, allWhole, notWhole, notFinite}
-use Rattle.steps.specs.State.{strengthOf, Tag, Constraint, Edit}
+use Rattle.steps.specs.State.{strengthOf, Tag, Constraint, Edit, Term, State}
 use Rattle.steps.specs.Work.{Work, Outcome, refused, going, _>>=_, refuse, checkFinite}
 use Rattle.steps.specs.Optimise.{theObjective}
 use Rattle.steps.specs.Remove.{dropMarker, purgeTag}
-use Rattle.steps.specs.Tests.{findConstraint, findEdit}
+use Rattle.steps.specs.Edit.{editTerms}
+use Rattle.steps.specs.Tests.{findConstraint, findEdit, goneFull}
 use Rattle.steps.specs.Calls.{begin}
 use Rattle.steps.proofs.AfterRemove.{purgeTag-after}
 use Rattle.bridge.specs.Runs.{optimise-mark}
 use Rattle.run.specs.Demand.{Key, ofConstraint, ofEdit, Moment, removes, removesEdit}
 use Rattle.run.specs.Inv.{columns, Held, findHeld, ConstraintAt, EditAt, Inv}
 use Rattle.run.specs.RemoveSteps.{first, Begun, begins, inside}
-use Rattle.stall.specs.Stall.{optimising, PassStart, outcomeBy, outcomeOf, objectivePass, removePasses, passesOf}
+use Rattle.stall.specs.Stall.{optimising, PassStart, outcomeBy, outcomeOf, objectivePass, removePasses, passesOf, passesUnless}
 use Rattle.stall.proofs.Pass.{Starts, Unmarred}
 
 module _ (m : Moment) (I : Inv m) (k : Key) (h : Held) (found : findHeld k (I .held) ≡ some h) (b : ℕ) where
@@ -57,22 +59,44 @@ stored m I k h f b t x p q u =
     let e = passes-same b (begin (m .state)) p q in
     subst (λ (l : List PassStart). All Starts l) (sym e) (steps-start m I k h f b (subst (λ (l : List PassStart). All Unmarred l) e u))
 
+-- those of a removal that 25 refuses are none
+unless-starts : (ts : List Term) (s : State) (ps : List PassStart) → (All Unmarred ps → All Starts ps) → All Unmarred (passesUnless ts s ps) → All Starts (passesUnless ts s ps)
+unfolding passesUnless
+unless-starts ts s ps f = go (goneFull ts s)
+  where
+    go : (t : Bool) → All Unmarred (elim t as (λ _. List PassStart) [ true ↦ [] | false ↦ ps ]) → All Starts (elim t as (λ _. List PassStart) [ true ↦ [] | false ↦ ps ])
+    go true u = tt
+    go false u = f u
+
+-- a stored constraint's
+pub stored-starts : (m : Moment) (I : Inv m) (n b : ℕ) (c : Constraint) → findConstraint n (m .state .constraints) ≡ some c → All Unmarred (removePasses b (c .tag) (c .strength) (begin (m .state))) → All Starts (removePasses b (c .tag) (c .strength) (begin (m .state)))
+stored-starts m I n b c e = go (findHeld (ofConstraint n) (I .held)) refl (subst (λ (o : Option Constraint). ConstraintAt o (findHeld (ofConstraint n) (I .held))) e (I .constraints n))
+  where
+    go : (g : Option Held) → findHeld (ofConstraint n) (I .held) ≡ g → ConstraintAt (some c) g → All Unmarred (removePasses b (c .tag) (c .strength) (begin (m .state))) → All Starts (removePasses b (c .tag) (c .strength) (begin (m .state)))
+    go none f a u = absurd a
+    go (some h) f a u = stored m I (ofConstraint n) h f b (c .tag) (c .strength) (a .tag) (a .strength) u
+
 pub remove-starts : (m : Moment) (I : Inv m) (n b : ℕ) → All Unmarred (passesOf (removes n b) (m .state)) → All Starts (passesOf (removes n b) (m .state))
 unfolding passesOf
-remove-starts m I n b = go (findConstraint n (m .state .constraints)) (findHeld (ofConstraint n) (I .held)) refl (I .constraints n)
+remove-starts m I n b = go (findConstraint n (m .state .constraints)) refl
   where
-    go : (c : Option Constraint) (g : Option Held) → findHeld (ofConstraint n) (I .held) ≡ g → ConstraintAt c g
-        → All Unmarred (elim c as (λ x. List PassStart) [ none ↦ [] | some c ↦ removePasses b (c .tag) (c .strength) (begin (m .state)) ]) → All Starts (elim c as (λ x. List PassStart) [ none ↦ [] | some c ↦ removePasses b (c .tag) (c .strength) (begin (m .state)) ])
-    go none g f a u = tt
-    go (some c) none f a u = absurd a
-    go (some c) (some h) f a u = stored m I (ofConstraint n) h f b (c .tag) (c .strength) (a .tag) (a .strength) u
+    passes : Constraint → List PassStart
+    passes c = removePasses b (c .tag) (c .strength) (begin (m .state))
+
+    go : (o : Option Constraint) → findConstraint n (m .state .constraints) ≡ o
+        → All Unmarred (elim o as (λ x. List PassStart) [ none ↦ [] | some c ↦ passesUnless (c .terms) (m .state) (passes c) ]) → All Starts (elim o as (λ x. List PassStart) [ none ↦ [] | some c ↦ passesUnless (c .terms) (m .state) (passes c) ])
+    go none e u = tt
+    go (some c) e u = unless-starts (c .terms) (m .state) (passes c) (stored-starts m I n b c e) u
 
 pub removeEdit-starts : (m : Moment) (I : Inv m) (v b : ℕ) → All Unmarred (passesOf (removesEdit v b) (m .state)) → All Starts (passesOf (removesEdit v b) (m .state))
 unfolding passesOf
 removeEdit-starts m I v b = go (findEdit v (m .state .edits)) (findHeld (ofEdit v) (I .held)) refl (I .edits v)
   where
-    go : (e : Option Edit) (g : Option Held) → findHeld (ofEdit v) (I .held) ≡ g → EditAt v e g
-        → All Unmarred (elim e as (λ x. List PassStart) [ none ↦ [] | some e ↦ removePasses b (e .tag) (e .strength) (begin (m .state)) ]) → All Starts (elim e as (λ x. List PassStart) [ none ↦ [] | some e ↦ removePasses b (e .tag) (e .strength) (begin (m .state)) ])
+    passes : Edit → List PassStart
+    passes e = removePasses b (e .tag) (e .strength) (begin (m .state))
+
+    go : (o : Option Edit) (g : Option Held) → findHeld (ofEdit v) (I .held) ≡ g → EditAt v o g
+        → All Unmarred (elim o as (λ x. List PassStart) [ none ↦ [] | some e ↦ passesUnless (editTerms v) (m .state) (passes e) ]) → All Starts (elim o as (λ x. List PassStart) [ none ↦ [] | some e ↦ passesUnless (editTerms v) (m .state) (passes e) ])
     go none g f a u = tt
     go (some e) none f a u = absurd a
-    go (some e) (some h) f a u = stored m I (ofEdit v) h f b (e .tag) (e .strength) (a .tag) (sym (ap strengthOf (a .relation) ∙ unfold strengthOf in refl)) u
+    go (some e) (some h) f a u = unless-starts (editTerms v) (m .state) (passes e) (stored m I (ofEdit v) h f b (e .tag) (e .strength) (a .tag) (sym (ap strengthOf (a .relation) ∙ unfold strengthOf in refl))) u

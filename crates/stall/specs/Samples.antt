@@ -11,7 +11,7 @@ use Rattle.steps.specs.Readable.{concat}
 use Rattle.steps.specs.Session.{sameNumbers}
 use Rattle.steps.specs.Twelve.{num, minus, x, openTwelve}
 use Rattle.run.specs.Demand.{Call, adds, removes, addsEdit, suggests, make, accepted, liveAfter, next, start, after}
-use Rattle.stall.specs.Stall.{PassStart, chosen, goesOn, turn, pivotsFrom, pivotsOf, restrictedRows, restrictedSymbols, ways, objectivePass, artificialPass, addPasses, removePasses, dropPasses, suggestPasses, passesOf}
+use Rattle.stall.specs.Stall.{PassStart, chosen, goesOn, turn, pivotsFrom, pivotsOf, restrictedRows, restrictedSymbols, ways, objectivePass, artificialPass, addPasses, removePasses, dropPasses, suggestPasses, passesOf, passesUnless}
 
 -- n, r, the ways, the pivots
 unfoldable pub figures : PassStart → List ℕ
@@ -27,7 +27,7 @@ xIs c relation n strength = adds 1 c (x ∷ []) (minus n) (relation strength) 10
 
 -- the key: unfolds this module and what it computes with
 unfoldable pub openSamples : Unit {0}
-unfolding openTwelve choose make accepted liveAfter next start after chosen goesOn turn pivotsFrom pivotsOf restrictedRows restrictedSymbols ways objectivePass artificialPass addPasses removePasses dropPasses suggestPasses passesOf figures figuresOf xIs
+unfolding openTwelve choose make accepted liveAfter next start after chosen goesOn turn pivotsFrom pivotsOf restrictedRows restrictedSymbols ways objectivePass artificialPass addPasses removePasses dropPasses suggestPasses passesUnless passesOf figures figuresOf xIs
 openSamples = tt
 
 -- x ≤ 8, then x = 5, both required. Step 6's pass has the slack, the dummy and the temporary, which alone of them is basic; it makes one pivot. Then the temporary is gone, and step 7's makes none.

@@ -26,7 +26,7 @@ use Rattle.steps.specs.Artificial.{standTemporary}
 use Rattle.steps.specs.Add.{wholeInputs, wholeWithin, addCreated}
 use Rattle.steps.specs.Remove.{removeConstraintEffects, dropMarker, purgeTag}
 use Rattle.steps.specs.Edit.{editTerms, shiftConstants}
-use Rattle.steps.specs.Tests.{firstRefusal, addTests, addEditTests, dropTests, groupOf, findConstraint, findEdit}
+use Rattle.steps.specs.Tests.{firstRefusal, addTests, addEditTests, dropTests, groupOf, findConstraint, findEdit, goneFull}
 use Rattle.steps.specs.Calls.{Result, begin, removeStored}
 use Rattle.run.specs.Demand.{Call, resets, fetches, adds, removes, drops, addsEdit, removesEdit, suggests, make, after, Whole}
 
@@ -164,16 +164,22 @@ suggestPasses budget e new w =
     let shifted : Work = shiftConstants (e .tag) (new -₆₄ e .suggestion) (marking (wholeIf (wholeWithin constantBound new)) w) in
     elim (checkFinite shifted) [ refused n p m ↦ [] | going v ↦ record { rule = dual; left = budget; work = v } ∷ [] ]
 
+-- a removal that 25 refuses makes none
+unfoldable pub passesUnless : List Term → State → List PassStart → List PassStart
+passesUnless ts s ps = elim (goneFull ts s) [ true ↦ [] | false ↦ ps ]
+
 -- the passes of a call on a state: none where its tests refuse it
 unfoldable pub passesOf : Call → State → List PassStart
 passesOf (resets z) s = []
 passesOf fetches s = []
 passesOf (adds g n ts k r b) s = elim (firstRefusal (addTests g n ts k r s)) [ some x ↦ [] | none ↦ addPasses b ts k r (begin s) ]
-passesOf (removes n b) s = elim (findConstraint n (s .constraints)) [ none ↦ [] | some c ↦ removePasses b (c .tag) (c .strength) (begin s) ]
+passesOf (removes n b) s =
+    elim (findConstraint n (s .constraints)) [ none ↦ [] | some c ↦ passesUnless (c .terms) s (removePasses b (c .tag) (c .strength) (begin s)) ]
 passesOf (drops g b) s = elim (firstRefusal (dropTests g s)) [ some x ↦ [] | none ↦ dropPasses (groupOf g (s .constraints)) b s ]
 passesOf (addsEdit v k b) s =
     elim (firstRefusal (addEditTests v (clip k) s)) [ some x ↦ [] | none ↦ addPasses b (editTerms v) zero64 (equal (clip k)) (begin s) ]
-passesOf (removesEdit v b) s = elim (findEdit v (s .edits)) [ none ↦ [] | some e ↦ removePasses b (e .tag) (e .strength) (begin s) ]
+passesOf (removesEdit v b) s =
+    elim (findEdit v (s .edits)) [ none ↦ [] | some e ↦ passesUnless (editTerms v) s (removePasses b (e .tag) (e .strength) (begin s)) ]
 passesOf (suggests v x b) s =
     elim (isFinite x) [ false ↦ [] | true ↦ elim (findEdit v (s .edits)) [ none ↦ [] | some e ↦ suggestPasses b e x (begin s) ] ]
 

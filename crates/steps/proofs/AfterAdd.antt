@@ -4,16 +4,17 @@ use mathlib.Core.Path.{_≡_, refl}
 use mathlib.Core.Bool.{Bool, true, false}
 use mathlib.Core.List.{List, [], _∷_}
 use mathlib.Core.Option.{Option, none, some}
-use lib.Ieee.{Float, lt, neg}
+use lib.Ieee.{Float, lt, eq, ne, neg}
 use Rattle.steps.specs.Number.{one64, minusOne64, nearZero, belowZero}
 use Rattle.steps.specs.Strength.{required}
 use Rattle.steps.specs.Symbol.{Symbol}
 use Rattle.steps.specs.Row.{Row, Written, reverseSign}
 use Rattle.steps.specs.State.{Term, Relation, atMost, equal, atLeast, Variable}
 use Rattle.steps.specs.Work.{Work, withTableau, withChanges, marking, withObjective, findRow}
-use Rattle.steps.specs.Changes.{findVariable}
-use Rattle.steps.specs.CreateRow.{Building, Created, written, appendTo, insertInto, withVariables, addVariable, countUse, insertVariable, insertTerm, insertTerms, tagged, addSymbol, insertInObjective, addError, inequality, softEquality, requiredEquality, addTag, createRow}
+use Rattle.steps.specs.Changes.{findVariable, neverReported}
+use Rattle.steps.specs.CreateRow.{Building, Created, written, appendTo, insertInto, withVariables, addVariable, useOnce, countUse, insertVariable, insertTerm, insertTerms, tagged, addSymbol, insertInObjective, addError, inequality, softEquality, requiredEquality, addTag, createRow}
 use Rattle.steps.specs.Artificial.{standTemporary}
+use Rattle.steps.proofs.Told.{toldAs, reportedCount, shed-refl, same-shed, told-map, count-map, told-keep, count-keep}
 use Rattle.steps.proofs.After.{After, after-refl, after-trans, worse-first, same, marking-after, rows-after, artificial-after, append-after}
 
 -- the same of the work beside a row
@@ -35,17 +36,19 @@ into-after : (s : ℕ) (k : Float) (b : Building) → After (b .work) (insertInt
 unfolding insertInto
 into-after s k b = written-after _ (b .work)
 
-pub variables-after : (vs : List Variable) (w : Work) → After w (withVariables vs w)
+-- other variables, of which the same was told
+variables-after : (vs : List Variable) (w : Work) → ((n : ℕ) → toldAs n vs ≡ toldAs n (w .changes .variables)) → reportedCount vs ≡ reportedCount (w .changes .variables) → After w (withVariables vs w)
 unfolding withVariables withChanges
-variables-after vs w = same w (withVariables vs w) refl refl refl
+variables-after vs w t k = same w (withVariables vs w) refl refl refl (same-shed (w .changes) vs (w .changes .shouldClear) t k)
 
+-- one that comes has not been reported
 addVariable-after : (n : ℕ) (b : Building) → After (b .work) (addVariable n b .work)
-unfolding addVariable
-addVariable-after n b = after-trans (appendTo-after _ b) (variables-after _ _)
+unfolding addVariable neverReported ne eq
+addVariable-after n b = after-trans (appendTo-after _ b) (variables-after _ _ (λ m. told-keep m _ _ refl) (count-keep _ _ refl))
 
 countUse-after : (n : ℕ) (b : Building) → After (b .work) (countUse n b .work)
-unfolding countUse
-countUse-after n b = variables-after _ (b .work)
+unfolding countUse useOnce
+countUse-after n b = variables-after _ (b .work) (λ m. told-map (useOnce n) (λ v. refl) (λ v. refl) m _) (count-map (useOnce n) (λ v. refl) (λ v. refl) _)
 
 insertVariable-after : (s : Symbol) (k : Float) (b : Building) → After (b .work) (insertVariable s k b .work)
 unfolding insertVariable
@@ -86,7 +89,7 @@ addSymbol-after s k b = after-trans (appendTo-after s b) (into-after (s .id) k _
 
 pub objective-after : (s : ℕ) (k : Float) (w : Work) → After w (insertInObjective s k w)
 unfolding insertInObjective withObjective withTableau marking
-objective-after s k w = record { pivots = refl; mark = worse-first (w .mark) _; cutoff = refl }
+objective-after s k w = record { pivots = refl; mark = worse-first (w .mark) _; cutoff = refl; told = shed-refl (w .changes) }
 
 addError-after : (s : Symbol) (k strength : Float) (b : Building) → After (b .work) (addError s k strength b .work)
 unfolding addError

@@ -14,16 +14,17 @@ use Rattle.steps.specs.Work.{Work, Outcome}
 use Rattle.steps.specs.Add.{Added}
 use Rattle.steps.specs.Remove.{removeSteps}
 use Rattle.steps.specs.Edit.{editTerms, addEditSteps}
-use Rattle.steps.specs.Tests.{member, firstRefusal, hasConstraint, hasEdit, addTests, addEditTests, dropTests, groupOf, findConstraint, dropConstraint, findEdit}
-use Rattle.steps.specs.Calls.{Result, begin, finish, refusedBy, acceptedAs, conclude, concludeAdd, add, removeStored, remove, onward, removeAll, allOrNone, dropGroup, addEdit, removeEdit, suggest}
+use Rattle.steps.specs.Tests.{member, firstRefusal, hasConstraint, hasEdit, goneFull, addTests, addEditTests, removeTests, removeEditTests, dropTests, groupOf, findConstraint, dropConstraint, findEdit}
+use Rattle.steps.specs.Calls.{Result, begin, finish, refusedBy, acceptedAs, conclude, concludeAdd, add, removeStored, unlessFull, remove, onward, removeAll, allOrNone, dropGroup, addEdit, removeEditStored, removeEdit, suggest}
 use Rattle.steps.specs.Changing.{Changing, adds, removes, drops, dropEach, addsEdit, removesEdit, suggests, made, budgetOf, tests, stepNumbers, Stores}
+use Rattle.steps.proofs.Told.{shed-refl, shed-trans}
 use Rattle.steps.proofs.After.{says-whole}
 use Rattle.steps.proofs.Ends.{Bounds, Within, Stopped, Ends, stops, goes}
 use Rattle.steps.proofs.Steps.{addSteps-ends, removeSteps-ends, suggestSteps-ends}
 
 -- what its steps are held to
 abbrev pub bounds : Changing → State → Bounds
-bounds c s = record { budget = budgetOf c; stored = s .whole; cutoff = s .tableau .cutoff; numbers = stepNumbers c }
+bounds c s = record { budget = budgetOf c; stored = s .whole; cutoff = s .tableau .cutoff; changes = s .changes; numbers = stepNumbers c }
 
 -- how a changing call comes to its answer
 pub data Answered (c : Changing) (s : State) : Result → Type 0 where
@@ -39,7 +40,7 @@ pub data Answered (c : Changing) (s : State) : Result → Type 0 where
 -- the steps begin with no pivot, and with the stored mark
 begins : (c : Changing) (s : State) → Within (bounds c s) (begin s)
 unfolding begin saysWhole
-begins c s = record { spent = omega arith; mark = go (s .whole); cutoff = refl }
+begins c s = record { spent = omega arith; mark = go (s .whole); cutoff = refl; told = shed-refl (s .changes) }
   where
     go : (b : Bool) → cond b allWhole notWhole ≡ allWhole → b ≡ true
     go true e = refl
@@ -84,23 +85,27 @@ unfolding hasEdit
 edit-test n s o e = rw (e, hasEdit)
 
 remove-answered : (n b : ℕ) (s : State) → Answered (removes n b) s (remove n b s)
-unfolding remove removeStored firstRefusal member
+unfolding remove removeStored unlessFull removeTests firstRefusal member
 remove-answered n b s = go (findConstraint n (s .constraints)) refl
   where
+    full : (c : Constraint) → findConstraint n (s .constraints) ≡ some c → (f : Bool) → goneFull (c .terms) s ≡ f → Answered (removes n b) s (remove n b s)
+    full c e true g = rw (e, g, remove, unlessFull) (byTest 25 (rw (constraint-test n s (some c) e, e, g)))
+    full c e false g =
+        rw (e, g, remove, unlessFull) (concluded (removes n b) s _ _ _ (rw (constraint-test n s (some c) e, e, g)) (refl, refl) (removeSteps-ends {lim = bounds (removes n b) s} tt tt tt tt (c .tag) (c .strength) (c .terms) (begin s) (begins (removes n b) s)))
+
     go : (o : Option Constraint) → findConstraint n (s .constraints) ≡ o → Answered (removes n b) s (remove n b s)
     go none e = rw (e, remove) (byTest 5 (rw (constraint-test n s none e)))
-    go (some c) e =
-        rw (e, remove) (concluded (removes n b) s _ _ _ (rw (constraint-test n s (some c) e)) (refl, refl) (removeSteps-ends {lim = bounds (removes n b) s} tt tt tt tt (c .tag) (c .strength) (c .terms) (begin s) (begins (removes n b) s)))
+    go (some c) e = full c e (goneFull (c .terms) s) refl
 
 -- ---- removals one after the other
 
 -- what the steps of a removal with this budget are held to
 abbrev pub limits : ℕ → State → Bounds
-limits b s = record { budget = b; stored = s .whole; cutoff = s .tableau .cutoff; numbers = 13 ∷ 14 ∷ 15 ∷ 17 ∷ [] }
+limits b s = record { budget = b; stored = s .whole; cutoff = s .tableau .cutoff; changes = s .changes; numbers = 13 ∷ 14 ∷ 15 ∷ 17 ∷ [] }
 
 pub starts : (b : ℕ) (s : State) → Within (limits b s) (begin s)
 unfolding begin saysWhole
-starts b s = record { spent = omega arith; mark = go (s .whole); cutoff = refl }
+starts b s = record { spent = omega arith; mark = go (s .whole); cutoff = refl; told = shed-refl (s .changes) }
   where
     go : (b : Bool) → cond b allWhole notWhole ≡ allWhole → b ≡ true
     go true e = refl
@@ -119,7 +124,7 @@ data AllRemoved (b : ℕ) (ds : List Constraint) (s : State) : Result → Type 0
   stopped : (n p : ℕ) (m : Mark) (t : State) → Stopped (limits b s) n p m → AllRemoved b ds s (refusedBy n p (saysWhole m) t)
   went : (w : Work) → Within (limits b s) w → AllRemoved b ds s (acceptedAs w (finish w (dropEach ds (s .constraints)) (s .edits)))
 
-steps-above-zero : (n : ℕ) → T (member n (13 ∷ 14 ∷ 15 ∷ 17 ∷ [])) → eqb n 0 ≡ false
+pub steps-above-zero : (n : ℕ) → T (member n (13 ∷ 14 ∷ 15 ∷ 17 ∷ [])) → eqb n 0 ≡ false
 unfolding member
 steps-above-zero zero t = absurd t
 steps-above-zero (suc n) t = eqb·suc-zero n
@@ -139,7 +144,7 @@ removed-then d ds b s w h (stopped n p m t k) =
     })
 removed-then d ds b s w h (went v k) =
     went (record { tableau = v .tableau; changes = v .changes; artificial = v .artificial; mark = v .mark; pivots = w .pivots + v .pivots })
-    (record { spent = omega (arith, h .spent, k .spent); mark = λ e. h .mark (says-whole (w .mark) (k .mark e)); cutoff = k .cutoff ∙ h .cutoff })
+    (record { spent = omega (arith, h .spent, k .spent); mark = λ e. h .mark (says-whole (w .mark) (k .mark e)); cutoff = k .cutoff ∙ h .cutoff; told = shed-trans (h .told) (k .told) })
 
 removes-all : (ds : List Constraint) (b : ℕ) (s : State) → AllRemoved b ds s (removeAll ds b s)
 unfolding removeAll removeStored onward conclude refusedBy acceptedAs finish begin dropEach member
@@ -172,13 +177,17 @@ addEdit-answered n k b s =
     λ e. concludedAdd (addsEdit n k b) s _ _ _ e (λ a. (a .tag, refl, refl)) (addSteps-ends {lim = bounds (addsEdit n k b) s} tt tt tt tt (editTerms n) _ (equal (clip k)) (begin s) (begins (addsEdit n k b) s))
 
 removeEdit-answered : (n b : ℕ) (s : State) → Answered (removesEdit n b) s (removeEdit n b s)
-unfolding removeEdit firstRefusal member
+unfolding removeEdit removeEditStored unlessFull removeEditTests firstRefusal member
 removeEdit-answered n b s = go (findEdit n (s .edits)) refl
   where
+    full : (c : Edit) → findEdit n (s .edits) ≡ some c → (f : Bool) → goneFull (editTerms n) s ≡ f → Answered (removesEdit n b) s (removeEdit n b s)
+    full c e true g = rw (e, g, removeEdit, unlessFull) (byTest 25 (rw (edit-test n s (some c) e, g)))
+    full c e false g =
+        rw (e, g, removeEdit, unlessFull) (concluded (removesEdit n b) s _ _ _ (rw (edit-test n s (some c) e, g)) (refl, refl) (removeSteps-ends {lim = bounds (removesEdit n b) s} tt tt tt tt (c .tag) (c .strength) (editTerms n) (begin s) (begins (removesEdit n b) s)))
+
     go : (o : Option Edit) → findEdit n (s .edits) ≡ o → Answered (removesEdit n b) s (removeEdit n b s)
     go none e = rw (e, removeEdit) (byTest 8 (rw (edit-test n s none e)))
-    go (some c) e =
-        rw (e, removeEdit) (concluded (removesEdit n b) s _ _ _ (rw (edit-test n s (some c) e)) (refl, refl) (removeSteps-ends {lim = bounds (removesEdit n b) s} tt tt tt tt (c .tag) (c .strength) (editTerms n) (begin s) (begins (removesEdit n b) s)))
+    go (some c) e = full c e (goneFull (editTerms n) s) refl
 
 suggest-answered : (n : ℕ) (x : Float) (b : ℕ) (s : State) → Answered (suggests n x b) s (suggest n x b s)
 unfolding suggest firstRefusal member begin

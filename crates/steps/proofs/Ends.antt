@@ -8,28 +8,32 @@ use mathlib.Core.List.{List}
 use lib.Ieee.{Float}
 use lib.Dec.{T, T-not, eqb, eqb-refl}
 use Rattle.steps.specs.Number.{Mark, allWhole, notWhole, notFinite}
+use Rattle.steps.specs.State.{Changes}
 use Rattle.steps.specs.Work.{Work, Outcome, refused, going, _>>=_, refuse, checkFinite, countPivot}
 use Rattle.steps.specs.Substitute.{pivot}
 use Rattle.steps.specs.Optimise.{Goal, Choice, ended, stuck, pivotOn, choosePivot, countedPivot, optimise, chooseDualPivot, dualOptimise}
 use Rattle.steps.specs.Tests.{member}
+use Rattle.steps.proofs.Told.{Shed, shed-trans}
 use Rattle.steps.proofs.After.{After, pivot-after}
 
--- what the steps of a call are held to: its budget, the stored mark and cutoff, and the numbers by which they may refuse
+-- what the steps of a call are held to: its budget, the stored mark, cutoff and changes, and the numbers by which they may refuse
 pub record Bounds : Type 0 where
   pub budget : ℕ
   pub stored : Bool
   pub cutoff : Float
+  pub changes : Changes
   pub numbers : List ℕ
 
 -- n is one of the numbers
 abbrev pub Gives : Bounds → ℕ → Type 0
 Gives lim n = T (member n (lim .numbers))
 
--- no more pivots than the budget, whole only if the stored mark is, and the stored cutoff
+-- no more pivots than the budget, whole only if the stored mark is, the stored cutoff, and what was told stands
 pub record Within (lim : Bounds) (w : Work) : Type 0 where
   pub spent : w .pivots ≤ lim .budget
   pub mark : w .mark ≡ allWhole → lim .stored ≡ true
   pub cutoff : w .tableau .cutoff ≡ lim .cutoff
+  pub told : Shed (lim .changes) (w .changes)
 
 -- a refusal of the steps: one of their numbers, no more pivots than the budget and all of it at 14, a mark that 13 has lost, and whole only if the stored one is
 pub record Stopped (lim : Bounds) (n p : ℕ) (m : Mark) : Type 0 where
@@ -46,7 +50,7 @@ pub data Ends {A : Type 0} (lim : Bounds) (P : A → Type 0) : Outcome A → Typ
 
 -- a step that counts no pivot and betters no mark
 pub within-after : {lim : Bounds} {w v : Work} → After w v → Within lim w → Within lim v
-within-after a h = record { spent = rw (a .pivots) (h .spent); mark = λ m. h .mark (a .mark m); cutoff = a .cutoff ∙ h .cutoff }
+within-after a h = record { spent = rw (a .pivots) (h .spent); mark = λ m. h .mark (a .mark m); cutoff = a .cutoff ∙ h .cutoff; told = shed-trans (h .told) (a .told) }
 
 -- a number is not another one
 other : (n i : ℕ) {X : Type 0} → T (not (eqb n i)) → n ≡ i → X
@@ -98,7 +102,7 @@ pivots-once : {lim : Bounds} (w v : Work) → After w v → Gives lim 13 → suc
 unfolding countPivot
 pivots-once {lim} w v a g b h =
     let f : Within lim v = within-after a h in
-    checks-then v (λ x. going (countPivot x)) g f (goes (record { spent = rw (a .pivots) b; mark = f .mark; cutoff = f .cutoff }, ap suc (a .pivots)))
+    checks-then v (λ x. going (countPivot x)) g f (goes (record { spent = rw (a .pivots) b; mark = f .mark; cutoff = f .cutoff; told = f .told }, ap suc (a .pivots)))
 
 -- an optimise pass with all that is left of the budget: 13, 14, 15, or its end
 pub optimises : {lim : Bounds} → Gives lim 13 → Gives lim 14 → Gives lim 15 → (left : ℕ) (goal : Goal) (w : Work) → w .pivots + left ≡ lim .budget → Within lim w → Ends lim (Within lim) (optimise left goal w)

@@ -8,7 +8,7 @@ use mathlib.Core.Option.{none, some, Option·some-injective, Option·none-ne-som
 use lib.Dec.{T, T-not, leb, leb→le, le→leb, eqb, eqb→eq, eqb-refl}
 use lib.Ieee.Fits.{and-i}
 use Rattle.steps.specs.State.{State}
-use Rattle.steps.specs.Tests.{Test, firstRefusal, addTests, addEditTests, dropTests, member}
+use Rattle.steps.specs.Tests.{Test, firstRefusal, addTests, addEditTests, removeTests, removeEditTests, dropTests, member}
 use Rattle.steps.specs.Calls.{Result, refusedBy, acceptedAs}
 use Rattle.steps.specs.Changing.{Changing, adds, removes, drops, addsEdit, removesEdit, suggests, made, tests, testNumbers, stepNumbers}
 use Rattle.steps.proofs.Answered.{Answered, byTest, bySteps, accepts, answered}
@@ -58,7 +58,7 @@ or-either n (x ∷ xs) ys m = go (eqb n x) (or-either n xs ys m)
 
 -- they are the same whatever comes in
 tests-numbers : (c : Changing) (s : State) → map (λ (t : Test). t .number) (tests c s) ≡ testNumbers c
-unfolding addTests addEditTests dropTests
+unfolding addTests addEditTests removeTests removeEditTests dropTests
 tests-numbers (adds g n ts k r b) s = refl
 tests-numbers (removes n b) s = refl
 tests-numbers (drops g b) s = refl
@@ -127,7 +127,7 @@ refused-by-test c s n t = go (answered c s)
 pub steps-number : (c : Changing) (n : ℕ) → T (member n (stepNumbers c)) → T (not (ofSteps n)) → ⊥
 steps-number c n m o = let b = step-number c n m in T-not (ofSteps n) o (and-i (leb 12 n) (leb n 17) (le→leb 12 n (b .0)) (le→leb n 17 (b .1)))
 
--- "given exactly if": 1 to 11, 26 and 27 are given only by a test that is the first to fail.
+-- "given exactly if": 1 to 11 and 25 to 27 are given only by a test that is the first to fail.
 pub given-by-test : (c : Changing) (s : State) → made c s .answer .number ≢ 0 → T (not (ofSteps (made c s .answer .number))) → firstRefusal (tests c s) ≡ some (made c s .answer .number)
 unfolding refusedBy acceptedAs
 given-by-test c s = go (answered c s)

@@ -9,7 +9,7 @@ use lib.Ieee.{Float}
 use Rattle.steps.specs.Number.{zero64}
 use Rattle.steps.specs.Symbol.{Symbol}
 use Rattle.steps.specs.State.{Basic, Variable, State}
-use Rattle.steps.specs.Changes.{withFlag, clearChanged, findVariable, valueOf, value, isNews, newsOf, reported, fetchChanges}
+use Rattle.steps.specs.Changes.{withFlag, clearChanged, findVariable, valueOf, value, member, isNews, isListed, newsOf, merged, reported, fetchChanges}
 use Rattle.steps.specs.Session.{valueOf as asks, hasConstraints, hasEdits, turn}
 
 -- ---- queries
@@ -29,11 +29,11 @@ same-named : (f : Variable → Variable) → ((v : Variable) → named (f v) ≡
 same-named f h [] = refl
 same-named f h (v ∷ vs) = rw (h v, same-named f h vs) refl
 
--- all but the variables' changed flags, their old values and the toggle stays: each variable keeps its place, its number, its symbol and its uses
+-- all but the variables' changed flags, their old values, the gone numbers and the toggle stays: each variable keeps its place, its number, its symbol and its uses
 pub fetch-keeps : (s : State) → (fetchChanges s .state .tableau ≡ s .tableau) × (fetchChanges s .state .constraints ≡ s .constraints) × (fetchChanges s .state .edits ≡ s .edits) × (fetchChanges s .state .whole ≡ s .whole)
     × (map named (fetchChanges s .state .changes .variables) ≡ map named (s .changes .variables))
 unfolding fetchChanges reported withFlag clearChanged
-fetch-keeps s = (refl, refl, refl, refl, same-named (reported (s .tableau .rows)) (λ v. refl) (before (s .changes .shouldClear)) ∙ go (s .changes .shouldClear))
+fetch-keeps s = (refl, refl, refl, refl, same-named (reported (s .changes .gone) (s .tableau .rows)) (λ v. refl) (before (s .changes .shouldClear)) ∙ go (s .changes .shouldClear))
   where
     before : Bool → List Variable
     before b = cond b (clearChanged (s .changes .variables)) (s .changes .variables)
@@ -42,21 +42,21 @@ fetch-keeps s = (refl, refl, refl, refl, same-named (reported (s .tableau .rows)
     go true = same-named (withFlag false) (λ v. refl) (s .changes .variables)
     go false = refl
 
--- of variables that are out of the changed set nothing is listed
-no-news : (rows : List Basic) (vs : List Variable) → newsOf rows (clearChanged vs) ≡ []
-unfolding newsOf isNews clearChanged withFlag
+-- of variables that are out of the changed set nothing is listed, unless a gone entry waits for the number
+no-news : (rows : List Basic) (vs : List Variable) → newsOf [] rows (clearChanged vs) ≡ []
+unfolding newsOf isListed isNews member clearChanged withFlag
 no-news rows [] = refl
 no-news rows (v ∷ vs) = no-news rows vs
 
 -- nor after a fetch has gone over them
-still-no-news : (rows : List Basic) (vs : List Variable) → newsOf rows (map (reported rows) (clearChanged vs)) ≡ []
-unfolding newsOf isNews clearChanged withFlag reported
-still-no-news rows [] = refl
-still-no-news rows (v ∷ vs) = still-no-news rows vs
+still-no-news : (gone : List ℕ) (rows : List Basic) (vs : List Variable) → newsOf [] rows (map (reported gone rows) (clearChanged vs)) ≡ []
+unfolding newsOf isListed isNews member clearChanged withFlag reported
+still-no-news gone rows [] = refl
+still-no-news gone rows (v ∷ vs) = still-no-news gone rows vs
 
--- "Changes: `fetch_changes` toggles as in the crate: a first fetch reports, a second straight after reports none.": whether the first one reported or not
+-- "Changes: `fetch_changes` toggles as in the crate: a first fetch reports, a second straight after reports none.": whether the first one reported or not, and nothing is gone twice
 pub second-fetch : (s : State) → fetchChanges (fetchChanges s .state) .list ≡ []
-unfolding fetchChanges
+unfolding fetchChanges merged
 second-fetch s = go (s .changes .shouldClear)
   where
     rows : List Basic
@@ -65,9 +65,12 @@ second-fetch s = go (s .changes .shouldClear)
     vs : Bool → List Variable
     vs b = cond b (clearChanged (s .changes .variables)) (s .changes .variables)
 
-    go : (b : Bool) → newsOf rows (cond (not b) (clearChanged (map (reported rows) (vs b))) (map (reported rows) (vs b))) ≡ []
-    go true = still-no-news rows (s .changes .variables)
-    go false = no-news rows (map (reported rows) (s .changes .variables))
+    after : Bool → List Variable
+    after b = map (reported (s .changes .gone) rows) (vs b)
+
+    go : (b : Bool) → newsOf [] rows (cond (not b) (clearChanged (after b)) (after b)) ≡ []
+    go true = still-no-news (s .changes .gone) rows (s .changes .variables)
+    go false = no-news rows (after false)
 
 -- the value of a variable that was looked up
 found : List Basic → Option Variable → Float
@@ -90,7 +93,7 @@ kept-value f same-number same-symbol n rows (v ∷ vs) =
 -- so no value changes by a fetch
 pub fetch-keeps-values : (n : ℕ) (s : State) → value n (fetchChanges s .state) ≡ value n s
 unfolding value fetchChanges found reported withFlag clearChanged
-fetch-keeps-values n s = kept-value (reported rows) (λ v. refl) (λ v. refl) n rows _ ∙ go (s .changes .shouldClear)
+fetch-keeps-values n s = kept-value (reported (s .changes .gone) rows) (λ v. refl) (λ v. refl) n rows _ ∙ go (s .changes .shouldClear)
   where
     rows : List Basic
     rows = s .tableau .rows

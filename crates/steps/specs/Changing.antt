@@ -8,7 +8,7 @@ use lib.Ieee.{Float}
 use Rattle.steps.specs.Number.{zero64, isFinite}
 use Rattle.steps.specs.Strength.{clip}
 use Rattle.steps.specs.State.{Term, Relation, strengthOf, Tag, Constraint, Edit, State}
-use Rattle.steps.specs.Tests.{Test, _if_, findEdit, keepConstraint, dropConstraint, keepEdit, dropEdit, keptTerms, hasConstraint, hasEdit, addTests, addEditTests, dropTests, groupOf}
+use Rattle.steps.specs.Tests.{Test, _if_, findEdit, keepConstraint, dropConstraint, keepEdit, dropEdit, keptTerms, hasEdit, addTests, addEditTests, removeTests, removeEditTests, dropTests, groupOf}
 use Rattle.steps.specs.Calls.{Result, add, remove, dropGroup, addEdit, removeEdit, suggest}
 
 -- a changing call with its inputs, the budget last
@@ -47,19 +47,19 @@ budgetOf (suggests n new budget) = budget
 -- its tests, "Tested in this order."; 18 is the lent tables'
 abbrev pub tests : Changing → State → List Test
 tests (adds g n terms constant relation budget) s = addTests g n terms constant relation s
-tests (removes n budget) s = 5 if not (hasConstraint n s) ∷ []
+tests (removes n budget) s = removeTests n s
 tests (drops g budget) s = dropTests g s
 tests (addsEdit n strength budget) s = addEditTests n (clip strength) s
-tests (removesEdit n budget) s = 8 if not (hasEdit n s) ∷ []
+tests (removesEdit n budget) s = removeEditTests n s
 tests (suggests n new budget) s = 1 if not (isFinite new) ∷ 8 if not (hasEdit n s) ∷ []
 
 -- their numbers
 abbrev pub testNumbers : Changing → List ℕ
 testNumbers (adds g n terms constant relation budget) = 26 ∷ 1 ∷ 2 ∷ 3 ∷ 4 ∷ 10 ∷ 9 ∷ 11 ∷ []
-testNumbers (removes n budget) = 5 ∷ []
-testNumbers (drops g budget) = 26 ∷ 27 ∷ []
+testNumbers (removes n budget) = 5 ∷ 25 ∷ []
+testNumbers (drops g budget) = 26 ∷ 27 ∷ 25 ∷ []
 testNumbers (addsEdit n strength budget) = 6 ∷ 7 ∷ 10 ∷ 9 ∷ 11 ∷ []
-testNumbers (removesEdit n budget) = 8 ∷ []
+testNumbers (removesEdit n budget) = 8 ∷ 25 ∷ []
 testNumbers (suggests n new budget) = 1 ∷ 8 ∷ []
 
 -- the refusals that its steps give

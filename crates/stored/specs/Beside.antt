@@ -11,14 +11,15 @@ use Rattle.laws.specs.Lists.{tab, tab-ext, listOf}
 use Rattle.layout.specs.Laying.{list-ext}
 use Rattle.cells.specs.Names.{lastPlace, cellRoom}
 use Rattle.cells.specs.Seek.{first-within, first-at}
-use Rattle.sparse.specs.Places.{mostRows, mostVariables, nextIdAt, symbolCountAt, rowCountAt, cellCountAt, variableCountAt, constraintCountAt, editCountAt, shouldClearAt, wholeAt, idsAt, variableNumbersAt, variableUsesAt, constraintNumbersAt, kindsAt, rowPlacesAt, variablePlacesAt, changedAt, constraintMarkersAt, constantsAt, oldValuesAt, objectiveAt, cutoffAt, constraintStrengthsAt}
-use Rattle.sparse.specs.Sparse.{Sparse, symbolCount, rowCount, cellCount, variableCount, symbolAt, otherAt, numberAt, variableOf, basicOf, symbolsOf, basicsOf, objectiveOf, read}
+use Rattle.sparse.specs.Places.{mostRows, mostVariables, mostGone, nextIdAt, symbolCountAt, rowCountAt, cellCountAt, variableCountAt, constraintCountAt, editCountAt, shouldClearAt, wholeAt, goneCountAt, idsAt, variableNumbersAt, variableUsesAt, constraintNumbersAt, goneNumbersAt, kindsAt, rowPlacesAt, variablePlacesAt, changedAt, constraintMarkersAt, constantsAt, oldValuesAt, objectiveAt, cutoffAt, constraintStrengthsAt}
+use Rattle.sparse.specs.Sparse.{Sparse, symbolCount, rowCount, cellCount, variableCount, goneCount, symbolAt, otherAt, numberAt, variableOf, basicOf, symbolsOf, basicsOf, objectiveOf, goneOf, read}
 use Rattle.sparse.specs.Repack.{Held}
 use Rattle.sparse.specs.Form.{indexAt, At, Form}
 use Rattle.stored.specs.Maps.{Apart}
 
 pub record Beside (w u : Sparse) : Type 0 where
   pub words : (q : ℕ) → q < constraintNumbersAt → (q ≡ constraintCountAt → ⊥) → (q ≡ editCountAt → ⊥) → getD (u .words) q 0 ≡ getD (w .words) q 0
+  pub gone : (q : ℕ) → goneNumbersAt ≤ q → getD (u .words) q 0 ≡ getD (w .words) q 0
   pub bytes : (q : ℕ) → q < constraintMarkersAt → getD (u .bytes) q 0 ≡ getD (w .bytes) q 0
   pub reals : (q : ℕ) → q < constraintStrengthsAt → getD (u .reals) q nan ≡ getD (w .reals) q nan
   pub keys : u .keys ≡ w .keys
@@ -28,6 +29,7 @@ pub beside-join : (w v u : Sparse) → Beside w v → Beside v u → Beside w u
 beside-join w v u a b =
     record {
       words = λ q h x y. b .words q h x y ∙ a .words q h x y;
+      gone = λ q h. b .gone q h ∙ a .gone q h;
       bytes = λ q h. b .bytes q h ∙ a .bytes q h;
       reals = λ q h. b .reals q h ∙ a .reals q h;
       keys = b .keys ∙ a .keys;
@@ -40,6 +42,7 @@ pub record Own (w : Sparse) : Type 0 where
   pub rows : rowCount w ≤ mostRows
   pub few-cells : cellCount w ≤ cellRoom
   pub variables : variableCount w ≤ mostVariables
+  pub gone : goneCount w ≤ mostGone
   pub clear : getD (w .words) shouldClearAt 0 ≤ 1
   pub whole : getD (w .words) wholeAt 0 ≤ 1
   pub ids : (i j : ℕ) → 1 ≤ i → i < j → j ≤ symbolCount w → getD (w .words) (idsAt + i) 0 < getD (w .words) (idsAt + j) 0
@@ -58,6 +61,7 @@ own w f a =
       rows = f .counts .rows;
       few-cells = f .counts .cells;
       variables = f .counts .variables;
+      gone = f .counts .gone;
       clear = f .clear;
       whole = f .whole;
       ids = f .ids;
@@ -172,13 +176,20 @@ module _ (w u : Sparse) (o : Own w) (b : Beside w u) where
       let os : tab (λ p. getD (u .reals) (objectiveAt + p) nan) 1 (symbolCount w) ≡ tab (λ p. getD (w .reals) (objectiveAt + p) nan) 1 (symbolCount w) = tab-ext _ _ 1 (symbolCount w) λ p a c. b .reals (objectiveAt + p) (omega (arith, c, k)) in
       rw (b .reals cutoffAt (omega arith), n, s, r, xs, bs, os) refl
 
+  pub gone-count-beside : goneCount u ≡ goneCount w
+  gone-count-beside = word goneCountAt (omega arith) (omega arith)
+
+  pub gone-beside : goneOf u ≡ goneOf w
+  unfolding goneOf
+  gone-beside = rw gone-count-beside (list-ext _ _ _ λ j l. b .gone (goneNumbersAt + j) (omega arith))
+
   pub changes-beside : read u .changes ≡ read w .changes
   unfolding read
   changes-beside =
       let v = variables-beside in
       let f = word shouldClearAt (omega arith) (omega arith) in
       let vs : listOf (variableCount w) (variableOf u) ≡ listOf (variableCount w) (variableOf w) = list-ext _ _ _ variable-beside in
-      rw (v, f, vs) refl
+      rw (v, f, vs, gone-beside) refl
 
   pub whole-beside : getD (u .words) wholeAt 0 ≡ getD (w .words) wholeAt 0
   whole-beside = word wholeAt (omega arith) (omega arith)
@@ -196,6 +207,7 @@ module _ (w u : Sparse) (o : Own w) (b : Beside w u) where
         rows = rw r (o .rows);
         few-cells = rw cells-beside (o .few-cells);
         variables = rw v (o .variables);
+        gone = rw gone-count-beside (o .gone);
         clear = rw (word shouldClearAt (omega arith) (omega arith)) (o .clear);
         whole = rw whole-beside (o .whole);
         ids = λ i j a c d. rw (id-beside i (omega (arith, c, d, s)), id-beside j (omega (arith, d, s))) (o .ids i j a c (omega (arith, d, s)));

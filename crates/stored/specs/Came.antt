@@ -130,7 +130,7 @@ module _ (t w : Sparse) (ready : Ready t w) (uw ub : List ℕ) (ur : List Float)
   o = own w (ready .room) (ready .own)
 
   b : Beside w v
-  b = record { words = λ q h x z. raw .put .words q h; bytes = raw .put .bytes; reals = raw .put .reals; keys = refl; values = refl }
+  b = record { words = λ q h x z. raw .put .words q h; gone = raw .put .gone; bytes = raw .put .bytes; reals = raw .put .reals; keys = refl; values = refl }
 
   ov : Own v
   ov = own-beside w v o b
@@ -266,7 +266,7 @@ module _ (t w : Sparse) (ready : Ready t w) (uw ub : List ℕ) (ur : List Float)
   o₁ = own w (ready .room) (ready .own)
 
   b₁ : Beside w v₁
-  b₁ = record { words = λ q h x z. refl; bytes = raw .put .bytes; reals = raw .put .reals; keys = refl; values = refl }
+  b₁ = record { words = λ q h x z. refl; gone = λ q h. refl; bytes = raw .put .bytes; reals = raw .put .reals; keys = refl; values = refl }
 
   ov₁ : Own v₁
   ov₁ = own-beside w v₁ o₁ b₁

@@ -7,7 +7,7 @@ use native.Mathlib.Omega.{arith}
 use lib.Ieee.{Float, nan}
 use lib.ListN.{length, getD, set}
 use lib.Seq.{getD-set-same, getD-set-other}
-use Rattle.sparse.specs.Places.{mostConstraints, mostTerms, constraintCountAt, editCountAt, constraintNumbersAt, constraintGroupsAt, constraintMarkersAt, constraintOthersAt, termCountsAt, editVariablesAt, editMarkersAt, editOthersAt, termsAt, constraintStrengthsAt, editStrengthsAt, suggestionsAt, coefficientsAt, wordsSize}
+use Rattle.sparse.specs.Places.{mostConstraints, mostTerms, constraintCountAt, editCountAt, constraintNumbersAt, constraintGroupsAt, goneNumbersAt, constraintMarkersAt, constraintOthersAt, termCountsAt, editVariablesAt, editMarkersAt, editOthersAt, termsAt, constraintStrengthsAt, editStrengthsAt, suggestionsAt, coefficientsAt, wordsSize}
 use Rattle.stored.specs.declared.parts.Plan.{Plan}
 use Rattle.stored.specs.Parts.{Region, Rest, targetSize, later, earlier, rest-join, set-rest}
 use Rattle.stored.specs.Maps.{TagPlaces, VariablePlaces}
@@ -27,6 +27,7 @@ pub record WordsCarried (c e : Plan) (from w u : List ℕ) : Type 0 where
   pub constraints : getD u constraintCountAt 0 ≡ targetSize c
   pub edits : getD u editCountAt 0 ≡ targetSize e
   pub before : (q : ℕ) → q < constraintNumbersAt → (q ≡ constraintCountAt → ⊥) → (q ≡ editCountAt → ⊥) → getD u q 0 ≡ getD w q 0
+  pub after : (q : ℕ) → goneNumbersAt ≤ q → getD u q 0 ≡ getD w q 0
   pub long : length u ≡ length w
 
 pub record ConstraintBytes (tags : List ℕ) (c : Plan) (from w u : List ℕ) : Type 0 where
@@ -89,6 +90,7 @@ words-carried c e from w {v} {u} {x} {y} l f q q' r t r' t' =
       constraints = t' .before constraintCountAt (omega arith) ∙ t .before constraintCountAt (omega arith) ∙ b .before constraintCountAt (omega arith) ∙ getD-set-same w constraintCountAt x 0 (omega (arith, l)) ∙ q;
       edits = t' .before editCountAt (omega arith) ∙ t .before editCountAt (omega arith) ∙ getD-set-same w₁ editCountAt y 0 (omega (arith, l, a .long)) ∙ q';
       before = λ i h m n. t' .before i (omega (arith, h)) ∙ t .before i h ∙ there i m n;
+      after = λ i h. t' .after i (omega (arith, h)) ∙ t .after i (omega (arith, h)) ∙ there i (λ z. omega (arith, h, z)) (λ z. omega (arith, h, z));
       long = t' .long ∙ t .long ∙ b .long ∙ a .long;
     }
   where

@@ -69,6 +69,7 @@ pub moved-beside : (t v u : Sparse) (c e : Plan) (n r : ℕ) → Moved c e n (t 
 moved-beside t v u c e n r m p q =
     record {
       words = m .carried .words .before;
+      gone = m .carried .words .after;
       bytes = m .carried .bytes .before;
       reals = m .carried .reals .before;
       keys = p;
@@ -133,6 +134,7 @@ module _ (t w v u : Sparse) (lent : Form t) (o : Own w) (b : Beside w v) (d : Be
                   constraints = rw cc fc;
                   edits = rw ec fe;
                   terms = rw (cc, total) few;
+                  gone = ou .gone;
                 };
             clear = ou .clear;
             whole = ou .whole;

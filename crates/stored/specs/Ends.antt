@@ -90,7 +90,7 @@ pub edits-read : (t : Sparse) → read t .edits ≡ listOf (editCount t) (editOf
 edits-read t = unfold read in refl
 
 same : (w : Sparse) → Beside w w
-same w = record { words = λ q a b d. refl; bytes = λ q a. refl; reals = λ q a. refl; keys = refl; values = refl }
+same w = record { words = λ q a b d. refl; gone = λ q a. refl; bytes = λ q a. refl; reals = λ q a. refl; keys = refl; values = refl }
 
 pub everything : {A : Type 0} (n : ℕ) (f : ℕ → A) → listOf (targetSize (allOf n)) (λ k. f (source (allOf n) k)) ≡ listOf n f
 everything n f =

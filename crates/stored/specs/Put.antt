@@ -13,7 +13,7 @@ use borrow.Author.Tests.{ltb-true, ltb-false}
 use Rattle.laws.specs.Loops.{first}
 use Rattle.laws.specs.Lists.{sumIn}
 use Rattle.steps.specs.Number.{zero64}
-use Rattle.sparse.specs.Places.{mostVariables, mostConstraints, variableCountAt, constraintCountAt, editCountAt, variableNumbersAt, constraintNumbersAt, constraintGroupsAt, variablePlacesAt, constraintMarkersAt, constraintOthersAt, termCountsAt, editVariablesAt, editMarkersAt, editOthersAt, termsAt, constraintStrengthsAt, editStrengthsAt, suggestionsAt, coefficientsAt, wordsSize, bytesSize, realsSize}
+use Rattle.sparse.specs.Places.{mostVariables, mostConstraints, variableCountAt, constraintCountAt, editCountAt, variableNumbersAt, constraintNumbersAt, constraintGroupsAt, goneNumbersAt, variablePlacesAt, constraintMarkersAt, constraintOthersAt, termCountsAt, editVariablesAt, editMarkersAt, editOthersAt, termsAt, constraintStrengthsAt, editStrengthsAt, suggestionsAt, coefficientsAt, wordsSize, bytesSize, realsSize}
 use Rattle.terms.specs.declared.Pack.{Pack}
 use Rattle.stored.specs.declared.parts.Plan.{Plan}
 use Rattle.stored.specs.Parts.{Rest, allOf, opened}
@@ -108,6 +108,7 @@ pub record ConstraintPut (i s n g marker other : ℕ) (strength : Float) (p : Pa
   pub terms : (j : ℕ) → j < p .count → NumberPlace ww wb (getD (p .vars) j 0) (getD ub (termsAt + (s + j)) 0)
   pub coefficients : (j : ℕ) → j < p .count → getD ur (coefficientsAt + (s + j)) nan ≡ getD (p .coefs) j nan
   pub words : (q : ℕ) → q < constraintNumbersAt → getD uw q 0 ≡ getD ww q 0
+  pub gone : (q : ℕ) → goneNumbersAt ≤ q → getD uw q 0 ≡ getD ww q 0
   pub bytes : (q : ℕ) → q < constraintMarkersAt → getD ub q 0 ≡ getD wb q 0
   pub reals : (q : ℕ) → q < constraintStrengthsAt → getD ur q nan ≡ getD wr q nan
   pub long : (length uw ≡ length ww) × (length ub ≡ length wb) × (length ur ≡ length wr)
@@ -140,6 +141,7 @@ module _ (i s n g marker other : ℕ) (strength : Float) (p : Pack) (ww wb : Lis
         terms = λ j a v b f. thrice (termsAt + (s + j)) (λ z. omega (arith, z, h)) (λ z. omega (arith, z, h)) (λ z. omega (arith, z, h)) ∙ t .placed j a v b f;
         coefficients = λ j a. getD-set-other mr (constraintStrengthsAt + i) (coefficientsAt + (s + j)) strength nan (λ z. omega (arith, z, h)) ∙ x .put j a;
         words = λ q a. getD-set-other w₁ (constraintGroupsAt + i) q g 0 (λ z. omega (arith, z, a)) ∙ getD-set-other ww (constraintNumbersAt + i) q n 0 (λ z. omega (arith, z, a));
+        gone = λ q a. getD-set-other w₁ (constraintGroupsAt + i) q g 0 (λ z. omega (arith, z, a, h)) ∙ getD-set-other ww (constraintNumbersAt + i) q n 0 (λ z. omega (arith, z, a, h));
         bytes = λ q a. thrice q (λ z. omega (arith, z, a)) (λ z. omega (arith, z, a)) (λ z. omega (arith, z, a)) ∙ t .rest .before q (omega (arith, a));
         reals = λ q a. getD-set-other mr (constraintStrengthsAt + i) q strength nan (λ z. omega (arith, z, a)) ∙ x .rest .before q (omega (arith, a));
         long = (

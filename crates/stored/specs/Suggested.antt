@@ -115,7 +115,7 @@ module _ (w u : Sparse) (cs : List Constraint) (es : List Edit) (r : ℕ) (kept 
   beside : Beside u u'
   beside =
       let f = few in
-      record { words = λ q a b c. refl; bytes = λ q a. refl; reals = λ q a. real q (λ e. omega (arith, e, a)); keys = refl; values = refl }
+      record { words = λ q a b c. refl; gone = λ q a. refl; bytes = λ q a. refl; reals = λ q a. real q (λ e. omega (arith, e, a)); keys = refl; values = refl }
 
   o : Own u
   o = own u (kept .form) (kept .apart)
@@ -170,7 +170,7 @@ module _ (w u : Sparse) (cs : List Constraint) (es : List Edit) (r : ℕ) (kept 
       let f = kept .form in
       let c = f .counts in
       record {
-        counts = record { symbols = c .symbols; rows = c .rows; cells = c .cells; variables = c .variables; constraints = c .constraints; edits = c .edits; terms = c .terms };
+        counts = record { symbols = c .symbols; rows = c .rows; cells = c .cells; variables = c .variables; constraints = c .constraints; edits = c .edits; terms = c .terms; gone = c .gone };
         clear = f .clear;
         whole = f .whole;
         ids = f .ids;

@@ -23,6 +23,7 @@ use Rattle.cells.specs.Reads.{ascending-lt, RowRun, run-le}
 use Rattle.cells.specs.Pack.{Packing, compress-reads}
 use Rattle.cells.specs.Replace.{row-run, packed-size}
 use Rattle.cells.specs.Replaced.{counted-le, replaced-ascends}
+use Rattle.cells.specs.Spots.{Lined}
 use Rattle.merging.specs.Merge.{Placed}
 
 pub record Held (lines n : ℕ) (keys : List ℕ) (vals : List Float) : Type 0 where
@@ -71,6 +72,10 @@ module _ (lines n : ℕ) (keys : List ℕ) (vals : List Float) (h : Held lines n
 
   pub held-room : lines ≤ mostRows → n + lastPlace ≤ cellRoom
   held-room l = let f = held-few in omega (arith, f, l)
+
+  pub held-lined : lines ≤ mostRows → Lined keys n
+  unfolding Lined
+  held-lined l j b = let k = h .high j b in omega (arith, k, l)
 
 -- ---- what is laid down is not 0.0
 

@@ -1,8 +1,14 @@
 pub mod Held
 pub mod Lines
+pub mod Pasted
+pub mod Descent
+pub mod Apart
+pub mod Carried
+pub mod Passed
 pub mod Notes
 pub mod LinesRead
 pub mod Loose
 pub mod Objective
 pub mod Named
+pub mod Gone
 pub mod NotesRead

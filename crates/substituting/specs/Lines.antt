@@ -1,6 +1,5 @@
 -- "Substitute s: s's cell k goes, then insert row times k.", line by line: what it makes of the cells, of the constants and of the mark so far.
 use Prim.Native.Nat.{ℕ, _+_, _*_, _≤_}
-use mathlib.Core.Path.{_≡_, sym, subst}
 use mathlib.Core.Bool.{Bool, true, false, cond}
 use mathlib.Core.List.{List}
 use lib.Ieee.{Float, nan}
@@ -47,20 +46,6 @@ module _ (cutoff : Float) (at m : ℕ) (y : Float) (cols : List ℕ) (others : L
   unfoldable pub linesIn : ℕ → Lines → Lines
   linesIn count s = run lineIn 1 (count + 1) s
 
--- ---- a turn of the code, over variables
-
-module _ (cutoff : Float) (at m : ℕ) (y : Float) (cols : List ℕ) (others : List Float) (i : ℕ) (ks : List ℕ) (vs : List Float) (n : ℕ) (rs : List Float) (a : Mark) {k : Float} where
-  pub line-none : k ≡ cellAt ks vs n (i * rowSpan + at) → absent k ≡ true → lines ks vs n rs a ≡ lineIn cutoff at m y cols others i (lines ks vs n rs a)
-  unfolding lineIn heldBy
-  line-none e h = rw (← e, h)
-
-  pub line-some : {ks' : List ℕ} {vs' rs' : List Float} {z : ℕ} {w b : Mark} {x : Float} → k ≡ cellAt ks vs n (i * rowSpan + at) → absent k ≡ false → x ≡ getD rs (constantsAt + i) nan +₆₄ (y *₆₄ k)
-      → record { keys = ks'; vals = vs'; size = z } ≡ mergedInto cutoff n i at m k ks vs cols others
-      → w ≡ mergedIntoMark cutoff n i at m cellBound k ks vs cols others → rs' ≡ set rs (constantsAt + i) x → b ≡ worse a (worse (markWrite constantBound x) w)
-      → lines ks' vs' z rs' b ≡ lineIn cutoff at m y cols others i (lines ks vs n rs a)
-  unfolding lineIn heldBy lineWith totalOf
-  line-some e h q c p r d = rw (← e, h, ← c, ← p, ← q, r, d)
-
 -- ---- the cells can be worked on further
 
 abbrev pub HeldIn : ℕ → Lines → Type 0
@@ -74,6 +59,3 @@ module _ (cutoff : Float) (at m : ℕ) (y : Float) (cols : List ℕ) (others : L
       go : (b : Bool) → HeldIn count (cond b s (lineWith cutoff at m y cols others (heldBy cutoff at m y cols others i s) i s))
       go true = h
       go false = held-replaced count (s .size) i lastPlace _ (s .keys) (s .vals) h first last (omega arith) (held-room count (s .size) (s .keys) (s .vals) h few)
-
-  pub held-turn : (s : Lines) {t : Lines} → t ≡ lineIn cutoff at m y cols others i s → HeldIn count s → HeldIn count t
-  held-turn s e h = subst (λ (z : Lines). HeldIn count z) (sym e) (held-line s h)

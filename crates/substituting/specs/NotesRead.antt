@@ -17,11 +17,12 @@ use Rattle.steps.specs.State.{Variable, Changes}
 use Rattle.steps.specs.Changes.{withFlag, clearChanged, flagSymbol, varChanged, allChanged}
 use Rattle.steps.specs.Substitute.{Substituted, notedOf}
 use Rattle.layout.specs.Layout.{kindOf}
-use Rattle.sparse.specs.Places.{mostVariables, symbolCountAt, variableCountAt, shouldClearAt, idsAt, variableNumbersAt, variableUsesAt, kindsAt, rowPlacesAt, variablePlacesAt, changedAt, oldValuesAt}
-use Rattle.sparse.specs.Sparse.{Sparse, symbolAt, variableOf, read}
+use Rattle.sparse.specs.Places.{mostVariables, symbolCountAt, variableCountAt, shouldClearAt, goneCountAt, idsAt, variableNumbersAt, variableUsesAt, goneNumbersAt, kindsAt, rowPlacesAt, variablePlacesAt, changedAt, oldValuesAt}
+use Rattle.sparse.specs.Sparse.{Sparse, symbolAt, variableOf, goneOf, read}
 use Rattle.cells.specs.Names.{rowSpan, lastPlace}
 use Rattle.cells.specs.Cells.{cellAt}
 use Rattle.substituting.specs.Notes.{Noted, noted, varChangedAt, varChangedIf, isExternalKind, changes, noteRow, noteRows}
+use Rattle.substituting.specs.Gone.{gone-kept}
 use Rattle.substituting.specs.Named.{Named, same-place, NotesKept, notes-same, notes-then, named-kept, note-kept, note-flag, note-if-kept}
 
 -- the tables with the notes in them
@@ -100,7 +101,8 @@ module _ (p : ℕ) (s : Noted) (t : Sparse) (n : Named (s .words) (s .bytes)) (l
       let k = note-kept p s n in
       let c : getD (varChangedAt p s .words) variableCountAt 0 ≡ count = k .words variableCountAt (λ e. omega (arith, e)) in
       let z : getD (varChangedAt p s .words) shouldClearAt 0 ≡ 0 = getD-set-same (s .words) shouldClearAt 0 0 (omega (arith, l)) in
-      rw (c, z) (ap (λ (x : List Variable). record { variables = x; shouldClear = false }) (tab-ext (variableOf u') _ 0 count (λ v a b. one-read v (omega (arith, b))) ∙ flags-read on))
+      let gone : goneOf u' ≡ goneOf u = gone-kept u u' (k .words goneCountAt (λ e. omega (arith, e))) (λ j. k .words (goneNumbersAt + j) (λ e. omega (arith, e))) in
+      rw (c, z, gone) (ap (λ (x : List Variable). record { variables = x; gone = goneOf u; shouldClear = false }) (tab-ext (variableOf u') _ 0 count (λ v a b. one-read v (omega (arith, b))) ∙ flags-read on))
 
 pub changed-if-read : (on : Bool) (p : ℕ) (s : Noted) (t : Sparse) → Named (s .words) (s .bytes) → 1 ≤ p → p ≤ getD (s .words) symbolCountAt 0
     → read (noteIn (varChangedIf on p s) t) .changes ≡ cond on (varChanged (symbolAt (noteIn s t) p .id) (read (noteIn s t) .changes)) (read (noteIn s t) .changes)

@@ -6,10 +6,11 @@ ghost use lib.ListN.{getD};
 ghost use Rattle.laws.specs.Loops.{mapIn};
 ghost use Rattle.sparse.specs.Places.{mostRows, mostVariables, variableCountAt, kindsAt, changedAt};
 ghost use Rattle.cells.specs.Names.{lastPlace};
+ghost use Rattle.cells.specs.Spots.{Spots};
 ghost use Rattle.substituting.specs.Held.{Held};
 ghost use Rattle.substituting.specs.Notes.{noted, flaggedIn, varChangedAt, varChangedIf, isExternalKind, changes, noteRows};
-use cells::ROW_SPAN;
-use cells::search::cell;
+use cells::LINES_ROOM;
+use cells::spots::spot_cell;
 use sparse::Bytes;
 use sparse::CHANGED;
 use sparse::KINDS;
@@ -107,19 +108,21 @@ pub fn note_rows(
     lines: u8,
     count: u8,
     at: u8,
+    spots: &[u16; LINES_ROOM],
     y: f64,
 )
     requires { ⌜ lines ≤ mostRows ⌝ }
     requires { ⌜ count ≤ mostRows ⌝ }
     requires { ⌜ at ≤ lastPlace ⌝ }
     requires { ⌜ Held lines n (now keys) (now values) ⌝ }
+    requires { ⌜ Spots (now keys) n at (now spots) ⌝ }
     requires { ⌜ getD (now words) variableCountAt 0 ≤ mostVariables ⌝ }
     ensures { λ _. ⌜ noted (now (words .exit)) (now (bytes .exit)) ≡ noteRows at y n (now (keys .entry)) (now (values .entry)) count (noted (now (words .entry)) (now (bytes .entry))) ⌝ }
 {
     let mut i: u8 = 1;
     while i <= count {
         let p = bytes[ROW_PLACES + i as usize];
-        let k = cell(keys, values, n, i as u16 * ROW_SPAN + at as u16);
+        let k = spot_cell(keys, values, n, at, spots, i as usize);
         let on = is_noted(kind_at(bytes, p), k, y);
         var_changed_if(on, words, bytes, p);
         i += 1;

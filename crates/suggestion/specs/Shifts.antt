@@ -22,7 +22,7 @@ use Rattle.keeps.specs.Suggest.{shift-fits}
 use Rattle.rows.specs.Marks.{markOf, worse-unit}
 use Rattle.rows.specs.declared.number.Wrote.{Wrote}
 use Rattle.sparse.specs.Places.{nextIdAt, symbolCountAt, rowCountAt, cellCountAt, variableCountAt, shouldClearAt, rowPlacesAt, constantsAt, oldValuesAt, objectiveAt, cutoffAt}
-use Rattle.sparse.specs.Sparse.{Sparse, symbolCount, rowCount, cellCount, variableCount, symbolAt, variableOf, basicOf, symbolsOf, basicsOf, objectiveOf, read}
+use Rattle.sparse.specs.Sparse.{Sparse, symbolCount, rowCount, cellCount, variableCount, symbolAt, variableOf, basicOf, symbolsOf, basicsOf, objectiveOf, goneOf, read}
 use Rattle.cells.specs.Names.{lastPlace}
 use Rattle.substituting.specs.Notes.{noted}
 use Rattle.substituting.specs.Named.{NotesKept, named-kept}
@@ -150,10 +150,10 @@ module _ (art : Bool) (d : Drag) (t : Sparse) (so : Sound art t) (a : Mark) wher
   variable v h = let f = so .few in rw (real (oldValuesAt + v) (omega (arith, f))) refl
 
   noted-is : read u .changes ≡ read (noteIn (s .notes) t) .changes
-  unfolding read listOf
+  unfolding read listOf goneOf
   noted-is =
       let c : variableCount u ≡ variableCount t = word variableCountAt (λ e. omega (arith, e)) in
-      ap (λ (x : List Variable). record { variables = x; shouldClear = eqb (getD (s .notes .words) shouldClearAt 0) 1 })
+      ap (λ (x : List Variable). record { variables = x; gone = goneOf (noteIn (s .notes) t); shouldClear = eqb (getD (s .notes .words) shouldClearAt 0) 1 })
       (tab-ext (variableOf u) (variableOf (noteIn (s .notes) t)) 0 (variableCount u) λ v b e. variable v (omega (arith, e, c)))
 
   changes-are : read u .changes ≡ allChanged (notedOf rows) (read t .changes)

@@ -9,6 +9,7 @@ ghost use Rattle.rows.specs.Marks.{markOf};
 ghost use Rattle.sparse.specs.Places.{mostRows, symbolCountAt, rowCountAt, cellCountAt, variableCountAt, mostVariables};
 ghost use Rattle.cells.specs.Names.{cellRoom, lastPlace};
 ghost use Rattle.cells.specs.Cells.{Ascending};
+ghost use Rattle.cells.specs.Spots.{Lined, Spots};
 ghost use Rattle.substituting.specs.Notes.{noted, isExternalKind};
 ghost use Rattle.waist.specs.Working.{lent};
 ghost use Rattle.waist.specs.Rows.{rowFor};
@@ -16,8 +17,10 @@ ghost use Rattle.waist.specs.Tags.{tagAt};
 ghost use Rattle.waist.specs.Standing.{Standing, Makes};
 ghost use Rattle.suggestion.specs.Drags.{isFound, otherFound, dragOf};
 ghost use Rattle.suggestion.specs.Shifting.{optional, shiftBy, changesBy, shiftReals, shiftMark, shifted, shiftRowsIn};
-use cells::ROW_SPAN;
-use cells::search::cell;
+use cells::LINES_ROOM;
+use cells::spots::fill_spots;
+use cells::spots::no_spots;
+use cells::spots::spot_cell;
 use choose::Found;
 use rows::number::CONSTANT_BOUND;
 use rows::number::Wrote;
@@ -100,15 +103,38 @@ fn drag_of(words: &Words, bytes: &Bytes, marker: u8, other: u8, delta: f64) -> D
     }
 }
 
+// Which cell of each row names the place that the rows are shifted by, where they are.
+fn spots_for(d: Drag, keys: &Keys, n: usize) -> [u16; LINES_ROOM]
+    requires { ⌜ n ≤ cellRoom ⌝ }
+    requires { ⌜ Lined (now keys) n ⌝ }
+    ensures { λ r. ⌜ (d .own ≡ 0 → Spots (now (keys .entry)) n (d .at) r) ⌝ }
+{
+    let mut spots = no_spots();
+    if d.own == 0 {
+        fill_spots(keys, n, d.at, &mut spots);
+        return spots;
+    }
+    spots
+}
+
 // What row i gets, whose symbol stands at place p.
-fn shift_of(d: Drag, keys: &Keys, values: &Values, n: usize, p: u8, i: u8) -> Shift
+fn shift_of(
+    d: Drag,
+    keys: &Keys,
+    values: &Values,
+    n: usize,
+    spots: &[u16; LINES_ROOM],
+    p: u8,
+    i: u8,
+) -> Shift
     requires { ⌜ n ≤ cellRoom ⌝ }
     requires { ⌜ i < mostRows ⌝ }
     requires { ⌜ Ascending (now keys) n ⌝ }
+    requires { ⌜ (d .own ≡ 0 → Spots (now keys) n (d .at) (now spots)) ⌝ }
     ensures { λ r. ⌜ optional r ≡ shiftBy d n (now (keys .entry)) (now (values .entry)) p i ⌝ }
 {
     if d.own == 0 {
-        let c = cell(keys, values, n, i as u16 * ROW_SPAN + d.at as u16);
+        let c = spot_cell(keys, values, n, d.at, spots, i as usize);
         return Shift {
             on: c != 0.0,
             by: d.by * c,
@@ -155,15 +181,17 @@ fn shift_rows(
     requires { ⌜ getD (now words) cellCountAt 0 ≤ cellRoom ⌝ }
     requires { ⌜ getD (now words) variableCountAt 0 ≤ mostVariables ⌝ }
     requires { ⌜ Ascending (now keys) (getD (now words) cellCountAt 0) ⌝ }
+    requires { ⌜ Lined (now keys) (getD (now words) cellCountAt 0) ⌝ }
     ensures { λ r. ⌜ shifted (noted (now (words .exit)) (now (bytes .exit))) (now (reals .exit)) (markOf r) ≡ shiftRowsIn d (getD (now (words .entry)) cellCountAt 0) (now (keys .entry)) (now (values .entry)) (getD (now (words .entry)) rowCountAt 0) (shifted (noted (now (words .entry)) (now (bytes .entry))) (now (reals .entry)) (markOf before)) ⌝ }
 {
     let count = words[ROW_COUNT] as u8;
     let n = words[CELL_COUNT] as usize;
+    let spots = spots_for(d, keys, n);
     let mut w = before;
     let mut i: u8 = 1;
     while i <= count {
         let p = bytes[ROW_PLACES + i as usize];
-        let s = shift_of(d, keys, values, n, p, i);
+        let s = shift_of(d, keys, values, n, &spots, p, i);
         let on = is_noted(kind_at(bytes, p), s);
         var_changed_if(on, words, bytes, p);
         w = shift_row(reals, i, s, w);

@@ -6,7 +6,7 @@ use mathlib.Core.List.{List, [], _∷_, _++_, append-assoc, append-nil}
 use native.Mathlib.Numerals.{add-one}
 use native.Mathlib.Omega.{arith}
 use borrow.Author.Tests.{lt-ltb, le-ltb}
-use lib.Dec.{ltb}
+use lib.Dec.{eqb, ltb}
 use lib.Ieee.{Float, binary64, toBits, nan}
 use lib.ListN.{length, getD, take, set, length-append, length-set}
 use lib.Seq.{take-suc-set}
@@ -41,9 +41,19 @@ floatText x = hexText 16 (toBits binary64 x)
 abbrev pub flagText : Bool → List ℕ
 flagText b = cond b (49 ∷ []) (48 ∷ [])
 
--- " V:BITS"
-abbrev pub changeText : ℕ → Float → List ℕ
-changeText v x = (32 ∷ []) ++ (numberText v ++ ((58 ∷ []) ++ floatText x))
+-- "gone"
+abbrev pub goneText : List ℕ
+goneText = 103 ∷ 111 ∷ 110 ∷ 101 ∷ []
+
+abbrev pub newText : Float → Bool → List ℕ
+newText x g = cond g goneText (floatText x)
+
+-- "`V:BITS` or `V:gone`", a space before it
+abbrev pub changeText : ℕ → Float → Bool → List ℕ
+changeText v x g = (32 ∷ []) ++ (numberText v ++ ((58 ∷ []) ++ newText x g))
+
+abbrev entryText : Change → List ℕ
+entryText c = changeText (c .variable) (c .new) (c .gone)
 
 -- "changing calls and reset `REFUSAL PIVOTS MARK`"
 abbrev pub answerText : ℕ → ℕ → Bool → List ℕ
@@ -51,9 +61,9 @@ answerText n p m = numberText n ++ ((32 ∷ []) ++ (numberText p ++ ((32 ∷ [])
 
 unfoldable pub changesText : List Change → List ℕ
 changesText [] = []
-changesText (c ∷ cs) = changeText (c .variable) (c .new) ++ changesText cs
+changesText (c ∷ cs) = entryText c ++ changesText cs
 
--- "`fetch` as `COUNT V:BITS V:BITS ...`"
+-- "`fetch` then answers `COUNT ENTRY ...`"
 unfoldable pub fetchText : List Change → List ℕ
 fetchText cs = numberText (length cs) ++ changesText cs
 
@@ -69,12 +79,12 @@ replyText (list cs) = fetchText cs
 replyText (says b) = flagText b
 replyText (numbers ns) = []
 
--- the entries that stand at the front of two lists
-abbrev pub listedAt : List ℕ → List Float → ℕ → Change
-listedAt ns vs j = record { variable = getD ns j 0; new = getD vs j nan }
+-- the entries that stand at the front of three lists: 1 is gone
+abbrev pub listedAt : List ℕ → List Float → List ℕ → ℕ → Change
+listedAt ns vs gs j = record { variable = getD ns j 0; new = getD vs j nan; gone = eqb (getD gs j 0) 1 }
 
-unfoldable pub listedIn : ℕ → List ℕ → List Float → List Change
-listedIn count ns vs = listOf count (listedAt ns vs)
+unfoldable pub listedIn : ℕ → List ℕ → List Float → List ℕ → List Change
+listedIn count ns vs gs = listOf count (listedAt ns vs gs)
 
 -- ---- text at the front of a buffer: of what stood there the first `at` bytes, then the text, up to the next place
 
@@ -142,56 +152,60 @@ hex-more (suc k) n h = let e : suc k - 1 ≡ k = omega arith in rw e
 
 -- ---- the entries of a fetch, one after the other
 
-pub change-short : (v : ℕ) (x : Float) → length (changeText v x) ≤ 38
-change-short v x = simp length-append (omega (arith, decimal-short 20 v, hex-length 16 (toBits binary64 x)))
+new-short : (x : Float) (g : Bool) → length (newText x g) ≤ 16
+new-short x true = omega arith
+new-short x false = omega (arith, hex-length 16 (toBits binary64 x))
 
-changes-snoc : (cs : List Change) (c : Change) → changesText (cs ++ (c ∷ [])) ≡ changesText cs ++ changeText (c .variable) (c .new)
+pub change-short : (v : ℕ) (x : Float) (g : Bool) → length (changeText v x g) ≤ 38
+change-short v x g = simp length-append (omega (arith, decimal-short 20 v, new-short x g))
+
+changes-snoc : (cs : List Change) (c : Change) → changesText (cs ++ (c ∷ [])) ≡ changesText cs ++ entryText c
 unfolding changesText
-changes-snoc [] c = append-nil (changeText (c .variable) (c .new))
-changes-snoc (d ∷ cs) c = ap (λ (l : List ℕ). changeText (d .variable) (d .new) ++ l) (changes-snoc cs c) ∙ sym (append-assoc (changeText (d .variable) (d .new)) (changesText cs) (changeText (c .variable) (c .new)))
+changes-snoc [] c = append-nil (entryText c)
+changes-snoc (d ∷ cs) c = ap (λ (l : List ℕ). entryText d ++ l) (changes-snoc cs c) ∙ sym (append-assoc (entryText d) (changesText cs) (entryText c))
 
-module _ (ns : List ℕ) (vs : List Float) where
-  pub changes-none : changesText (listedIn 0 ns vs) ≡ []
+module _ (ns : List ℕ) (vs : List Float) (gs : List ℕ) where
+  pub changes-none : changesText (listedIn 0 ns vs gs) ≡ []
   unfolding listedIn listOf tab changesText
   changes-none = refl
 
-  pub changes-next : (i : ℕ) → changesText (listedIn (i + 1) ns vs) ≡ changesText (listedIn i ns vs) ++ changeText (getD ns i 0) (getD vs i nan)
+  pub changes-next : (i : ℕ) → changesText (listedIn (i + 1) ns vs gs) ≡ changesText (listedIn i ns vs gs) ++ entryText (listedAt ns vs gs i)
   unfolding listedIn listOf
   changes-next i =
       let e : 0 + i ≡ i = omega arith in
-      rw (add-one i) (ap changesText (tab-snoc (listedAt ns vs) 0 i) ∙ changes-snoc (tab (listedAt ns vs) 0 i) (listedAt ns vs (0 + i)) ∙ rw e refl)
+      rw (add-one i) (ap changesText (tab-snoc (listedAt ns vs gs) 0 i) ∙ changes-snoc (tab (listedAt ns vs gs) 0 i) (listedAt ns vs gs (0 + i)) ∙ rw e refl)
 
-  pub listed-length : (count : ℕ) → length (listedIn count ns vs) ≡ count
+  pub listed-length : (count : ℕ) → length (listedIn count ns vs gs) ≡ count
   unfolding listedIn listOf
-  listed-length count = length-tab (listedAt ns vs) 0 count
+  listed-length count = length-tab (listedAt ns vs gs) 0 count
 
 pub changes-short : (cs : List Change) → length (changesText cs) ≤ 38 * length cs
 unfolding changesText
 changes-short [] = omega arith
 changes-short (c ∷ cs) =
     let h = changes-short cs in
-    let k = change-short (c .variable) (c .new) in
-    let e = length-append (changeText (c .variable) (c .new)) (changesText cs) in
+    let k = change-short (c .variable) (c .new) (c .gone) in
+    let e = length-append (entryText c) (changesText cs) in
     omega (arith, h, k, e)
 
 -- ---- the loop that writes them
 
-module _ (a : List ℕ) (at : ℕ) (ns : List ℕ) (vs : List Float) where
-  pub wrote-entries : Wrote a a at at (changesText (listedIn 0 ns vs))
-  wrote-entries = wrote-as a a at at (changes-none ns vs) (wrote-nothing a at)
+module _ (a : List ℕ) (at : ℕ) (ns : List ℕ) (vs : List Float) (gs : List ℕ) where
+  pub wrote-entries : Wrote a a at at (changesText (listedIn 0 ns vs gs))
+  wrote-entries = wrote-as a a at at (changes-none ns vs gs) (wrote-nothing a at)
 
-  pub wrote-entry : (b c : List ℕ) (j k i : ℕ) → Wrote a b at j (changesText (listedIn i ns vs)) → Wrote b c j k (changeText (getD ns i 0) (getD vs i nan)) → Wrote a c at k (changesText (listedIn (i + 1) ns vs))
-  wrote-entry b c j k i p q = wrote-as a c at k (changes-next ns vs i) (wrote-then a b c at j k (changesText (listedIn i ns vs)) (changeText (getD ns i 0) (getD vs i nan)) p q)
+  pub wrote-entry : (b c : List ℕ) (j k i : ℕ) → Wrote a b at j (changesText (listedIn i ns vs gs)) → Wrote b c j k (changeText (getD ns i 0) (getD vs i nan) (eqb (getD gs i 0) 1)) → Wrote a c at k (changesText (listedIn (i + 1) ns vs gs))
+  wrote-entry b c j k i p q = wrote-as a c at k (changes-next ns vs gs i) (wrote-then a b c at j k (changesText (listedIn i ns vs gs)) (entryText (listedAt ns vs gs i)) p q)
 
   -- room for one more entry
-  pub entries-room : (b : List ℕ) (j i count : ℕ) → at + 38 * count ≤ length a → i < count → Wrote a b at j (changesText (listedIn i ns vs)) → j + 38 ≤ length b
-  entries-room b j i count h l p = omega (arith, h, l, p .0, p .1, changes-short (listedIn i ns vs), listed-length ns vs i)
+  pub entries-room : (b : List ℕ) (j i count : ℕ) → at + 38 * count ≤ length a → i < count → Wrote a b at j (changesText (listedIn i ns vs gs)) → j + 38 ≤ length b
+  entries-room b j i count h l p = omega (arith, h, l, p .0, p .1, changes-short (listedIn i ns vs gs), listed-length ns vs gs i)
 
   pub fetch-room : (b : List ℕ) (j count : ℕ) → at + 20 + 38 * count ≤ length a → Wrote a b at j (numberText count) → j + 38 * count ≤ length b
   fetch-room b j count h p = omega (arith, h, p .0, p .1, decimal-short 20 count)
 
-  pub wrote-fetch : (b c : List ℕ) (j k count : ℕ) → Wrote a b at j (numberText count) → Wrote b c j k (changesText (listedIn count ns vs)) → Wrote a c at k (fetchText (listedIn count ns vs))
+  pub wrote-fetch : (b c : List ℕ) (j k count : ℕ) → Wrote a b at j (numberText count) → Wrote b c j k (changesText (listedIn count ns vs gs)) → Wrote a c at k (fetchText (listedIn count ns vs gs))
   unfolding fetchText
   wrote-fetch b c j k count p q =
-      let e = listed-length ns vs count in
-      wrote-then a b c at j k (numberText (length (listedIn count ns vs))) (changesText (listedIn count ns vs)) (rw e p) q
+      let e = listed-length ns vs gs count in
+      wrote-then a b c at j k (numberText (length (listedIn count ns vs gs))) (changesText (listedIn count ns vs gs)) (rw e p) q

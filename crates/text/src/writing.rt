@@ -3,7 +3,8 @@ ghost use mathlib.Core.Path.{_≡_};
 ghost use mathlib.Core.List.{[], _∷_};
 ghost use Prim.Native.Nat.{_+_, _*_, _≤_, _<_};
 ghost use lib.ListN.{length};
-ghost use Rattle.text.specs.Answers.{Wrote, decimalText, hexText, flagText, floatText, numberText, changeText, answerText, changesText, fetchText, listedIn, unreadText};
+ghost use Rattle.text.specs.Answers.{Wrote, decimalText, hexText, flagText, floatText, numberText, goneText, newText, changeText, answerText, changesText, fetchText, listedIn, unreadText};
+ghost use lib.Dec.{eqb};
 ghost use Rattle.text.specs.Answers.{glyph as Answers·glyph};
 use crate::floats;
 
@@ -86,42 +87,80 @@ pub fn put_answer(out: &mut [u8], at: usize, refusal: u32, pivots: u32, whole: b
     put_flag(out, d, whole)
 }
 
+fn put_gone(out: &mut [u8], at: usize) -> usize
+    requires { ⌜ at + 4 ≤ length (now out) ⌝ }
+    ensures { λ r. ⌜ Wrote (now (out .entry)) (now (out .exit)) at r goneText ⌝ }
+{
+    let a = put_byte(out, at, b'g');
+    let b = put_byte(out, a, b'o');
+    let c = put_byte(out, b, b'n');
+    put_byte(out, c, b'e')
+}
+
+// What an entry of a fetch says of its variable: 1 is gone.
+fn put_new(out: &mut [u8], at: usize, x: f64, gone: u8) -> usize
+    requires { ⌜ at + 16 ≤ length (now out) ⌝ }
+    ensures { λ r. ⌜ Wrote (now (out .entry)) (now (out .exit)) at r (newText x (eqb gone 1)) ⌝ }
+{
+    if gone == 1 {
+        put_gone(out, at)
+    } else {
+        put_float(out, at, x)
+    }
+}
+
 // One entry of a fetch.
-fn put_change(out: &mut [u8], at: usize, v: u64, x: f64) -> usize
+fn put_change(out: &mut [u8], at: usize, v: u64, x: f64, gone: u8) -> usize
     requires { ⌜ at + 38 ≤ length (now out) ⌝ }
-    ensures { λ r. ⌜ Wrote (now (out .entry)) (now (out .exit)) at r (changeText v x) ⌝ }
+    ensures { λ r. ⌜ Wrote (now (out .entry)) (now (out .exit)) at r (changeText v x (eqb gone 1)) ⌝ }
 {
     let a = put_byte(out, at, 32);
     let b = put_number(out, a, v);
     let c = put_byte(out, b, 58);
-    put_float(out, c, x)
+    put_new(out, c, x, gone)
 }
 
-// The entries of a fetch: numbers and values that stand at the front of two lists.
-fn put_changes(out: &mut [u8], at: usize, numbers: &[u64], values: &[f64], count: usize) -> usize
+// The entries of a fetch: numbers, values and flags that stand at the front of three lists.
+fn put_changes(
+    out: &mut [u8],
+    at: usize,
+    numbers: &[u64],
+    values: &[f64],
+    gone: &[u8],
+    count: usize,
+) -> usize
     requires { ⌜ at + 38 * count ≤ length (now out) ⌝ }
     requires { ⌜ count ≤ length (now numbers) ⌝ }
     requires { ⌜ count ≤ length (now values) ⌝ }
-    ensures { λ r. ⌜ Wrote (now (out .entry)) (now (out .exit)) at r (changesText (listedIn count (now (numbers .entry)) (now (values .entry)))) ⌝ }
+    requires { ⌜ count ≤ length (now gone) ⌝ }
+    ensures { λ r. ⌜ Wrote (now (out .entry)) (now (out .exit)) at r (changesText (listedIn count (now (numbers .entry)) (now (values .entry)) (now (gone .entry)))) ⌝ }
 {
     let mut next = at;
     let mut i: usize = 0;
     while i < count {
-        next = put_change(out, next, numbers[i], values[i]);
+        next = put_change(out, next, numbers[i], values[i], gone[i]);
         i += 1;
     }
     next
 }
 
 // What a fetch answers.
-pub fn put_fetch(out: &mut [u8], at: usize, numbers: &[u64], values: &[f64], count: u32) -> usize
+pub fn put_fetch(
+    out: &mut [u8],
+    at: usize,
+    numbers: &[u64],
+    values: &[f64],
+    gone: &[u8],
+    count: u32,
+) -> usize
     requires { ⌜ at + 20 + 38 * count ≤ length (now out) ⌝ }
     requires { ⌜ count ≤ length (now numbers) ⌝ }
     requires { ⌜ count ≤ length (now values) ⌝ }
-    ensures { λ r. ⌜ Wrote (now (out .entry)) (now (out .exit)) at r (fetchText (listedIn count (now (numbers .entry)) (now (values .entry)))) ⌝ }
+    requires { ⌜ count ≤ length (now gone) ⌝ }
+    ensures { λ r. ⌜ Wrote (now (out .entry)) (now (out .exit)) at r (fetchText (listedIn count (now (numbers .entry)) (now (values .entry)) (now (gone .entry)))) ⌝ }
 {
     let next = put_number(out, at, count as u64);
-    put_changes(out, next, numbers, values, count as usize)
+    put_changes(out, next, numbers, values, gone, count as usize)
 }
 
 // "A line that is no call is answered `?`"

@@ -1,4 +1,4 @@
--- Tables in which variables came, went or were counted, and nothing else: the tableau reads as before.
+-- Tables in which variables came, went, were counted or were told gone, and nothing else: the tableau reads as before.
 -- Assumes nothing.
 use Prim.Native.Nat.{ℕ, _+_, _≤_, _<_}
 use mathlib.Core.Path.{_≡_, refl, sym, ap, _∙_, subst}
@@ -13,8 +13,8 @@ use Rattle.steps.specs.State.{Variable, Changes}
 use Rattle.steps.specs.Work.{Work, withChanges}
 use Rattle.steps.specs.CreateRow.{withVariables}
 use Rattle.keeps.specs.Fits.{FitsW}
-use Rattle.sparse.specs.Places.{mostRows, mostVariables, nextIdAt, symbolCountAt, rowCountAt, cellCountAt, variableCountAt, shouldClearAt, idsAt, variableNumbersAt, kindsAt, rowPlacesAt, variablePlacesAt, constantsAt, oldValuesAt, objectiveAt, cutoffAt}
-use Rattle.sparse.specs.Sparse.{Sparse, symbolCount, rowCount, cellCount, variableCount, symbolAt, basicOf, symbolsOf, basicsOf, objectiveOf, read}
+use Rattle.sparse.specs.Places.{mostRows, mostVariables, nextIdAt, symbolCountAt, rowCountAt, cellCountAt, variableCountAt, shouldClearAt, goneCountAt, idsAt, variableNumbersAt, kindsAt, rowPlacesAt, variablePlacesAt, constantsAt, oldValuesAt, objectiveAt, cutoffAt}
+use Rattle.sparse.specs.Sparse.{Sparse, symbolCount, rowCount, cellCount, variableCount, symbolAt, basicOf, symbolsOf, basicsOf, objectiveOf, goneOf, read}
 use Rattle.cells.specs.Names.{lastPlace}
 use Rattle.substituting.specs.Named.{Named}
 use Rattle.waist.specs.Working.{artificialOf, workOf, work-parts, lines-same, Sound}
@@ -22,7 +22,7 @@ use Rattle.waist.specs.Dropping.{basic-by}
 use Rattle.waist.specs.Standing.{Owners, Standing, Makes}
 
 pub record VariablesAlone (t u : Sparse) : Type 0 where
-  pub words : (q : ℕ) → q < variableNumbersAt → (q ≡ variableCountAt → ⊥) → getD (u .words) q 0 ≡ getD (t .words) q 0
+  pub words : (q : ℕ) → q < variableNumbersAt → (q ≡ variableCountAt → ⊥) → (q ≡ goneCountAt → ⊥) → getD (u .words) q 0 ≡ getD (t .words) q 0
   pub long : length (u .words) ≡ length (t .words)
   pub bytes : (q : ℕ) → q < variablePlacesAt → getD (u .bytes) q 0 ≡ getD (t .bytes) q 0
   pub wide : length (u .bytes) ≡ length (t .bytes)
@@ -37,22 +37,30 @@ pub record Live (u : Sparse) : Type 0 where
   pub few : variableCount u ≤ mostVariables
   pub places : (v : ℕ) → v < variableCount u → (1 ≤ getD (u .bytes) (variablePlacesAt + v) 0) × (getD (u .bytes) (variablePlacesAt + v) 0 ≤ symbolCount u)
 
-changes-by : (c d : Changes) {vs : List Variable} → c .variables ≡ vs → c .shouldClear ≡ d .shouldClear → c ≡ record { variables = vs; shouldClear = d .shouldClear }
-changes-by c d e f = rw (← e, ← f) refl
+-- the changes with other gone numbers
+unfoldable pub withGone : (List ℕ → List ℕ) → Changes → Changes
+withGone f c = record { variables = c .variables; gone = f (c .gone); shouldClear = c .shouldClear }
+
+gone-read : (t : Sparse) → read t .changes .gone ≡ goneOf t
+unfolding read
+gone-read t = refl
+
+changes-by : (c d : Changes) {vs : List Variable} {ns : List ℕ} → c .variables ≡ vs → c .gone ≡ ns → c .shouldClear ≡ d .shouldClear → c ≡ record { variables = vs; gone = ns; shouldClear = d .shouldClear }
+changes-by c d e g f = rw (← e, ← g, ← f) refl
 
 module _ (t u : Sparse) (k : VariablesAlone t u) where
   pub symbols-count : symbolCount u ≡ symbolCount t
-  symbols-count = k .words symbolCountAt (omega arith) (λ e. omega (arith, e))
+  symbols-count = k .words symbolCountAt (omega arith) (λ e. omega (arith, e)) (λ e. omega (arith, e))
 
   pub rows-count : rowCount u ≡ rowCount t
-  rows-count = k .words rowCountAt (omega arith) (λ e. omega (arith, e))
+  rows-count = k .words rowCountAt (omega arith) (λ e. omega (arith, e)) (λ e. omega (arith, e))
 
   cells-count : cellCount u ≡ cellCount t
-  cells-count = k .words cellCountAt (omega arith) (λ e. omega (arith, e))
+  cells-count = k .words cellCountAt (omega arith) (λ e. omega (arith, e)) (λ e. omega (arith, e))
 
   pub symbol-same : (p : ℕ) → p ≤ lastPlace → symbolAt u p ≡ symbolAt t p
   unfolding symbolAt
-  symbol-same p h = rw (k .words (idsAt + p) (omega (arith, h)) (λ e. omega (arith, e)), k .bytes (kindsAt + p) (omega (arith, h))) refl
+  symbol-same p h = rw (k .words (idsAt + p) (omega (arith, h)) (λ e. omega (arith, e)) (λ e. omega (arith, e)), k .bytes (kindsAt + p) (omega (arith, h))) refl
 
   row-same : (i : ℕ) → i ≤ mostRows → basicOf u i .row ≡ basicOf t i .row
   unfolding basicOf
@@ -90,7 +98,7 @@ module _ (t u : Sparse) (k : VariablesAlone t u) where
     unfolding withChanges
     work-alone a v =
         work-parts art a v u
-        ∙ rw (k .high cutoffAt (omega arith), symbols-same, k .words nextIdAt (omega arith) (λ e. omega (arith, e)), basics-same, objective-same, artificial-same) refl
+        ∙ rw (k .high cutoffAt (omega arith), symbols-same, k .words nextIdAt (omega arith) (λ e. omega (arith, e)) (λ e. omega (arith, e)), basics-same, objective-same, artificial-same) refl
         ∙ sym (ap (withChanges (read u .changes)) (work-parts art a v t))
 
     named-after : Live u → Named (u .words) (u .bytes)
@@ -104,7 +112,7 @@ module _ (t u : Sparse) (k : VariablesAlone t u) where
           up = λ p q a b d.
               let f = n .few-symbols in
               let e : q ≤ symbolCount t = rw symbols-count at d in
-              rw (k .words (idsAt + p) (omega (arith, b, e, f)) (λ z. omega (arith, z)), k .words (idsAt + q) (omega (arith, e, f)) (λ z. omega (arith, z))) (n .up p q a b e);
+              rw (k .words (idsAt + p) (omega (arith, b, e, f)) (λ z. omega (arith, z)) (λ z. omega (arith, z)), k .words (idsAt + q) (omega (arith, e, f)) (λ z. omega (arith, z)) (λ z. omega (arith, z))) (n .up p q a b e);
           variables = l .places;
         }
 
@@ -134,17 +142,28 @@ module _ (t u : Sparse) (k : VariablesAlone t u) where
       kept : (w : Work) → FitsW w → FitsW (withChanges (read u .changes) w)
       kept w f = unfold withChanges in f
 
-  -- a step that changes the variables alone
-  pub makes-variables : (art : Bool) (a : Mark) (f : List Variable → List Variable) → Standing art a t → Live u → Owners u
-      → read u .changes .variables ≡ f (read t .changes .variables) → getD (u .words) shouldClearAt 0 ≡ getD (t .words) shouldClearAt 0
-      → Makes art art a a (λ w. withVariables (f (w .changes .variables)) w) t u
-  makes-variables art a f s l o e c = record { reads = reads; stands = stands-after art a s l o }
+  -- a step that changes the changes alone
+  makes-changes : (art : Bool) (a : Mark) (f : Changes → Changes) → Standing art a t → Live u → Owners u → read u .changes ≡ f (read t .changes) → Makes art art a a (λ w. withChanges (f (w .changes)) w) t u
+  makes-changes art a f s l o e = record { reads = λ v. work-alone art (s .sound) a v ∙ ap (λ (c : Changes). withChanges c (workOf art a v t)) (e ∙ ap f (sym (in-work v))); stands = stands-after art a s l o }
     where
-      changes : read u .changes ≡ record { variables = f (read t .changes .variables); shouldClear = read t .changes .shouldClear }
-      changes = changes-by (read u .changes) (read t .changes) e (unfold read in rw c refl)
-
       in-work : (v : ℕ) → workOf art a v t .changes ≡ read t .changes
       in-work v = unfold workOf in refl
 
-      reads : (v : ℕ) → workOf art a v u ≡ withVariables (f (workOf art a v t .changes .variables)) (workOf art a v t)
-      reads v = work-alone art (s .sound) a v ∙ unfold withVariables in rw (in-work v, changes) refl
+  clear-is : getD (u .words) shouldClearAt 0 ≡ getD (t .words) shouldClearAt 0 → read u .changes .shouldClear ≡ read t .changes .shouldClear
+  unfolding read
+  clear-is c = rw c refl
+
+  -- the variables alone
+  pub makes-variables : (art : Bool) (a : Mark) (f : List Variable → List Variable) → Standing art a t → Live u → Owners u
+      → read u .changes .variables ≡ f (read t .changes .variables) → goneOf u ≡ goneOf t → getD (u .words) shouldClearAt 0 ≡ getD (t .words) shouldClearAt 0
+      → Makes art art a a (λ w. withVariables (f (w .changes .variables)) w) t u
+  unfolding withVariables
+  makes-variables art a f s l o e g c =
+      makes-changes art a (λ d. record { variables = f (d .variables); gone = d .gone; shouldClear = d .shouldClear }) s l o (changes-by (read u .changes) (read t .changes) e (gone-read u ∙ g ∙ sym (gone-read t)) (clear-is c))
+
+  -- the gone numbers alone
+  pub makes-gone : (art : Bool) (a : Mark) (f : List ℕ → List ℕ) → Standing art a t → Live u → Owners u
+      → read u .changes .variables ≡ read t .changes .variables → goneOf u ≡ f (goneOf t) → getD (u .words) shouldClearAt 0 ≡ getD (t .words) shouldClearAt 0
+      → Makes art art a a (λ w. withChanges (withGone f (w .changes)) w) t u
+  unfolding withGone
+  makes-gone art a f s l o e g c = makes-changes art a (withGone f) s l o (changes-by (read u .changes) (read t .changes) e (gone-read u ∙ g ∙ ap f (sym (gone-read t))) (clear-is c))

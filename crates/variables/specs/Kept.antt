@@ -27,7 +27,7 @@ use Rattle.variables.specs.Variables.{foundIn, spotIn}
 use Rattle.variables.specs.Found.{variables-are, found-none}
 use Rattle.variables.specs.Alone.{VariablesAlone, Live, symbol-same, symbols-count, makes-variables}
 use Rattle.variables.specs.Came.{Came, came-each, came-pairs}
-use Rattle.variables.specs.Stretches.{Between, spot-between, keptIn, kept-count, numbers-came, uses-came, places-came, changed-came, olds-came, kept-alone}
+use Rattle.variables.specs.Stretches.{Between, spot-between, keptIn, kept-count, numbers-came, uses-came, places-came, changed-came, olds-came, kept-gone, kept-alone}
 
 -- "The old value of a new variable is NaN."
 abbrev pub newVariable : ℕ → Symbol → Variable
@@ -132,7 +132,7 @@ module _ (art : Bool) (n p : ℕ) (t : Sparse) (so : Sound art t) (o : Owners t)
         apart = λ i j h l. came-pairs low (places-came n p t long wide deep room) (λ x y. x ≡ y → ⊥) (o .apart) (λ j g m e. unowned j m (sym e)) (λ i g e. unowned i (omega (arith, g, b .low)) e) i j h (rw c at l);
         kinds = λ q a h. let h' : q ≤ symbolCount t = rw d at h in rw (kind q h') (o .kinds q a h');
         changed = λ v h. came-each low (changed-came n p t long wide deep room) (λ x. x ≤ 1) (omega arith) (o .changed) v (rw c at h);
-        clear = rw (alone .words shouldClearAt (omega arith) (λ e. omega (arith, e))) (o .clear);
+        clear = rw (alone .words shouldClearAt (omega arith) (λ e. omega (arith, e)) (λ e. omega (arith, e))) (o .clear);
       }
     where
       past : Between n (t .words) z → (j : ℕ) → z ≤ j → j < k → n < getD (t .words) (variableNumbersAt + j) 0
@@ -144,4 +144,4 @@ module _ (art : Bool) (n p : ℕ) (t : Sparse) (so : Sound art t) (o : Owners t)
 
   -- a new variable of the symbol at place p
   pub keep-makes : (a : Mark) → Standing art a t → Makes art art a a (λ w. withVariables (keepVariable (newVariable n (symbolAt t p)) (w .changes .variables)) w) t u
-  keep-makes a s = makes-variables t u alone art a (keepVariable (newVariable n (symbolAt t p))) s live owners variables-kept (alone .words shouldClearAt (omega arith) (λ e. omega (arith, e)))
+  keep-makes a s = makes-variables t u alone art a (keepVariable (newVariable n (symbolAt t p))) s live owners variables-kept (kept-gone n p t long wide deep room) (alone .words shouldClearAt (omega arith) (λ e. omega (arith, e)) (λ e. omega (arith, e)))

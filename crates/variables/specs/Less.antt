@@ -1,13 +1,12 @@
 -- One use of a variable less, over the tables' places: at its last use it goes from its five stretches.
 use Prim.Native.Nat.{ℕ, _+_, _-_, _<_}
 use mathlib.Core.Path.{_≡_, refl}
-use mathlib.Core.Bool.{true, false, cond}
+use mathlib.Core.Bool.{Bool, true, false, cond}
 use mathlib.Core.List.{List}
-use mathlib.Core.Option.{Option, none, some}
 use lib.Dec.{eqb}
 use lib.ListN.{getD, set}
-use lib.Ieee.{Float, nan}
-use Rattle.steps.specs.Symbol.{Symbol}
+use lib.Ieee.{Float, nan, ne}
+use Rattle.steps.specs.Work.{Work, withChanges, purge}
 use Rattle.choose.specs.declared.Found.{Found}
 use Rattle.choose.specs.declared.Found.the-variants.{At, Nothing}
 use Rattle.choose.specs.Choose.{onFound}
@@ -17,6 +16,8 @@ use Rattle.sparse.specs.Sparse.{Sparse, symbolAt}
 use Rattle.variables.specs.declared.less.Gone.{Gone}
 use Rattle.variables.specs.declared.less.Gone.the-variants.{Place, Stays}
 use Rattle.variables.specs.Variables.{Below, foundIn}
+use Rattle.variables.specs.Alone.{withGone}
+use Rattle.variables.specs.Told.{toldOf}
 
 -- the last of the variables
 abbrev pub lastIn : List ℕ → ℕ
@@ -37,7 +38,7 @@ wentReals v words reals = closed nan (oldValuesAt + v) (oldValuesAt + lastIn wor
 unfoldable pub lessWords : ℕ → List ℕ → List ℕ
 lessWords v words = set words (variableUsesAt + v) (getD words (variableUsesAt + v) 0 - 1)
 
--- ---- the three tables, and the place of the symbol whose variable went
+-- ---- the three tables, and the place of the symbol whose variable went, with whether that was never reported
 
 pub record Loss : Type 0 where
   pub words : List ℕ
@@ -48,28 +49,33 @@ pub record Loss : Type 0 where
 abbrev pub loss : List ℕ → List ℕ → List Float → Gone → Loss
 loss w b r g = record { words = w; bytes = b; reals = r; gone = g }
 
+-- NaN alone does
+abbrev pub differs : Float → Bool
+differs x = ne x x
+
 -- of the variable v: "a variable at zero goes"
 unfoldable pub lostUse : ℕ → Loss → Loss
 lostUse v t =
-    cond (eqb (getD (t .words) (variableUsesAt + v) 0) 1) (loss (wentWords v (t .words)) (wentBytes v (t .words) (t .bytes)) (wentReals v (t .words) (t .reals)) (Place (getD (t .bytes) (variablePlacesAt + v) 0)))
+    cond (eqb (getD (t .words) (variableUsesAt + v) 0) 1)
+    (loss (wentWords v (t .words)) (wentBytes v (t .words) (t .bytes)) (wentReals v (t .words) (t .reals)) (Place (getD (t .bytes) (variablePlacesAt + v) 0) (differs (getD (t .reals) (oldValuesAt + v) nan))))
     (loss (lessWords v (t .words)) (t .bytes) (t .reals) Stays)
 
 -- of the variable of this number: "Use counts fall"
 unfoldable pub lessOf : ℕ → List ℕ → List ℕ → List Float → Loss
 lessOf n w b r = onFound (λ v. lostUse v (loss w b r Stays)) (loss w b r Stays) (foundIn n w)
 
--- the symbol that goes
-unfoldable pub goneAt : Sparse → Gone → Option Symbol
-goneAt t (Place p) = some (symbolAt t p)
-goneAt t Stays = none
+-- what is left to do for the variable n: one that goes is told, and its symbol purged
+unfoldable pub leaving : ℕ → Sparse → Gone → Work → Work
+leaving n t (Place p unreported) w = purge (symbolAt t p .id) (withChanges (withGone (toldOf unreported n) (w .changes)) w)
+leaving n t Stays w = w
 
 -- ---- the branches of the code, over variables
 
 module _ (w b : List ℕ) (r : List Float) (v : ℕ) where
-  pub lost-went : {w₁ b₁ : List ℕ} {r₁ : List Float} {p : ℕ} → eqb (getD w (variableUsesAt + v) 0) 1 ≡ true → w₁ ≡ wentWords v w → b₁ ≡ wentBytes v w b → r₁ ≡ wentReals v w r → p ≡ getD b (variablePlacesAt + v) 0
-      → loss w₁ b₁ r₁ (Place p) ≡ lostUse v (loss w b r Stays)
+  pub lost-went : {w₁ b₁ : List ℕ} {r₁ : List Float} {p : ℕ} {x : Bool} → eqb (getD w (variableUsesAt + v) 0) 1 ≡ true → w₁ ≡ wentWords v w → b₁ ≡ wentBytes v w b → r₁ ≡ wentReals v w r → p ≡ getD b (variablePlacesAt + v) 0
+      → x ≡ differs (getD r (oldValuesAt + v) nan) → loss w₁ b₁ r₁ (Place p x) ≡ lostUse v (loss w b r Stays)
   unfolding lostUse
-  lost-went e q q₁ q₂ q₃ = rw (e, q, q₁, q₂, q₃) refl
+  lost-went e q q₁ q₂ q₃ q₄ = rw (e, q, q₁, q₂, q₃, q₄) refl
 
   pub lost-less : {w₁ : List ℕ} → eqb (getD w (variableUsesAt + v) 0) 1 ≡ false → w₁ ≡ lessWords v w → loss w₁ b r Stays ≡ lostUse v (loss w b r Stays)
   unfolding lostUse

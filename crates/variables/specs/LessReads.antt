@@ -1,41 +1,29 @@
--- One use of a variable less, from tables that stand: they read as the steps' useLess, and stand again.
+-- A variable that goes, or has one use less, in tables that stand: what they read as then, and what they keep.
 -- Assumes nothing.
 use Prim.Native.Nat.{ℕ, suc, _+_, _-_, _≤_, _<_}
-use mathlib.Core.Path.{_≡_, refl, sym, ap, _∙_, subst}
-use mathlib.Core.Bool.{Bool, true, false, cond}
+use mathlib.Core.Path.{_≡_, refl, sym, ap, _∙_}
+use mathlib.Core.Bool.{false}
 use mathlib.Core.List.{List}
-use mathlib.Core.Option.{Option, none, some}
 use native.Mathlib.Omega.{arith}
-use lib.Dec.{eqb}
 use lib.Ieee.{nan}
 use lib.ListN.{length, getD, set, length-set}
 use lib.Seq.{getD-set-same, getD-set-other}
 use Rattle.laws.specs.Loops.{first}
 use Rattle.laws.specs.Lists.{tab}
-use Rattle.steps.specs.Number.{Mark}
-use Rattle.steps.specs.State.{Variable}
-use Rattle.steps.specs.CreateRow.{withVariables}
-use Rattle.steps.specs.Remove.{Fallen, useLess}
-use Rattle.choose.specs.declared.Found.{Found}
-use Rattle.choose.specs.declared.Found.the-variants.{At, Nothing}
-use Rattle.choose.specs.Choose.{onFound}
+use Rattle.choose.specs.declared.Found.the-variants.{At}
 use Rattle.moves.specs.Close.{closed}
 use Rattle.moves.specs.Moved.{closed-before, closed-after, length-closed}
-use Rattle.sparse.specs.Places.{mostVariables, variableCountAt, shouldClearAt, variableNumbersAt, variableUsesAt, kindsAt, variablePlacesAt, changedAt, wordsSize, bytesSize, oldValuesAt}
-use Rattle.sparse.specs.Sparse.{Sparse, symbolCount, variableCount, symbolAt, variableOf, read}
+use Rattle.sparse.specs.Places.{mostVariables, variableCountAt, shouldClearAt, goneCountAt, variableNumbersAt, variableUsesAt, goneNumbersAt, kindsAt, variablePlacesAt, changedAt, wordsSize, bytesSize, oldValuesAt}
+use Rattle.sparse.specs.Sparse.{Sparse, symbolCount, variableCount, symbolAt, variableOf, goneOf, read}
+use Rattle.substituting.specs.Gone.{gone-kept}
 use Rattle.waist.specs.Working.{sparse, Sound}
-use Rattle.waist.specs.Standing.{Owners, Standing, Makes, Unowned}
-use Rattle.variables.specs.declared.less.Gone.the-variants.{Place, Stays}
+use Rattle.waist.specs.Standing.{Owners, Unowned}
 use Rattle.variables.specs.Variables.{foundIn}
-use Rattle.variables.specs.Found.{variables-are, variable-found, found-at}
-use Rattle.variables.specs.Alone.{VariablesAlone, Live, symbols-count, symbol-same, makes-variables}
-use Rattle.variables.specs.Less.{wentWords, wentBytes, wentReals, lessWords, Loss, loss, lostUse, lessOf, goneAt}
+use Rattle.variables.specs.Found.{variables-are}
+use Rattle.variables.specs.Alone.{VariablesAlone, Live, symbols-count, symbol-same}
+use Rattle.variables.specs.Less.{wentWords, wentBytes, wentReals, lessWords}
 use Rattle.variables.specs.Went.{past, past-by, past-before, past-after, past-under, past-up, closed-past}
-use Rattle.variables.specs.UseLess.{fallen, oneLess, without, lessened, fallsTo, less-is, less-tab, gone-tab}
-
--- the tables with three of them others
-abbrev pub lostIn : Loss → Sparse → Sparse
-lostIn l t = sparse (l .words) (t .keys) (l .bytes) (l .reals) (t .values)
+use Rattle.variables.specs.UseLess.{oneLess, without, lessened, less-tab, gone-tab}
 
 -- ---- the variable at v goes
 
@@ -43,7 +31,7 @@ module _ (t : Sparse) (so : Sound false t) (o : Owners t) (v : ℕ) (high : v < 
   abbrev e : ℕ
   e = variableCount t - 1
 
-  abbrev gone : Sparse
+  abbrev pub gone : Sparse
   gone = sparse (wentWords v (t .words)) (t .keys) (wentBytes v (t .words) (t .bytes)) (wentReals v (t .words) (t .reals)) (t .values)
 
   few : variableCount t ≤ mostVariables
@@ -81,15 +69,29 @@ module _ (t : Sparse) (so : Sound false t) (o : Owners t) (v : ℕ) (high : v < 
   unfolding wentWords
   count-gone = getD-set-same w₂ variableCountAt e 0 (omega (arith, long₂))
 
-  alone : VariablesAlone t gone
+  word-before : (q : ℕ) → q < variableNumbersAt → (q ≡ variableCountAt → ⊥) → getD (gone .words) q 0 ≡ getD (t .words) q 0
+  unfolding wentWords
+  word-before q a d =
+      getD-set-other w₂ variableCountAt q e 0 d
+      ∙ closed-before 0 (variableUsesAt + v) (variableUsesAt + e) w₁ (omega (arith, low)) (omega (arith, few, long₁)) 0 q (omega (arith, a))
+      ∙ closed-before 0 (variableNumbersAt + v) (variableNumbersAt + e) (t .words) (omega (arith, low)) (omega (arith, few, long)) 0 q (omega (arith, a))
+
+  word-after : (q : ℕ) → goneNumbersAt ≤ q → getD (gone .words) q 0 ≡ getD (t .words) q 0
+  unfolding wentWords
+  word-after q a =
+      getD-set-other w₂ variableCountAt q e 0 (λ z. omega (arith, z, a))
+      ∙ closed-after 0 (variableUsesAt + v) (variableUsesAt + e) w₁ (omega (arith, low)) (omega (arith, few, long₁)) 0 q (omega (arith, a, few, high))
+      ∙ closed-after 0 (variableNumbersAt + v) (variableNumbersAt + e) (t .words) (omega (arith, low)) (omega (arith, few, long)) 0 q (omega (arith, a, few, high))
+
+  pub gone-told : goneOf gone ≡ goneOf t
+  gone-told = gone-kept t gone (word-before goneCountAt (omega arith) (λ z. omega (arith, z))) (λ j. word-after (goneNumbersAt + j) (omega arith))
+
+  pub alone : VariablesAlone t gone
   unfolding wentWords wentBytes wentReals
   alone =
       let l = so .long in
       record {
-        words = λ q a d.
-            getD-set-other w₂ variableCountAt q e 0 d
-            ∙ closed-before 0 (variableUsesAt + v) (variableUsesAt + e) w₁ (omega (arith, low)) (omega (arith, few, long₁)) 0 q (omega (arith, a))
-            ∙ closed-before 0 (variableNumbersAt + v) (variableNumbersAt + e) (t .words) (omega (arith, low)) (omega (arith, few, long)) 0 q (omega (arith, a));
+        words = λ q a d _. word-before q a d;
         long = length-set w₂ variableCountAt e ∙ long₂ ∙ sym long;
         bytes = λ q a.
             closed-before 0 (changedAt + v) (changedAt + e) b₁ (omega (arith, low)) (omega (arith, few, wide₁)) 0 q (omega (arith, a))
@@ -145,14 +147,14 @@ module _ (t : Sparse) (so : Sound false t) (o : Owners t) (v : ℕ) (high : v < 
         let f = so .named .few-symbols in
         rw (number-is, uses-is, place-is, flag-is, old-is, symbol-same t gone alone (getD (t .bytes) (variablePlacesAt + past v j) 0) (omega (arith, l, f))) refl
 
-  gone-live : Live gone
+  pub gone-live : Live gone
   gone-live =
       record {
         few = let c = count-gone in omega (arith, c, few);
         places = λ j h. let h' : j < e = rw count-gone at h in rw (place-is j h', symbols-count t gone alone) (so .named .variables (past v j) (inside j h'));
       }
 
-  gone-owners : Owners gone
+  pub gone-owners : Owners gone
   gone-owners =
       let f = so .named .few-symbols in
       record {
@@ -164,16 +166,16 @@ module _ (t : Sparse) (so : Sound false t) (o : Owners t) (v : ℕ) (high : v < 
         apart = λ i j a h q. let h' : j < e = rw count-gone at h in o .apart (past v i) (past v j) (past-up v i j a) (inside j h') (sym (place-is i (omega (arith, a, h'))) ∙ q ∙ place-is j h');
         kinds = λ p a b. let b' : p ≤ symbolCount t = rw (symbols-count t gone alone) at b in rw (alone .bytes (kindsAt + p) (omega (arith, b', f))) (o .kinds p a b');
         changed = λ j h. let h' : j < e = rw count-gone at h in rw (flag-is j h') (o .changed (past v j) (inside j h'));
-        clear = rw (alone .words shouldClearAt (omega arith) (λ z. omega (arith, z))) (o .clear);
+        clear = rw (word-before shouldClearAt (omega arith) (λ z. omega (arith, z))) (o .clear);
       }
 
   -- "a variable at zero goes": no other names its symbol
-  gone-unowned : Unowned (getD (t .bytes) (variablePlacesAt + v) 0) gone
+  pub gone-unowned : Unowned (getD (t .bytes) (variablePlacesAt + v) 0) gone
   gone-unowned j h q =
       let h' : j < e = rw count-gone at h in
       past-by v (λ x. x < variableCount t → getD (t .bytes) (variablePlacesAt + x) 0 ≡ getD (t .bytes) (variablePlacesAt + v) 0 → ⊥) j (λ a b z. o .apart j v a high z) (λ a b z. o .apart v (suc j) (omega (arith, a)) b (sym z)) (inside j h') (sym (place-is j h') ∙ q)
 
-  gone-variables : (n : ℕ) → foundIn n (t .words) ≡ At v → read gone .changes .variables ≡ without n (read t .changes .variables)
+  pub gone-variables : (n : ℕ) → foundIn n (t .words) ≡ At v → read gone .changes .variables ≡ without n (read t .changes .variables)
   unfolding foundIn first variableOf
   gone-variables n found =
       let c : variableCount t ≡ suc e = omega (arith, high) in
@@ -188,7 +190,7 @@ module _ (t : Sparse) (so : Sound false t) (o : Owners t) (v : ℕ) (high : v < 
 
   -- ---- it stays, with one use less
 
-  abbrev stays : Sparse
+  abbrev pub stays : Sparse
   stays = sparse (lessWords v (t .words)) (t .keys) (t .bytes) (t .reals) (t .values)
 
   word : (q : ℕ) → (q ≡ variableUsesAt + v → ⊥) → getD (stays .words) q 0 ≡ getD (t .words) q 0
@@ -198,11 +200,11 @@ module _ (t : Sparse) (so : Sound false t) (o : Owners t) (v : ℕ) (high : v < 
   count-stays : variableCount stays ≡ variableCount t
   count-stays = word variableCountAt (λ z. omega (arith, z))
 
-  stays-alone : VariablesAlone t stays
+  pub stays-alone : VariablesAlone t stays
   unfolding lessWords
   stays-alone =
       record {
-        words = λ q a d. word q (λ z. omega (arith, z, a));
+        words = λ q a d _. word q (λ z. omega (arith, z, a));
         long = length-set (t .words) (variableUsesAt + v) _;
         bytes = λ q a. refl;
         wide = refl;
@@ -213,7 +215,10 @@ module _ (t : Sparse) (so : Sound false t) (o : Owners t) (v : ℕ) (high : v < 
         values = refl;
       }
 
-  stays-live : Live stays
+  pub stays-told : goneOf stays ≡ goneOf t
+  stays-told = gone-kept t stays (word goneCountAt (λ z. omega (arith, z))) (λ j. word (goneNumbersAt + j) (λ z. omega (arith, z, high, few)))
+
+  pub stays-live : Live stays
   stays-live =
       record {
         few = rw count-stays few;
@@ -223,7 +228,7 @@ module _ (t : Sparse) (so : Sound false t) (o : Owners t) (v : ℕ) (high : v < 
   stays-number : (j : ℕ) → j < variableCount t → getD (stays .words) (variableNumbersAt + j) 0 ≡ getD (t .words) (variableNumbersAt + j) 0
   stays-number j h = word (variableNumbersAt + j) (λ z. omega (arith, z, h, few))
 
-  stays-owners : Owners stays
+  pub stays-owners : Owners stays
   stays-owners =
       record {
         up = λ i j a h. let h' : j < variableCount t = rw count-stays at h in rw (stays-number i (omega (arith, a, h')), stays-number j h') (o .up i j a h');
@@ -249,7 +254,7 @@ module _ (t : Sparse) (so : Sound false t) (o : Owners t) (v : ℕ) (high : v < 
   unfolding variableOf
   stays-here = rw (stays-number v high, stays-less, stays-symbol v high) refl
 
-  stays-variables : (n : ℕ) → foundIn n (t .words) ≡ At v → read stays .changes .variables ≡ lessened n (read t .changes .variables)
+  pub stays-variables : (n : ℕ) → foundIn n (t .words) ≡ At v → read stays .changes .variables ≡ lessened n (read t .changes .variables)
   unfolding foundIn first variableOf
   stays-variables n found =
       let d : variableCount t - 0 ≡ variableCount t = omega arith in
@@ -257,99 +262,3 @@ module _ (t : Sparse) (so : Sound false t) (o : Owners t) (v : ℕ) (high : v < 
       ∙ ap (tab (variableOf stays) 0) count-stays
       ∙ sym (less-tab n (variableOf t) (variableOf stays) (variableCount t) v stays-here stays-other (variableCount t) 0 (omega arith) (rw d at found))
       ∙ ap (lessened n) (sym (variables-are t))
-
--- ---- both: one use of the variable of this number less
-
-pub record Falls (n : ℕ) (t : Sparse) (l : Loss) : Type 0 where
-  pub makes : (a : Mark) → Standing false a t → Makes false false a a (λ w. withVariables (useLess n (w .changes .variables) .variables) w) t (lostIn l t)
-  pub gone : goneAt t (l .gone) ≡ useLess n (read t .changes .variables) .gone
-  -- its place is given back: live, and no variable names it
-  pub place : (p : ℕ) → l .gone ≡ Place p → (1 ≤ p) × (p ≤ symbolCount (lostIn l t)) × (symbolAt (lostIn l t) p ≡ symbolAt t p) × Unowned p (lostIn l t)
-
-module _ (n : ℕ) (t : Sparse) (so : Sound false t) (o : Owners t) where
-  abbrev vars : List Variable
-  vars = read t .changes .variables
-
-  abbrev fall : Option Variable → Fallen
-  fall x = fallsTo vars (without n vars) (lessened n vars) x
-
-  falls-is : (f : Found) → foundIn n (t .words) ≡ f → useLess n vars ≡ fall (onFound (λ v. some (variableOf t v)) none f)
-  falls-is f e = less-is n vars ∙ ap fall (variable-found t n ∙ ap (onFound (λ v. some (variableOf t v)) none) e)
-
-  never : {X : Type 0} {p : ℕ} → Stays ≡ Place p → X
-  never e = absurd (let c : _≡_ {A = ℕ} 0 1 = cc in omega arith)
-
-  same-goes : {p q : ℕ} → Place p ≡ Place q → q ≡ p
-  same-goes e = cc
-
-  -- no variable has the number
-  falls-none : foundIn n (t .words) ≡ Nothing → Falls n t (loss (t .words) (t .bytes) (t .reals) Stays)
-  unfolding goneAt
-  falls-none e =
-      let q : useLess n vars ≡ fallen vars none = falls-is Nothing e in
-      record {
-        makes = λ a s. makes-variables t t (record { words = λ x y z. refl; long = refl; bytes = λ x y. refl; wide = refl; low = λ x y. refl; high = λ x y. refl; deep = refl; keys = refl; values = refl }) false a (λ vs. useLess n vs .variables) s
-            (record { few = so .named .few-variables; places = so .named .variables }) o (sym (ap (λ (x : Fallen). x .variables) q)) refl;
-        gone = sym (ap (λ (x : Fallen). x .gone) q);
-        place = λ p z. never z;
-      }
-
-  module _ (v : ℕ) (e : foundIn n (t .words) ≡ At v) where
-    high : v < variableCount t
-    high = found-at n (t .words) e .0
-
-    abbrev uses : ℕ
-    uses = getD (t .words) (variableUsesAt + v) 0
-
-    falls-by : (b : Bool) → eqb uses 1 ≡ b → useLess n vars ≡ cond b (fallen (without n vars) (some (symbolAt t (getD (t .bytes) (variablePlacesAt + v) 0)))) (fallen (lessened n vars) none)
-    unfolding variableOf
-    falls-by b q = falls-is (At v) e ∙ ap (λ (c : Bool). cond c (fallen (without n vars) (some (symbolAt t (getD (t .bytes) (variablePlacesAt + v) 0)))) (fallen (lessened n vars) none)) q
-
-    falls-gone : eqb uses 1 ≡ true → Falls n t (loss (wentWords v (t .words)) (wentBytes v (t .words) (t .bytes)) (wentReals v (t .words) (t .reals)) (Place (getD (t .bytes) (variablePlacesAt + v) 0)))
-    unfolding goneAt
-    falls-gone b =
-        let q = falls-by true b in
-        let k : VariablesAlone t (gone t so o v high) = alone t so o v high in
-        record {
-          makes = λ a s. makes-variables t (gone t so o v high) k false a (λ vs. useLess n vs .variables) s (gone-live t so o v high) (gone-owners t so o v high)
-              (gone-variables t so o v high n e ∙ sym (ap (λ (x : Fallen). x .variables) q)) (k .words shouldClearAt (omega arith) (λ z. omega (arith, z)));
-          gone = sym (ap (λ (x : Fallen). x .gone) q);
-          place = λ p z. subst (λ (x : ℕ). (1 ≤ x) × (x ≤ symbolCount (gone t so o v high)) × (symbolAt (gone t so o v high) x ≡ symbolAt t x) × Unowned x (gone t so o v high)) (sym (same-goes z)) at;
-        }
-      where
-        at : (1 ≤ getD (t .bytes) (variablePlacesAt + v) 0) × (getD (t .bytes) (variablePlacesAt + v) 0 ≤ symbolCount (gone t so o v high)) × (symbolAt (gone t so o v high) (getD (t .bytes) (variablePlacesAt + v) 0) ≡ symbolAt t (getD (t .bytes) (variablePlacesAt + v) 0)) × Unowned (getD (t .bytes) (variablePlacesAt + v) 0) (gone t so o v high)
-        at =
-            let l = so .named .variables v high in
-            let f = so .named .few-symbols in
-            let c = symbols-count t (gone t so o v high) (alone t so o v high) in
-            (l .0, rw c (l .1), symbol-same t (gone t so o v high) (alone t so o v high) (getD (t .bytes) (variablePlacesAt + v) 0) (omega (arith, l, f)), gone-unowned t so o v high)
-
-    falls-less : eqb uses 1 ≡ false → Falls n t (loss (lessWords v (t .words)) (t .bytes) (t .reals) Stays)
-    unfolding goneAt
-    falls-less b =
-        let q = falls-by false b in
-        let k : VariablesAlone t (stays t so o v high) = stays-alone t so o v high in
-        record {
-          makes = λ a s. makes-variables t (stays t so o v high) k false a (λ vs. useLess n vs .variables) s (stays-live t so o v high) (stays-owners t so o v high)
-              (stays-variables t so o v high n e ∙ sym (ap (λ (x : Fallen). x .variables) q)) (k .words shouldClearAt (omega arith) (λ z. omega (arith, z)));
-          gone = sym (ap (λ (x : Fallen). x .gone) q);
-          place = λ p z. never z;
-        }
-
-  -- "Use counts fall; a variable at zero goes .. and leaves the changed set without notice."
-  pub less-falls : Falls n t (lessOf n (t .words) (t .bytes) (t .reals))
-  unfolding lessOf lostUse
-  less-falls = go (foundIn n (t .words)) refl
-    where
-      by : (v : ℕ) → foundIn n (t .words) ≡ At v → (b : Bool) → eqb (getD (t .words) (variableUsesAt + v) 0) 1 ≡ b
-          → Falls n t (cond b (loss (wentWords v (t .words)) (wentBytes v (t .words) (t .bytes)) (wentReals v (t .words) (t .reals)) (Place (getD (t .bytes) (variablePlacesAt + v) 0))) (loss (lessWords v (t .words)) (t .bytes) (t .reals) Stays))
-      by v e true b = falls-gone v e b
-      by v e false b = falls-less v e b
-
-      go : (f : Found) → foundIn n (t .words) ≡ f → Falls n t (onFound (λ v. lostUse v (loss (t .words) (t .bytes) (t .reals) Stays)) (loss (t .words) (t .bytes) (t .reals) Stays) f)
-      go (At v) e = by v e (eqb (getD (t .words) (variableUsesAt + v) 0) 1) refl
-      go Nothing e = falls-none e
-
-  -- the code's call, over variables
-  pub less-calls : (l : Loss) → l ≡ lessOf n (t .words) (t .bytes) (t .reals) → Falls n t l
-  less-calls l e = subst (Falls n t) (sym e) less-falls

@@ -6,7 +6,10 @@ pub mod Came
 pub mod Stretches
 pub mod Kept
 pub mod Uses
+pub mod Told
 pub mod Less
 pub mod Went
 pub mod UseLess
 pub mod LessReads
+pub mod Falls
+pub mod TellReads

@@ -12,8 +12,9 @@ use borrow.Author.Tests.{ltb-true, ltb-false}
 use Rattle.cells.specs.Seek.{first-elim}
 use Rattle.moves.specs.Close.{opened}
 use Rattle.moves.specs.Moved.{opened-before, opened-after, length-opened}
-use Rattle.sparse.specs.Places.{mostVariables, variableCountAt, variableNumbersAt, variableUsesAt, variablePlacesAt, changedAt, oldValuesAt, wordsSize, bytesSize, realsSize}
-use Rattle.sparse.specs.Sparse.{Sparse, variableCount}
+use Rattle.sparse.specs.Places.{mostVariables, variableCountAt, goneCountAt, variableNumbersAt, variableUsesAt, constraintNumbersAt, goneNumbersAt, variablePlacesAt, changedAt, oldValuesAt, wordsSize, bytesSize, realsSize}
+use Rattle.sparse.specs.Sparse.{Sparse, variableCount, goneOf}
+use Rattle.substituting.specs.Gone.{gone-kept}
 use Rattle.waist.specs.Working.{sparse}
 use Rattle.variables.specs.Variables.{spotIn, keptWords, keptBytes, keptReals}
 use Rattle.variables.specs.Alone.{VariablesAlone}
@@ -134,17 +135,32 @@ module _ (n p : ℕ) (t : Sparse) (long : length (t .words) ≡ wordsSize) (wide
 
   -- ---- all else
 
+  word-before : (q : ℕ) → q < variableNumbersAt → (q ≡ variableCountAt → ⊥) → getD (u .words) q 0 ≡ getD (t .words) q 0
+  word-before q h d =
+      let l = low in
+      let m = long₁ in
+      past-words q d
+      ∙ opened-before (variableUsesAt + z) (variableUsesAt + k) 0 w₁ (omega (arith, l)) (omega (arith, m, room)) 0 q (omega (arith, h))
+      ∙ opened-before (variableNumbersAt + z) (variableNumbersAt + k) n (t .words) (omega (arith, l)) (omega (arith, long, room)) 0 q (omega (arith, h))
+
+  word-after : (q : ℕ) → constraintNumbersAt ≤ q → getD (u .words) q 0 ≡ getD (t .words) q 0
+  word-after q h =
+      let l = low in
+      let m = long₁ in
+      past-words q (λ e. omega (arith, e, h))
+      ∙ opened-after (variableUsesAt + z) (variableUsesAt + k) 0 w₁ (omega (arith, l)) (omega (arith, m, room)) 0 q (omega (arith, h, room))
+      ∙ opened-after (variableNumbersAt + z) (variableNumbersAt + k) n (t .words) (omega (arith, l)) (omega (arith, long, room)) 0 q (omega (arith, h, room))
+
+  pub kept-gone : goneOf u ≡ goneOf t
+  kept-gone = gone-kept t u (word-before goneCountAt (omega arith) (λ e. omega (arith, e))) (λ j. word-after (goneNumbersAt + j) (omega arith))
+
   pub kept-alone : VariablesAlone t u
   unfolding keptWords keptBytes keptReals
   kept-alone =
       let l = low in
-      let m = long₁ in
       let w = wide₁ in
       record {
-        words = λ q h d.
-            past-words q d
-            ∙ opened-before (variableUsesAt + z) (variableUsesAt + k) 0 w₁ (omega (arith, l)) (omega (arith, m, room)) 0 q (omega (arith, h))
-            ∙ opened-before (variableNumbersAt + z) (variableNumbersAt + k) n (t .words) (omega (arith, l)) (omega (arith, long, room)) 0 q (omega (arith, h));
+        words = λ q h d _. word-before q h d;
         long = length-set w₂ variableCountAt (k + 1) ∙ long₂ ∙ sym long;
         bytes = λ q h.
             opened-before (changedAt + z) (changedAt + k) 0 b₁ (omega (arith, l)) (omega (arith, w, room)) 0 q (omega (arith, h))

@@ -10,7 +10,6 @@ use native.Mathlib.Omega.{arith}
 use lib.Dec.{eqb}
 use Rattle.laws.specs.Loops.{seek, first}
 use Rattle.laws.specs.Lists.{tab, tab-ext}
-use Rattle.steps.specs.Symbol.{Symbol}
 use Rattle.steps.specs.State.{Variable}
 use Rattle.steps.specs.Changes.{findVariable}
 use Rattle.steps.specs.Remove.{Fallen, useLess}
@@ -18,7 +17,7 @@ use Rattle.choose.specs.declared.Found.the-variants.{At, Nothing}
 use Rattle.choose.specs.Chosen.{as-cond}
 use Rattle.moves.specs.Walk.{drop-walk}
 
-abbrev pub fallen : List Variable → Option Symbol → Fallen
+abbrev pub fallen : List Variable → Option Variable → Fallen
 fallen vs g = record { variables = vs; gone = g }
 
 abbrev pub oneLess : Variable → Variable
@@ -33,7 +32,7 @@ lessened n [] = []
 lessened n (v ∷ vs) = elim (eqb n (v .number)) [ true ↦ oneLess v ∷ vs | false ↦ v ∷ lessened n vs ]
 
 abbrev pub fallsTo : List Variable → List Variable → List Variable → Option Variable → Fallen
-fallsTo vs out less o = elim o [ none ↦ fallen vs none | some v ↦ cond (eqb (v .uses) 1) (fallen out (some (v .symbol))) (fallen less none) ]
+fallsTo vs out less o = elim o [ none ↦ fallen vs none | some v ↦ cond (eqb (v .uses) 1) (fallen out (some v)) (fallen less none) ]
 
 pub less-is : (n : ℕ) (vs : List Variable) → useLess n vs ≡ fallsTo vs (without n vs) (lessened n vs) (findVariable n vs)
 unfolding useLess without lessened findVariable
@@ -49,12 +48,12 @@ less-is n (v ∷ vs) = go (eqb n (v .number)) (less-is n vs)
 
     push : (o : Option Variable) → behind (fallsTo vs (without n vs) (lessened n vs) o) ≡ fallsTo (v ∷ vs) (v ∷ without n vs) (v ∷ lessened n vs) o
     push none = refl
-    push (some u) = pass (eqb (u .uses) 1) (fallen (without n vs) (some (u .symbol))) (fallen (lessened n vs) none)
+    push (some u) = pass (eqb (u .uses) 1) (fallen (without n vs) (some u)) (fallen (lessened n vs) none)
 
     go : (b : Bool) → useLess n vs ≡ fallsTo vs (without n vs) (lessened n vs) (findVariable n vs)
-        → elim b [ false ↦ behind (useLess n vs) | true ↦ elim (eqb (v .uses) 1) [ true ↦ fallen vs (some (v .symbol)) | false ↦ fallen (oneLess v ∷ vs) none ] ]
+        → elim b [ false ↦ behind (useLess n vs) | true ↦ elim (eqb (v .uses) 1) [ true ↦ fallen vs (some v) | false ↦ fallen (oneLess v ∷ vs) none ] ]
         ≡ fallsTo (v ∷ vs) (elim b [ true ↦ vs | false ↦ v ∷ without n vs ]) (elim b [ true ↦ oneLess v ∷ vs | false ↦ v ∷ lessened n vs ]) (elim b [ true ↦ some v | false ↦ findVariable n vs ])
-    go true q = as-cond (eqb (v .uses) 1) (fallen vs (some (v .symbol))) (fallen (oneLess v ∷ vs) none)
+    go true q = as-cond (eqb (v .uses) 1) (fallen vs (some v)) (fallen (oneLess v ∷ vs) none)
     go false q = ap behind q ∙ push (findVariable n vs)
 
 never : {X : Type 0} {z : ℕ} → Nothing ≡ At z → X

@@ -14,8 +14,9 @@ use Rattle.laws.specs.Lists.{tab-ext, map-tab}
 use Rattle.steps.specs.Number.{Mark}
 use Rattle.steps.specs.CreateRow.{withVariables, useOnce}
 use Rattle.choose.specs.declared.Found.the-variants.{At, Nothing}
-use Rattle.sparse.specs.Places.{mostVariables, variableCountAt, shouldClearAt, variableNumbersAt, variableUsesAt, variablePlacesAt, wordsSize}
-use Rattle.sparse.specs.Sparse.{Sparse, variableCount, variableOf, read}
+use Rattle.sparse.specs.Places.{mostVariables, variableCountAt, shouldClearAt, goneCountAt, variableNumbersAt, variableUsesAt, goneNumbersAt, variablePlacesAt, wordsSize}
+use Rattle.sparse.specs.Sparse.{Sparse, variableCount, variableOf, goneOf, read}
+use Rattle.substituting.specs.Gone.{gone-kept}
 use Rattle.waist.specs.Working.{sparse, Sound}
 use Rattle.waist.specs.Standing.{Owners, Standing, Makes}
 use Rattle.variables.specs.Variables.{foundIn, usedWords}
@@ -51,11 +52,14 @@ module _ (n v : ℕ) (t : Sparse) (long : length (t .words) ≡ wordsSize) (few 
   unfolding usedWords
   used-here = let h = high in getD-set-same (t .words) (variableUsesAt + v) (getD (t .words) (variableUsesAt + v) 0 + 1) 0 (omega (arith, h, few, long)) ∙ add-one (getD (t .words) (variableUsesAt + v) 0)
 
+  used-gone : goneOf u ≡ goneOf t
+  used-gone = let h = high in gone-kept t u (used-word goneCountAt (λ e. omega (arith, e))) (λ j. used-word (goneNumbersAt + j) (λ e. omega (arith, e, h, few)))
+
   pub used-alone : VariablesAlone t u
   unfolding usedWords
   used-alone =
       record {
-        words = λ q h d. used-word q (λ e. omega (arith, e, h));
+        words = λ q h d _. used-word q (λ e. omega (arith, e, h));
         long = length-set (t .words) (variableUsesAt + v) (getD (t .words) (variableUsesAt + v) 0 + 1);
         bytes = λ q h. refl;
         wide = refl;
@@ -116,4 +120,4 @@ module _ (n v : ℕ) (t : Sparse) (long : length (t .words) ≡ wordsSize) (few 
 
     -- "its use count grows by one"
     pub use-makes : (a : Mark) → Standing art a t → Makes art art a a (λ w. withVariables (map (useOnce n) (w .changes .variables)) w) t u
-    use-makes a s = makes-variables t u used-alone art a (map (useOnce n)) s live owners variables-used (used-word shouldClearAt (λ e. omega (arith, e)))
+    use-makes a s = makes-variables t u used-alone art a (map (useOnce n)) s live owners variables-used used-gone (used-word shouldClearAt (λ e. omega (arith, e)))

@@ -48,7 +48,7 @@ fn wide_reals(t: &Reals)
 
 // ---- by one place
 
-fn open_words(words: &mut Words, i: usize, e: usize, x: u64)
+pub fn open_words(words: &mut Words, i: usize, e: usize, x: u64)
     requires { ⌜ i ≤ e ⌝ }
     requires { ⌜ e < wordsSize ⌝ }
     ensures { λ _. ⌜ now (words .exit) ≡ opened i e x (now (words .entry)) ⌝ }

@@ -1,6 +1,7 @@
 // One use of a variable less.
 ghost use mathlib.Core.Path.{_≡_};
 ghost use Prim.Native.Nat.{_-_, _≤_, _<_};
+ghost use lib.Ieee.{ne};
 ghost use lib.ListN.{getD};
 ghost use Rattle.sparse.specs.Places.{mostVariables, variableCountAt, variableNumbersAt};
 ghost use Rattle.sparse.specs.Lookup.{Ascends};
@@ -45,9 +46,16 @@ fn less_one(x: u64) -> u64
     if 0 < x { x - 1 } else { 0 }
 }
 
-// The place of the symbol whose variable went.
+// NaN alone differs from itself: so does the old value of a variable that was never reported.
+fn differs(old: f64) -> bool
+    ensures { λ r. ⌜ r ≡ ne old old ⌝ }
+{
+    old != old
+}
+
+// The place of the symbol whose variable went, and whether that was never reported.
 pub enum Gone {
-    Place(u8),
+    Place(u8, bool),
     Stays,
 }
 
@@ -59,14 +67,15 @@ fn lose_use(words: &mut Words, bytes: &mut Bytes, reals: &mut Reals, v: usize) -
     let uses = words[VARIABLE_USES + v];
     if uses == 1 {
         let p = bytes[VARIABLE_PLACES + v];
+        let unreported = differs(reals[OLD_VALUES + v]);
         drop_variable(words, bytes, reals, v);
-        return Gone::Place(p);
+        return Gone::Place(p, unreported);
     }
     words[VARIABLE_USES + v] = less_one(uses);
     Gone::Stays
 }
 
-// One use of the variable less: at its last use it goes, and the place of its symbol is given back.
+// One use of the variable less: at its last use it goes, and the place of its symbol is given back, and whether it was never reported.
 pub fn use_less(words: &mut Words, bytes: &mut Bytes, reals: &mut Reals, n: u64) -> Gone
     requires { ⌜ getD (now words) variableCountAt 0 ≤ mostVariables ⌝ }
     requires { ⌜ Ascends (now words) variableNumbersAt (getD (now words) variableCountAt 0) ⌝ }

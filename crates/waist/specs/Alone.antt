@@ -12,10 +12,11 @@ use Rattle.laws.specs.Lists.{listOf, tab-ext}
 use Rattle.steps.specs.Number.{Mark}
 use Rattle.steps.specs.State.{Basic, Variable}
 use Rattle.steps.specs.Work.{withTableau, withRows}
-use Rattle.sparse.specs.Places.{nextIdAt, symbolCountAt, rowCountAt, cellCountAt, variableCountAt, shouldClearAt, idsAt, variableNumbersAt, variableUsesAt, kindsAt, rowPlacesAt, variablePlacesAt, changedAt, oldValuesAt, objectiveAt, cutoffAt}
-use Rattle.sparse.specs.Sparse.{Sparse, symbolCount, variableCount, symbolAt, variableOf, symbolsOf, basicsOf, objectiveOf, read}
+use Rattle.sparse.specs.Places.{nextIdAt, symbolCountAt, rowCountAt, cellCountAt, variableCountAt, shouldClearAt, goneCountAt, idsAt, variableNumbersAt, variableUsesAt, goneNumbersAt, kindsAt, rowPlacesAt, variablePlacesAt, changedAt, oldValuesAt, objectiveAt, cutoffAt}
+use Rattle.sparse.specs.Sparse.{Sparse, symbolCount, variableCount, symbolAt, variableOf, symbolsOf, basicsOf, objectiveOf, goneOf, read}
 use Rattle.cells.specs.Names.{lastPlace}
 use Rattle.substituting.specs.Notes.{noted}
+use Rattle.substituting.specs.Gone.{gone-kept}
 use Rattle.substituting.specs.Named.{Named}
 use Rattle.waist.specs.Working.{artificialOf, workOf, work-parts}
 use Rattle.waist.specs.Owning.{Owners, Low, owners-by}
@@ -54,11 +55,14 @@ module _ (t u : Sparse) (n : Named (t .words) (t .bytes)) (k : RowsAlone t u) wh
       let f = n .few-symbols in
       rw (word (variableNumbersAt + v) (omega arith), word (variableUsesAt + v) (omega arith), k .later (variablePlacesAt + v) (omega arith), k .later (changedAt + v) (omega arith), k .reals (oldValuesAt + v) (omega arith), symbol-alone (getD (t .bytes) (variablePlacesAt + v) 0) (omega (arith, l, f))) refl
 
+  gone-alone : goneOf u ≡ goneOf t
+  gone-alone = gone-kept t u (word goneCountAt (omega arith)) (λ j. word (goneNumbersAt + j) (omega arith))
+
   changes-alone : read u .changes ≡ read t .changes
   unfolding read listOf
   changes-alone =
-      rw (word variableCountAt (omega arith), word shouldClearAt (omega arith))
-      (ap (λ (x : List Variable). record { variables = x; shouldClear = eqb (getD (t .words) shouldClearAt 0) 1 }) (tab-ext (variableOf u) (variableOf t) 0 (variableCount t) λ v a b. variable-alone v (omega (arith, b))))
+      rw (word variableCountAt (omega arith), gone-alone, word shouldClearAt (omega arith))
+      (ap (λ (x : List Variable). record { variables = x; gone = goneOf t; shouldClear = eqb (getD (t .words) shouldClearAt 0) 1 }) (tab-ext (variableOf u) (variableOf t) 0 (variableCount t) λ v a b. variable-alone v (omega (arith, b))))
 
   pub named-alone : Named (u .words) (u .bytes)
   named-alone =

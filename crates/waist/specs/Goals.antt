@@ -28,7 +28,7 @@ use Rattle.rows.specs.declared.number.Wrote.{Wrote}
 use Rattle.rows.specs.Marks.{markOf, join, joined-mark}
 use Rattle.rows.specs.Place.{PlaceOf, insert-values, insert-marks}
 use Rattle.sparse.specs.Places.{constantsAt, oldValuesAt, objectiveAt, cutoffAt, realsSize}
-use Rattle.sparse.specs.Sparse.{Sparse, symbolCount, rowCount, cellCount, variableCount, symbolAt, variableOf, basicOf, symbolsOf, basicsOf, objectiveOf, read}
+use Rattle.sparse.specs.Sparse.{Sparse, symbolCount, rowCount, cellCount, variableCount, symbolAt, variableOf, basicOf, symbolsOf, basicsOf, objectiveOf, goneOf, read}
 use Rattle.sparse.specs.Widths.{objective-wide}
 use Rattle.cells.specs.Names.{rowRoom}
 use Rattle.cells.specs.Cells.{loaded, rowOf}
@@ -67,8 +67,8 @@ module _ (art : Bool) (t : Sparse) (so : Sound art t) (s : List Float) (k : Goal
   variable v h = let f = so .named .few-variables in rw (k .below (oldValuesAt + v) (omega (arith, h, f))) refl
 
   changes-are : read u .changes ≡ read t .changes
-  unfolding read listOf
-  changes-are = ap (λ (x : List Variable). record { variables = x; shouldClear = read t .changes .shouldClear }) (tab-ext (variableOf u) (variableOf t) 0 (variableCount t) λ v a b. variable v (omega (arith, b)))
+  unfolding read listOf goneOf
+  changes-are = ap (λ (x : List Variable). record { variables = x; gone = goneOf t; shouldClear = read t .changes .shouldClear }) (tab-ext (variableOf u) (variableOf t) 0 (variableCount t) λ v a b. variable v (omega (arith, b)))
 
   artificial-is : artificialOf art u ≡ artificialOf art t
   unfolding artificialOf

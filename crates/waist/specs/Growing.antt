@@ -21,11 +21,12 @@ use Rattle.keeps.specs.Fits.{FitsW}
 use Rattle.keeps.specs.Building.{append-fits}
 use Rattle.layout.specs.Layout.{kindOf}
 use Rattle.choose.specs.Walk.{tab-snoc}
-use Rattle.sparse.specs.Places.{nextIdAt, symbolCountAt, rowCountAt, cellCountAt, variableCountAt, shouldClearAt, idsAt, variableNumbersAt, variableUsesAt, kindsAt, rowPlacesAt, variablePlacesAt, changedAt, constantsAt, oldValuesAt, objectiveAt, cutoffAt}
-use Rattle.sparse.specs.Sparse.{Sparse, symbolCount, rowCount, cellCount, variableCount, symbolAt, variableOf, basicOf, symbolsOf, basicsOf, objectiveOf, read}
+use Rattle.sparse.specs.Places.{nextIdAt, symbolCountAt, rowCountAt, cellCountAt, variableCountAt, shouldClearAt, goneCountAt, idsAt, variableNumbersAt, variableUsesAt, goneNumbersAt, kindsAt, rowPlacesAt, variablePlacesAt, changedAt, constantsAt, oldValuesAt, objectiveAt, cutoffAt}
+use Rattle.sparse.specs.Sparse.{Sparse, symbolCount, rowCount, cellCount, variableCount, symbolAt, variableOf, basicOf, symbolsOf, basicsOf, objectiveOf, goneOf, read}
 use Rattle.cells.specs.Names.{rowSpan, lastPlace}
 use Rattle.cells.specs.Cells.{cellAt, rowOf}
 use Rattle.cells.specs.Reads.{cell-absent}
+use Rattle.substituting.specs.Gone.{gone-kept}
 use Rattle.substituting.specs.Named.{Named}
 use Rattle.waist.specs.Working.{sparse, artificialOf, workOf, work-parts, lines-same, Sound, id-at, basic-symbol}
 use Rattle.waist.specs.Dropping.{Free, basic-by}
@@ -190,11 +191,14 @@ module _ (kind : ℕ) (t : Sparse) (so : Sound false t) (fit : symbolCount t < l
         old-symbol (getD (t .bytes) (variablePlacesAt + v) 0) (omega (arith, l)),
       ) refl
 
+  gone-same : goneOf u ≡ goneOf t
+  gone-same = gone-kept t u (word goneCountAt (λ e. omega (arith, e)) (λ e. omega (arith, e)) (λ e. omega (arith, e))) (λ j. later (goneNumbersAt + j) (omega arith))
+
   changes-are : read u .changes ≡ read t .changes
   unfolding read listOf
   changes-are =
-      rw (variables-same, word shouldClearAt (λ e. omega (arith, e)) (λ e. omega (arith, e)) (λ e. omega (arith, e)))
-      (ap (λ (x : List Variable). record { variables = x; shouldClear = eqb (getD (t .words) shouldClearAt 0) 1 }) (tab-ext (variableOf u) (variableOf t) 0 (variableCount t) λ v a b. variable-is v (omega (arith, b))))
+      rw (variables-same, gone-same, word shouldClearAt (λ e. omega (arith, e)) (λ e. omega (arith, e)) (λ e. omega (arith, e)))
+      (ap (λ (x : List Variable). record { variables = x; gone = goneOf t; shouldClear = eqb (getD (t .words) shouldClearAt 0) 1 }) (tab-ext (variableOf u) (variableOf t) 0 (variableCount t) λ v a b. variable-is v (omega (arith, b))))
 
   no-artificial : artificialOf false u ≡ artificialOf false t
   unfolding artificialOf

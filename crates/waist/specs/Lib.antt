@@ -1,5 +1,6 @@
 pub mod Working
 pub mod Owning
+pub mod Agreeing
 pub mod Within
 pub mod Stepping
 pub mod SubstituteReads

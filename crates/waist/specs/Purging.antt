@@ -21,10 +21,11 @@ use Rattle.choose.specs.Own.{first-is}
 use Rattle.choose.specs.Chosen.{as-cond}
 use Rattle.moves.specs.Walk.{drop-walk}
 use Rattle.moves.specs.Columns.{cut, cutTableau}
-use Rattle.sparse.specs.Places.{nextIdAt, symbolCountAt, rowCountAt, cellCountAt, variableCountAt, shouldClearAt, idsAt, variableNumbersAt, variableUsesAt, kindsAt, rowPlacesAt, variablePlacesAt, changedAt, constantsAt, oldValuesAt, objectiveAt}
-use Rattle.sparse.specs.Sparse.{Sparse, symbolCount, rowCount, cellCount, variableCount, symbolAt, variableOf, basicOf, symbolsOf, basicsOf, objectiveOf, read}
+use Rattle.sparse.specs.Places.{nextIdAt, symbolCountAt, rowCountAt, cellCountAt, variableCountAt, shouldClearAt, goneCountAt, idsAt, variableNumbersAt, variableUsesAt, goneNumbersAt, kindsAt, rowPlacesAt, variablePlacesAt, changedAt, constantsAt, oldValuesAt, objectiveAt}
+use Rattle.sparse.specs.Sparse.{Sparse, symbolCount, rowCount, cellCount, variableCount, symbolAt, variableOf, basicOf, symbolsOf, basicsOf, objectiveOf, goneOf, read}
 use Rattle.cells.specs.Names.{rowSpan, lastPlace}
 use Rattle.cells.specs.Cells.{Cells, cellAt, rowOf}
+use Rattle.substituting.specs.Gone.{gone-kept}
 use Rattle.substituting.specs.Named.{Named}
 use Rattle.substituting.specs.Held.{held-few}
 use Rattle.waist.specs.Working.{artificialOf, workOf, work-parts, linesOf, lines-same, Sound, lines-few, id-at, basic-symbol}
@@ -234,11 +235,14 @@ module _ (p : ℕ) (t u : Sparse) (gl : Closing p t u) (so : Sound false t) (low
   clear-same : getD (u .words) shouldClearAt 0 ≡ getD (t .words) shouldClearAt 0
   clear-same = gl .head shouldClearAt (λ e. omega (arith, e)) (λ e. omega (arith, e)) (omega arith)
 
+  gone-same : goneOf u ≡ goneOf t
+  gone-same = gone-kept t u (gl .head goneCountAt (λ e. omega (arith, e)) (λ e. omega (arith, e)) (omega arith)) (λ j. gl .words (goneNumbersAt + j) (omega arith))
+
   changes-are : read u .changes ≡ read t .changes
   unfolding read listOf
   changes-are =
-      rw (variables-same, clear-same)
-      (ap (λ (x : List Variable). record { variables = x; shouldClear = eqb (getD (t .words) shouldClearAt 0) 1 }) (tab-ext (variableOf u) (variableOf t) 0 (variableCount t) λ v a b. variable-is v (omega (arith, b))))
+      rw (variables-same, gone-same, clear-same)
+      (ap (λ (x : List Variable). record { variables = x; gone = goneOf t; shouldClear = eqb (getD (t .words) shouldClearAt 0) 1 }) (tab-ext (variableOf u) (variableOf t) 0 (variableCount t) λ v a b. variable-is v (omega (arith, b))))
 
   no-artificial : artificialOf false u ≡ artificialOf false t
   unfolding artificialOf

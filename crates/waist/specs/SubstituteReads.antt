@@ -21,8 +21,8 @@ use Rattle.steps.specs.Changes.{allChanged}
 use Rattle.steps.specs.Substitute.{substituteInRow, substituteInCells, Substituted, substituteInRows, rowsOf, marksOf, notedOf, substitute}
 use Rattle.rows.specs.Place.{PlaceOf}
 use Rattle.rows.specs.Reading as dense
-use Rattle.sparse.specs.Places.{mostRows, mostVariables, nextIdAt, symbolCountAt, rowCountAt, cellCountAt, variableCountAt, shouldClearAt, idsAt, variableNumbersAt, variableUsesAt, kindsAt, rowPlacesAt, variablePlacesAt, changedAt, constantsAt, oldValuesAt, objectiveAt, cutoffAt, constraintStrengthsAt, realsSize}
-use Rattle.sparse.specs.Sparse.{Sparse, symbolCount, rowCount, cellCount, variableCount, symbolAt, variableOf, basicOf, symbolsOf, basicsOf, objectiveOf, read}
+use Rattle.sparse.specs.Places.{mostRows, mostVariables, nextIdAt, symbolCountAt, rowCountAt, cellCountAt, variableCountAt, shouldClearAt, goneCountAt, idsAt, variableNumbersAt, variableUsesAt, goneNumbersAt, kindsAt, rowPlacesAt, variablePlacesAt, changedAt, constantsAt, oldValuesAt, objectiveAt, cutoffAt, constraintStrengthsAt, realsSize}
+use Rattle.sparse.specs.Sparse.{Sparse, symbolCount, rowCount, cellCount, variableCount, symbolAt, variableOf, basicOf, symbolsOf, basicsOf, objectiveOf, goneOf, read}
 use Rattle.sparse.specs.Widths.{symbols-read}
 use Rattle.cells.specs.Names.{rowSpan, lastPlace}
 use Rattle.cells.specs.Cells.{rowOf, cellAt}
@@ -31,6 +31,7 @@ use Rattle.substituting.specs.Lines.{Lines, lines, heldBy, linesIn}
 use Rattle.substituting.specs.LinesRead.{lineOf, stepOf, step-changed, lines-held, lines-row, lines-mark, lines-beyond, lines-long}
 use Rattle.substituting.specs.Objective.{Aim, objectiveIn, objectiveAlong, objective-cells, objective-mark, objective-beyond, objective-long}
 use Rattle.substituting.specs.Notes.{Noted, noted, changes, noteRows}
+use Rattle.substituting.specs.Gone.{gone-kept}
 use Rattle.substituting.specs.Named.{Named, NotesKept, named-kept}
 use Rattle.substituting.specs.NotesRead.{noteIn, steppedRow, notes-read, notes-kept}
 use Rattle.substituting.specs.Held.{Held}
@@ -110,7 +111,7 @@ module _ (art : Bool) (j : ℕ) (row : List Float) (t : Sparse) (so : Sound art 
   unfolding substitutedIn
   word q a b = getD-set-other (s .words) cellCountAt q (l₁ .size) 0 b ∙ kept .words q a
 
-  size-is : cellCount u ≡ l₁ .size
+  pub size-is : cellCount u ≡ l₁ .size
   unfolding substitutedIn
   size-is = let n = kept .long in let l = so .named .long in getD-set-same (s .words) cellCountAt (l₁ .size) 0 (omega (arith, n, l))
 
@@ -258,14 +259,17 @@ module _ (art : Bool) (j : ℕ) (row : List Float) (t : Sparse) (so : Sound art 
   noted-variable v h =
       rw (noted-word (variableNumbersAt + v) (λ e. omega (arith, e)), noted-word (variableUsesAt + v) (λ e. omega (arith, e)), old-real v h, noted-symbol (getD (u .bytes) (variablePlacesAt + v) 0), same-bytes) refl
 
+  gone-noted : goneOf u ≡ goneOf (noteIn s t)
+  gone-noted = gone-kept (noteIn s t) u (noted-word goneCountAt (λ e. omega (arith, e))) (λ j. noted-word (goneNumbersAt + j) (λ e. omega (arith, e)))
+
   changes-noted : read u .changes ≡ read (noteIn s t) .changes
   unfolding read listOf
   changes-noted =
       let c : variableCount u ≡ getD (s .words) variableCountAt 0 = noted-word variableCountAt (λ e. omega (arith, e)) in
       let d = kept .words variableCountAt (λ e. omega (arith, e)) in
       let f = so .named .few-variables in
-      rw (c, noted-word shouldClearAt (λ e. omega (arith, e)))
-      (ap (λ (x : List Variable). record { variables = x; shouldClear = eqb (getD (s .words) shouldClearAt 0) 1 })
+      rw (c, gone-noted, noted-word shouldClearAt (λ e. omega (arith, e)))
+      (ap (λ (x : List Variable). record { variables = x; gone = goneOf (noteIn s t); shouldClear = eqb (getD (s .words) shouldClearAt 0) 1 })
       (tab-ext (variableOf u) (variableOf (noteIn s t)) 0 (getD (s .words) variableCountAt 0) λ v a b. noted-variable v (omega (arith, b, d, f))))
 
   changes-are : read u .changes ≡ allChanged (notedOf (tab sub 1 r)) (read t .changes)

@@ -1,7 +1,7 @@
 -- What the code's substitution promises, and that its calls together keep it.
 -- Assumes nothing.
 use Prim.Native.Nat.{ℕ, _+_, _-_, _≤_, _<_}
-use mathlib.Core.Path.{_≡_, refl, sym, _∙_, subst}
+use mathlib.Core.Path.{_≡_, refl, sym, ap, _∙_, subst}
 use mathlib.Core.Bool.{Bool}
 use mathlib.Core.List.{List}
 use native.Mathlib.Omega.{arith}
@@ -13,16 +13,18 @@ use Rattle.steps.specs.Substitute.{substitute}
 use Rattle.rows.specs.Reading as dense
 use Rattle.sparse.specs.Places.{mostVariables, cellCountAt, shouldClearAt, changedAt, constraintStrengthsAt}
 use Rattle.sparse.specs.Sparse.{Sparse, symbolCount, rowCount, cellCount, symbolAt}
-use Rattle.cells.specs.Names.{rowRoom, lastPlace}
+use Rattle.cells.specs.Names.{cellRoom, rowRoom, lastPlace}
 use Rattle.cells.specs.Cells.{cells, packed, rowOf}
 use Rattle.merging.specs.Merge.{otherCell}
-use Rattle.substituting.specs.Lines.{lines, linesIn}
+use Rattle.substituting.specs.Lines.{Lines, lines, linesIn}
+use Rattle.substituting.specs.Passed.{Alike}
 use Rattle.substituting.specs.Loose.{SettledRow, loose-none, loose-reads}
 use Rattle.substituting.specs.Objective.{aim, objectiveIn}
 use Rattle.substituting.specs.Notes.{noted, noteRows}
 use Rattle.waist.specs.Working.{sparse, workOf, cutoffOf, linesOf, Sound}
 use Rattle.waist.specs.Owning.{Kept}
-use Rattle.waist.specs.SubstituteReads.{substitutedIn, substitutedMark, word, byte, later-byte, later-real, substitute-reads, substitute-keeps, substitute-sound}
+use Rattle.waist.specs.Agreeing.{work-same, sound-same, kept-same}
+use Rattle.waist.specs.SubstituteReads.{substitutedIn, substitutedMark, size-is, word, byte, later-byte, later-real, substitute-reads, substitute-keeps, substitute-sound}
 
 -- but for the notes' flag and the count of cells, the words stay; so do the bytes but for the flags, and the reals of the stored constraints and edits
 pub record Stays (t u : Sparse) : Type 0 where
@@ -93,9 +95,35 @@ module _ (art : Bool) (at : ℕ) (row : List Float) (t : Sparse) (so : Sound art
   unfolding substitutedMark
   mark-is ks rs rs' vs size a b l o = rw (from-1, ← l, ← o) refl
 
+  -- the lines, as the definitions have them
+  abbrev l₁ : Lines
+  l₁ = linesIn (cutoffOf t) at m y cols others (linesOf art t) (lines (t .keys) (t .values) (cellCount t) (t .reals) allWhole)
+
+  size-now : cellCount u ≡ l₁ .size
+  size-now = subst (λ (x : ℕ). cellCount u ≡ linesIn (cutoffOf t) x m y cols others (linesOf art t) (lines (t .keys) (t .values) (cellCount t) (t .reals) allWhole) .size) from-1 (size-is art j row t so live m cols others past same)
+
+  -- what the code leaves has the same cells, whatever stands past them
+  same-substitutes : (ws ks bs : List ℕ) (rs vs : List Float) (c : Mark) → getD ws cellCountAt 0 ≡ l₁ .size → ((q : ℕ) → q < l₁ .size → getD ks q 0 ≡ getD (l₁ .keys) q 0) → ((q : ℕ) → q < l₁ .size → getD vs q nan ≡ getD (l₁ .vals) q nan)
+      → length ks ≡ cellRoom → length vs ≡ cellRoom → Substitutes art at row t (sparse ws (l₁ .keys) bs rs (l₁ .vals)) c → Substitutes art at row t (sparse ws ks bs rs vs) c
+  same-substitutes ws ks bs rs vs c z k v lk lv d =
+      let k₁ : (q : ℕ) → q < getD ws cellCountAt 0 → getD ks q 0 ≡ getD (l₁ .keys) q 0 = λ q l. k q (rw z at l) in
+      let v₁ : (q : ℕ) → q < getD ws cellCountAt 0 → getD vs q nan ≡ getD (l₁ .vals) q nan = λ q l. v q (rw z at l) in
+      record {
+        reads = λ a x. work-same ws (l₁ .keys) ks bs rs (l₁ .vals) vs k₁ v₁ art (worse a c) x ∙ d .reads a x;
+        sound = sound-same ws (l₁ .keys) ks bs rs (l₁ .vals) vs k₁ v₁ art lk lv (d .sound);
+        stays = let w = d .stays in record { words = w .words; bytes = w .bytes; later = w .later; reals = w .reals };
+        kept = kept-same ws (l₁ .keys) ks bs rs (l₁ .vals) vs k₁ v₁ (d .kept);
+      }
+
   pub substitute-calls : (count : ℕ) (ws ws' ks bs : List ℕ) (rs rs' vs : List Float) (size : ℕ) (a b : Mark) {c : Mark} → count ≡ linesOf art t → Notes ws bs
-      → lines ks vs size rs a ≡ linesIn (cutoffOf t) at m y cols others count (lines (t .keys) (t .values) (cellCount t) (t .reals) allWhole) → Aims rs rs' b → ws' ≡ set ws cellCountAt size → c ≡ worse a b → Substitutes art at row t (sparse ws' ks bs rs' vs) c
-  substitute-calls count ws ws' ks bs rs rs' vs size a b f n g o h q =
-      let l : Merges ks vs size rs a = subst (λ (z : ℕ). lines ks vs size rs a ≡ linesIn (cutoffOf t) at m y cols others z (lines (t .keys) (t .values) (cellCount t) (t .reals) allWhole)) f g in
-      subst (λ (z : Mark). Substitutes art at row t (sparse ws' ks bs rs' vs) z) (sym (q ∙ mark-is ks rs rs' vs size a b l o))
-      (subst (λ (z : Sparse). Substitutes art at row t z (substitutedMark art j row t so live m cols others past same)) (sym (tables-are ws ws' ks bs rs rs' vs size a b n l o h)) done)
+      → Alike (lines ks vs size rs a) (linesIn (cutoffOf t) at m y cols others count (lines (t .keys) (t .values) (cellCount t) (t .reals) allWhole)) → Aims rs rs' b → ws' ≡ set ws cellCountAt size → c ≡ worse a b → Substitutes art at row t (sparse ws' ks bs rs' vs) c
+  substitute-calls count ws ws' ks bs rs rs' vs size a b {c} f n g o h q =
+      let l : Alike (lines ks vs size rs a) l₁ = subst (λ (z : ℕ). Alike (lines ks vs size rs a) (linesIn (cutoffOf t) at m y cols others z (lines (t .keys) (t .values) (cellCount t) (t .reals) allWhole))) f g in
+      let o₁ : Aims (l₁ .reals) rs' b = subst (λ (z : List Float). Aims z rs' b) (l .reals) o in
+      let h₁ : ws' ≡ set ws cellCountAt (l₁ .size) = h ∙ ap (set ws cellCountAt) (l .size) in
+      let e : sparse ws' (l₁ .keys) bs rs' (l₁ .vals) ≡ u = tables-are ws ws' (l₁ .keys) bs (l₁ .reals) rs' (l₁ .vals) (l₁ .size) (l₁ .mark) b n refl o₁ h₁ in
+      let z : getD ws' cellCountAt 0 ≡ l₁ .size = ap (λ (s : Sparse). getD (s .words) cellCountAt 0) e ∙ size-now in
+      let k : c ≡ substitutedMark art j row t so live m cols others past same = q ∙ ap (λ (x : Mark). worse x b) (l .mark) ∙ mark-is (l₁ .keys) (l₁ .reals) rs' (l₁ .vals) (l₁ .size) (l₁ .mark) b refl o₁ in
+      same-substitutes ws' ks bs rs' vs c z (l .keys) (l .vals) (l .wide) (l .wides)
+      (subst (λ (x : Mark). Substitutes art at row t (sparse ws' (l₁ .keys) bs rs' (l₁ .vals)) x) (sym k)
+      (subst (λ (x : Sparse). Substitutes art at row t x (substitutedMark art j row t so live m cols others past same)) (sym e) done))

@@ -10,6 +10,7 @@ pub mod marker;
 pub mod objective;
 pub mod pivoting;
 pub mod ratios;
+pub mod spots;
 pub mod subject;
 pub mod substitution;
 pub mod symbols;

@@ -5,15 +5,17 @@ ghost use Prim.Native.Nat.{_≤_};
 ghost use lib.ListN.{getD};
 ghost use Rattle.steps.specs.Symbol.{holds};
 ghost use Rattle.choose.specs.Choose.{Within};
-ghost use Rattle.sparse.specs.Places.{mostRows, rowCountAt};
+ghost use Rattle.sparse.specs.Places.{mostRows, rowCountAt, cellCountAt};
 ghost use Rattle.cells.specs.Names.{lastPlace};
+ghost use Rattle.cells.specs.Spots.{Spots};
 ghost use Rattle.substituting.specs.Notes.{isExternalKind};
 ghost use Rattle.waist.specs.Working.{lent, Sound};
 ghost use Rattle.waist.specs.Choosing.{isDummyKind};
 ghost use Rattle.waist.specs.Ratios.{columnAt};
 ghost use Rattle.waist.specs.MarkerRow.{dummyRowOf, externalRowOf};
-use cells::ROW_SPAN;
-use cells::search::cell;
+use crate::spots::spots_of;
+use cells::LINES_ROOM;
+use cells::spots::spot_cell;
 use choose::Found;
 use sparse::Bytes;
 use sparse::CELL_COUNT;
@@ -34,15 +36,17 @@ fn column_at(
     reals: &Reals,
     values: &Values,
     p: u8,
+    spots: &[u16; LINES_ROOM],
     i: usize,
 ) -> f64
     requires { ⌜ Sound false (lent words keys bytes reals values) ⌝ }
     requires { ⌜ p ≤ lastPlace ⌝ }
     requires { ⌜ i ≤ mostRows ⌝ }
+    requires { ⌜ Spots (now keys) (getD (now words) cellCountAt 0) p (now spots) ⌝ }
     ensures { λ r. ⌜ r ≡ columnAt (lent (words .entry) (keys .entry) (bytes .entry) (reals .entry) (values .entry)) p i ⌝ }
 {
     let m = words[CELL_COUNT] as usize;
-    cell(keys, values, m, i as u16 * ROW_SPAN + p as u16)
+    spot_cell(keys, values, m, p, spots, i)
 }
 
 fn holds_as_dummy(kind: u8, x: f64) -> bool
@@ -66,10 +70,11 @@ pub fn first_dummy_row(
     ensures { λ r. ⌜ Within (getD (now (words .entry)) rowCountAt 0) r ⌝ }
 {
     let n = words[ROW_COUNT] as usize;
+    let spots = spots_of(false, words, keys, bytes, reals, values, p);
     let mut i = 1;
     while i <= n {
         let kind = kind_at(bytes, bytes[ROW_PLACES + i]);
-        let x = column_at(words, keys, bytes, reals, values, p, i);
+        let x = column_at(words, keys, bytes, reals, values, p, &spots, i);
         if holds_as_dummy(kind, x) {
             return Found::At(i);
         }
@@ -98,10 +103,11 @@ pub fn last_external_row(
     ensures { λ r. ⌜ r ≡ externalRowOf p (lent (words .entry) (keys .entry) (bytes .entry) (reals .entry) (values .entry)) ⌝ }
     ensures { λ r. ⌜ Within (getD (now (words .entry)) rowCountAt 0) r ⌝ }
 {
+    let spots = spots_of(false, words, keys, bytes, reals, values, p);
     let mut i = words[ROW_COUNT] as usize;
     while 0 < i {
         let kind = kind_at(bytes, bytes[ROW_PLACES + i]);
-        let x = column_at(words, keys, bytes, reals, values, p, i);
+        let x = column_at(words, keys, bytes, reals, values, p, &spots, i);
         if holds_as_external(kind, x) {
             return Found::At(i);
         }

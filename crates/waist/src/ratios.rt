@@ -12,9 +12,9 @@ ghost use Rattle.substituting.specs.Notes.{isExternalKind};
 ghost use Rattle.waist.specs.Working.{lent, Sound};
 ghost use Rattle.waist.specs.Choosing.{isDummyKind};
 ghost use Rattle.waist.specs.Ratios.{signed, over, ratioRowOf, dualEnteringOf};
+use crate::spots::spots_of;
 use cells::ROW_ROOM;
-use cells::ROW_SPAN;
-use cells::search::cell;
+use cells::spots::spot_cell;
 use choose::Best;
 use choose::Found;
 use sparse::Bytes;
@@ -115,11 +115,12 @@ pub fn ratio_row(
 {
     let n = words[ROW_COUNT] as usize;
     let m = words[CELL_COUNT] as usize;
+    let spots = spots_of(art, words, keys, bytes, reals, values, p);
     let mut b = no_best();
     let mut i = 1;
     while i <= n {
         let kind = kind_at(bytes, bytes[ROW_PLACES + i]);
-        let x = cell(keys, values, m, i as u16 * ROW_SPAN + p as u16);
+        let x = spot_cell(keys, values, m, p, &spots, i);
         b = row_better(down, i, kind, x, reals[CONSTANTS + i], b);
         i += 1;
     }

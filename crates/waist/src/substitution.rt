@@ -2,14 +2,17 @@
 ghost use mathlib.Core.Path.{_≡_};
 ghost use mathlib.Core.Bool.{cond};
 ghost use Prim.Native.Nat.{_+_, _≤_, _<_};
-ghost use lib.ListN.{length, getD};
+ghost use lib.ListN.{length, getD, replicate};
 ghost use Rattle.rows.specs.Marks.{markOf};
 ghost use Rattle.sparse.specs.Places.{mostRows, symbolCountAt};
-ghost use Rattle.cells.specs.Names.{rowRoom};
+ghost use Rattle.cells.specs.Names.{rowRoom, linesRoom, cellRoom};
 ghost use Rattle.substituting.specs.Loose.{SettledRow};
 ghost use Rattle.waist.specs.Working.{sparse, Sound};
 ghost use Rattle.waist.specs.Substitutes.{Substitutes};
+use cells::LINES_ROOM;
 use cells::ROW_ROOM;
+use cells::spots::fill_spots;
+use cells::spots::no_spots;
 use rows::number::Wrote;
 use rows::number::joined;
 use rows::row::wide;
@@ -22,10 +25,10 @@ use sparse::Reals;
 use sparse::SYMBOL_COUNT;
 use sparse::Values;
 use sparse::Words;
-use substituting::lines::substitute_lines;
 use substituting::loose::loose_run;
 use substituting::notes::note_rows;
 use substituting::objective::substitute_objective;
+use substituting::onepass::substitute_lines;
 
 // An array by value tells its length, and one behind a reference does not: these hand it over.
 fn told(t: [u16; ROW_ROOM])
@@ -63,11 +66,13 @@ fn substitute_with(
     others: &mut [f64; ROW_ROOM],
     fresh: &mut [u16; ROW_ROOM],
     sums: &mut [f64; ROW_ROOM],
+    spots: &mut [u16; LINES_ROOM],
 ) -> Wrote
     requires { ⌜ Sound art (sparse (now words) (now keys) (now bytes) (now reals) (now values)) ⌝ }
     requires { ⌜ 1 ≤ at ⌝ }
     requires { ⌜ at ≤ getD (now words) symbolCountAt 0 ⌝ }
     requires { ⌜ SettledRow (getD (now words) symbolCountAt 0) (now row) ⌝ }
+    requires { ⌜ now spots ≡ replicate linesRoom cellRoom ⌝ }
     ensures { λ r. ⌜ Substitutes art at (now (row .entry)) (sparse (now (words .entry)) (now (keys .entry)) (now (bytes .entry)) (now (reals .entry)) (now (values .entry))) (sparse (now (words .exit)) (now (keys .exit)) (now (bytes .exit)) (now (reals .exit)) (now (values .exit))) (markOf r) ⌝ }
 {
     let cutoff = reals[CUTOFF];
@@ -78,7 +83,8 @@ fn substitute_with(
     let n = words[CELL_COUNT] as usize;
     let lines = lines_of(art, count);
     let y = row[0];
-    note_rows(words, bytes, keys, values, n, lines, count, at, y);
+    fill_spots(keys, n, at, spots);
+    note_rows(words, bytes, keys, values, n, lines, count, at, spots, y);
     let m = loose_run(row, width, cols, others);
     let r = substitute_lines(
         cutoff,
@@ -88,6 +94,7 @@ fn substitute_with(
         reals,
         lines,
         at,
+        spots,
         cols,
         others,
         m,
@@ -122,6 +129,7 @@ pub fn substitute(
     let mut others: [f64; ROW_ROOM] = [0.0; ROW_ROOM];
     let mut fresh: [u16; ROW_ROOM] = [0; ROW_ROOM];
     let mut sums: [f64; ROW_ROOM] = [0.0; ROW_ROOM];
+    let mut spots = no_spots();
     substitute_with(
         art,
         words,
@@ -135,5 +143,6 @@ pub fn substitute(
         &mut others,
         &mut fresh,
         &mut sums,
+        &mut spots,
     )
 }

@@ -338,6 +338,7 @@ module _ (s : State) (r : Reads s) (plain : PlainState s) where
         constraints = omega (arith, tags);
         edits = omega (arith, tags);
         terms = omega (arith, terms, tags);
+        gone = r .waits .few;
         objective = along-length _ xs (s .tableau .objective) (r .fits .objective);
         wide = row-long;
         settled = settles;

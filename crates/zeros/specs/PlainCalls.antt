@@ -9,17 +9,17 @@ use Rattle.steps.specs.Number.{zero64, isFinite, constantBound, wholeIf, _-₆�
 use Rattle.steps.specs.Strength.{clip}
 use Rattle.steps.specs.Symbol.{Symbol, isError, isExternal}
 use Rattle.steps.specs.Row.{Row}
-use Rattle.steps.specs.State.{Term, Relation, equal, strengthOf, Tag, Basic, Constraint, Edit, State}
+use Rattle.steps.specs.State.{Term, Relation, equal, strengthOf, Tag, Basic, Variable, Constraint, Edit, State}
 use Rattle.steps.specs.Work.{Work, Outcome, refused, going, _>>=_, refuse, checkFinite, withTableau, withChanges, withRows, marking, findRow, dropRow, purge}
-use Rattle.steps.specs.Changes.{note, fetchChanges}
+use Rattle.steps.specs.Changes.{note, tellGone, fetchChanges}
 use Rattle.steps.specs.Substitute.{rowsOf, pivot}
 use Rattle.steps.specs.Optimise.{optimise, theObjective, dualOptimise}
 use Rattle.steps.specs.CreateRow.{withVariables, insertInObjective}
 use Rattle.steps.specs.Add.{wholeWithin, Added, addSteps}
-use Rattle.steps.specs.Remove.{insertRowInObjective, removeMarkerEffects, removeConstraintEffects, getMarkerLeavingRow, noteLeaving, dropMarker, purgeTag, Fallen, useLess, dropUse, dropUses, removeSteps}
+use Rattle.steps.specs.Remove.{insertRowInObjective, removeMarkerEffects, removeConstraintEffects, getMarkerLeavingRow, noteLeaving, dropMarker, purgeTag, Fallen, useLess, lose, dropUse, dropUses, removeSteps}
 use Rattle.steps.specs.Edit.{editTerms, addEditSteps, shiftOf, shiftRow, shiftRows, shiftConstants, suggestSteps}
-use Rattle.steps.specs.Tests.{firstRefusal, addTests, addEditTests, dropTests, groupOf, keptTerms, findConstraint, keepConstraint, dropConstraint, findEdit, keepEdit, dropEdit}
-use Rattle.steps.specs.Calls.{Result, empty, begin, finish, refusedBy, acceptedAs, conclude, concludeAdd, add, removeStored, remove, onward, removeAll, allOrNone, dropGroup, addEdit, removeEdit, suggest}
+use Rattle.steps.specs.Tests.{firstRefusal, addTests, addEditTests, dropTests, groupOf, keptTerms, findConstraint, keepConstraint, dropConstraint, findEdit, keepEdit, dropEdit, goneFull}
+use Rattle.steps.specs.Calls.{Result, empty, begin, finish, refusedBy, acceptedAs, conclude, concludeAdd, add, removeStored, unlessFull, remove, onward, removeAll, allOrNone, dropGroup, addEdit, removeEditStored, removeEdit, suggest}
 use Rattle.keeps.specs.Passes.{Ends, ends-bind}
 use Rattle.zeros.specs.PlainAdding.{marked, aimed, revalued, objective-plain, add-steps-plain}
 use Rattle.zeros.specs.Plain.{PlainRow, PlainRows, PlainWork, drop-plain, noted-plain, pivot-plain, purge-plain, checked-plain, optimise-plain, dual-plain}
@@ -88,7 +88,7 @@ purge-tag-plain tag w h = purge-plain (tag .marker .id) (elim (tag .other) [ non
     go (some o) = purge-plain (o .id) w h
 
 drop-use-plain : (t : Term) (w : Work) → PlainWork w → PlainWork (dropUse t w)
-unfolding dropUse
+unfolding dropUse lose
 drop-use-plain t w h = go (fallen .gone)
   where
     fallen : Fallen
@@ -100,9 +100,12 @@ drop-use-plain t w h = go (fallen .gone)
     p : PlainWork v
     p = revalued (fallen .variables) w h
 
-    go : (o : Option Symbol) → PlainWork (elim o [ none ↦ v | some s ↦ purge (s .id) v ])
+    told : (x : Variable) → PlainWork (withChanges (tellGone x (v .changes)) v)
+    told x = unfold withChanges in record { rows = p .rows; artificial = p .artificial }
+
+    go : (o : Option Variable) → PlainWork (elim o [ none ↦ v | some x ↦ lose x v ])
     go none = p
-    go (some s) = purge-plain (s .id) v p
+    go (some x) = purge-plain (x .symbol .id) (withChanges (tellGone x (v .changes)) v) (told x)
 
 drop-uses-plain : (ts : List Term) (w : Work) → PlainWork w → PlainWork (dropUses ts w)
 unfolding dropUses
@@ -187,13 +190,22 @@ removed-plain n c b s h =
     concluded s h (removeSteps b (c .tag) (c .strength) (c .terms) (begin s)) (λ w. finish w (dropConstraint n (s .constraints)) (s .edits)) (λ w p. finished w _ (s .edits) p)
     (remove-steps-plain b (c .tag) (c .strength) (c .terms) (begin s) (begin-plain s h))
 
+-- 25 leaves the state as it is
+unless-full-plain : (ts : List Term) (s : State) (r : Result) → PlainState s → PlainState (r .state) → PlainState (unlessFull ts s r .state)
+unfolding unlessFull refusedBy
+unless-full-plain ts s r h k = go (goneFull ts s)
+  where
+    go : (z : Bool) → PlainState (elim z as (λ _. Result) [ true ↦ refusedBy 25 0 (s .whole) s | false ↦ r ] .state)
+    go true = h
+    go false = k
+
 pub remove-plain : (n b : ℕ) (s : State) → PlainState s → PlainState (remove n b s .state)
 unfolding remove
 remove-plain n b s h = go (findConstraint n (s .constraints))
   where
-    go : (o : Option Constraint) → PlainState (elim o as (λ _. Result) [ none ↦ refusedBy 5 0 (s .whole) s | some c ↦ removeStored n c b s ] .state)
+    go : (o : Option Constraint) → PlainState (elim o as (λ _. Result) [ none ↦ refusedBy 5 0 (s .whole) s | some c ↦ unlessFull (c .terms) s (removeStored n c b s) ] .state)
     go none = unfold refusedBy in h
-    go (some c) = removed-plain n c b s h
+    go (some c) = unless-full-plain (c .terms) s (removeStored n c b s) h (removed-plain n c b s h)
 
 onward-plain : (r q : Result) → PlainState (r .state) → PlainState (q .state) → PlainState (onward r q .state)
 unfolding onward
@@ -245,9 +257,12 @@ removeEdit-plain n b s h = go (findEdit n (s .edits))
     next : Work → State
     next w = finish w (s .constraints) (dropEdit n (s .edits))
 
-    go : (o : Option Edit) → PlainState (elim o as (λ _. Result) [ none ↦ refusedBy 8 0 (s .whole) s | some e ↦ conclude s (removeSteps b (e .tag) (e .strength) (editTerms n) (begin s)) next ] .state)
+    stored : (e : Edit) → PlainState (removeEditStored n e b s .state)
+    stored e = unfold removeEditStored in concluded s h (removeSteps b (e .tag) (e .strength) (editTerms n) (begin s)) next (λ w p. finished w (s .constraints) _ p) (remove-steps-plain b (e .tag) (e .strength) (editTerms n) (begin s) (begin-plain s h))
+
+    go : (o : Option Edit) → PlainState (elim o as (λ _. Result) [ none ↦ refusedBy 8 0 (s .whole) s | some e ↦ unlessFull (editTerms n) s (removeEditStored n e b s) ] .state)
     go none = unfold refusedBy in h
-    go (some e) = concluded s h (removeSteps b (e .tag) (e .strength) (editTerms n) (begin s)) next (λ w p. finished w (s .constraints) _ p) (remove-steps-plain b (e .tag) (e .strength) (editTerms n) (begin s) (begin-plain s h))
+    go (some e) = unless-full-plain (editTerms n) s (removeEditStored n e b s) h (stored e)
 
 pub suggest-plain : (n : ℕ) (x : Float) (b : ℕ) (s : State) → PlainState s → PlainState (suggest n x b s .state)
 unfolding suggest

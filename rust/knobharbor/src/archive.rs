@@ -3,13 +3,13 @@
 use crate::{RelationalOperator, Term};
 
 // The lengths of the tables.
-const WORDS: usize = 306;
+const WORDS: usize = 338;
 const CELLS: usize = 6579;
 const BYTES: usize = 1312;
 const REALS: usize = 1132;
 
-/// The places of a fetch's lists.
-pub const PLACES: usize = 32;
+/// The places of a fetch's three lists.
+pub const PLACES: usize = 64;
 
 /// The bytes of the service cable's reader, and the places of what it hands over.
 pub const CABLE: usize = 201;
@@ -135,6 +135,7 @@ extern "C" {
         answer: &mut [u32; 2],
         numbers: &mut [u64; PLACES],
         moved: &mut [f64; PLACES],
+        gone: &mut [u8; PLACES],
     );
     fn knobharbor_cable_take(
         cable: *mut u8,
@@ -224,12 +225,33 @@ pub fn suggest(t: &mut Tables, w: &mut Tables, variable: u32, value: f64, budget
     change!(knobharbor_suggest, t, w, variable, value, budget)
 }
 
-/// How many places of both lists are filled; none where the tables do not read as a state.
-pub fn fetch(t: &mut Tables, numbers: &mut [u64; PLACES], moved: &mut [f64; PLACES]) -> usize {
+/// What a fetch lists, and how many places of the three lists are filled; none where the tables do not read as a state.
+pub struct Fetched {
+    pub numbers: [u64; PLACES],
+    pub moved: [f64; PLACES],
+    pub gone: [u8; PLACES],
+    pub count: usize,
+}
+
+pub fn fetch(t: &mut Tables) -> Fetched {
+    let mut f = Fetched { numbers: [0; PLACES], moved: [0.0; PLACES], gone: [0; PLACES], count: 0 };
     let mut answer = [0; 2];
     // The references are to whole arrays.
-    unsafe { knobharbor_fetch(&mut t.words, &t.keys, &mut t.bytes, &mut t.reals, &t.values, &mut answer, numbers, moved) };
-    answer[1] as usize
+    unsafe {
+        knobharbor_fetch(
+            &mut t.words,
+            &t.keys,
+            &mut t.bytes,
+            &mut t.reals,
+            &t.values,
+            &mut answer,
+            &mut f.numbers,
+            &mut f.moved,
+            &mut f.gone,
+        )
+    };
+    f.count = answer[1] as usize;
+    f
 }
 
 pub fn value(t: &Tables, variable: u32) -> f64 {
@@ -314,3 +336,6 @@ pub fn strength_clip(s: f64) -> f64 {
     // numbers alone, no pointer
     unsafe { knobharbor_strength_clip(s) }
 }
+
+#[cfg(test)]
+mod tests;

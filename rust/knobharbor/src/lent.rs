@@ -1,7 +1,7 @@
 //! The calls over tables that the caller lends: fixed sizes, no heap.
-use crate::archive::{self, Added, Answer, Tables, PLACES};
+use crate::archive::{self, Added, Answer, Tables};
+use crate::changes::{Changes, Entries};
 use crate::{Refusal, RelationalOperator, Term, Variable, LARGEST_BUDGET, USUAL_CUTOFF, USUAL_GROUP};
-use core::ops::Deref;
 
 /// A solver over lent tables. Constraints have numbers, which the caller chooses. Every call ends within the pivot budget, and a
 /// refused call changes nothing.
@@ -166,35 +166,13 @@ impl<'a> LentSolver<'a> {
         archive::value(self.tables, v.number())
     }
 
-    /// The variables whose values changed since the last fetch: see `Solver::fetch_changes`.
+    /// The variables whose values changed since the last fetch, one pair a variable: see `Solver::fetch_changes`.
     pub fn fetch(&mut self) -> Changes {
         Changes::of(self.tables)
     }
-}
 
-/// What a fetch lists: variables by ascending number, with their values. It derefs to a slice.
-#[derive(Copy, Clone, Debug)]
-pub struct Changes {
-    list: [(Variable, f64); PLACES],
-    count: usize,
-}
-
-impl Changes {
-    pub(crate) fn of(tables: &mut Tables) -> Changes {
-        let (mut numbers, mut values) = ([0; PLACES], [0.0; PLACES]);
-        let count = archive::fetch(tables, &mut numbers, &mut values);
-        let mut list = [(Variable::from_number(0), 0.0); PLACES];
-        for (place, (n, x)) in list.iter_mut().zip(numbers.into_iter().zip(values)) {
-            *place = (Variable::from_number(n as u32), x);
-        }
-        Changes { list, count }
-    }
-}
-
-impl Deref for Changes {
-    type Target = [(Variable, f64)];
-
-    fn deref(&self) -> &[(Variable, f64)] {
-        &self.list[..self.count]
+    /// The same list entry by entry, those that are gone told apart: see `Solver::fetch_entries`.
+    pub fn fetch_entries(&mut self) -> Entries {
+        Entries::of(self.tables)
     }
 }

@@ -56,6 +56,7 @@ mod operators;
 
 mod archive;
 mod cable;
+mod changes;
 #[cfg(feature = "alloc")]
 mod errors;
 #[cfg(feature = "alloc")]
@@ -71,11 +72,12 @@ mod variable;
 
 pub use archive::Tables;
 pub use cable::{CableReader, Line};
+pub use changes::{Change, Changes, Entries};
 #[cfg(feature = "alloc")]
 pub use errors::{AddConstraintError, AddEditVariableError, Refused, RemoveConstraintError, RemoveEditVariableError, SuggestValueError};
 #[cfg(feature = "alloc")]
 pub use expression::{Constraint, Expression, PartialConstraint};
-pub use lent::{Changes, LentSolver};
+pub use lent::LentSolver;
 pub use refusal::Refusal;
 #[cfg(feature = "alloc")]
 pub use solver::Solver;

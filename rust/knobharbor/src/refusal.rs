@@ -79,6 +79,8 @@ refusals! {
     LineTooManyVariables = 23, "the line has more than 16 variables";
     /// A cutoff is above 0 and at most `LARGEST_CUTOFF`.
     CutoffOutOfRange = 24, "the cutoff is not above 0 and at most 1E-6";
+    /// A removal or a drop would make a 33rd variable wait that is gone: a fetch tells of them all. No run of a solver's calls comes to it.
+    TooManyGone = 25, "more than 32 variables that are gone would wait for a fetch";
     /// A constraint is in a group from 1 on: edits are in group 0.
     GroupZero = 26, "group 0 is the edits' own";
     /// No constraint is in the group.

@@ -1,6 +1,6 @@
 //! The solver: its tables, its working room, and the numbers of its constraints.
 use crate::archive::{self, Added, Answer, Tables};
-use crate::lent::Changes;
+use crate::changes::{Change, Changes, Entries};
 use crate::{
     AddConstraintError, AddEditVariableError, Constraint, Refusal, Refused, RemoveConstraintError, RemoveEditVariableError,
     SuggestValueError, Variable, LARGEST_BUDGET, USUAL_CUTOFF, USUAL_GROUP,
@@ -40,6 +40,7 @@ pub struct Solver {
     constraints: Vec<(Constraint, u32)>,
     next: u32,
     changes: Vec<(Variable, f64)>,
+    entries: Vec<Change>,
     last: Answer,
     refused: Option<Refused>,
 }
@@ -65,7 +66,8 @@ impl Solver {
     }
 
     fn over(held: Box<Held>, cutoff: f64, last: Answer) -> Solver {
-        Solver { held, budget: LARGEST_BUDGET, cutoff, constraints: Vec::new(), next: 0, changes: Vec::new(), last, refused: None }
+        let (constraints, changes, entries) = (Vec::new(), Vec::new(), Vec::new());
+        Solver { held, budget: LARGEST_BUDGET, cutoff, constraints, next: 0, changes, entries, last, refused: None }
     }
 
     /// A call that needs more pivots than this is refused with `Refusal::BudgetUsedUp`, and changes nothing.
@@ -198,14 +200,23 @@ impl Solver {
         Ok(self.concluded(answer, None)?)
     }
 
-    /// The variables whose values changed since the last fetch, by ascending number; a second fetch straight after reports none.
-    /// A variable that no constraint or edit names any more is forgotten without notice, and a new one that stands at 0 is not
-    /// reported: ask `get_value`.
+    /// The variables whose values changed since the last fetch, by ascending number, one pair a variable; a second fetch straight after
+    /// reports none. One that no constraint or edit names any more is reported at 0, as `get_value` has it; if it is back since, with
+    /// its value. A new one that stands at 0 is not reported. So whoever takes what was never reported as 0 holds every value.
     pub fn fetch_changes(&mut self) -> &[(Variable, f64)] {
         let changes = Changes::of(&mut self.held.tables);
         self.changes.clear();
         self.changes.extend_from_slice(&changes);
         &self.changes
+    }
+
+    /// The same fetch, entry by entry: a variable that no constraint or edit names any more is `Change::Gone`, once, and one that is back
+    /// since is that and then `Change::Moved`. (A fetch by either name is a fetch: what one has listed, the other does not list again.)
+    pub fn fetch_entries(&mut self) -> &[Change] {
+        let entries = Entries::of(&mut self.held.tables);
+        self.entries.clear();
+        self.entries.extend_from_slice(&entries);
+        &self.entries
     }
 
     /// The variable's value; 0 for one that the solver does not know.
@@ -217,6 +228,7 @@ impl Solver {
     pub fn reset(&mut self) {
         self.constraints.clear();
         self.changes.clear();
+        self.entries.clear();
         self.refused = None;
         self.last = archive::reset(&mut self.held.tables, self.cutoff);
     }
@@ -228,6 +240,7 @@ impl Solver {
         self.cutoff = cutoff;
         self.constraints.clear();
         self.changes.clear();
+        self.entries.clear();
         Ok(())
     }
 }
@@ -250,6 +263,7 @@ impl Clone for Solver {
             constraints: self.constraints.clone(),
             next: self.next,
             changes: self.changes.clone(),
+            entries: self.entries.clone(),
             last: self.last,
             refused: self.refused.clone(),
         }

@@ -12,17 +12,17 @@ use Rattle.fetches.proofs.fetch_changes.Tie as tie
 returns : tie.Need-returns
 unfolding zero64
 returns c =
-    let a = c .before .before .before .before .before .before .before .args in
-    fetch-refused (tables (a .words .now) (a .keys .now) (a .bytes .now) (a .reals .now) (a .values .now)) (c .before .reads-as-state .ensures) (not-true _ (c .if1 .taken)) refl refl
+    let a = c .before .before .before .before .before .before .before .before .args in
+    fetch-refused (tables (a .words .now) (a .keys .now) (a .bytes .now) (a .reals .now) (a .values .now)) (c .before .reads-as-state .ensures) (not-true _ (c .if1 .taken)) refl refl refl
 
 fetch-in-requires : tie.Need-fetch-in-requires
 unfolding zero64
-fetch-in-requires c κs = (sym (c .before .before .before .before .before .before .reads-as-state .ensures) ∙ not-false _ (c .before .before .before .before .before .if1 .left), (refl, refl))
+fetch-in-requires c κs = (sym (c .before .before .before .before .before .before .before .reads-as-state .ensures) ∙ not-false _ (c .before .before .before .before .before .before .if1 .left), (refl, (refl, refl)))
 
 returns-2 : tie.Need-returns-2
 returns-2 c =
-    let a = c .before .before .before .before .before .before .before .before .before .before .before .before .before .args in
-    c .fetch-in .ensures ∙ fetch-accepted (tables (a .words .now) (a .keys .now) (a .bytes .now) (a .reals .now) (a .values .now)) (c .before .before .before .before .before .before .before .reads-as-state .ensures) (not-false _ (c .before .before .before .before .before .before .if1 .left))
+    let a = c .before .before .before .before .before .before .before .before .before .before .before .before .before .before .before .args in
+    c .fetch-in .ensures ∙ fetch-accepted (tables (a .words .now) (a .keys .now) (a .bytes .now) (a .reals .now) (a .values .now)) (c .before .before .before .before .before .before .before .before .reads-as-state .ensures) (not-false _ (c .before .before .before .before .before .before .before .if1 .left))
 
 pub fetch-changes-spec : {M : Type 1} → statement M
 fetch-changes-spec = tie.close (tie.spec (λ c κs. search needs) returns fetch-in-requires returns-2)

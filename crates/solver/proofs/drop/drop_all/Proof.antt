@@ -17,13 +17,13 @@ abbrev μ-loop : tie.MeasureT-loop
 μ-loop words₀ keys₀ bytes₀ reals₀ values₀ g budget pivots₀ words keys bytes reals values pivots = getD words constraintCountAt 0
 
 loop-holds : tie.Need-loop-holds Inv-loop μ-loop
-loop-holds c = at-start (c .args .g) (c .args .budget) (tables (c .args .words .now) (c .args .keys .now) (c .args .bytes .now) (c .args .reals .now) (c .args .values .now)) (c .pre)
+loop-holds c = at-start (c .args .g) (c .args .budget) (tables (c .args .words .now) (c .args .keys .now) (c .args .bytes .now) (c .args .reals .now) (c .args .values .now)) (c .pre .0) (c .pre .1)
 
 group-lives-requires : tie.Need-group-lives-requires Inv-loop μ-loop
 group-lives-requires c κs = reads-form (tables (c .before .loop .words) (c .before .loop .keys) (c .before .loop .bytes) (c .before .loop .reals) (c .before .loop .values)) (c .before .loop .inv .reads) .counts .constraints
 
 drop-first-requires : tie.Need-drop-first-requires Inv-loop μ-loop
-drop-first-requires c κs = (c .before .before .before .before .before .before .before .before .loop .inv .reads, (sym (c .before .before .before .before .before .before .group-lives .ensures) ∙ c .before .before .before .before .before .if1 .taken, c .before .before .before .before .before .before .before .before .loop .inv .spent))
+drop-first-requires c κs = (c .before .before .before .before .before .before .before .before .loop .inv .reads, (sym (c .before .before .before .before .before .before .group-lives .ensures) ∙ c .before .before .before .before .before .if1 .taken, (c .before .before .before .before .before .before .before .before .loop .inv .spent, c .before .before .before .before .before .before .before .before .loop .inv .removable)))
 
 returns : tie.Need-returns Inv-loop μ-loop
 returns c = halfway-refused (c .before .before .before .before .before .before .before .before .before .before .before .before .args .g) (c .before .before .before .before .before .before .before .before .before .before .before .before .args .budget) (tables (c .before .before .before .before .before .before .before .before .before .before .before .before .args .words .now) (c .before .before .before .before .before .before .before .before .before .before .before .before .args .keys .now) (c .before .before .before .before .before .before .before .before .before .before .before .before .args .bytes .now) (c .before .before .before .before .before .before .before .before .before .before .before .before .args .reals .now) (c .before .before .before .before .before .before .before .before .before .before .before .before .args .values .now)) (tables (c .before .before .before .before .before .before .before .before .before .before .before .loop .words) (c .before .before .before .before .before .before .before .before .before .before .before .loop .keys) (c .before .before .before .before .before .before .before .before .before .before .before .loop .bytes) (c .before .before .before .before .before .before .before .before .before .before .before .loop .reals) (c .before .before .before .before .before .before .before .before .before .before .before .loop .values)) (c .before .before .before .before .before .before .before .before .before .before .before .loop .pivots) (c .before .before .before .before .before .before .before .before .before .before .before .loop .inv) (sym (c .before .before .before .before .before .before .before .before .before .group-lives .ensures) ∙ c .before .before .before .before .before .before .before .before .if1 .taken) (c .before .before .drop-first .result) (tables (c .before .before .drop-first .last .0) (c .before .before .drop-first .last .1 .0) (c .before .before .drop-first .last .1 .1 .0) (c .before .before .drop-first .last .1 .1 .1 .0) (c .before .before .drop-first .last .1 .1 .1 .1 .0)) (c .before .before .drop-first .ensures) (c .if2 .taken)

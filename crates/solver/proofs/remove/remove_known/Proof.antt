@@ -3,7 +3,7 @@ use native.Mathlib.Omega.{arith}
 use Rattle.sparse_copy.specs.Over.{tables}
 use Rattle.solver.specs.Begin.{counts-at-start, constraints-at-start, standing-at-start}
 use Rattle.solver.specs.StoredTerms.{stored-terms, pack-is}
-use Rattle.solver.specs.Removing.{in-range, removal-tag, removal-stores, removal-refused, removal-accepted}
+use Rattle.solver.specs.Removing.{in-range, removal-tag, removal-room, removal-stores, removal-refused, removal-accepted}
 use borrow.Author.Needs.{needs}
 use Rattle.solver.proofs.remove.remove_known.Statement.{statement}
 use Rattle.solver.proofs.remove.remove_known.Tie as tie
@@ -52,7 +52,8 @@ remove-steps-requires c κs =
     let h = c .before .before .before .before .before .before .before .before .before .before .before .before .pre .0 in
     let t = tables (c .before .before .before .before .before .before .before .before .before .before .before .before .args .words .now) (h .0) (c .before .before .before .before .before .before .before .before .before .before .before .before .args .bytes .now) (c .before .before .before .before .before .before .before .before .before .before .before .before .args .reals .now) (h .1) in
     let w = tables (c .before .before .before .before .before .before .before .before .before .before .before .before .args .wwords .now) (c .before .before .before .before .before .before .before .before .before .before .before .before .args .wkeys .now) (c .before .before .before .before .before .before .before .before .before .before .before .before .args .wbytes .now) (c .before .before .before .before .before .before .before .before .before .before .before .before .args .wreals .now) (c .before .before .before .before .before .before .before .before .before .before .before .before .args .wvalues .now) in
-    (rw (c .before .before .before .before .before .before .before .before .before .before .before .stored-mark .ensures) (standing-at-start t w (h .2)), removal-tag (c .before .before .before .before .before .before .before .before .before .before .before .before .args .n) (c .before .before .before .before .before .before .before .before .before .before .before .before .args .budget) t w (h .2) (c .before .before .before .before .before .before .before .before .before .look-up .result) (c .before .before .before .before .before .before .before .before .before .before .before .before .pre .1) (c .before .before .before .before .before .before .before .before .before .look-up .ensures .0))
+    let l = in-range (c .before .before .before .before .before .before .before .before .before .before .before .before .args .n) (c .before .before .before .before .before .before .before .before .before .before .before .before .args .budget) t w (h .2) (c .before .before .before .before .before .before .before .before .before .look-up .result) (c .before .before .before .before .before .before .before .before .before .before .before .before .pre .1) (c .before .before .before .before .before .before .before .before .before .look-up .ensures .0) in
+    (rw (c .before .before .before .before .before .before .before .before .before .before .before .stored-mark .ensures) (standing-at-start t w (h .2)), (removal-tag (c .before .before .before .before .before .before .before .before .before .before .before .before .args .n) (c .before .before .before .before .before .before .before .before .before .before .before .before .args .budget) t w (h .2) (c .before .before .before .before .before .before .before .before .before .look-up .result) (c .before .before .before .before .before .before .before .before .before .before .before .before .pre .1) (c .before .before .before .before .before .before .before .before .before .look-up .ensures .0), removal-room (c .before .before .before .before .before .before .before .before .before .before .before .before .args .n) (c .before .before .before .before .before .before .before .before .before .before .before .before .args .budget) t w (h .2) (c .before .before .before .before .before .before .before .before .before .look-up .result) (c .before .before .before .before .before .before .before .before .before .before .before .before .pre .1) (c .before .before .before .before .before .before .before .before .before .look-up .ensures .0) (c .before .before .before .before .before .before .before .before .before .before .before .stored-mark .result) (c .before .before .before .before .before .before .before .before .before .before .before .stored-mark .ensures) (c .before .before .before .before .before .constraint-terms .result) (pack-is t (h .2 .reads) (c .before .before .before .before .before .before .before .before .before .look-up .result) l (c .before .before .before .before .before .constraint-terms .ensures))))
 
 returns : tie.Need-returns
 returns c =

@@ -1,9 +1,10 @@
 -- `solver::remove_edit::remove_edit_known` meets its contract. Assumes nothing.
 use native.Mathlib.Omega.{arith}
 use Rattle.sparse_copy.specs.Over.{tables}
+use Rattle.refusals.specs.Known.{remove-edit-passed}
 use Rattle.solver.specs.Begin.{counts-at-start, numbers-at-start, standing-at-start}
 use Rattle.solver.specs.Placed.{variable-known}
-use Rattle.solver.specs.EditRemoving.{in-range, removal-tag, removal-comes, edit-refused, edit-accepted}
+use Rattle.solver.specs.EditRemoving.{in-range, removal-tag, removal-room, removal-comes, edit-refused, edit-accepted}
 use borrow.Author.Needs.{needs}
 use Rattle.solver.proofs.remove_edit.remove_edit_known.Statement.{statement}
 use Rattle.solver.proofs.remove_edit.remove_edit_known.Tie as tie
@@ -14,7 +15,7 @@ edit-place-requires c κs =
     let w = tables (c .before .args .wwords .now) (c .before .args .wkeys .now) (c .before .args .wbytes .now) (c .before .args .wreals .now) (c .before .args .wvalues .now) in
     let en = c .before .pre .0 in
     let k = counts-at-start t w en in
-    (k .variables, (k .edits, (variable-known (c .before .args .words .now) (c .before .args .bytes .now) (c .before .args .n) (c .before .pre .1), numbers-at-start t w en)))
+    (k .variables, (k .edits, (variable-known (c .before .args .words .now) (c .before .args .bytes .now) (c .before .args .n) (remove-edit-passed (c .before .args .n) (c .before .args .words .now) (c .before .args .bytes .now) (c .before .args .reals .now) (c .before .pre .1) .0), numbers-at-start t w en)))
 
 add-marker : tie.Need-add-marker
 add-marker c = let k = counts-at-start (tables (c .before .before .args .words .now) (c .before .before .args .keys .now) (c .before .before .args .bytes .now) (c .before .before .args .reals .now) (c .before .before .args .values .now)) (tables (c .before .before .args .wwords .now) (c .before .before .args .wkeys .now) (c .before .before .args .wbytes .now) (c .before .before .args .wreals .now) (c .before .before .args .wvalues .now)) (c .before .before .pre .0) .edits in let l = in-range (c .before .before .args .n) (c .before .before .args .budget) (tables (c .before .before .args .words .now) (c .before .before .args .keys .now) (c .before .before .args .bytes .now) (c .before .before .args .reals .now) (c .before .before .args .values .now)) (tables (c .before .before .args .wwords .now) (c .before .before .args .wkeys .now) (c .before .before .args .wbytes .now) (c .before .before .args .wreals .now) (c .before .before .args .wvalues .now)) (c .before .before .pre .0) (c .edit-place .result) (c .before .before .pre .1) (c .edit-place .ensures) in omega (arith, k, l)
@@ -38,7 +39,18 @@ element-copy-out-strength : tie.Need-element-copy-out-strength
 element-copy-out-strength c = let k = counts-at-start (tables (c .before .before .before .before .args .words .now) (c .before .before .before .before .args .keys .now) (c .before .before .before .before .args .bytes .now) (c .before .before .before .before .args .reals .now) (c .before .before .before .before .args .values .now)) (tables (c .before .before .before .before .args .wwords .now) (c .before .before .before .before .args .wkeys .now) (c .before .before .before .before .args .wbytes .now) (c .before .before .before .before .args .wreals .now) (c .before .before .before .before .args .wvalues .now)) (c .before .before .before .before .pre .0) .edits in let l = in-range (c .before .before .before .before .args .n) (c .before .before .before .before .args .budget) (tables (c .before .before .before .before .args .words .now) (c .before .before .before .before .args .keys .now) (c .before .before .before .before .args .bytes .now) (c .before .before .before .before .args .reals .now) (c .before .before .before .before .args .values .now)) (tables (c .before .before .before .before .args .wwords .now) (c .before .before .before .before .args .wkeys .now) (c .before .before .before .before .args .wbytes .now) (c .before .before .before .before .args .wreals .now) (c .before .before .before .before .args .wvalues .now)) (c .before .before .before .before .pre .0) (c .before .before .edit-place .result) (c .before .before .before .before .pre .1) (c .before .before .edit-place .ensures) in omega (arith, k, l)
 
 remove-steps-requires : tie.Need-remove-steps-requires
-remove-steps-requires c κs = (rw (c .before .before .before .before .before .before .before .before .before .before .stored-mark .ensures) (standing-at-start (tables (c .before .before .before .before .before .before .before .before .before .before .before .args .words .now) (c .before .before .before .before .before .before .before .before .before .before .before .args .keys .now) (c .before .before .before .before .before .before .before .before .before .before .before .args .bytes .now) (c .before .before .before .before .before .before .before .before .before .before .before .args .reals .now) (c .before .before .before .before .before .before .before .before .before .before .before .args .values .now)) (tables (c .before .before .before .before .before .before .before .before .before .before .before .args .wwords .now) (c .before .before .before .before .before .before .before .before .before .before .before .args .wkeys .now) (c .before .before .before .before .before .before .before .before .before .before .before .args .wbytes .now) (c .before .before .before .before .before .before .before .before .before .before .before .args .wreals .now) (c .before .before .before .before .before .before .before .before .before .before .before .args .wvalues .now)) (c .before .before .before .before .before .before .before .before .before .before .before .pre .0)), removal-tag (c .before .before .before .before .before .before .before .before .before .before .before .args .n) (c .before .before .before .before .before .before .before .before .before .before .before .args .budget) (tables (c .before .before .before .before .before .before .before .before .before .before .before .args .words .now) (c .before .before .before .before .before .before .before .before .before .before .before .args .keys .now) (c .before .before .before .before .before .before .before .before .before .before .before .args .bytes .now) (c .before .before .before .before .before .before .before .before .before .before .before .args .reals .now) (c .before .before .before .before .before .before .before .before .before .before .before .args .values .now)) (tables (c .before .before .before .before .before .before .before .before .before .before .before .args .wwords .now) (c .before .before .before .before .before .before .before .before .before .before .before .args .wkeys .now) (c .before .before .before .before .before .before .before .before .before .before .before .args .wbytes .now) (c .before .before .before .before .before .before .before .before .before .before .before .args .wreals .now) (c .before .before .before .before .before .before .before .before .before .before .before .args .wvalues .now)) (c .before .before .before .before .before .before .before .before .before .before .before .pre .0) (c .before .before .before .before .before .before .before .before .before .edit-place .result) (c .before .before .before .before .before .before .before .before .before .before .before .pre .1) (c .before .before .before .before .before .before .before .before .before .edit-place .ensures))
+remove-steps-requires c κs =
+    let b = c .before .before .before .before .before .before .before .before .before .before .before in
+    let t = tables (b .args .words .now) (b .args .keys .now) (b .args .bytes .now) (b .args .reals .now) (b .args .values .now) in
+    let w = tables (b .args .wwords .now) (b .args .wkeys .now) (b .args .wbytes .now) (b .args .wreals .now) (b .args .wvalues .now) in
+    let z = c .before .before .before .before .before .before .before .before .before .edit-place in
+    let m = c .before .before .before .before .before .before .before .before .before .before .stored-mark in (
+      rw (m .ensures) (standing-at-start t w (b .pre .0)),
+      (
+        removal-tag (b .args .n) (b .args .budget) t w (b .pre .0) (z .result) (b .pre .1) (z .ensures),
+        removal-room (b .args .n) (b .args .budget) t w (b .pre .0) (z .result) (b .pre .1) (z .ensures) (m .result) (m .ensures) (c .before .before .before .before .before .edit-pack .result) (c .before .before .before .before .before .edit-pack .ensures),
+      ),
+    )
 
 returns : tie.Need-returns
 returns c = edit-refused (c .before .before .before .before .before .before .before .before .before .before .before .before .before .before .before .args .n) (c .before .before .before .before .before .before .before .before .before .before .before .before .before .before .before .args .budget) (tables (c .before .before .before .before .before .before .before .before .before .before .before .before .before .before .before .args .words .now) (c .before .before .before .before .before .before .before .before .before .before .before .before .before .before .before .args .keys .now) (c .before .before .before .before .before .before .before .before .before .before .before .before .before .before .before .args .bytes .now) (c .before .before .before .before .before .before .before .before .before .before .before .before .before .before .before .args .reals .now) (c .before .before .before .before .before .before .before .before .before .before .before .before .before .before .before .args .values .now)) (tables (c .before .before .before .before .before .before .before .before .before .before .before .before .before .before .before .args .wwords .now) (c .before .before .before .before .before .before .before .before .before .before .before .before .before .before .before .args .wkeys .now) (c .before .before .before .before .before .before .before .before .before .before .before .before .before .before .before .args .wbytes .now) (c .before .before .before .before .before .before .before .before .before .before .before .before .before .before .before .args .wreals .now) (c .before .before .before .before .before .before .before .before .before .before .before .before .before .before .before .args .wvalues .now)) (c .before .before .before .before .before .before .before .before .before .before .before .before .before .before .before .pre .0) (c .before .before .before .before .before .before .before .before .before .before .before .before .before .edit-place .result) (c .before .before .before .before .before .before .before .before .before .before .before .before .before .before .before .pre .1) (c .before .before .before .before .before .before .before .before .before .before .before .before .before .edit-place .ensures) (c .before .before .before .before .before .before .before .before .before .before .before .before .before .before .stored-mark .result) (c .before .before .before .before .before .before .before .before .before .before .before .before .before .before .stored-mark .ensures) (c .before .before .before .before .before .before .before .before .before .edit-pack .result) (c .before .before .before .before .before .before .before .before .before .edit-pack .ensures) (c .before .before .before .remove-steps .result) (tables (c .before .before .before .remove-steps .last .0) (c .before .before .before .remove-steps .last .1 .0) (c .before .before .before .remove-steps .last .1 .1 .0) (c .before .before .before .remove-steps .last .1 .1 .1 .0) (c .before .before .before .remove-steps .last .1 .1 .1 .1 .0)) (c .before .before .before .remove-steps .ensures .0) (c .answer-of .result) (c .answer-of .ensures) (c .before .if1 .taken) (tables (c .before .before .before .remove-steps .last .0) (c .before .before .before .remove-steps .last .1 .0) (c .before .before .before .remove-steps .last .1 .1 .0) (c .before .before .before .remove-steps .last .1 .1 .1 .0) (c .before .before .before .remove-steps .last .1 .1 .1 .1 .0))

@@ -1,7 +1,7 @@
 -- `suggestion::shifting::shift_constants` meets its contract.
 -- Assumes nothing.
 use native.Mathlib.Omega.{arith}
-use Rattle.substituting.specs.Held.{held-room}
+use Rattle.substituting.specs.Held.{held-room, held-lined}
 use Rattle.waist.specs.Working.{lines-few}
 use Rattle.suggestion.specs.Shifts.{shift-calls}
 use Rattle.suggestion.proofs.shifting.shift_constants.Statement.{statement}
@@ -14,7 +14,7 @@ shift-rows-requires : tie.Need-shift-rows-requires
 shift-rows-requires c κs =
     let so = c .before .before .before .before .before .before .pre .0 .sound in
     let f = held-room _ _ _ _ (so .held) (lines-few _ _ so) in
-    (so .few, (omega (arith, f), (so .named .few-variables, so .held .up)))
+    (so .few, (omega (arith, f), (so .named .few-variables, (so .held .up, held-lined _ _ _ _ (so .held) (lines-few _ _ so)))))
 
 returns : tie.Need-returns
 returns c =

@@ -14,22 +14,24 @@ use Rattle.suggestion.proofs.shifting.shift_rows.Statement.{statement}
 use Rattle.suggestion.proofs.shifting.shift_rows.Tie as tie
 
 abbrev Inv-loop : tie.InvT-loop
-Inv-loop words₀ keys bytes₀ reals₀ values d count n w₀ i₀ words bytes reals w i =
+Inv-loop words₀ keys bytes₀ reals₀ values d count n spots w₀ i₀ words bytes reals w i =
     (run (shiftTurn d n keys values) i (1 + count) (shifted (noted words bytes) reals (markOf w)) ≡ run (shiftTurn d n keys values) 1 (1 + count) (shifted (noted words₀ bytes₀) reals₀ (markOf w₀)))
     × (getD words variableCountAt 0 ≡ getD words₀ variableCountAt 0) × (1 ≤ i) × (i ≤ 1 + count)
 
 abbrev μ-loop : tie.MeasureT-loop
-μ-loop words₀ keys bytes₀ reals₀ values d count n w₀ i₀ words bytes reals w i = 1 + count - i
+μ-loop words₀ keys bytes₀ reals₀ values d count n spots w₀ i₀ words bytes reals w i = 1 + count - i
 
 loop-holds : tie.Need-loop-holds Inv-loop μ-loop
 loop-holds c = (refl, refl, omega arith, omega arith)
 
 shift-of-requires : tie.Need-shift-of-requires Inv-loop μ-loop
-shift-of-requires c κs = let p = c .before .before .before .before .before .pre in (omega (arith, p .1 .0), (omega (arith, p .0), p .1 .1 .1))
+shift-of-requires c κs =
+    let p = c .before .before .before .before .before .before .before .pre in
+    (omega (arith, p .1 .0), (omega (arith, p .0), (p .1 .1 .1 .0, c .before .before .before .before .spots-for .ensures)))
 
 loop-again : tie.Need-loop-again Inv-loop μ-loop
 loop-again c =
-    let i = c .before .before .before .before .before .before .before .before .before .before .before .loop .inv in (
+    let i = c .before .before .before .before .before .before .before .before .before .before .before .before .loop .inv in (
       run-next _ _ _ _ (omega arith) (shift-turn _ _ _ _ _ _ _ _ _ (c .before .before .before .before .before .before .before .before .shift-of .ensures) (c .before .before .before .before .before .before .kind-at .ensures) (c .before .before .before .before .before .is-noted .ensures) (c .before .before .var-changed-if .ensures) (c .shift-row .ensures .0) (c .shift-row .ensures .1)) (i .0),
       ap (λ (z : Noted). getD (z .words) variableCountAt 0) (c .before .before .var-changed-if .ensures) ∙ noted-count _ _ _ ∙ i .1,
       omega arith,
@@ -49,6 +51,7 @@ shift-rows-spec =
     (λ c. search needs)
     (λ c. search needs)
     (λ c. search needs)
+    (λ c κs. search needs)
     loop-holds
     (λ c. search needs)
     (λ c. search needs)

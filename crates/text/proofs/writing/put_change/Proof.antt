@@ -4,8 +4,9 @@ use borrow.Author.Needs.{needs}
 use Prim.Native.Nat.{_+_, _≤_, _<_}
 use mathlib.Core.List.{[], _∷_, _++_}
 use native.Mathlib.Omega.{arith}
+use lib.Dec.{eqb}
 use lib.ListN.{length}
-use Rattle.text.specs.Answers.{wrote-then, numberText, floatText, decimal-short}
+use Rattle.text.specs.Answers.{wrote-then, numberText, newText, decimal-short}
 use Rattle.text.proofs.writing.put_change.Statement.{statement}
 use Rattle.text.proofs.writing.put_change.Tie as tie
 
@@ -19,14 +20,14 @@ put-byte-requires-2 c κs =
     let h : c .before .before .before .put-number .result < length (c .before .before .before .put-number .last .0) = omega (arith, c .before .before .before .put-number .ensures .0, c .before .before .before .put-number .ensures .1, c .before .before .before .before .before .before .before .put-byte .ensures .0, c .before .before .before .before .before .before .before .put-byte .ensures .1, c .before .before .before .before .before .before .before .before .before .before .pre, decimal-short 20 (c .before .before .before .before .before .before .before .before .before .before .args .v)) in
     h
 
-put-float-requires : tie.Need-put-float-requires
-put-float-requires c κs =
+put-new-requires : tie.Need-put-new-requires
+put-new-requires c κs =
     let h : c .before .before .before .put-byte2 .result + 16 ≤ length (c .before .before .before .put-byte2 .last .0) = omega (arith, c .before .before .before .put-byte2 .ensures .0, c .before .before .before .put-byte2 .ensures .1, c .before .before .before .before .before .before .before .put-number .ensures .0, c .before .before .before .before .before .before .before .put-number .ensures .1, c .before .before .before .before .before .before .before .before .before .before .before .put-byte .ensures .0, c .before .before .before .before .before .before .before .before .before .before .before .put-byte .ensures .1, c .before .before .before .before .before .before .before .before .before .before .before .before .before .before .pre, decimal-short 20 (c .before .before .before .before .before .before .before .before .before .before .before .before .before .before .args .v)) in
     h
 
 returns : tie.Need-returns
 returns c =
-    (wrote-then (c .before .before .before .before .before .before .before .before .before .before .before .before .before .before .before .before .before .args .out .now) (c .before .before .before .before .before .before .before .before .before .before .before .before .before .before .put-byte .last .0) (c .before .before .put-float .last .0) (c .before .before .before .before .before .before .before .before .before .before .before .before .before .before .before .before .before .args .at) (c .before .before .before .before .before .before .before .before .before .before .before .before .before .before .put-byte .result) (c .before .before .put-float .result) (32 ∷ []) ((numberText (c .before .before .before .before .before .before .before .before .before .before .before .before .before .before .before .before .before .args .v)) ++ ((58 ∷ []) ++ (floatText (c .before .before .before .before .before .before .before .before .before .before .before .before .before .before .before .before .before .args .x)))) (c .before .before .before .before .before .before .before .before .before .before .before .before .before .before .put-byte .ensures) (wrote-then (c .before .before .before .before .before .before .before .before .before .before .before .before .before .before .put-byte .last .0) (c .before .before .before .before .before .before .before .before .before .before .put-number .last .0) (c .before .before .put-float .last .0) (c .before .before .before .before .before .before .before .before .before .before .before .before .before .before .put-byte .result) (c .before .before .before .before .before .before .before .before .before .before .put-number .result) (c .before .before .put-float .result) (numberText (c .before .before .before .before .before .before .before .before .before .before .before .before .before .before .before .before .before .args .v)) ((58 ∷ []) ++ (floatText (c .before .before .before .before .before .before .before .before .before .before .before .before .before .before .before .before .before .args .x))) (c .before .before .before .before .before .before .before .before .before .before .put-number .ensures) (wrote-then (c .before .before .before .before .before .before .before .before .before .before .put-number .last .0) (c .before .before .before .before .before .before .put-byte2 .last .0) (c .before .before .put-float .last .0) (c .before .before .before .before .before .before .before .before .before .before .put-number .result) (c .before .before .before .before .before .before .put-byte2 .result) (c .before .before .put-float .result) (58 ∷ []) (floatText (c .before .before .before .before .before .before .before .before .before .before .before .before .before .before .before .before .before .args .x)) (c .before .before .before .before .before .before .put-byte2 .ensures) (c .before .before .put-float .ensures))))
+    (wrote-then (c .before .before .before .before .before .before .before .before .before .before .before .before .before .before .before .before .before .args .out .now) (c .before .before .before .before .before .before .before .before .before .before .before .before .before .before .put-byte .last .0) (c .before .before .put-new .last .0) (c .before .before .before .before .before .before .before .before .before .before .before .before .before .before .before .before .before .args .at) (c .before .before .before .before .before .before .before .before .before .before .before .before .before .before .put-byte .result) (c .before .before .put-new .result) (32 ∷ []) ((numberText (c .before .before .before .before .before .before .before .before .before .before .before .before .before .before .before .before .before .args .v)) ++ ((58 ∷ []) ++ (newText (c .before .before .before .before .before .before .before .before .before .before .before .before .before .before .before .before .before .args .x) (eqb (c .before .before .before .before .before .before .before .before .before .before .before .before .before .before .before .before .before .args .gone) 1)))) (c .before .before .before .before .before .before .before .before .before .before .before .before .before .before .put-byte .ensures) (wrote-then (c .before .before .before .before .before .before .before .before .before .before .before .before .before .before .put-byte .last .0) (c .before .before .before .before .before .before .before .before .before .before .put-number .last .0) (c .before .before .put-new .last .0) (c .before .before .before .before .before .before .before .before .before .before .before .before .before .before .put-byte .result) (c .before .before .before .before .before .before .before .before .before .before .put-number .result) (c .before .before .put-new .result) (numberText (c .before .before .before .before .before .before .before .before .before .before .before .before .before .before .before .before .before .args .v)) ((58 ∷ []) ++ (newText (c .before .before .before .before .before .before .before .before .before .before .before .before .before .before .before .before .before .args .x) (eqb (c .before .before .before .before .before .before .before .before .before .before .before .before .before .before .before .before .before .args .gone) 1))) (c .before .before .before .before .before .before .before .before .before .before .put-number .ensures) (wrote-then (c .before .before .before .before .before .before .before .before .before .before .put-number .last .0) (c .before .before .before .before .before .before .put-byte2 .last .0) (c .before .before .put-new .last .0) (c .before .before .before .before .before .before .before .before .before .before .put-number .result) (c .before .before .before .before .before .before .put-byte2 .result) (c .before .before .put-new .result) (58 ∷ []) (newText (c .before .before .before .before .before .before .before .before .before .before .before .before .before .before .before .before .before .args .x) (eqb (c .before .before .before .before .before .before .before .before .before .before .before .before .before .before .before .before .before .args .gone) 1)) (c .before .before .before .before .before .before .put-byte2 .ensures) (c .before .before .put-new .ensures))))
 
 pub put-change-spec : {M : Type 1} → statement M
-put-change-spec = tie.close (tie.spec (λ c κs. search needs) put-number-requires put-byte-requires-2 put-float-requires (λ c. search needs) returns)
+put-change-spec = tie.close (tie.spec (λ c κs. search needs) put-number-requires put-byte-requires-2 put-new-requires (λ c. search needs) returns)

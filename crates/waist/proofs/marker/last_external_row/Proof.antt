@@ -14,23 +14,23 @@ use Rattle.waist.proofs.marker.last_external_row.Statement.{statement}
 use Rattle.waist.proofs.marker.last_external_row.Tie as tie
 
 abbrev Inv-loop : tie.InvT-loop
-Inv-loop words keys bytes reals values p i₀ i = (back (externalHeld p (sparse words keys bytes reals values)) At Nothing i ≡ externalRowOf p (sparse words keys bytes reals values)) × (i ≤ getD words rowCountAt 0)
+Inv-loop words keys bytes reals values p spots i₀ i = (back (externalHeld p (sparse words keys bytes reals values)) At Nothing i ≡ externalRowOf p (sparse words keys bytes reals values)) × (i ≤ getD words rowCountAt 0)
 
 abbrev μ-loop : tie.MeasureT-loop
-μ-loop words keys bytes reals values p i₀ i = i
+μ-loop words keys bytes reals values p spots i₀ i = i
 
 loop-holds : tie.Need-loop-holds Inv-loop μ-loop
 unfolding externalRowOf
 loop-holds c = (refl, search needs)
 
 column-at-requires : tie.Need-column-at-requires Inv-loop μ-loop
-column-at-requires c κs = (c .before .before .before .before .before .pre .0, (c .before .before .before .before .before .pre .1, omega (arith, c .before .before .before .before .before .pre .0 .few)))
+column-at-requires c κs = (c .before .before .before .before .before .before .before .pre .0, (c .before .before .before .before .before .before .before .pre .1, (omega (arith, c .before .before .before .before .before .before .before .pre .0 .few), c .before .before .before .before .before .before .spots-of .ensures)))
 
 returns : tie.Need-returns Inv-loop μ-loop
-returns c = (back-here _ _ _ _ (omega arith) (sym (external-held _ _ _ (c .before .before .before .kind-at .ensures) (c .before .before .column-at .ensures) (c .before .holds-as-external .ensures)) ∙ c .if1 .taken) (c .before .before .before .before .before .before .loop .inv .0), (omega arith, omega arith))
+returns c = (back-here _ _ _ _ (omega arith) (sym (external-held _ _ _ (c .before .before .before .before .kind-at .ensures) (c .before .before .column-at .ensures) (c .before .holds-as-external .ensures)) ∙ c .if1 .taken) (c .before .before .before .before .before .before .before .loop .inv .0), (omega arith, omega arith))
 
 loop-again : tie.Need-loop-again Inv-loop μ-loop
-loop-again c = (back-next _ _ _ _ (omega arith) (sym (external-held _ _ _ (c .before .before .before .kind-at .ensures) (c .before .before .column-at .ensures) (c .before .holds-as-external .ensures)) ∙ c .if1 .left) (c .before .before .before .before .before .before .loop .inv .0), omega arith)
+loop-again c = (back-next _ _ _ _ (omega arith) (sym (external-held _ _ _ (c .before .before .before .before .kind-at .ensures) (c .before .before .column-at .ensures) (c .before .holds-as-external .ensures)) ∙ c .if1 .left) (c .before .before .before .before .before .before .before .loop .inv .0), omega arith)
 
 returns-2 : tie.Need-returns-2 Inv-loop μ-loop
 returns-2 c = (back-last _ _ _ _ (omega arith) (c .before .loop .inv .0), tt)
@@ -41,6 +41,7 @@ last-external-row-spec =
     (tie.spec
     Inv-loop
     μ-loop
+    (λ c κs. search needs)
     (λ c. search needs)
     loop-holds
     (λ c. search needs)

@@ -1,0 +1,64 @@
+// A column at one walk: for each row, which cell names a place. A loop over the rows then looks for nothing.
+ghost use mathlib.Core.Path.{_≡_};
+ghost use Prim.Native.Nat.{_≤_, _<_, _+_, _*_};
+ghost use lib.ListN.{replicate};
+ghost use Rattle.cells.specs.Names.{cellRoom, linesRoom, rowSpan};
+ghost use Rattle.cells.specs.Cells.{Ascending, cellAt};
+ghost use Rattle.cells.specs.Spots.{Lined, Spots};
+use crate::CELL_ROOM;
+use crate::LINES_ROOM;
+use crate::ROW_SPAN;
+
+// What no cell's place is stands for none.
+pub fn no_spots() -> [u16; LINES_ROOM]
+    ensures { λ r. ⌜ r ≡ replicate linesRoom cellRoom ⌝ }
+{
+    [CELL_ROOM as u16; LINES_ROOM]
+}
+
+// Which of the first n cells names place p, for each row.
+pub fn fill_spots(keys: &[u16; CELL_ROOM], n: usize, p: u8, spots: &mut [u16; LINES_ROOM])
+    requires { ⌜ n ≤ cellRoom ⌝ }
+    requires { ⌜ Lined (now keys) n ⌝ }
+    requires { ⌜ now spots ≡ replicate linesRoom cellRoom ⌝ }
+    ensures { λ _. ⌜ Spots (now (keys .entry)) n p (now (spots .exit)) ⌝ }
+{
+    let mut j = 0;
+    while j < n {
+        let x = keys[j];
+        if x % ROW_SPAN == p as u16 {
+            spots[(x / ROW_SPAN) as usize] = j as u16;
+            j += 1;
+            continue;
+        }
+        j += 1;
+    }
+}
+
+fn wide(x: u16) -> usize
+    ensures { λ r. ⌜ r ≡ x ⌝ }
+{
+    x as usize
+}
+
+// The value of row i at place p, or 0.0.
+pub fn spot_cell(
+    keys: &[u16; CELL_ROOM],
+    vals: &[f64; CELL_ROOM],
+    n: usize,
+    p: u8,
+    spots: &[u16; LINES_ROOM],
+    i: usize,
+) -> f64
+    requires { ⌜ n ≤ cellRoom ⌝ }
+    requires { ⌜ i < linesRoom ⌝ }
+    requires { ⌜ Ascending (now keys) n ⌝ }
+    requires { ⌜ Spots (now keys) n p (now spots) ⌝ }
+    ensures { λ r. ⌜ r ≡ cellAt (now (keys .entry)) (now (vals .entry)) n (i * rowSpan + p) ⌝ }
+{
+    let j = wide(spots[i]);
+    if j < n {
+        return vals[j];
+    }
+    0.0
+}
