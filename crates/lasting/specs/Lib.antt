@@ -6,3 +6,4 @@ pub mod Drops
 pub mod Public
 pub mod Runs
 pub mod Never
+pub mod Told
