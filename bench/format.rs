@@ -1,6 +1,7 @@
 //! The text format of calls: one call a line, words split by one space. A line that is no call reads as None, and so
 //! does one of more than 4,096 bytes.
 
+#[derive(Clone, Copy)]
 pub enum Relation {
     AtMost,
     Equal,
@@ -20,6 +21,8 @@ pub enum Call {
     Value(u32),
     HasConstraint(u32),
     HasEdit(u32),
+    /// a constraint as it was added
+    Show(u32),
     Fetch,
     Create(f64, f64, f64, f64),
     Clip(f64),
@@ -140,6 +143,7 @@ pub fn read(line: &str, decimals: bool) -> Option<Call> {
         "value" => Call::Value(w.u32()?),
         "hascon" => Call::HasConstraint(w.u32()?),
         "hasedit" => Call::HasEdit(w.u32()?),
+        "show" => Call::Show(w.u32()?),
         "fetch" => Call::Fetch,
         "create" => Call::Create(w.f64()?, w.f64()?, w.f64()?, w.f64()?),
         "clip" => Call::Clip(w.f64()?),
@@ -164,6 +168,34 @@ pub fn bits(x: f64) -> String {
 pub fn fetched(list: impl ExactSizeIterator<Item = (u32, Option<f64>)>) -> String {
     let entry = |(v, x): (u32, Option<f64>)| format!(" {}:{}", v, x.map_or("gone".to_string(), bits));
     format!("{}{}", list.len(), list.map(entry).collect::<String>())
+}
+
+/// A constraint with its group, as an add takes it.
+#[allow(dead_code)] // the generator shows none
+pub struct Given {
+    pub relation: Relation,
+    pub strength: f64,
+    pub group: u64,
+    pub constant: f64,
+    pub terms: Vec<(u32, f64)>,
+}
+
+/// What `show` answers, as the program `writer` reads it; the error is why there is none.
+#[allow(dead_code)]
+pub fn shown(given: Result<Given, u32>) -> String {
+    let float = |x: f64| format!("0x{}", bits(x));
+    match given {
+        Err(number) => format!("no {}", number),
+        Ok(g) => {
+            let relation = match g.relation {
+                Relation::AtMost => "le",
+                Relation::Equal => "eq",
+                Relation::AtLeast => "ge",
+            };
+            let terms: String = g.terms.iter().map(|&(v, k)| format!(" {} {}", v, float(k))).collect();
+            format!("{} {} {} {} {}{}", relation, float(g.strength), g.group, float(g.constant), g.terms.len(), terms)
+        }
+    }
 }
 
 /// Reads standard input, a call a line, and writes an answer a line. With `-d` decimals are read, and empty lines and

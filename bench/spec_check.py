@@ -6,7 +6,8 @@ usage: spec_check.py SCRIPT PROGRAM ARGUMENT ...
 
 A session starts at each `reset` line without a cutoff and is one theorem, so the checker's step limit (a declaration's) holds for a
 session. Of a session that differs, a second run has a theorem for each prefix and says at which call it first differs. A `setgone` is no call of
-the definitions: the state is given these gone entries there, and the session goes on. Sessions with `setcell` are left out.
+the definitions: the state is given these gone entries there, and the session goes on. What a `show` answers is compared with what the
+definitions show of the state there. Sessions with `setcell` are left out.
 BATCH is how many sessions stand in one file (40), SHOW how many differing ones are narrowed down (10).
 """
 import os
@@ -21,21 +22,27 @@ import time
 ROOT = os.path.dirname(os.path.dirname(os.path.abspath(__file__)))
 CRATE = 'steps'
 
-HEAD = """use mathlib.Core.Bool.{true, false}
-use mathlib.Core.Bool.{_&&_}
+HEAD = """use mathlib.Core.Bool.{Bool, true, false}
 use mathlib.Core.List.{List, [], _∷_}
+use mathlib.Core.Option.{Option, none, some}
 use Prim.Native.Nat.{ℕ}
-use lib.Dec.{T, eqb}
+use lib.Dec.{T}
 use lib.Ieee.{binary64, ofBits}
 use Rattle.steps.specs.Number.{usualCutoff}
 use Rattle.steps.specs.State.{Term, State, atMost, equal, atLeast}
 use Rattle.steps.specs.Changes.{Change}
 use Rattle.steps.specs.Calls.{empty}
-use Rattle.steps.specs.Session.{resets, adds, removes, drops, addsEdit, removesEdit, suggests, valueOf, fetches, hasConstraints, hasEdits, creates, clips, reads, dumps, setsNext, answer, is, list, says, numbers, Expected, _gives_, turn, firstBadFrom, openSession}
+use Rattle.steps.specs.Session.{resets, adds, removes, drops, addsEdit, removesEdit, suggests, valueOf, fetches, hasConstraints, hasEdits, creates, clips, reads, dumps, setsNext, answer, is, list, says, numbers, Expected, _gives_, Turn, turn, replyNumbers, sameNumbers}
+use Rattle.steps.specs.Shown.{Given, shown}
+use Rattle.steps.specs.ReadBack.{givenNumbers, openReadBack}
 
-unfoldable after : State → List Expected → State
-after s [] = s
-after s (e ∷ es) = after (turn (e .call) s .state) es
+data Item : Type 0 where
+  -- a call with its reply
+  calls : Expected → Item
+  -- a number, and the constraint that is shown for it
+  shows : ℕ → Option Given → Item
+  -- the numbers whose gone entries wait from here on
+  sets : List ℕ → Item
 
 unfoldable waits : List ℕ → State → State
 waits ns s =
@@ -46,6 +53,14 @@ waits ns s =
       edits = s .edits;
       whole = s .whole;
     }
+
+unfoldable holds : State → List Item → Bool
+holds s [] = true
+holds s (calls e ∷ xs) =
+    let t : Turn = turn (e .call) s in
+    elim (sameNumbers (replyNumbers (t .reply)) (replyNumbers (e .reply))) [ true ↦ holds (t .state) xs | false ↦ false ]
+holds s (shows n g ∷ xs) = elim (sameNumbers (givenNumbers (shown n s)) (givenNumbers g)) [ true ↦ holds s xs | false ↦ false ]
+holds s (sets ns ∷ xs) = holds (waits ns s) xs
 """
 RELATION = {'le': 'atMost', 'eq': 'equal', 'ge': 'atLeast'}
 USUAL_CUTOFF = '1e-8'
@@ -144,28 +159,27 @@ def reply(op, a):
     return 'answer %s %s %s' % (refusal, pivots, 'true' if mark == '1' else 'false')
 
 
-def parts(session):
-    """the calls up to each setgone, with the numbers that wait from there on"""
-    out = [([], [])]
-    for line, a in session:
-        w = line.split()
-        if w[0] == 'setgone':
-            out.append(([str(n) for n in range(int(w[1]), int(w[2]) + 1)], []))
-        else:
-            out[-1][1].append('%s gives %s' % (call(w), reply(w[0], a)))
-    return out
+def given(a):
+    """what a show answers"""
+    w = a.split()
+    if w[0] == 'no':
+        return 'none'
+    terms = ['record { variable = %s; coefficient = %s }' % (w[5 + 2 * i], number(w[6 + 2 * i])) for i in range(int(w[4]))]
+    return '(some (record { group = %s; terms = %s; constant = %s; relation = %s %s }))' % (w[2], listed(terms), number(w[3]), RELATION[w[0]], number(w[1]))
+
+
+def item(line, a):
+    w = line.split()
+    if w[0] == 'setgone':
+        return 'sets %s' % listed([str(n) for n in range(int(w[1]), int(w[2]) + 1)])
+    if w[0] == 'show':
+        return 'shows %s %s' % (w[1], given(a))
+    return 'calls (%s gives %s)' % (call(w), reply(w[0], a))
 
 
 def theorem(name, session):
-    text, passes, names, state = '', [], [], '(empty usualCutoff)'
-    for k, (waiting, expected) in enumerate(parts(session)):
-        calls, before = '%s-calls%d' % (name, k), '%s-state%d' % (name, k)
-        value = 'waits %s %s' % (listed(waiting), state) if k else state
-        text += '%s : List Expected\n%s =\n    %s\n\n%s : State\n%s = %s\n\n' % (calls, calls, '\n    ∷ '.join(expected + ['[]']), before, before, value)
-        passes.append('eqb (firstBadFrom 1 %s %s) 0' % (before, calls))
-        names += [calls, before]
-        state = '(after %s %s)' % (before, calls)
-    return '%s%s-passes : T (%s)\nunfolding openSession after waits %s\n%s-passes = tt\n' % (text, name, ' && '.join(passes), ' '.join(names), name)
+    items = '\n    ∷ '.join([item(line, a) for line, a in session] + ['[]'])
+    return '%s-items : List Item\n%s-items =\n    %s\n\n%s-passes : T (holds (empty usualCutoff) %s-items)\nunfolding openReadBack waits holds %s-items\n%s-passes = tt\n' % (name, name, items, name, name, name, name)
 
 
 # ---- a copy of the definitions, with the theorems in a module of their own

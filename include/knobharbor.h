@@ -31,26 +31,27 @@ extern "C" {
 
 /* of this header and the archive that was built with it; a state kept by one version is not promised to read in another */
 #define KNOBHARBOR_VERSION_MAJOR 0
-#define KNOBHARBOR_VERSION_MINOR 5
+#define KNOBHARBOR_VERSION_MINOR 6
 #define KNOBHARBOR_VERSION_PATCH 0
-#define KNOBHARBOR_VERSION "0.5.0"
+#define KNOBHARBOR_VERSION "0.6.0"
 
 /* ---- sizes */
 
 /* the lengths that tables have */
 #define KNOBHARBOR_WORDS 338
 #define KNOBHARBOR_CELLS 6579
-#define KNOBHARBOR_BYTES 1312
-#define KNOBHARBOR_REALS 1132
+#define KNOBHARBOR_BYTES 1360
+#define KNOBHARBOR_REALS 1180
 /* the places of fetch's three lists: 32 variables that are gone, and 32 that are live */
 #define KNOBHARBOR_CHANGES 64
 /* the places of a changing call's answer: the number, the pivots, the mark; and of a fetch's: the number, the count */
 #define KNOBHARBOR_ANSWER 3
 #define KNOBHARBOR_FETCHED 2
-/* the bytes of the service cable's reader, and the places of what it hands over beside the terms */
+/* the bytes of the service cable's reader, the places of what a line's reader hands over beside the terms, and the writer's buffer */
 #define KNOBHARBOR_CABLE 201
-#define KNOBHARBOR_LINE_WORDS 5
+#define KNOBHARBOR_LINE_WORDS 6
 #define KNOBHARBOR_LINE_REALS 2
+#define KNOBHARBOR_LINE_BUFFER 200
 
 /* how much a state holds; edits count among the constraints */
 #define KNOBHARBOR_VARIABLES 32
@@ -76,7 +77,7 @@ extern "C" {
 
 /* ---- tables */
 
-/* Five tables of the right lengths, 78,864 bytes: one to keep, and one as working room. Both may start with any content: reset
+/* Five tables of the right lengths, 79,296 bytes: one to keep, and one as working room. Both may start with any content: reset
    makes a state of the first, and every call leaves the second all zero. */
 typedef struct knobharbor_tables {
     uint64_t words[KNOBHARBOR_WORDS];
@@ -133,8 +134,11 @@ typedef enum knobharbor_line_number {
     KNOBHARBOR_LINE_DEEP = 21,      /* deeper than 16 levels of brackets */
     KNOBHARBOR_LINE_LARGE = 22,     /* a number, a product of multipliers or a sum above 1,048,576, or a variable above 4,294,967,295 */
     KNOBHARBOR_LINE_VARIABLES = 23, /* more than 16 variables */
-    KNOBHARBOR_LINE_OVER = 32,      /* over the cable: a line of more than 200 bytes, its newline apart */
-    KNOBHARBOR_LINE_UNENDED = 33    /* over the cable: closed inside a line, too long or not */
+    KNOBHARBOR_LINE_OVER = 32,      /* over the cable, or to be written: a line of more than 200 bytes, its newline apart */
+    KNOBHARBOR_LINE_UNENDED = 33,   /* over the cable: closed inside a line, too long or not */
+    KNOBHARBOR_LINE_STRENGTH = 34,  /* a strength above 1,001,001,000 */
+    KNOBHARBOR_LINE_GROUP = 35,     /* a group that is not from 1 to 65,535 */
+    KNOBHARBOR_LINE_UNSAID = 36     /* to be written: terms not ascending, or anything a line can't say */
 } knobharbor_line_number;
 
 /* What the add of a line answers. */
@@ -283,23 +287,51 @@ bool knobharbor_has_edit(
     const uint64_t words[KNOBHARBOR_WORDS], const uint16_t keys[KNOBHARBOR_CELLS], const uint8_t bytes[KNOBHARBOR_BYTES],
     const double reals[KNOBHARBOR_REALS], const double values[KNOBHARBOR_CELLS], uint32_t variable);
 
-/* ---- lines over the service cable
+/* ---- the service line
 
-   A reader of lines that come in pieces, cut anywhere. The reader is `cable`: zeros are a new one, and any content is a reader, so that
-   no call is refused. However the bytes are cut, the list of all answers and the reader at the end are those of one piece. What a call
-   hands over stands in four more places, which it writes whole:
+   A constraint as a line of text, in its second edition: `2*(v1 + 3) <= v2 @ 1000, 2` is 2 v1 - v2 + 6 at most zero, of strength 1000 and
+   in group 2. The ending is free: without it a line is required and in group 1. (knobharbor_add_text above reads the first edition, which
+   has no ending.) What a reader hands over stands in four places, which it writes whole:
 
    words         [0] how many bytes were taken; [1] 0 if the line reads, else a knobharbor_line_number; [2] beside 20 the offset;
-                 [3] the kind; [4] how many terms
-   reals         [0] the constant; [1] the strength, which is required: a line says none
+                 [3] the kind; [4] how many terms; [5] the group
+   reals         [0] the constant; [1] the strength
    variables     the terms, ascending by variable: variables[i] times coefficients[i], for i below words[4]
    coefficients
 
-   This is as knobharbor_add_lists takes it, and its add is the add of the line by knobharbor_add_text. What an answer does not say is 0
-   in its place: beside a refusal all of the constraint, and where there is no answer all but the bytes taken. */
+   This is as knobharbor_add_lists and knobharbor_write_line take it. What an answer does not say is 0 in its place: beside a refusal all
+   of the constraint, and where there is no answer all but the bytes taken. knobharbor_show hands a constraint of the solver over in the same
+   places. */
+
+/* A line by itself, without a newline: of at most 4,096 bytes, else 19; then the refusals 20 to 23, 34 and 35. All of it is taken. */
+void knobharbor_read_line(const uint8_t *line, uint64_t length, uint64_t words[KNOBHARBOR_LINE_WORDS], double reals[KNOBHARBOR_LINE_REALS],
+                          uint32_t variables[KNOBHARBOR_TERMS], double coefficients[KNOBHARBOR_TERMS]);
+
+/* Writes the one plain line of a constraint into the buffer, without a newline, zero past it: `2*v1-v2+6<=0@1000,2`. Read, it gives the
+   constraint back as numbers; of a line that was written so and then read, it gives that line. The answer is 0; 18 for a buffer that has
+   not KNOBHARBOR_LINE_BUFFER bytes, which stays as it is; 36 for terms that do not ascend by variable or anything a line can't say (more
+   than 16 terms, a coefficient that is 0, a number that is not whole or too large, a group of 0, a kind that is none of the three, lists
+   of different lengths), then 32 for a line of more than 200 bytes, both with a buffer that is all zero. */
+uint32_t knobharbor_write_line(uint8_t *buffer, uint64_t length, uint32_t kind, double strength, uint16_t group, double constant,
+                               const uint32_t *vars, uint64_t var_count, const double *coefs, uint64_t coef_count);
+
+/* The live constraint of this number as it was added, with its group; terms that the add skipped are left out, and the others stand in the
+   order in which they were given. words[1] is 0; or 5 for a number that is not live (an edit has none) and 18 where the tables do not read as
+   a state, with all else 0. No bytes are taken and there is no offset: words[0] and words[2] are 0. Handed on to knobharbor_write_line it is the
+   constraint's plain line, so that a unit writes its whole layout number by number; what a line can't say is 36 there, terms that were not
+   added by ascending variable too. No table is written. */
+void knobharbor_show(
+    const uint64_t words[KNOBHARBOR_WORDS], const uint16_t keys[KNOBHARBOR_CELLS], const uint8_t bytes[KNOBHARBOR_BYTES],
+    const double reals[KNOBHARBOR_REALS], const double values[KNOBHARBOR_CELLS], uint32_t number, uint64_t line_words[KNOBHARBOR_LINE_WORDS],
+    double line_reals[KNOBHARBOR_LINE_REALS], uint32_t variables[KNOBHARBOR_TERMS], double coefficients[KNOBHARBOR_TERMS]);
+
+/* ---- lines over the service cable
+
+   A reader of lines that come in pieces, cut anywhere. The reader is `cable`: zeros are a new one, and any content is a reader, so that
+   no call is refused. However the bytes are cut, the list of all answers and the reader at the end are those of one piece. */
 
 /* The first line that ends in the piece: whether there is one. A piece may have any length, 0 too. Go on behind the bytes taken until
-   there is none. Refusal 32 comes before those of a line of text, 20 to 23. */
+   there is none. Refusal 32 comes before those of a line by itself. */
 bool knobharbor_cable_take(uint8_t cable[KNOBHARBOR_CABLE], const uint8_t *piece, uint64_t length, uint64_t words[KNOBHARBOR_LINE_WORDS],
                            double reals[KNOBHARBOR_LINE_REALS], uint32_t variables[KNOBHARBOR_TERMS],
                            double coefficients[KNOBHARBOR_TERMS]);
@@ -451,11 +483,12 @@ typedef struct knobharbor_cable {
     uint8_t bytes[KNOBHARBOR_CABLE];
 } knobharbor_cable;
 
-/* what a line over the cable is answered; beside a refusal all but its number and offset are 0 */
+/* what a line is answered, or a constraint that is shown; beside a refusal all but its number and offset are 0 */
 typedef struct knobharbor_line {
-    uint32_t number; /* 0: it reads; else a knobharbor_line_number */
+    uint32_t number; /* 0: it reads, or is live; else a knobharbor_line_number, or 5 or 18 of a constraint */
     size_t offset;   /* beside 20: the first byte with which no line can go on; else 0 */
     knobharbor_kind kind;
+    uint16_t group;
     double strength;
     double constant;
     size_t count; /* how many terms: variables[i] times coefficients[i] */
@@ -469,8 +502,36 @@ static inline void kh_line_says(knobharbor_line *line, const uint64_t *words, co
     line->offset = (size_t)words[2];
     line->kind = (knobharbor_kind)words[3];
     line->count = (size_t)words[4];
+    line->group = (uint16_t)words[5];
     line->constant = reals[0];
     line->strength = reals[1];
+}
+
+/* A line of `length` bytes by itself: the answer's number. */
+static inline uint32_t kh_read_line(const uint8_t *text, size_t length, knobharbor_line *line)
+{
+    uint64_t words[KNOBHARBOR_LINE_WORDS];
+    double reals[KNOBHARBOR_LINE_REALS];
+    knobharbor_read_line(text, length, words, reals, line->variables, line->coefficients);
+    kh_line_says(line, words, reals);
+    return line->number;
+}
+
+/* The constraint of this number as it was added: the answer's number. */
+static inline uint32_t kh_show(const knobharbor_tables *t, uint32_t number, knobharbor_line *line)
+{
+    uint64_t words[KNOBHARBOR_LINE_WORDS];
+    double reals[KNOBHARBOR_LINE_REALS];
+    knobharbor_show(KNOBHARBOR_LEND(t), number, words, reals, line->variables, line->coefficients);
+    kh_line_says(line, words, reals);
+    return line->number;
+}
+
+/* The plain line of a line that reads, of a constraint that is shown, or of one that the caller has filled: at most 16 terms. */
+static inline uint32_t kh_write_line(uint8_t buffer[KNOBHARBOR_LINE_BUFFER], const knobharbor_line *line)
+{
+    return knobharbor_write_line(buffer, KNOBHARBOR_LINE_BUFFER, (uint32_t)line->kind, line->strength, line->group, line->constant,
+                                 line->variables, line->count, line->coefficients, line->count);
 }
 
 /* The piece and its length move behind the bytes taken: `while (kh_cable_take(&cable, &piece, &length, &line))` has each line. */
@@ -494,11 +555,11 @@ static inline bool kh_cable_close(knobharbor_cable *cable, knobharbor_line *line
     return begun;
 }
 
-/* Adds the constraint of a line that reads, under this number, in group 1. */
+/* Adds the constraint of a line that reads, or of one that is shown, at its strength and in its group, under this number. */
 static inline knobharbor_answer kh_add_line(knobharbor_tables *t, knobharbor_tables *room, uint32_t number, const knobharbor_line *line,
                                             uint16_t budget)
 {
-    return kh_add_lists(t, room, KNOBHARBOR_USUAL_GROUP, number, line->variables, line->coefficients, line->count, line->constant,
+    return kh_add_lists(t, room, line->group, number, line->variables, line->coefficients, line->count, line->constant,
                         line->kind, line->strength, budget);
 }
 
@@ -539,6 +600,12 @@ static inline const char *kh_words(uint32_t number)
         return "the line has more than 200 bytes";
     if (number == KNOBHARBOR_LINE_UNENDED)
         return "the input ended inside a line";
+    if (number == KNOBHARBOR_LINE_STRENGTH)
+        return "the line's strength is above 1,001,001,000";
+    if (number == KNOBHARBOR_LINE_GROUP)
+        return "the line's group is not from 1 to 65,535";
+    if (number == KNOBHARBOR_LINE_UNSAID)
+        return "no line can say the constraint";
     return number < sizeof words / sizeof words[0] ? words[number] : "no number of the document's";
 }
 

@@ -1,6 +1,6 @@
 //! The archive's calls under their C names, over what they are lent: what has a fixed size as a pointer to it, a list as a pointer
 //! and a length of 64 bits, an answer in a place of its own.
-use crate::layout::{BYTES, CELLS, CHANGES, REALS, WORDS};
+use crate::layout::{BYTES, CELLS, CHANGES, LINE_REALS, LINE_TERMS, LINE_WORDS, REALS, WORDS};
 
 type Words = [u64; WORDS];
 type Keys = [u16; CELLS];
@@ -60,6 +60,8 @@ extern "C" {
     fn knobharbor_value(words: &Words, keys: &Keys, bytes: &Bytes, reals: &Reals, values: &Values, variable: u32) -> f64;
     fn knobharbor_has_constraint(words: &Words, keys: &Keys, bytes: &Bytes, reals: &Reals, values: &Values, number: u32) -> bool;
     fn knobharbor_has_edit(words: &Words, keys: &Keys, bytes: &Bytes, reals: &Reals, values: &Values, variable: u32) -> bool;
+    fn knobharbor_show(words: &Words, keys: &Keys, bytes: &Bytes, reals: &Reals, values: &Values, number: u32, line_words: &mut [u64; LINE_WORDS],
+        line_reals: &mut [f64; LINE_REALS], variables: &mut [u32; LINE_TERMS], coefficients: &mut [f64; LINE_TERMS]);
     #[allow(dead_code)]
     fn knobharbor_strength_create(a: f64, b: f64, c: f64, w: f64) -> f64;
     #[allow(dead_code)]
@@ -133,6 +135,40 @@ pub fn fetch(t: Lent, answer: &mut [u32; FETCHED], lists: Changes) -> Fetched {
     unsafe { knobharbor_fetch(t.words, t.keys, t.bytes, t.reals, t.values, answer, lists.numbers, lists.moved, lists.gone) }
     let [number, count] = *answer;
     Fetched { number, count }
+}
+
+/// The places in which a constraint is shown.
+#[derive(Clone, Debug)]
+pub struct Shown {
+    pub words: [u64; LINE_WORDS],
+    pub reals: [f64; LINE_REALS],
+    pub variables: [u32; LINE_TERMS],
+    pub coefficients: [f64; LINE_TERMS],
+}
+
+impl Shown {
+    /// All but the number is 0.
+    pub fn refused(number: u64) -> Shown {
+        Shown { words: [0, number, 0, 0, 0, 0], reals: [0.0; LINE_REALS], variables: [0; LINE_TERMS], coefficients: [0.0; LINE_TERMS] }
+    }
+
+    #[allow(dead_code)] // lines.rs compares none
+    pub fn same(&self, other: &Shown) -> bool {
+        let bits = |s: &Shown| -> Vec<u64> { s.reals.iter().chain(&s.coefficients).map(|x| x.to_bits()).collect() };
+        self.words == other.words && self.variables == other.variables && bits(self) == bits(other)
+    }
+}
+
+/// These places where they are lent from.
+pub struct Places<'a> {
+    pub words: &'a mut [u64; LINE_WORDS],
+    pub reals: &'a mut [f64; LINE_REALS],
+    pub variables: &'a mut [u32; LINE_TERMS],
+    pub coefficients: &'a mut [f64; LINE_TERMS],
+}
+
+pub fn show(t: Lent, n: u32, p: Places) {
+    unsafe { knobharbor_show(t.words, t.keys, t.bytes, t.reals, t.values, n, p.words, p.reals, p.variables, p.coefficients) }
 }
 
 /// What the three queries say of one number.

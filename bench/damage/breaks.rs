@@ -206,6 +206,21 @@ const NUMBERS: &[Break] = &[
     },
     |_, w| Some(w.constraints.last_mut()?.number += LARGEST + 1),
     |g, w| Some(some(g, &mut w.constraints)?.group = 0),
+    |g, w| {
+        let bad = g.not_finite();
+        Some(some(g, &mut w.constraints)?.constant = bad)
+    },
+    // one that leaves an inequality one
+    |g, w| {
+        let bad = 3 + g.word() % 200;
+        let c = some(g, &mut w.constraints)?;
+        Some(c.relation = bad).filter(|_| kind_of(c.marker) == SLACK)
+    },
+    |g, w| {
+        let other = g.pick(&[0, 2]);
+        let c = some(g, &mut w.constraints)?;
+        Some(c.relation = if kind_of(c.marker) == SLACK { 1 } else { other })
+    },
     |g, w| Some(w.cutoff = g.bad_cutoff()),
     |g, w| Some(w.cutoff = g.bad_cutoff()),
     |g, w| Some(w.clear = 2 + g.word() % 9),

@@ -1,8 +1,8 @@
 //! One call of the archive on lent tables, held against the oracle: whether the tables read (`reading.rs`), and what the patched
 //! crate's model comes to where they do (`model.rs`).
-use crate::archive::{self, Answer, Call, Fetched, Term, ANSWER, FETCHED};
+use crate::archive::{self, Answer, Call, Fetched, Shown, Term, ANSWER, FETCHED};
 use crate::layout::{Held, Tables, CHANGES};
-use crate::memory::{Content, Fetches, Lists, Set};
+use crate::memory::{Content, Fetches, Lists, Set, Shows};
 use crate::model;
 use crate::reading::{self, cutoff_fits, CLAUSES};
 use crate::state::Words;
@@ -23,6 +23,7 @@ pub struct Checker {
     terms: Lists<u32, f64>,
     records: Lists<Term, u8>,
     changes: Fetches,
+    shows: Shows,
     /// of a changing call, and of a fetch
     answers: Lists<u32, u32>,
     /// the clause that the oracle leaves out
@@ -40,7 +41,7 @@ fn has_negative_zero(h: &Held) -> bool {
 
 impl Checker {
     pub fn new(left_out: Option<usize>) -> Checker {
-        Checker { tables: Set::new(), room: Set::new(), terms: Lists::new(), records: Lists::new(), changes: Fetches::new(), answers: Lists::new(), left_out }
+        Checker { tables: Set::new(), room: Set::new(), terms: Lists::new(), records: Lists::new(), changes: Fetches::new(), shows: Shows::new(), answers: Lists::new(), left_out }
     }
 
     /// All of these hold, but for the one that is left out.
@@ -160,6 +161,19 @@ impl Checker {
         let expected = if really { model::ask(&Words::of(&h), n) } else { (0.0, false, false) };
         if (value.to_bits(), constraint, edit) != (expected.0.to_bits(), expected.1, expected.2) || !after.same(t, false) {
             return differ("queries, and what the model says", &(n, value, constraint, edit, expected));
+        }
+        Ok(())
+    }
+
+    /// The places hold this before: each is written, with zeros where there is nothing to show.
+    pub fn show(&mut self, t: &Tables, n: u32, content: &Shown, last: bool) -> Result<(), Difference> {
+        let (lent, places) = (self.tables.lend(t, last), self.shows.lend(content, last));
+        archive::show(lent, n, places);
+        let (Some(after), Some(got)) = (self.tables.back(), self.shows.back()) else { return differ("show: what is not lent changed", &n) };
+        let h = Held::of(t);
+        let expected = if reading::reads(&h, None) { model::show(&Words::of(&h), n) } else { Shown::refused(18) };
+        if !got.same(&expected) || !after.same(t, false) {
+            return differ("show, and what the model shows", &(n, got, expected));
         }
         Ok(())
     }

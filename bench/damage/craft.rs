@@ -69,7 +69,9 @@ fn owners(g: &mut Random, w: &mut Words, wild: bool, (variables, constraints, ed
     }
     for (number, (marker, other, strength)) in ascending(g, constraints, LARGEST).into_iter().zip(tags) {
         let group = u64::from(g.some_group());
-        w.constraints.push(ConstraintWords { number, group, marker: take(marker), other: other.map_or(NONE, &mut take), strength, terms: Vec::new() });
+        let relation = if marker == SLACK { g.pick(&[0, 2]) } else { 1 };
+        let constant = some_zero(g, wild);
+        w.constraints.push(ConstraintWords { number, group, relation, constant, marker: take(marker), other: other.map_or(NONE, &mut take), strength, terms: Vec::new() });
     }
     let mut edited: Vec<u64> = w.variables.iter().map(|v| v.number).collect();
     while edited.len() > edits {
@@ -78,6 +80,10 @@ fn owners(g: &mut Random, w: &mut Words, wild: bool, (variables, constraints, ed
     for variable in edited {
         w.edits.push(EditWords { variable, marker: take(ERROR), other: take(ERROR), strength: g.pick(&[0.0, 1.0, 1000.0]), suggestion: number(g, wild) });
     }
+}
+
+fn some_zero(g: &mut Random, wild: bool) -> f64 {
+    if g.one_in(4) { g.pick(&[0.0, -0.0]) } else { number(g, wild) }
 }
 
 fn number_or_nan(g: &mut Random, wild: bool) -> f64 {

@@ -5,12 +5,16 @@
 
 pub const WORDS: usize = 338;
 pub const CELLS: usize = 6579;
-pub const BYTES: usize = 1312;
-pub const REALS: usize = 1132;
+pub const BYTES: usize = 1360;
+pub const REALS: usize = 1180;
 /// The lengths that tables have: words, keys, bytes, reals, values.
 pub const LENGTHS: [usize; 5] = [WORDS, CELLS, BYTES, REALS, CELLS];
 /// The places of each of fetch's three lists.
 pub const CHANGES: usize = 64;
+/// The places of what is shown beside the terms, and of these.
+pub const LINE_WORDS: usize = 6;
+pub const LINE_REALS: usize = 2;
+pub const LINE_TERMS: usize = 16;
 
 const NEXT: usize = 0;
 const SYMBOL_COUNT: usize = 1;
@@ -44,6 +48,7 @@ const EDITED: usize = 400;
 const EDIT_MARKERS: usize = 448;
 const EDIT_OTHERS: usize = 496;
 const TERMS: usize = 544;
+const RELATIONS: usize = 1312;
 
 // of reals
 const CONSTANTS: usize = 1;
@@ -54,6 +59,7 @@ const STRENGTHS: usize = 220;
 const EDIT_STRENGTHS: usize = 268;
 const SUGGESTIONS: usize = 316;
 const COEFFICIENTS: usize = 364;
+const CONSTRAINT_CONSTANTS: usize = 1132;
 
 // how much a list may hold
 pub const SYMBOL_ROOM: usize = 129;
@@ -61,7 +67,7 @@ const ROW_ROOM: usize = 50;
 const VARIABLE_ROOM: usize = USES - NUMBERS;
 const RECORD_ROOM: usize = GROUPS - CONSTRAINTS;
 const GONE_ROOM: usize = WORDS - GONE;
-const TERM_ROOM: usize = BYTES - TERMS;
+const TERM_ROOM: usize = RELATIONS - TERMS;
 
 /// How far the keys of one row lie from those of the next.
 pub const SPAN: usize = 256;
@@ -181,6 +187,7 @@ impl Tables {
             (bytes + EDIT_MARKERS, e),
             (bytes + EDIT_OTHERS, e),
             (bytes + TERMS, m),
+            (bytes + RELATIONS, c),
             (reals + CONSTANTS, r),
             (reals + OLD, v),
             (reals + OBJECTIVE, k),
@@ -189,6 +196,7 @@ impl Tables {
             (reals + EDIT_STRENGTHS, e),
             (reals + SUGGESTIONS, e),
             (reals + COEFFICIENTS, m),
+            (reals + CONSTRAINT_CONSTANTS, c),
             (values, n),
         ];
         let (start, count) = parts[pick(parts.len())];
@@ -226,6 +234,8 @@ pub struct HeldTag {
 pub struct HeldConstraint {
     pub number: u64,
     pub group: u64,
+    pub relation: u8,
+    pub constant: f64,
     pub tag: HeldTag,
     pub count: u8,
 }
@@ -310,7 +320,8 @@ impl Held {
         self.constraints = (0..held(self.constraint_count, RECORD_ROOM))
             .map(|i| {
                 let tag = HeldTag { marker: b[MARKERS + i], other: b[OTHERS + i], strength: f[STRENGTHS + i] };
-                HeldConstraint { number: w[CONSTRAINTS + i], group: w[GROUPS + i], tag, count: b[TERM_COUNTS + i] }
+                let (relation, constant) = (b[RELATIONS + i], f[CONSTRAINT_CONSTANTS + i]);
+                HeldConstraint { number: w[CONSTRAINTS + i], group: w[GROUPS + i], relation, constant, tag, count: b[TERM_COUNTS + i] }
             })
             .collect();
         let terms = self.constraints.iter().map(|c| usize::from(c.count)).sum::<usize>().min(TERM_ROOM);
@@ -374,6 +385,7 @@ impl Held {
         for (i, c) in self.constraints.iter().enumerate() {
             (t.words[CONSTRAINTS + i], t.words[GROUPS + i], t.bytes[TERM_COUNTS + i]) = (c.number, c.group, c.count);
             (t.bytes[MARKERS + i], t.bytes[OTHERS + i], t.reals[STRENGTHS + i]) = (c.tag.marker, c.tag.other, c.tag.strength);
+            (t.bytes[RELATIONS + i], t.reals[CONSTRAINT_CONSTANTS + i]) = (c.relation, c.constant);
         }
         for (j, &(place, coefficient)) in self.terms.iter().enumerate() {
             (t.bytes[TERMS + j], t.reals[COEFFICIENTS + j]) = (place, coefficient);

@@ -14,11 +14,11 @@ mod model;
 mod reading;
 mod state;
 
-use archive::{ask, clip, create, fetch, Call, ANSWER, FETCHED};
+use archive::{ask, clip, create, fetch, show, Call, Shown, ANSWER, FETCHED};
 use cassowary_patched::{Solver, State};
-use format::{bits, fetched, Relation};
+use format::{bits, fetched, shown, Given, Relation};
 use layout::{Held, Tables, CHANGES};
-use memory::{Fetches, Set};
+use memory::{Fetches, Set, Shows};
 use state::Words;
 
 fn kind(r: Relation) -> u32 {
@@ -29,11 +29,29 @@ fn kind(r: Relation) -> u32 {
     }
 }
 
+fn relation(kind: u64) -> Relation {
+    match kind {
+        0 => Relation::AtMost,
+        1 => Relation::Equal,
+        _ => Relation::AtLeast,
+    }
+}
+
+/// Out of the places in which it is shown.
+fn given(s: &Shown) -> Result<Given, u32> {
+    if s.words[1] != 0 {
+        return Err(s.words[1] as u32);
+    }
+    let terms = s.variables.iter().copied().zip(s.coefficients).take(s.words[4] as usize).collect();
+    Ok(Given { relation: relation(s.words[3]), strength: s.reals[1], group: s.words[5], constant: s.reals[0], terms })
+}
+
 struct Program {
     tables: Tables,
     lent: Set,
     room: Set,
     changes: Fetches,
+    shows: Shows,
 }
 
 impl Program {
@@ -58,6 +76,11 @@ impl Program {
         ask(self.lent.lend(&self.tables, true), n)
     }
 
+    fn show(&mut self, n: u32) -> String {
+        show(self.lent.lend(&self.tables, true), n, self.shows.lend(&Shown::refused(7), true));
+        shown(given(&self.shows.back().expect("what is not lent stays")))
+    }
+
     fn change(&mut self, change: impl FnOnce(&mut State) -> bool) -> String {
         let mut state = model::state(&Words::of(&Held::of(&self.tables)));
         let found = change(&mut state);
@@ -71,6 +94,7 @@ impl Program {
             format::Call::Value(v) => return bits(self.ask(v).0),
             format::Call::HasConstraint(n) => return (self.ask(n).1 as u8).to_string(),
             format::Call::HasEdit(v) => return (self.ask(v).2 as u8).to_string(),
+            format::Call::Show(n) => return self.show(n),
             format::Call::Fetch => return self.fetch(),
             format::Call::Create(a, b, c, w) => return bits(create(a, b, c, w)),
             format::Call::Clip(s) => return bits(clip(s)),
@@ -106,7 +130,7 @@ impl Program {
 
 fn main() {
     let tables = Tables::filled(|| 7, || 7.0);
-    let mut program = Program { tables, lent: Set::new(), room: Set::new(), changes: Fetches::new() };
+    let mut program = Program { tables, lent: Set::new(), room: Set::new(), changes: Fetches::new(), shows: Shows::new() };
     program.make(Call::Reset { cutoff: format::USUAL_CUTOFF });
     format::serve(|call| program.answer(call));
 }

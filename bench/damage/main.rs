@@ -11,9 +11,9 @@ mod random;
 mod reading;
 mod state;
 
-use archive::Call;
+use archive::{Call, Shown};
 use check::{clause_names, Checker, Difference};
-use layout::{Held, Tables, Word, CHANGES};
+use layout::{Held, Tables, Word, CHANGES, LINE_REALS, LINE_TERMS, LINE_WORDS};
 use memory::TRIAL;
 use random::{Random, USUAL_CUTOFF};
 use std::sync::atomic::Ordering;
@@ -115,7 +115,17 @@ impl Run {
         let (answer, after) = self.checker.call(&call, t, &room, last)?;
         self.counts.answers[answer.number as usize] += 1;
         self.checker.ask(t, self.g.pick(&variables.iter().chain(&constraints).chain(&edits).chain(&[0, 7]).copied().collect::<Vec<_>>()), last)?;
+        self.show(t, &constraints, last)?;
         Ok((answer.number, after))
+    }
+
+    fn show(&mut self, t: &Tables, constraints: &[u32], last: bool) -> Result<(), Difference> {
+        let mut number = || f64::from_bits(self.g.word());
+        let (reals, coefficients) = ([0.0; LINE_REALS].map(|_: f64| number()), [0.0; LINE_TERMS].map(|_: f64| number()));
+        let words = [0; LINE_WORDS].map(|_: u64| self.g.word());
+        let variables = [0; LINE_TERMS].map(|_: u32| self.g.word() as u32);
+        let n = if constraints.is_empty() || self.g.one_in(5) { self.g.pick(&[0, 1, 7, u32::MAX]) } else { self.g.pick(constraints) };
+        self.checker.show(t, n, &Shown { words, reals, variables, coefficients }, last)
     }
 
     fn fetch(&mut self, t: &Tables) -> Result<(u32, Tables), Difference> {

@@ -1,7 +1,7 @@
 //! Memory that ends at pages nobody may touch: what is lent stands against the page before it or the page behind it, and the
 //! rest of its own pages is filled with a pattern that must stay.
-use crate::archive::{Changes, Lent};
-use crate::layout::{Tables, CHANGES, LENGTHS};
+use crate::archive::{Changes, Lent, Places, Shown};
+use crate::layout::{Tables, CHANGES, LENGTHS, LINE_REALS, LINE_TERMS, LINE_WORDS};
 use std::sync::atomic::{AtomicU64, Ordering};
 
 const PAGE: usize = 4096;
@@ -171,5 +171,28 @@ impl Fetches {
     pub fn back(&mut self) -> Option<Content> {
         let stays = self.0.rest_stays() & self.1.rest_stays() & self.2.rest_stays();
         Some((*self.0.array(), *self.1.array(), *self.2.array())).filter(|_| stays)
+    }
+}
+
+/// Memory for the places in which a constraint is shown.
+pub struct Shows(Fenced<u64>, Fenced<f64>, Fenced<u32>, Fenced<f64>);
+
+impl Shows {
+    pub fn new() -> Shows {
+        Shows(Fenced::new(LINE_WORDS), Fenced::new(LINE_REALS), Fenced::new(LINE_TERMS), Fenced::new(LINE_TERMS))
+    }
+
+    pub fn lend(&mut self, content: &Shown, last: bool) -> Places<'static> {
+        self.0.lend(&content.words, last);
+        self.1.lend(&content.reals, last);
+        self.2.lend(&content.variables, last);
+        self.3.lend(&content.coefficients, last);
+        Places { words: self.0.array(), reals: self.1.array(), variables: self.2.array(), coefficients: self.3.array() }
+    }
+
+    pub fn back(&mut self) -> Option<Shown> {
+        let stays = self.0.rest_stays() & self.1.rest_stays() & self.2.rest_stays() & self.3.rest_stays();
+        let s = Shown { words: *self.0.array(), reals: *self.1.array(), variables: *self.2.array(), coefficients: *self.3.array() };
+        Some(s).filter(|_| stays)
     }
 }

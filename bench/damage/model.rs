@@ -1,5 +1,5 @@
 //! The patched crate's solver made from tables that read, the call made on it, and the tables that it comes to.
-use crate::archive::{Answer, Call};
+use crate::archive::{Answer, Call, Shown};
 use crate::layout::{code, id_of, kind_of, Tables, DUMMY, ERROR, EXTERNAL, NONE, SLACK};
 use crate::state::{ConstraintWords, EditWords, RowWords, VariableWords, Words};
 use cassowary_patched::{Constraint, ConstraintState, EditState, Expression, Name, RelationalOperator, RowState, Solver, State, Symbol, SymbolType, Term, Variable, VariableState};
@@ -31,6 +31,24 @@ fn word(s: Symbol) -> u64 {
     code(s.0 as u64, kind)
 }
 
+// ---- relations
+
+fn relation(kind: u32) -> RelationalOperator {
+    match kind {
+        0 => RelationalOperator::LessOrEqual,
+        1 => RelationalOperator::Equal,
+        _ => RelationalOperator::GreaterOrEqual,
+    }
+}
+
+fn kind(op: RelationalOperator) -> u64 {
+    match op {
+        RelationalOperator::LessOrEqual => 0,
+        RelationalOperator::Equal => 1,
+        RelationalOperator::GreaterOrEqual => 2,
+    }
+}
+
 // ---- states: "A row holds a symbol if its cell isn't 0.0."
 
 fn present(symbols: &[u64], cells: &[f64]) -> Vec<(Symbol, f64)> {
@@ -52,7 +70,9 @@ pub fn state(w: &Words) -> State {
             .map(|c| ConstraintState {
                 number: c.number as u32,
                 group: c.group,
+                op: relation(c.relation as u32),
                 strength: c.strength,
+                constant: c.constant,
                 terms: c.terms.iter().map(|&(v, k)| (v as u32, k)).collect(),
                 marker: symbol(c.marker),
                 other: other(c.other),
@@ -70,6 +90,8 @@ pub fn words(s: &State) -> Words {
     let constraint = |c: &ConstraintState| ConstraintWords {
         number: c.number.into(),
         group: c.group,
+        relation: kind(c.op),
+        constant: c.constant,
         marker: word(c.marker),
         other: word(c.other),
         strength: c.strength,
@@ -91,14 +113,6 @@ pub fn words(s: &State) -> Words {
 }
 
 // ---- calls
-
-fn relation(kind: u32) -> RelationalOperator {
-    match kind {
-        0 => RelationalOperator::LessOrEqual,
-        1 => RelationalOperator::Equal,
-        _ => RelationalOperator::GreaterOrEqual,
-    }
-}
 
 fn made(solver: &mut Solver, call: &Call) -> Answer {
     let a = match call {
@@ -135,6 +149,20 @@ pub fn fetch(w: &Words, t: &Tables) -> (Vec<(u64, Option<f64>)>, Tables) {
     let mut after = t.clone();
     words(&solver.state()).held().lay(&mut after);
     (list, after)
+}
+
+/// A constraint as it was added, in the places in which it is shown; 5 if there is none such.
+pub fn show(w: &Words, n: u32) -> Shown {
+    let solver = Solver::from_state(&state(w));
+    let Some(c) = solver.shown(n) else { return Shown::refused(5) };
+    let terms = &c.expr().terms;
+    let mut out = Shown::refused(0);
+    out.words = [0, 0, 0, kind(c.op()), terms.len() as u64, c.group()];
+    out.reals = [c.expr().constant, c.strength()];
+    for (i, t) in terms.iter().enumerate() {
+        (out.variables[i], out.coefficients[i]) = (t.variable.0, t.coefficient);
+    }
+    out
 }
 
 /// Value, has constraint, has edit.

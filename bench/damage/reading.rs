@@ -11,6 +11,9 @@ const MOST_GONE: u64 = 32;
 const LARGEST: u64 = u32::MAX as u64;
 const REQUIRED: f64 = 1_001_001_000.0;
 const GREATEST_CUTOFF: f64 = 1e-6;
+/// Relations: at most, equal, at least.
+const EQUAL: u8 = 1;
+const AT_LEAST: u8 = 2;
 
 pub type Clause = (&'static str, fn(&Held) -> bool);
 
@@ -55,6 +58,7 @@ pub const CLAUSES: &[Clause] = &[
     ("row cells are finite", |h| h.cells.iter().all(|c| c.1.is_finite())),
     ("old values are not infinite", |h| h.variables.iter().all(|v| !v.old.is_infinite())),
     ("constraints' strengths are finite", |h| h.constraints.iter().all(|c| c.tag.strength.is_finite())),
+    ("constraints' constants are finite", |h| h.constraints.iter().all(|c| c.constant.is_finite())),
     ("coefficients are finite", |h| h.terms.iter().all(|t| t.1.is_finite())),
     ("edits' strengths are finite", |h| h.edits.iter().all(|e| e.tag.strength.is_finite())),
     ("suggestions are finite", |h| h.edits.iter().all(|e| e.suggestion.is_finite())),
@@ -62,6 +66,8 @@ pub const CLAUSES: &[Clause] = &[
     // here), and, since every symbol has an owner, a kind is one of four
     ("variables' symbols are External", |h| h.variables.iter().all(|v| kind(h, v.place) == EXTERNAL)),
     ("constraints' kinds are those Add gives", |h| h.constraints.iter().all(|c| given(h, &c.tag))),
+    ("a relation is one of three", |h| h.constraints.iter().all(|c| c.relation <= AT_LEAST)),
+    ("an inequality's marker is a slack, an equality's is none", |h| h.constraints.iter().all(|c| (c.relation == EQUAL) != (kind(h, c.tag.marker) == SLACK))),
     ("edits' kinds are those Add gives", |h| h.edits.iter().all(|e| kind(h, e.tag.marker) == ERROR && given(h, &e.tag))),
     // "the cutoff is one that reset takes": so it is finite too
     ("the cutoff is above 0", |h| !(h.cutoff <= 0.0)),

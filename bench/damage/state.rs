@@ -14,6 +14,9 @@ pub struct VariableWords {
 pub struct ConstraintWords {
     pub number: u64,
     pub group: u64,
+    /// 0 at most, 1 equal, 2 at least
+    pub relation: u64,
+    pub constant: f64,
     pub marker: u64,
     pub other: u64,
     pub strength: f64,
@@ -85,6 +88,8 @@ impl Words {
                 .map(|c| ConstraintWords {
                     number: c.number,
                     group: c.group,
+                    relation: c.relation.into(),
+                    constant: c.constant,
                     marker: symbol(c.tag.marker),
                     other: symbol(c.tag.other),
                     strength: c.tag.strength,
@@ -136,7 +141,7 @@ impl Words {
             constraints: self
                 .constraints
                 .iter()
-                .map(|c| HeldConstraint { number: c.number, group: c.group, tag: tag(c.marker, c.other, c.strength), count: c.terms.len() as u8 })
+                .map(|c| HeldConstraint { number: c.number, group: c.group, relation: c.relation as u8, constant: c.constant, tag: tag(c.marker, c.other, c.strength), count: c.terms.len() as u8 })
                 .collect(),
             terms: self.constraints.iter().flat_map(|c| &c.terms).map(|&(n, k)| (place(n), k)).collect(),
             edits: self

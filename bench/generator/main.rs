@@ -13,12 +13,14 @@ mod format;
 mod gone;
 mod mixed;
 mod random;
+mod shown;
 mod special;
 
 use asked::asked;
 use gone::gone;
 use mixed::{cutoffs, grouped, mixed, KINDS};
 use random::Random;
+use shown::shown;
 use special::{ids, layouts, limits, malformed, panes, redundant, refusals, trolley};
 
 const OTHERS: &[&str] = &["redundant", "refusals", "limits", "trolley", "ids", "malformed", "layouts"];
@@ -85,7 +87,7 @@ fn main() {
         let mut r = Random::new(seed, i);
         out.push_str("reset\n");
         let lines = session(kind, calls, &mut r);
-        for line in if asking { asked(lines, &mut r) } else { lines } {
+        for line in if asking { asked(lines, &mut r) } else { shown(lines, &mut r) } {
             out.push_str(&line);
             out.push('\n');
             if !plain && r.one_in(8) {

@@ -1,5 +1,5 @@
 #!/usr/bin/env python3
-"""Holds the program that reads T-12's stream against the reader of this folder.
+"""Holds the program that reads T-12's stream, in the second edition since T-13, against the reader of this folder.
 usage: cable.py cuts PROGRAM [STREAMS [SEED]]    random streams, each cut in five ways: equal answers, and those of this folder's reader
        cable.py wait PROGRAM [LINES [SEED]]      one byte at a time: each answer is there before the next line is sent
        cable.py record FOLDER [LINES [SEED]]     writes stdin and stdout of FOLDER: what the program is held to"""
@@ -8,8 +8,8 @@ import random
 import select
 import subprocess
 import sys
-from cases import Maker, WRITTEN
-from reader import Reader, answer
+from cases import ENDED, Maker, WRITTEN
+from second import GROUPS, REQUIRED, SecondReader, answer
 
 LIMIT = 200         # "A line holds 200 bytes at most, newline apart."
 PACKET = 4096       # bytes that one read of the program takes at most
@@ -21,7 +21,7 @@ class Model:
     """What a stream is answered, from the whole of it."""
 
     def __init__(self):
-        self.reader, self.known = Reader(), {}
+        self.reader, self.known = SecondReader(), {}
 
     def line(self, line):
         if len(line) > LIMIT:
@@ -54,14 +54,28 @@ class Streams:
             # around the limit: minus signs, digits, spaces, and a line that would read behind the limit
             n = r.choice((198, 199, 200, 201, 202, 255, 256, 257, 400, 999)) - 5
             return r.choice((b'-' * n + b'v1<=0', b'0' * n + b'1<=v2', b'v1=(0' + b' ' * (n - 1) + b')', b'x' * n + b'v1<=0', b'-' * n + b'v1<=x'))
-        line = self.maker.any()
+        line = self.maker.any() if kind < 0.6 else self.ended()
         return line if len(line) <= LIMIT or kind < 0.3 else line[:r.randrange(LIMIT + 10)]
+
+    def ended(self):
+        """A line with an ending: good numbers and bad ones, spaces around the marks and where none may stand, damage."""
+        r, m = self.random, self.maker
+        strength = b'%d' % r.choice((0, 1, 1000, 1000000, r.randrange(REQUIRED + 1), REQUIRED - 1, REQUIRED, REQUIRED, REQUIRED + 1, 10 ** 20))
+        group = b'%d' % r.choice((0, 1, 1, 2, r.randrange(GROUPS + 1), GROUPS, GROUPS + 1, 2 ** 32 + 1, 10 ** 25))
+        head = r.choice((m.line, m.any))() if r.random() < 0.5 else r.choice((b'v1=0', b'v1=(0)', b'v1-v2>=3', b'v1=', b'', b'v1', b'1048577*v1=0'))
+        ending = m.spaces() + b'@' + m.spaces() + m.zeros() + strength + m.spaces() + b',' + m.spaces() + m.zeros() + group
+        kind = r.random()
+        if kind < 0.1:
+            ending += r.choice((b' ', b'@1,1', b',1', b'-', b'v', b'\r', b'+v1'))
+        if kind < 0.75:
+            return head + ending
+        return head + r.choice((m.damaged(ending), ending[:r.randrange(len(ending))]))
 
     def stream(self):
         return b''.join(self.line() + b'\n' for _ in range(self.random.choice((0, 1, 1, 2, 3, 5)))) or b'\n'
 
     def cuts(self, stream):
-        """The stream in pieces, in five ways: as few as reads take, one byte each, short, long, and with a cut behind every `<`, `>` and newline."""
+        """The stream in pieces, in five ways: as few as reads take, one byte each, short, long, and with a cut behind every `<`, `>`, `@` and newline."""
         r = self.random
         yield [stream[i:i + PACKET] for i in range(0, len(stream), PACKET)]
         yield [stream[i:i + 1] for i in range(len(stream))]
@@ -72,7 +86,7 @@ class Streams:
                 pieces.append(stream[at:at + n])
                 at += n
             yield pieces
-        marked = stream.replace(b'<', b'<\0').replace(b'>', b'>\0').replace(b'\n', b'\n\0')
+        marked = stream.replace(b'<', b'<\0').replace(b'>', b'>\0').replace(b'@', b'@\0').replace(b'\n', b'\n\0')
         yield [part[i:i + PACKET] for part in marked.split(b'\0') for i in range(0, len(part), PACKET)]
 
 
@@ -158,7 +172,7 @@ def wait(program, number=300, seed=1):
 
 def record(folder, number=1200, seed=7):
     source = Streams(seed)
-    stream = b'\n'.join(WRITTEN + [source.line() for _ in range(number)] + [b'v1=0\n\nv1=0'])
+    stream = b'\n'.join(WRITTEN + ENDED + [source.line() for _ in range(number)] + [b'v1=0\n\nv1=0'])
     with open(folder + '/stdin', 'wb') as f:
         f.write(stream)         # the last line has no newline
     with open(folder + '/stdout', 'w', encoding='ascii') as f:

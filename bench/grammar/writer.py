@@ -1,7 +1,8 @@
 #!/usr/bin/env python3
 """Holds T-13's programs against second.py: the writer, and a program that reads the second edition's lines.
 usage: writer.py compare WRITER READER [NUMBER [SEED]]    so many random constraints, written and read back; so many lines near plain ones,
-                                                          read, and written again; READER is `-` where no program reads them yet
+                                                          read, and written again; with `-` for READER second.py reads alone
+       writer.py back SESSION WRITER [NUMBER [SEED]]      so many constraints that lines can say, added in layouts, shown and written: their lines
        writer.py record FOLDER [NUMBER [SEED]]            writes stdin and stdout of FOLDER: what the program is held to"""
 import random
 import struct
@@ -144,6 +145,42 @@ def compare(writer, reader, number=200000, seed=1):
     return differences.count == 0
 
 
+def layouts(maker, number):
+    """Layouts of a few constraints that lines can say: for each its number, the constraint and its line."""
+    out, made = [], 0
+    while made < number:
+        layout = []
+        for c in maker.random.sample(range(60), maker.random.randrange(1, 16)):
+            words = maker.constraint()
+            line = written(words)
+            if line != '?' and not line.startswith('no '):
+                layout.append((c, words.split(), line))
+        out.append(layout)
+        made += len(layout)
+    return out
+
+
+def back(session, writer, number=20000, seed=1):
+    """A layout that came as lines is read back: each constraint that stands is shown, and written as the line that it came as."""
+    differences, asked, expected = Differences(), [], []
+    for layout in layouts(Maker(seed), number):
+        asked.append('reset')
+        for c, w, line in layout:
+            asked.append(' '.join(['addg', w[2], str(c), '65535', w[0], w[1], w[3]] + w[4:]))
+            expected.append((c, line))
+        asked += ['show %d' % c for c, _, _ in layout]
+    answers = ask(session, [line.encode() for line in asked])
+    added = [a.split()[0] == '0' for line, a in zip(asked, answers) if line.startswith('addg ')]
+    shown = [a for line, a in zip(asked, answers) if line.startswith('show ')]
+    standing = [(a, line) for ok, a, (_, line) in zip(added, shown, expected) if ok]
+    differences.check_all(asked, ['no 5'] * added.count(False), [a for ok, a in zip(added, shown) if not ok])
+    lines = ask(writer, [a.encode() for a, _ in standing])
+    differences.check_all([a for a, _ in standing], [line for _, line in standing], lines)
+    print('%d constraints added in %d layouts, %d of them accepted, shown and written; %d refused, and not shown' % (len(added), asked.count('reset'), len(standing), added.count(False)))
+    print('differences: %d' % differences.count)
+    return differences.count == 0
+
+
 def record(folder, number=3000, seed=7):
     maker = Maker(seed)
     asked = WRITTEN + [maker.constraint() for _ in range(number)] + ['eq req 1 0 1 1 1']
@@ -158,6 +195,8 @@ def record(folder, number=3000, seed=7):
 def main():
     if sys.argv[1:2] == ['compare'] and len(sys.argv) >= 4:
         sys.exit(0 if compare(*sys.argv[2:4], *map(int, sys.argv[4:])) else 1)
+    if sys.argv[1:2] == ['back'] and len(sys.argv) >= 4:
+        sys.exit(0 if back(*sys.argv[2:4], *map(int, sys.argv[4:])) else 1)
     if sys.argv[1:2] == ['record'] and len(sys.argv) >= 3:
         sys.exit(0 if record(sys.argv[2], *map(int, sys.argv[3:])) else 1)
     sys.exit(__doc__)

@@ -80,6 +80,7 @@ impl Solver {
                 && of_edit == (c.group() == 0)
                 && terms.len() <= 16
                 && terms.iter().all(|t| t.coefficient.is_finite())
+                && c.expr().constant.is_finite() // EDIT 25
                 && c.strength().is_finite();
             if !fits {
                 return false;

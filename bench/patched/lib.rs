@@ -34,6 +34,7 @@
 //! 24. "A variable that goes is listed once as gone in the next fetch of either kind, unless it was never reported. One that goes and
 //!     returns before the fetch is listed gone first, then with its new value, 0.0 included. At most 32 gone entries wait." "25 a removal
 //!     would make a 33rd gone entry; it stands before the steps of removal" (document 02, T-04)
+//! 25. "Laptops must .. read layouts back": a live constraint as it was added, skipped terms left out (document 02, T-13)
 use std::collections::BTreeMap; // EDIT 1: was HashMap
 use std::collections::btree_map::{Entry};
 

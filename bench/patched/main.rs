@@ -5,7 +5,7 @@ extern crate cassowary_patched as cassowary;
 mod format;
 
 use cassowary::{strength, Answer, Constraint, Expression, Name, RelationalOperator, Solver, Term, Variable};
-use format::{bits, fetched, Call, Relation};
+use format::{bits, fetched, shown, Call, Given, Relation};
 
 fn line(a: Answer) -> String {
     format!("{} {} {}", a.refusal, a.pivots, a.whole as u8)
@@ -20,6 +20,16 @@ fn add(solver: &mut Solver, group: u16, number: u32, relation: Relation, strengt
     let terms = terms.iter().map(|&(v, k)| Term::new(Variable(v), k)).collect();
     let constraint = Constraint::new(Name::Number(number), Expression::new(terms, constant), op, strength);
     solver.add_constraint(constraint.in_group(group.into()), budget)
+}
+
+fn given(c: &Constraint) -> Given {
+    let relation = match c.op() {
+        RelationalOperator::LessOrEqual => Relation::AtMost,
+        RelationalOperator::Equal => Relation::Equal,
+        RelationalOperator::GreaterOrEqual => Relation::AtLeast,
+    };
+    let terms = c.expr().terms.iter().map(|t| (t.variable.0, t.coefficient)).collect();
+    Given { relation, strength: c.strength(), group: c.group(), constant: c.expr().constant, terms }
 }
 
 fn main() {
@@ -37,6 +47,8 @@ fn main() {
         Call::Value(v) => bits(solver.get_value(Variable(v))),
         Call::HasConstraint(n) => (solver.has_constraint(n) as u8).to_string(),
         Call::HasEdit(v) => (solver.has_edit_variable(&Variable(v)) as u8).to_string(),
+        // "5 constraint number is not live"
+        Call::Show(n) => shown(solver.shown(n).map(given).ok_or(5)),
         Call::Fetch => fetched(solver.fetch_changes().iter().map(|(v, x)| (v.0, *x))),
         Call::Create(a, b, c, w) => bits(strength::create(a, b, c, w)),
         Call::Clip(s) => bits(strength::clip(s)),

@@ -1,7 +1,7 @@
 //! EDIT 20: the whole state as plain numbers, out of a solver and into one. A state that no run reaches can be made from it,
 //! so that calls on lent tables have a second opinion too.
 use std::collections::BTreeMap;
-use super::{ Constraint, Expression, Name, RelationalOperator, Row, Solver, Symbol, SymbolType, Term, Variable };
+use super::{ Constraint, Expression, Name, RelationalOperator, Row, Solver, Symbol, Term, Variable };
 use super::solver_impl::{ EditInfo, Tag };
 
 pub type Cells = Vec<(Symbol, f64)>;
@@ -20,7 +20,9 @@ pub struct VariableState {
 pub struct ConstraintState {
     pub number: u32,
     pub group: u64,
+    pub op: RelationalOperator,
     pub strength: f64,
+    pub constant: f64,
     pub terms: Vec<(u32, f64)>,
     pub marker: Symbol,
     pub other: Symbol
@@ -95,11 +97,9 @@ fn cells_of(row: &Row) -> Cells {
     row.cells.iter().map(|(s, v)| (*s, *v)).collect()
 }
 
-// Which inequality a constraint was is not stored, nor its constant: nothing reads them again.
-fn stored(name: Name, strength: f64, terms: &[(u32, f64)], marker: Symbol) -> Constraint {
+fn stored(name: Name, op: RelationalOperator, strength: f64, constant: f64, terms: &[(u32, f64)]) -> Constraint {
     let terms = terms.iter().map(|&(v, k)| Term::new(Variable(v), k)).collect();
-    let op = if marker.type_() == SymbolType::Slack { RelationalOperator::LessOrEqual } else { RelationalOperator::Equal };
-    Constraint::new(name, Expression::new(terms, 0.0), op, strength)
+    Constraint::new(name, Expression::new(terms, constant), op, strength)
 }
 
 impl Solver {
@@ -108,7 +108,9 @@ impl Solver {
             Name::Number(number) => Some(ConstraintState {
                 number: number,
                 group: c.group(),
+                op: c.op(),
                 strength: c.strength(),
+                constant: c.expr().constant,
                 terms: c.expr().terms.iter().map(|t| (t.variable.0, t.coefficient)).collect(),
                 marker: tag.marker,
                 other: tag.other
@@ -145,11 +147,11 @@ impl Solver {
         out.gone.extend(s.gone.iter().map(|n| Variable(*n)));
         for c in &s.constraints {
             let name = Name::Number(c.number);
-            out.cns.insert(name, (stored(name, c.strength, &c.terms, c.marker).in_group(c.group), Tag { marker: c.marker, other: c.other }));
+            out.cns.insert(name, (stored(name, c.op, c.strength, c.constant, &c.terms).in_group(c.group), Tag { marker: c.marker, other: c.other }));
         }
         for e in &s.edits {
             let name = Name::EditOf(Variable(e.variable));
-            let (c, tag) = (stored(name, e.strength, &[(e.variable, 1.0)], e.marker), Tag { marker: e.marker, other: e.other });
+            let (c, tag) = (stored(name, RelationalOperator::Equal, e.strength, 0.0, &[(e.variable, 1.0)]), Tag { marker: e.marker, other: e.other });
             out.cns.insert(name, (c.clone(), tag));
             out.edits.insert(Variable(e.variable), EditInfo { tag: tag, constraint: c, constant: e.suggestion });
         }

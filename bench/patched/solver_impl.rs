@@ -360,6 +360,11 @@ impl Solver {
         self.cns.contains_key(&Name::Number(number)) // EDIT 2
     }
 
+    // EDIT 25: as it is stored
+    pub fn shown(&self, number: u32) -> Option<&Constraint> {
+        self.cns.get(&Name::Number(number)).map(|c| &c.0)
+    }
+
     /// Add an edit variable to the solver.
     ///
     /// This method should be called before the `suggest_value` method is

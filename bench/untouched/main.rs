@@ -130,6 +130,8 @@ impl Driver {
             }
             Call::Create(a, b, c, w) => bits(strength::create(a, b, c, w)),
             Call::Clip(s) => bits(strength::clip(s)),
+            // the crate hands none back
+            Call::Show(_) => "?".to_string(),
             Call::Dump | Call::Check | Call::SetNext(_) | Call::SetCell(..) | Call::SetGone(..) => "?".to_string(),
         }
     }

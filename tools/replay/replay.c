@@ -138,6 +138,25 @@ static void fetch(void)
     }
 }
 
+/* a live constraint as it was added */
+static void show(void)
+{
+    static knobharbor_line shown;
+    if (kh_show(&screen, whole(1), &shown) != KNOBHARBOR_ACCEPTED) {
+        sprintf(got, "no %lu", (unsigned long)shown.number);
+        return;
+    }
+    int at = sprintf(got, "%s 0x", shown.kind == KNOBHARBOR_AT_MOST ? "le" : shown.kind == KNOBHARBOR_EQUAL ? "eq" : "ge");
+    at += digits(got + at, shown.strength);
+    at += sprintf(got + at, " %u 0x", (unsigned)shown.group);
+    at += digits(got + at, shown.constant);
+    at += sprintf(got + at, " %lu", (unsigned long)shown.count);
+    for (size_t i = 0; i < shown.count; i++) {
+        at += sprintf(got + at, " %lu 0x", (unsigned long)shown.variables[i]);
+        at += digits(got + at, shown.coefficients[i]);
+    }
+}
+
 static void ask(void)
 {
     if (strcmp(word[0], "hascon") == 0)
@@ -163,6 +182,8 @@ static void make(void)
         add();
     else if (strcmp(word[0], "fetch") == 0)
         fetch();
+    else if (strcmp(word[0], "show") == 0)
+        show();
     else if (strchr("hvc", word[0][0]) != NULL)
         ask();
     else

@@ -6,7 +6,7 @@ ghost use lib.ListN.{length};
 use cable_lines::Taken;
 use cable_lines::state::State;
 use replies::Out;
-use replies::put_line;
+use replies::put_second;
 
 // How many bytes of the buffer wait to be written, and whether every write went through.
 pub struct Place {
@@ -51,7 +51,7 @@ fn put_taken(out: &mut Out, p: Place, t: Taken) -> Place
     if t.answered {
         let q = with_room(out, p);
         let answer = t.answer;
-        let end = put_line(out, q.at, answer);
+        let end = put_second(out, q.at, answer);
         return Place {
             at: end,
             open: q.open,

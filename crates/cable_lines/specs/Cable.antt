@@ -1,4 +1,4 @@
--- T-12 of document 02. "The service laptop sends T-01's text by serial cable, cut anywhere."
+-- T-12 of document 02. "The service laptop sends T-01's text by serial cable, cut anywhere." Since T-13 the text is of the second edition.
 -- The state is the line that has begun: its bytes, or none once there were more than 200. A new reader's is empty.
 use Prim.Native.Nat.{ℕ, zero, suc}
 use mathlib.Core.Bool.{cond}
@@ -7,8 +7,8 @@ use mathlib.Core.Option.{Option, none, some}
 use lib.Dec.{eqb}
 use lib.ListN.{length, drop}
 use Rattle.streams.specs.Lines.{grown}
-use Rattle.grammar.specs.Sums.{Answer, refused}
-use Rattle.grammar.specs.Reader.{readLine}
+use Rattle.edition.specs.Endings.{Reply as Answer, denied}
+use Rattle.edition.specs.Steps.{readSecond}
 
 -- "A line holds 200 bytes at most, newline apart."
 abbrev pub limit : ℕ
@@ -19,8 +19,8 @@ new = some []
 
 -- "32 line too long, at its newline, before all of T-01's"
 abbrev pub answerOf : Option (List ℕ) → Answer
-answerOf none = refused 32
-answerOf (some w) = readLine w
+answerOf none = denied 32
+answerOf (some w) = readSecond w
 
 -- ---- one step
 
@@ -40,9 +40,9 @@ takes h (b ∷ s) = cond (eqb b 10) (record { answer = some (answerOf h); taken 
 
 -- "An unended line of one byte or more at close is refused."; "33 unended at close, too long or not"
 abbrev pub unended : Option (List ℕ) → Option Answer
-unended none = some (refused 33)
+unended none = some (denied 33)
 unended (some []) = none
-unended (some (b ∷ w)) = some (refused 33)
+unended (some (b ∷ w)) = some (denied 33)
 
 abbrev pub closes : Option (List ℕ) → Step
 closes h = record { answer = unended h; taken = 0; left = new }

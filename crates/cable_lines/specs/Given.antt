@@ -8,17 +8,17 @@ use native.Mathlib.Omega.{arith}
 use lib.Dec.{eqb}
 use lib.ListN.{length}
 use Rattle.streams.specs.Lines.{grown}
-use Rattle.grammar.specs.Sums.{Answer}
-use Rattle.reader.specs.declared.answers.Reading.{Reading}
-use Rattle.reader.specs.Answers.{refusal, asRead}
+use Rattle.edition.specs.Endings.{Reply as Answer}
+use Rattle.reader.specs.Answers.{refusal}
+use Rattle.second.specs.Replies.{unread, asReply}
 use Rattle.cable_lines.specs.declared.Taken.{Taken}
 use Rattle.cable_lines.specs.Cable.{limit, new, answerOf, Step, further, takes}
 use Rattle.cable_lines.specs.Bytes.{bytesOf}
 
 -- no answer stands as an answer of nothing, which is to be passed over
 abbrev pub asTaken : Option Answer → ℕ → Taken
-asTaken none n = record { answered = false; answer = refusal 0 0; taken = n }
-asTaken (some a) n = record { answered = true; answer = asRead a; taken = n }
+asTaken none n = record { answered = false; answer = unread (refusal 0 0); taken = n }
+asTaken (some a) n = record { answered = true; answer = asReply a; taken = n }
 
 -- what is handed back, and the bytes that then stand in the lent table
 pub record Given : Type 0 where

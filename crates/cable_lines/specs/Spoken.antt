@@ -9,8 +9,8 @@ use borrow.Author.Tests.{lt-leb}
 use lib.Dec.{leb}
 use lib.ListN.{length}
 use Rattle.streams.specs.Lines.{Cut, before, cutFrom, pieces, Unbroken, within, begun}
-use Rattle.grammar.specs.Sums.{Answer, refused}
-use Rattle.grammar.specs.Reader.{readLine}
+use Rattle.edition.specs.Endings.{Reply as Answer, denied}
+use Rattle.edition.specs.Steps.{readSecond}
 use Rattle.cable_lines.specs.Cable.{limit, new, answerOf, Step, Fed, feed, closes}
 use Rattle.cable_lines.specs.Cuts.{answersOf, feed-cut}
 
@@ -25,12 +25,12 @@ AllUnbroken (w ∷ ws) = Unbroken w × AllUnbroken ws
 
 -- "A longer or unreadable line is answered by number and reading goes on after the next newline."
 abbrev pub lineAnswer : List ℕ → Answer
-lineAnswer w = cond (leb (length w) limit) (readLine w) (refused 32)
+lineAnswer w = cond (leb (length w) limit) (readSecond w) (denied 32)
 
 answer-within : (w : List ℕ) → answerOf (within limit w) ≡ lineAnswer w
 answer-within w = test (leb (length w) limit)
   where
-    test : (t : Bool) → answerOf (cond t (some w) none) ≡ cond t (readLine w) (refused 32)
+    test : (t : Bool) → answerOf (cond t (some w) none) ≡ cond t (readSecond w) (denied 32)
     test true = refl
     test false = refl
 
@@ -62,10 +62,10 @@ close-new h = refl
 pub close-empty : closes (within limit []) .answer ≡ none
 close-empty = refl
 
-pub close-unended : (b : ℕ) (w : List ℕ) → closes (within limit (b ∷ w)) .answer ≡ some (refused 33)
+pub close-unended : (b : ℕ) (w : List ℕ) → closes (within limit (b ∷ w)) .answer ≡ some (denied 33)
 close-unended b w = test (leb (suc (length w)) limit)
   where
-    test : (t : Bool) → closes (cond t (some (b ∷ w)) none) .answer ≡ some (refused 33)
+    test : (t : Bool) → closes (cond t (some (b ∷ w)) none) .answer ≡ some (denied 33)
     test true = refl
     test false = refl
 

@@ -14,8 +14,8 @@ use lib.Seq.{getD-set-same, take-set-le, drop-cons, drop-length}
 use Rattle.streams.specs.Lines.{grown}
 use Rattle.streams.specs.Held.{heldOf, held-more, held-over}
 use Rattle.cable_lines.specs.Cable.{limit, new, answerOf, unended, Step, takes, further}
-use Rattle.grammar.specs.Sums.{refused}
-use Rattle.grammar.specs.Reader.{readLine}
+use Rattle.edition.specs.Endings.{denied}
+use Rattle.edition.specs.Steps.{readSecond}
 
 abbrev pub heldBy : List ℕ → Option (List ℕ)
 heldBy s = heldOf limit s (getD s 200 0)
@@ -83,20 +83,20 @@ kept-all {h} {k} {s} {at} q e =
 
 -- ---- the line answered, and the close, by the count
 
-pub answer-within : (s : List ℕ) → getD s 200 0 ≤ 200 → answerOf (heldBy s) ≡ readLine (take (getD s 200 0) s)
+pub answer-within : (s : List ℕ) → getD s 200 0 ≤ 200 → answerOf (heldBy s) ≡ readSecond (take (getD s 200 0) s)
 answer-within s h = rw (le-leb (getD s 200 0) 200 h) refl
 
-pub answer-over : (s : List ℕ) → 200 < getD s 200 0 → answerOf (heldBy s) ≡ refused 32
+pub answer-over : (s : List ℕ) → 200 < getD s 200 0 → answerOf (heldBy s) ≡ denied 32
 answer-over s h = rw (lt-leb (getD s 200 0) 200 h) refl
 
 pub unended-none : (s : List ℕ) → getD s 200 0 ≡ 0 → unended (heldBy s) ≡ none
 unended-none s e = rw e refl
 
-pub unended-some : (s : List ℕ) (n : ℕ) → 0 < length s → (n ≡ 0 → ⊥) → unended (heldOf limit s n) ≡ some (refused 33)
+pub unended-some : (s : List ℕ) (n : ℕ) → 0 < length s → (n ≡ 0 → ⊥) → unended (heldOf limit s n) ≡ some (denied 33)
 unended-some [] n h e = absurd (omega arith)
 unended-some (b ∷ s) zero h e = absurd (e refl)
 unended-some (b ∷ s) (suc n) h e = test (leb (suc n) limit)
   where
-    test : (t : Bool) → unended (cond t (some (take (suc n) (b ∷ s))) none) ≡ some (refused 33)
+    test : (t : Bool) → unended (cond t (some (take (suc n) (b ∷ s))) none) ≡ some (denied 33)
     test true = refl
     test false = refl

@@ -2,8 +2,8 @@
 ghost use mathlib.Core.Path.{_≡_};
 ghost use Prim.Native.Nat.{_≤_};
 ghost use lib.ListN.{length, take as front};
-ghost use Rattle.grammar.specs.Reader.{readLine};
-ghost use Rattle.reader.specs.Answers.{asRead};
+ghost use Rattle.edition.specs.Steps.{readSecond};
+ghost use Rattle.second.specs.Replies.{asReply};
 ghost use Rattle.cable_lines.specs.Cable.{answerOf, takes, closes};
 ghost use Rattle.cable_lines.specs.State.{heldBy};
 ghost use Rattle.cable_lines.specs.Given.{given, asGiven, begun, asBegun};
@@ -13,9 +13,9 @@ use crate::state::keep_line;
 use crate::state::long;
 use crate::state::renew;
 use crate::tidy::tidy;
-use reader::answers::Reading;
-use reader::answers::read_line;
-use reader::answers::refuse;
+use second::Reply;
+use second::read_second;
+use second::refuse;
 
 pub mod state;
 mod tidy;
@@ -23,20 +23,20 @@ mod tidy;
 // Whether a line was answered, its answer (to be passed over if none was), and how many bytes were taken.
 pub struct Taken {
     pub answered: bool,
-    pub answer: Reading,
+    pub answer: Reply,
     pub taken: usize,
 }
 
-fn read_front(line: &[u8], n: usize) -> Reading
+fn read_front(line: &[u8], n: usize) -> Reply
     requires { ⌜ n ≤ length (now line) ⌝ }
-    ensures { λ r. ⌜ r ≡ asRead (readLine (front n (now (line .entry)))) ⌝ }
+    ensures { λ r. ⌜ r ≡ asReply (readSecond (front n (now (line .entry)))) ⌝ }
 {
-    read_line(&line[..n])
+    read_second(&line[..n])
 }
 
 // The line that has begun, ended.
-fn answer_held(s: &State) -> Reading
-    ensures { λ r. ⌜ r ≡ asRead (answerOf (heldBy (now (s .entry)))) ⌝ }
+fn answer_held(s: &State) -> Reply
+    ensures { λ r. ⌜ r ≡ asReply (answerOf (heldBy (now (s .entry)))) ⌝ }
 {
     let n = s[LIMIT];
     if n <= 200 {

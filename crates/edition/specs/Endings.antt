@@ -1,5 +1,6 @@
--- T-13 of document 02: "A line may end in `@`, a whole strength up to 1,001,001,000 (required), a comma and a group from 1 to 65,535; without it the
--- constraint is required and in group 1." The lines of the second edition over those of T-01, their bytes and what they say.
+-- T-13 of document 02. "Laptops must send strength and group as well, and read layouts back."
+-- "A line may end in `@`, a whole strength up to 1,001,001,000 (required), a comma and a group from 1 to 65,535; without it the constraint is required and in group 1."
+-- The lines of the second edition over those of T-01, their bytes and what they say.
 use Prim.Native.Nat.{ℕ}
 use mathlib.Core.Bool.{Bool, cond, _&&_}
 use mathlib.Core.List.{List, [], _∷_, _++_}

@@ -1,5 +1,4 @@
--- "Units with T-01's reader stay in the field: such a reader refuses every line that holds `@`, with 20 where all before the `@` reads, and reads every
--- other line as the new one does."
+-- "Units with T-01's reader stay in the field: such a reader refuses every line that holds `@`, with 20 where all before the `@` reads, and reads every other line as the new one does."
 use Prim.Native.Nat.{ℕ, suc, _≤_}
 use mathlib.Core.Path.{_≡_, refl, sym, ap, _∙_, subst}
 use mathlib.Core.Bool.{Bool, true, false, cond}

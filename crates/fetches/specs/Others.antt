@@ -12,13 +12,13 @@ use Rattle.laws.specs.Lists.{length-tab}
 use Rattle.steps.specs.Symbol.{Symbol}
 use Rattle.steps.specs.State.{Term, Basic, Variable, Constraint, Edit, State}
 use Rattle.steps.specs.Readable.{kindCode}
-use Rattle.layout.specs.Layout.{bitOf, over}
+use Rattle.layout.specs.Layout.{bitOf, comparisonCode, over}
 use Rattle.layout.specs.Laying.{laid-nil}
 use Rattle.layout.specs.Relaid.{put-set}
 use Rattle.layout.specs.Copied.{length-listOf}
 use Rattle.cells.specs.Names.{lastPlace}
 use Rattle.cells.specs.Seek.{first-within}
-use Rattle.sparse.specs.Places.{mostVariables, mostConstraints, nextIdAt, shouldClearAt, goneCountAt, idsAt, variableNumbersAt, variableUsesAt, constraintNumbersAt, constraintGroupsAt, goneNumbersAt, kindsAt, rowPlacesAt, variablePlacesAt, changedAt, constraintMarkersAt, constraintOthersAt, termCountsAt, editVariablesAt, editMarkersAt, editOthersAt, termsAt, constantsAt, oldValuesAt, objectiveAt, cutoffAt, constraintStrengthsAt, editStrengthsAt, suggestionsAt, coefficientsAt}
+use Rattle.sparse.specs.Places.{mostVariables, mostConstraints, nextIdAt, shouldClearAt, goneCountAt, idsAt, variableNumbersAt, variableUsesAt, constraintNumbersAt, constraintGroupsAt, goneNumbersAt, kindsAt, rowPlacesAt, variablePlacesAt, changedAt, constraintMarkersAt, constraintOthersAt, termCountsAt, editVariablesAt, editMarkersAt, editOthersAt, termsAt, relationsAt, constantsAt, oldValuesAt, objectiveAt, cutoffAt, constraintStrengthsAt, editStrengthsAt, suggestionsAt, coefficientsAt, constraintConstantsAt}
 use Rattle.sparse.specs.Sparse.{Sparse, symbolsOf, read}
 use Rattle.sparse.specs.Stretches.{Stretch, from, lay}
 use Rattle.sparse.specs.Write.{noVariable, placeOf, otherPlace, indexOf, numberPlace, allTerms, laidOf, headingOf, wordsOf, bytesOf, realsOf, write}
@@ -120,7 +120,8 @@ module _ (t : Sparse) (form : Form t) where
 
   abbrev bytesAbove : List (Stretch ℕ)
   bytesAbove =
-      from termsAt (map (λ (t : Term). numberPlace xs vs (t .variable)) (allTerms s))
+      from relationsAt (map (λ (c : Constraint). comparisonCode (c .comparison)) (s .constraints))
+      ∷ from termsAt (map (λ (t : Term). numberPlace xs vs (t .variable)) (allTerms s))
       ∷ from editOthersAt (map (λ (e : Edit). otherPlace xs (e .tag .other)) (s .edits))
       ∷ from editMarkersAt (map (λ (e : Edit). placeOf xs (e .tag .marker)) (s .edits))
       ∷ from editVariablesAt (map (λ (e : Edit). numberPlace xs vs (e .variable)) (s .edits))
@@ -139,7 +140,7 @@ module _ (t : Sparse) (form : Form t) where
   above-flags : Above (changedAt + length (map flagBit vs)) bytesAbove
   above-flags =
       let l : changedAt + length (map flagBit vs) ≤ changedAt + mostVariables = omega (arith, length-map vs flagBit, few) in
-      (omega (arith, l), (omega (arith, l), (omega (arith, l), (omega (arith, l), (omega (arith, l), (omega (arith, l), (omega (arith, l), tt)))))))
+      (omega (arith, l), (omega (arith, l), (omega (arith, l), (omega (arith, l), (omega (arith, l), (omega (arith, l), (omega (arith, l), (omega (arith, l), tt))))))))
 
   bytes-written : lay bytesAbove (over changedAt (map flagBit vs) (lay bytesBelow (t .bytes))) ≡ t .bytes
   unfolding write bytesOf lay
@@ -150,7 +151,8 @@ module _ (t : Sparse) (form : Form t) where
 
   abbrev realsAbove : List (Stretch Float)
   realsAbove =
-      from coefficientsAt (map (λ (t : Term). t .coefficient) (allTerms s))
+      from constraintConstantsAt (map (λ (c : Constraint). c .constant) (s .constraints))
+      ∷ from coefficientsAt (map (λ (t : Term). t .coefficient) (allTerms s))
       ∷ from suggestionsAt (map (λ (e : Edit). e .suggestion) (s .edits))
       ∷ from editStrengthsAt (map (λ (e : Edit). e .strength) (s .edits))
       ∷ from constraintStrengthsAt (map (λ (c : Constraint). c .strength) (s .constraints))
@@ -167,7 +169,7 @@ module _ (t : Sparse) (form : Form t) where
   above-olds : Above (oldValuesAt + length (map old vs)) realsAbove
   above-olds =
       let l : oldValuesAt + length (map old vs) ≤ oldValuesAt + mostVariables = omega (arith, length-map vs old, few) in
-      (omega (arith, l), (omega (arith, l), (omega (arith, l), (omega (arith, l), (omega (arith, l), (omega (arith, l), tt))))))
+      (omega (arith, l), (omega (arith, l), (omega (arith, l), (omega (arith, l), (omega (arith, l), (omega (arith, l), (omega (arith, l), tt)))))))
 
   reals-written : lay realsAbove (over oldValuesAt (map old vs) (lay realsBelow (t .reals))) ≡ t .reals
   unfolding write realsOf lay

@@ -1,4 +1,4 @@
--- What the reader of the service cable hands to a caller, in places that the caller lends. Assumes nothing.
+-- What the service line's readers hand to a caller, in places that the caller lends. Assumes nothing.
 use Prim.Native.Nat.{ℕ, zero, suc, _+_, _-_, _≤_, _<_}
 use mathlib.Core.Path.{_≡_, refl, sym, ap, _∙_}
 use mathlib.Core.Bool.{Bool, true, false, cond, _&&_}
@@ -9,24 +9,26 @@ use native.Mathlib.Omega.{arith}
 use borrow.Author.Tests.{ne-eqb, leb-true}
 use lib.Dec.{eqb, leb}
 use lib.ListN.{length, replicate, set}
-use lib.IntN.{ℤ, natAbs}
+use lib.IntN.{ℤ, pos, natAbs}
 use lib.Ieee.{Float, ofBits, ofInt}
 use Rattle.laws.specs.Loops.{zipIn}
-use Rattle.grammar.specs.Sums.{Relation, atMost, equal, atLeast, Term, Answer, reads, outside, refused, most, smallTerms}
+use Rattle.grammar.specs.Sums.{Relation, atMost, equal, atLeast, Term, Reading, most, smallTerms}
 use Rattle.streams.specs.Lines.{grown}
 use Rattle.sums.specs.Held.{zeroAt, valueOf}
 use Rattle.reader.specs.Sides.{relationOf}
-use Rattle.reader.specs.Answers.{standsAs, markOf, laid, noVariables, noCoefficients, asRead}
-use Rattle.reader.specs.declared.answers.Reading.{Reading}
+use Rattle.reader.specs.Answers.{standsAs, markOf, laid, noVariables, noCoefficients}
+use Rattle.edition.specs.Endings.{Constraint, Reply, taken, astray, denied}
+use Rattle.edition.specs.Steps.{readSecond}
+use Rattle.second.specs.Replies.{asReply}
+use Rattle.second.specs.declared.Reply as code
 use Rattle.cable_lines.specs.Cable.{limit, new, answerOf, Step, further, takes, closes}
 use Rattle.cable_lines.specs.Bytes.{bytesOf}
 use Rattle.cable_lines.specs.Given.{asTaken, Given, given, asGiven}
 use Rattle.cable_lines.specs.declared.Taken.{Taken}
 use Rattle.layout.specs.Rooms.{and-left, and-right}
 use Rattle.steps.specs.Number.{zero64}
-use Rattle.steps.specs.Strength.{required}
 use Rattle.typed.specs.Typed.{wholeOf, value-stands}
-use Rattle.typed.specs.Adding.{Fit, line-fit}
+use Rattle.handed.specs.Fits.{Fits, line-fits}
 
 -- 0 is at most, 1 equal, 2 at least, as an add takes it
 abbrev pub kindOf : Relation → ℕ
@@ -35,7 +37,7 @@ kindOf equal = 1
 kindOf atLeast = 2
 
 -- Whether a line was answered. The words: how many bytes were taken, 0 or the refusal's number, the offset of 20, the kind, how many
--- terms. The reals: constant and strength. The terms' variables and coefficients. And the reader's own bytes.
+-- terms, the group. The reals: constant and strength. The terms' variables and coefficients. And the reader's own bytes.
 pub record Handed : Type 0 where
   pub answered : Bool
   pub words : List ℕ
@@ -53,18 +55,26 @@ placed z f ts = map f ts ++ replicate (16 - length ts) z
 
 -- no constraint: of all that one would have zeros
 abbrev pub without : Bool → ℕ → ℕ → ℕ → List ℕ → Handed
-without b n k at c = handed b (n ∷ k ∷ at ∷ 0 ∷ 0 ∷ []) (zero64 ∷ zero64 ∷ []) (replicate 16 0) (replicate 16 zero64) c
+without b n k at c = handed b (n ∷ k ∷ at ∷ 0 ∷ 0 ∷ 0 ∷ []) (zero64 ∷ zero64 ∷ []) (replicate 16 0) (replicate 16 zero64) c
 
--- a line says no strength: its constraint is required
-unfoldable pub handedOf : Option Answer → ℕ → List ℕ → Handed
+-- what a constraint says, each in its place
+abbrev pub said : Constraint → ℕ → List ℕ → Handed
+said x n c =
+    let r : Reading = x .reading in
+    handed true (n ∷ 0 ∷ 0 ∷ kindOf (r .relation) ∷ length (r .terms) ∷ x .group ∷ []) (wholeOf (r .constant) ∷ wholeOf (pos (x .strength)) ∷ []) (placed 0 (λ t. t .variable) (r .terms)) (placed zero64 (λ t. wholeOf (t .coefficient)) (r .terms)) c
+
+unfoldable pub handedOf : Option Reply → ℕ → List ℕ → Handed
 handedOf none n c = without false n 0 0 c
-handedOf (some (reads r)) n c =
-    handed true (n ∷ 0 ∷ 0 ∷ kindOf (r .relation) ∷ length (r .terms) ∷ []) (wholeOf (r .constant) ∷ required ∷ []) (placed 0 (λ t. t .variable) (r .terms)) (placed zero64 (λ t. wholeOf (t .coefficient)) (r .terms)) c
-handedOf (some (outside at)) n c = without true n 20 at c
-handedOf (some (refused k)) n c = without true n k 0 c
+handedOf (some (taken x)) n c = said x n c
+handedOf (some (astray at)) n c = without true n 20 at c
+handedOf (some (denied k)) n c = without true n k 0 c
 
 abbrev pub handedBy : Step → Handed
 handedBy s = handedOf (s .answer) (s .taken) (bytesOf (s .left))
+
+-- of a line by itself: all of it is taken, and no reader is left
+abbrev pub readBy : List ℕ → Handed
+readBy w = handedOf (some (readSecond w)) (length w) []
 
 -- ---- by what the code has
 
@@ -72,16 +82,16 @@ unfoldable pub wholeAt : ℕ → Float
 wholeAt x = wholeOf (valueOf x)
 
 abbrev pub readsIn : Taken → Bool
-readsIn t = t .answered && eqb (t .answer .number) 0
+readsIn t = t .answered && eqb (t .answer .reading .number) 0
 
 abbrev pub kindIn : Taken → ℕ
-kindIn t = cond (readsIn t) (kindOf (relationOf (t .answer .relation))) 0
+kindIn t = cond (readsIn t) (kindOf (relationOf (t .answer .reading .relation))) 0
 
 abbrev pub wordsIn : Taken → List ℕ
-wordsIn t = t .taken ∷ t .answer .number ∷ t .answer .offset ∷ kindIn t ∷ t .answer .count ∷ []
+wordsIn t = t .taken ∷ t .answer .reading .number ∷ t .answer .reading .offset ∷ kindIn t ∷ t .answer .reading .count ∷ t .answer .group ∷ []
 
 abbrev pub realsIn : Taken → List Float
-realsIn t = wholeAt (t .answer .constant) ∷ cond (readsIn t) required zero64 ∷ []
+realsIn t = wholeAt (t .answer .reading .constant) ∷ wholeOf (pos (t .answer .strength)) ∷ []
 
 pub wholes-start : (n : ℕ) (l : List Float) (x : List ℕ) → length l ≡ n → length x ≡ n → zipIn (λ _ y. wholeAt y) 0 n l x ≡ map wholeAt x
 unfolding zipIn
@@ -94,6 +104,10 @@ wholes-start (suc n) (k ∷ l) (y ∷ x) e f = ap (λ (r : List Float). wholeAt 
 zero-at : wholeAt zeroAt ≡ zero64
 unfolding wholeAt wholeOf zero64 ofBits ofInt
 zero-at = refl
+
+no-strength : wholeOf (pos 0) ≡ zero64
+unfolding wholeOf zero64 ofBits ofInt
+no-strength = refl
 
 module _ {A : Type 0} (f : Term → A) where
   laid-past : (i : ℕ) (ts : List Term) (x : A) (l : List A) → laid f (suc i) ts (x ∷ l) ≡ x ∷ laid f i ts l
@@ -146,13 +160,13 @@ coefficients-placed ts small few =
 
 -- ---- every answer's numbers are few and small
 
-abbrev FitOf : Option Answer → Type 0
+abbrev FitOf : Option Reply → Type 0
 FitOf none = Unit {0}
-FitOf (some a) = Fit a
+FitOf (some a) = Fits a
 
-answer-fit : (h : Option (List ℕ)) → Fit (answerOf h)
+answer-fit : (h : Option (List ℕ)) → Fits (answerOf h)
 answer-fit none = λ e. omega arith
-answer-fit (some w) = line-fit w
+answer-fit (some w) = line-fits w
 
 pub takes-fit : (h : Option (List ℕ)) (s : List ℕ) → FitOf (takes h s .answer)
 unfolding takes
@@ -171,16 +185,21 @@ closes-fit (some (b ∷ w)) = λ e. omega arith
 -- ---- what the code has is what is handed over
 
 abbrev over : Taken → List ℕ → Handed
-over t c = handed (t .answered) (wordsIn t) (realsIn t) (t .answer .variables) (map wholeAt (t .answer .coefficients)) c
+over t c = handed (t .answered) (wordsIn t) (realsIn t) (t .answer .reading .variables) (map wholeAt (t .answer .reading .coefficients)) c
 
-over-is : (a : Option Answer) (n : ℕ) (c : List ℕ) → FitOf a → over (asTaken a n) c ≡ handedOf a n c
+over-is : (a : Option Reply) (n : ℕ) (c : List ℕ) → FitOf a → over (asTaken a n) c ≡ handedOf a n c
 unfolding handedOf
-over-is none n c f = rw zero-at refl
-over-is (some (reads r)) n c (small, all, few) =
+over-is none n c f = rw (zero-at, no-strength) refl
+over-is (some (taken x)) n c (small, all, few) =
+    let r : Reading = x .reading in
     rw (laid-placed (λ t. t .variable) 0 (r .terms) few, coefficients-placed (r .terms) all few, whole-stands (r .constant) small, mark-back (r .relation)) refl
-over-is (some (outside at)) n c f = rw zero-at refl
-over-is (some (refused k)) n c f = rw (ne-eqb k 0 f, zero-at) refl
+over-is (some (astray at)) n c f = rw (zero-at, no-strength) refl
+over-is (some (denied k)) n c f = rw (ne-eqb k 0 f, zero-at, no-strength) refl
 
-pub hands-over : {t : Taken} {c : List ℕ} {w : List ℕ} {x : List Float} {v : List ℕ} {k : List Float} (s : Step) → FitOf (s .answer) → given t c ≡ asGiven s → w ≡ wordsIn t → x ≡ realsIn t → v ≡ t .answer .variables → k ≡ map wholeAt (t .answer .coefficients)
+pub hands-over : {t : Taken} {c : List ℕ} {w : List ℕ} {x : List Float} {v : List ℕ} {k : List Float} (s : Step) → FitOf (s .answer) → given t c ≡ asGiven s → w ≡ wordsIn t → x ≡ realsIn t → v ≡ t .answer .reading .variables → k ≡ map wholeAt (t .answer .reading .coefficients)
     → handed (t .answered) w x v k c ≡ handedBy s
 hands-over s f e p q r z = rw (p, q, r, z) (ap (λ (g : Given). over (g .back) (g .left)) e ∙ over-is (s .answer) (s .taken) (bytesOf (s .left)) f)
+
+pub reads-over : {x : code.Reply} {w : List ℕ} {y : List Float} {v : List ℕ} {k : List Float} (line : List ℕ) → x ≡ asReply (readSecond line) → w ≡ wordsIn (record { answered = true; answer = x; taken = length line })
+    → y ≡ realsIn (record { answered = true; answer = x; taken = length line }) → v ≡ x .reading .variables → k ≡ map wholeAt (x .reading .coefficients) → handed true w y v k [] ≡ readBy line
+reads-over line e p q r z = rw (p, q, r, z) (ap (λ (g : code.Reply). over (record { answered = true; answer = g; taken = length line }) []) e ∙ over-is (some (readSecond line)) (length line) [] (line-fits line))

@@ -1,3 +1,4 @@
--- What the reader of the service cable hands to a caller in lent places.
+-- What the service line's readers hand to a caller in lent places.
+pub mod Fits
 pub mod Handed
 pub mod Examples

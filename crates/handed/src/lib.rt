@@ -1,18 +1,19 @@
-// The reader of the service cable for a caller that lends a place for each thing it gives: no struct crosses.
+// The service line's readers, of a line by itself and over the cable, for a caller that lends a place for each thing they give: no struct crosses.
 ghost use mathlib.Core.Path.{_≡_};
-ghost use mathlib.Core.List.{map};
+ghost use mathlib.Core.Bool.{true};
+ghost use mathlib.Core.List.{[], map};
 ghost use Rattle.reader.specs.Sides.{relationOf};
 ghost use Rattle.cable_lines.specs.Cable.{takes, closes};
 ghost use Rattle.cable_lines.specs.State.{heldBy};
-ghost use Rattle.handed.specs.Handed.{kindOf, handed, handedBy, readsIn, kindIn, wordsIn, realsIn, wholeAt};
+ghost use Rattle.handed.specs.Handed.{kindOf, handed, handedBy, readBy, readsIn, kindIn, wordsIn, realsIn, wholeAt};
 use cable_lines::Taken;
 use cable_lines::state::State;
 use reader::sides::Mark;
-use rows::strength::REQUIRED;
+use second::read_second;
 use typed::pack::whole;
 
-// How many bytes were taken, 0 or the refusal's number, the offset of 20, the kind, how many terms.
-pub type Words = [u64; 5];
+// How many bytes were taken, 0 or the refusal's number, the offset of 20, the kind, how many terms, the group.
+pub type Words = [u64; 6];
 
 // The constant, the strength.
 pub type Reals = [f64; 2];
@@ -36,14 +37,14 @@ fn kind_of(m: Mark) -> u64
 fn reads(t: Taken) -> bool
     ensures { λ r. ⌜ r ≡ readsIn t ⌝ }
 {
-    let r = t.answer;
+    let r = t.answer.reading;
     t.answered & (r.number == 0)
 }
 
 fn kind_in(t: Taken) -> u64
     ensures { λ r. ⌜ r ≡ kindIn t ⌝ }
 {
-    let r = t.answer;
+    let r = t.answer.reading;
     if reads(t) {
         let m = r.relation;
         return kind_of(m);
@@ -54,7 +55,8 @@ fn kind_in(t: Taken) -> u64
 fn words_in(t: Taken) -> Words
     ensures { λ r. ⌜ r ≡ wordsIn t ⌝ }
 {
-    let r = t.answer;
+    let x = t.answer;
+    let r = x.reading;
     let kind = kind_in(t);
     [
         t.taken as u64,
@@ -62,18 +64,18 @@ fn words_in(t: Taken) -> Words
         r.offset as u64,
         kind,
         r.count as u64,
+        x.group as u64,
     ]
 }
 
 fn reals_in(t: Taken) -> Reals
     ensures { λ r. ⌜ r ≡ realsIn t ⌝ }
 {
-    let r = t.answer;
+    let x = t.answer;
+    let r = x.reading;
     let constant = whole(r.constant);
-    if reads(t) {
-        return [constant, REQUIRED];
-    }
-    [constant, 0.0]
+    let strength = std::num::nearest_u64_to_f64(x.strength as u64);
+    [constant, strength]
 }
 
 fn wholes(x: [u64; 16]) -> Coefficients
@@ -97,16 +99,35 @@ fn hand_over(
 )
     ensures { λ _. ⌜ now (words .exit) ≡ wordsIn t ⌝ }
     ensures { λ _. ⌜ now (reals .exit) ≡ realsIn t ⌝ }
-    ensures { λ _. ⌜ now (variables .exit) ≡ t .answer .variables ⌝ }
-    ensures { λ _. ⌜ now (coefficients .exit) ≡ map wholeAt (t .answer .coefficients) ⌝ }
+    ensures { λ _. ⌜ now (variables .exit) ≡ t .answer .reading .variables ⌝ }
+    ensures { λ _. ⌜ now (coefficients .exit) ≡ map wholeAt (t .answer .reading .coefficients) ⌝ }
 {
-    let r = t.answer;
+    let r = t.answer.reading;
     let v = r.variables;
     let c = r.coefficients;
     *words = words_in(t);
     *reals = reals_in(t);
     *variables = v;
     *coefficients = wholes(c);
+}
+
+// A line by itself, without a newline.
+pub fn read(
+    line: &[u8],
+    words: &mut Words,
+    reals: &mut Reals,
+    variables: &mut Variables,
+    coefficients: &mut Coefficients,
+)
+    ensures { λ _. ⌜ handed true (now (words .exit)) (now (reals .exit)) (now (variables .exit)) (now (coefficients .exit)) [] ≡ readBy (now (line .entry)) ⌝ }
+{
+    let x = read_second(line);
+    let t = Taken {
+        answered: true,
+        answer: x,
+        taken: line.len(),
+    };
+    hand_over(t, words, reals, variables, coefficients);
 }
 
 // The first line that ends in the piece; the caller goes on behind the bytes taken. Whether there is one.

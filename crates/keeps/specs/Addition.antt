@@ -12,14 +12,14 @@ use Rattle.steps.specs.Number.{zero64, nearZero, belowZero, cutoffFits, isFinit
 use Rattle.steps.specs.Strength.{required, clip}
 use Rattle.steps.specs.Symbol.{isError}
 use Rattle.steps.specs.Row.{reverseSign}
-use Rattle.steps.specs.State.{Term, Relation, equal, strengthOf, Tag, Constraint, Edit, State}
+use Rattle.steps.specs.State.{Term, Relation, equal, strengthOf, comparisonOf, Tag, Constraint, Edit, State}
 use Rattle.steps.specs.Work.{Work, Outcome, refused, going, newSymbol}
 use Rattle.steps.specs.CreateRow.{Building, Created, tagged, insertTerms, softEquality, requiredEquality, addTag, createRow}
 use Rattle.steps.specs.Add.{Added, addSteps}
 use Rattle.steps.specs.Edit.{editTerms, addEditSteps}
 use Rattle.steps.specs.Tests.{Test, firstRefusal, addTests, addEditTests, finiteTerms, keptTerms, newVariables, constraintsFull, variablesFull, hasConstraint, hasEdit, findConstraint, keepConstraint, findEdit, keepEdit}
 use Rattle.steps.specs.Calls.{begin, finish, refusedBy, acceptedAs, concludeAdd, add, addEdit}
-use Rattle.steps.specs.Readable.{usesIn, constraintFinite, editFinite, tagKinds, editKinds}
+use Rattle.steps.specs.Readable.{usesIn, constraintFinite, editFinite, tagKinds, markerFits, editKinds}
 use Rattle.keeps.specs.Lists.{truly, All, all-out, total, times, so-not, both, left, right, none≢some}
 use Rattle.keeps.specs.Keys.{find-none, keep-total, keep-length, keep-all, keep-up, findConstraint-is, keepConstraint-is, findEdit-is, keepEdit-is}
 use Rattle.keeps.specs.Cells.{zero-finite}
@@ -27,7 +27,7 @@ use Rattle.keeps.specs.Passes.{Ends, ends-to}
 use Rattle.keeps.specs.Reads.{Reads, conNumber, editNumber, tagCode, usedBy}
 use Rattle.steps.proofs.Cutoff.{one-kept}
 use Rattle.keeps.specs.Good.{good-to, tagsBy, begin-good, Stored, stored-in, finish-reads}
-use Rattle.keeps.specs.Creating.{createRow-kinds}
+use Rattle.keeps.specs.Creating.{createRow-kinds, createRow-marker}
 use Rattle.keeps.specs.Adding.{AddedOk, add-ends}
 
 -- ---- tests that pass
@@ -189,16 +189,16 @@ module _ (g n : ℕ) (terms : List Term) (constant : Float) (r : Relation) (s : 
       go none e q = find-none conNumber n (s .constraints) (sym (findConstraint-is n (s .constraints)) ∙ e)
       go (some c) e q = absurd (true≢false q)
 
-  added-reads : (c : Created) (a : Added) → tagKinds (strengthOf r) (c .tag) ≡ true
+  added-reads : (c : Created) (a : Added) → tagKinds (strengthOf r) (c .tag) ≡ true → markerFits (comparisonOf r) (c .tag .marker) ≡ true
       → AddedOk (λ m. tagsBy m (s .constraints) (s .edits)) (λ m. usesIn m (keptTerms (s .tableau .cutoff) terms) + usedBy m (s .constraints) (s .edits))
       (suc (length (s .tableau .rows))) (length (s .changes .variables) + length (newVariables (s .changes .variables) [] (keptTerms (s .tableau .cutoff) terms))) c a
-      → Reads (finish (a .work) (keepConstraint (record { number = n; group = g; strength = strengthOf r; terms = keptTerms (s .tableau .cutoff) terms; tag = a .tag }) (s .constraints)) (s .edits))
-  added-reads c a kinds h =
+      → Reads (finish (a .work) (keepConstraint (record { number = n; group = g; comparison = comparisonOf r; strength = strengthOf r; constant = constant; terms = keptTerms (s .tableau .cutoff) terms; tag = a .tag }) (s .constraints)) (s .edits))
+  added-reads c a kinds marker h =
       finish-reads (a .work) cs (s .edits) (good-to _ _ _ _ (a .work) tags uses (h .stands .good)) (h .stands .fine) stored
       (omega (arith, h .stands .size, few-vars)) (omega (arith, h .stands .rows, reads .few-rows, size))
     where
       con : Constraint
-      con = record { number = n; group = g; strength = strengthOf r; terms = keptTerms (s .tableau .cutoff) terms; tag = a .tag }
+      con = record { number = n; group = g; comparison = comparisonOf r; strength = strengthOf r; constant = constant; terms = keptTerms (s .tableau .cutoff) terms; tag = a .tag }
 
       cs : List Constraint
       cs = keepConstraint con (s .constraints)
@@ -230,11 +230,14 @@ module _ (g n : ℕ) (terms : List Term) (constant : Float) (r : Relation) (s : 
             edits-up = old .edits-up;
             constraints-finite =
                 more (λ (c : Constraint). constraintFinite c ≡ true)
-                (unfold constraintFinite in both (right (finiteTerms terms && isFinite constant) (isFinite (strengthOf r)) finite)
+                (unfold constraintFinite in both (both (right (finiteTerms terms && isFinite constant) (isFinite (strengthOf r)) finite) constant-finite)
                 (all-out _ (keptTerms (s .tableau .cutoff) terms) (kept-finite (s .tableau .cutoff) terms terms-finite))) (old .constraints-finite);
             constraint-kinds =
                 more (λ (c : Constraint). tagKinds (c .strength) (c .tag) ≡ true) (subst (λ (t : Tag). tagKinds (strengthOf r) t ≡ true) (sym (h .tag)) kinds)
                 (old .constraint-kinds);
+            constraint-markers =
+                more (λ (c : Constraint). markerFits (c .comparison) (c .tag .marker) ≡ true)
+                (subst (λ (t : Tag). markerFits (comparisonOf r) (t .marker) ≡ true) (sym (h .tag)) marker) (old .constraint-markers);
             edits-finite = old .edits-finite;
             edit-kinds = old .edit-kinds;
             groups = more (λ (c : Constraint). ltb 0 (c .group) ≡ true) grouped (old .groups);
@@ -248,11 +251,11 @@ add-kept g n terms constant r budget s reads = go (firstRefusal (addTests g n te
     go (some k) e = rw (e, add) reads
     go none e =
         rw (e, add) (concludeAdd-reads s (addSteps budget terms constant r (begin s))
-        (λ a. finish (a .work) (keepConstraint (record { number = n; group = g; strength = strengthOf r; terms = keptTerms (s .tableau .cutoff) terms; tag = a .tag }) (s .constraints))
+        (λ a. finish (a .work) (keepConstraint (record { number = n; group = g; comparison = comparisonOf r; strength = strengthOf r; constant = constant; terms = keptTerms (s .tableau .cutoff) terms; tag = a .tag }) (s .constraints))
         (s .edits)) reads
         (ends-to _ _ (addSteps budget terms constant r (begin s))
         (add-ends budget terms constant r _ _ (begin s) (begin-good s reads) (plain s) (constant-finite g n terms constant r s reads e))
-        (λ a h. unfold begin in added-reads g n terms constant r s reads e _ a (createRow-kinds terms constant r _) h)))
+        (λ a h. unfold begin in added-reads g n terms constant r s reads e _ a (createRow-kinds terms constant r _) (createRow-marker terms constant r _) h)))
 
 module _ (n : ℕ) (strength : Float) (s : State) (reads : Reads s) (pass : firstRefusal (addEditTests n strength s) ≡ none) where
   edit-tests : (hasEdit n s ≡ false) × (eq strength required ≡ false) × (constraintsFull s ≡ false) × (variablesFull (editTerms n) s ≡ false)
@@ -313,6 +316,7 @@ module _ (n : ℕ) (strength : Float) (s : State) (reads : Reads s) (pass : firs
             edits-up = rw keepEdit-is (keep-up editNumber 0 edit (s .edits) (omega arith) free (old .edits-up));
             constraints-finite = old .constraints-finite;
             constraint-kinds = old .constraint-kinds;
+            constraint-markers = old .constraint-markers;
             edits-finite = more (λ (e : Edit). editFinite e ≡ true) (unfold editFinite in both held zero-finite) (old .edits-finite);
             edit-kinds =
                 more (λ (e : Edit). editKinds e ≡ true)

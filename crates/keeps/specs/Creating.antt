@@ -11,11 +11,11 @@ use Rattle.steps.specs.Number.{zero64, one64, minusOne64, belowZero, isFinite}
 use Rattle.steps.specs.Strength.{required}
 use Rattle.steps.specs.Symbol.{Slack, Error, Dummy, Symbol, isExternal, isError, holds, firstSymbol}
 use Rattle.steps.specs.Row.{reverseSign}
-use Rattle.steps.specs.State.{Term, Relation, atMost, equal, atLeast, strengthOf}
+use Rattle.steps.specs.State.{Term, Relation, atMost, equal, atLeast, strengthOf, comparisonOf, exactly}
 use Rattle.steps.specs.Work.{Work, withTableau, withObjective, marking, newSymbol, appendSymbol}
 use Rattle.steps.specs.CreateRow.{Building, written, appendTo, insertInto, insertTerms, Created, tagged, addSymbol, insertInObjective, addError, inequality, softEquality, requiredEquality, addTag, createRow, negativeTag, chooseSubject}
 use Rattle.steps.specs.Tests.{keptTerms, newVariables}
-use Rattle.steps.specs.Readable.{code, usesIn, tagSymbols, tagKinds}
+use Rattle.steps.specs.Readable.{code, usesIn, tagSymbols, tagKinds, isEquality, markerFits}
 use Rattle.keeps.specs.Lists.{same, times, both, none≢some, some-injective}
 use Rattle.keeps.specs.Along.{first-chosen}
 use Rattle.keeps.specs.Cells.{Fine, fine-l, holds-held}
@@ -212,6 +212,38 @@ addTag-kinds (equal s) b = go (lt s required) refl
     go true e = unfold softEquality tagged newSymbol tagKinds isError in both e refl
     go false e = unfold requiredEquality tagged newSymbol tagKinds isError in ap not e
 
+-- "Marker is the slack" of an inequality, and of none else
+
+inequality-marker : (sign s : Float) (b : Building) → inequality sign s b .tag .marker .kind ≡ Slack
+unfolding inequality tagged newSymbol
+inequality-marker sign s b = go (lt s required)
+  where
+    made : Bool → Created
+    made t =
+        elim t [
+          | true ↦ tagged (newSymbol Slack (b .work)) (some (newSymbol Error (addSymbol (newSymbol Slack (b .work)) sign b .work)))
+              (addError (newSymbol Error (addSymbol (newSymbol Slack (b .work)) sign b .work)) (neg sign) s
+              (addSymbol (newSymbol Slack (b .work)) sign b))
+          | false ↦ tagged (newSymbol Slack (b .work)) none (addSymbol (newSymbol Slack (b .work)) sign b)
+        ]
+
+    go : (t : Bool) → made t .tag .marker .kind ≡ Slack
+    go true = refl
+    go false = refl
+
+addTag-marker : (r : Relation) (b : Building) → markerFits (comparisonOf r) (addTag r b .tag .marker) ≡ true
+unfolding addTag comparisonOf markerFits isEquality
+addTag-marker (atMost s) b = rw (inequality-marker one64 s b, markerFits) refl
+addTag-marker (atLeast s) b = rw (inequality-marker minusOne64 s b, markerFits) refl
+addTag-marker (equal s) b = go (lt s required)
+  where
+    made : Bool → Created
+    made t = elim t [ true ↦ softEquality s b | false ↦ requiredEquality b ]
+
+    go : (t : Bool) → markerFits exactly (made t .tag .marker) ≡ true
+    go true = unfold softEquality tagged newSymbol in refl
+    go false = unfold requiredEquality tagged newSymbol in refl
+
 -- ---- steps 1 to 3
 
 pub createRow-tagged : (K U : ℕ → ℕ) (terms : List Term) (constant : Float) (r : Relation) (w : Work) → Good K U w → w .artificial ≡ none → isFinite constant ≡ true
@@ -262,6 +294,20 @@ createRow-kinds terms constant r w = go (belowZero (c .row .constant))
     go : (t : Bool) → tagKinds (strengthOf r) (made t .tag) ≡ true
     go false = addTag-kinds r _
     go true = addTag-kinds r _
+
+pub createRow-marker : (terms : List Term) (constant : Float) (r : Relation) (w : Work) → markerFits (comparisonOf r) (createRow terms constant r w .tag .marker) ≡ true
+unfolding createRow
+createRow-marker terms constant r w = go (belowZero (c .row .constant))
+  where
+    c : Created
+    c = addTag r (insertTerms (w .tableau .cutoff) terms (record { work = w; row = record { constant = constant; cells = map (λ _. zero64) (w .tableau .symbols) } }))
+
+    made : Bool → Created
+    made t = elim t [ false ↦ c | true ↦ record { work = c .work; row = reverseSign (c .row); tag = c .tag } ]
+
+    go : (t : Bool) → markerFits (comparisonOf r) (made t .tag .marker) ≡ true
+    go false = addTag-marker r _
+    go true = addTag-marker r _
 
 -- ---- step 4
 

@@ -12,7 +12,7 @@ use Rattle.steps.specs.State.{Variable, Constraint, Edit, State}
 use Rattle.steps.specs.Work.{Work}
 use Rattle.steps.specs.Changes.{withFlag, clearChanged}
 use Rattle.steps.specs.Calls.{begin, finish}
-use Rattle.steps.specs.Readable.{code, constraintFinite, editFinite, tagKinds, editKinds}
+use Rattle.steps.specs.Readable.{code, constraintFinite, editFinite, tagKinds, markerFits, editKinds}
 use Rattle.keeps.specs.Lists.{All, all-to, same, total, times, Up}
 use Rattle.keeps.specs.Cells.{Fine}
 use Rattle.keeps.specs.Fits.{FitsW, fits-mark, fits-plain, all-map}
@@ -145,6 +145,7 @@ pub record Stored (cs : List Constraint) (es : List Edit) : Type 0 where
   pub edits-up : Up 0 (map editNumber es)
   pub constraints-finite : All (λ (c : Constraint). constraintFinite c ≡ true) cs
   pub constraint-kinds : All (λ (c : Constraint). tagKinds (c .strength) (c .tag) ≡ true) cs
+  pub constraint-markers : All (λ (c : Constraint). markerFits (c .comparison) (c .tag .marker) ≡ true) cs
   pub edits-finite : All (λ (e : Edit). editFinite e ≡ true) es
   pub edit-kinds : All (λ (e : Edit). editKinds e ≡ true) es
   pub groups : All (λ (c : Constraint). ltb 0 (c .group) ≡ true) cs
@@ -158,6 +159,7 @@ stored-in s r =
       edits-up = r .edits-up;
       constraints-finite = r .constraints-finite;
       constraint-kinds = r .constraint-kinds;
+      constraint-markers = r .constraint-markers;
       edits-finite = r .edits-finite;
       edit-kinds = r .edit-kinds;
       groups = r .groups;
@@ -182,6 +184,7 @@ finish-reads w cs es g m t few rows =
       externals = g .vars .externals;
       constraints-finite = t .constraints-finite;
       constraint-kinds = t .constraint-kinds;
+      constraint-markers = t .constraint-markers;
       edits-finite = t .edits-finite;
       edit-kinds = t .edit-kinds;
       cutoff = g .cutoff;

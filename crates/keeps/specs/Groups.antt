@@ -31,7 +31,7 @@ Apart (d ∷ ds) = All (λ (e : Constraint). d .number ≢ e .number) ds × Apar
 
 -- ---- a list by ascending number
 
-above : (i : ℕ) (cs : List Constraint) → Up i (map conNumber cs) → All (λ (c : Constraint). i ≤ c .number) cs
+pub above : (i : ℕ) (cs : List Constraint) → Up i (map conNumber cs) → All (λ (c : Constraint). i ≤ c .number) cs
 above i [] u = tt
 above i (c ∷ cs) u = (u .0, all-to (λ (d : Constraint). suc (c .number) ≤ d .number) (λ (d : Constraint). i ≤ d .number) (λ d h. omega (arith, h, u .0)) cs (above (suc (c .number)) cs (u .1)))
 

@@ -27,6 +27,7 @@ pub mod Adding
 pub mod Addition
 pub mod Lookup
 pub mod Groups
+pub mod Shown
 pub mod Keeps
 pub mod Never
 pub mod Listed

@@ -7,7 +7,7 @@ use lib.Dec.{eqb}
 use Rattle.steps.specs.Number.{zero64, one64, usualCutoff}
 use Rattle.steps.specs.Strength.{required}
 use Rattle.steps.specs.Symbol.{Dummy}
-use Rattle.steps.specs.State.{Term, atMost, Variable, State}
+use Rattle.steps.specs.State.{Term, atMost, exactly, Variable, State}
 use Rattle.steps.specs.Calls.{Result, add}
 use Rattle.steps.specs.Readable.{all, storedTerms, usesIn, countsInRange, numbersAscend, symbolsDistinct, idsBelowNext, rowsInRange, noBasicCell, symbolsOwned, usesCounted, numbersFinite, kindsFit, cutoffInRange, groupsFit, goneFits, openReadable}
 
@@ -45,7 +45,7 @@ stale =
     record {
       tableau = record { cutoff = usualCutoff; symbols = record { id = 1; kind = Dummy } ∷ []; nextId = 2; rows = []; objective = zero64 ∷ [] };
       changes = record { variables = []; gone = []; shouldClear = false };
-      constraints = record { number = 1; group = 1; strength = required; terms = x ∷ []; tag = record { marker = record { id = 1; kind = Dummy }; other = none } } ∷ [];
+      constraints = record { number = 1; group = 1; comparison = exactly; strength = required; constant = zero64; terms = x ∷ []; tag = record { marker = record { id = 1; kind = Dummy }; other = none } } ∷ [];
       edits = [];
       whole = true;
     }

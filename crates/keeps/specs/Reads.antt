@@ -12,7 +12,7 @@ use Rattle.steps.specs.Number.{isFinite, cutoffFits, allWhole}
 use Rattle.steps.specs.Symbol.{isExternal}
 use Rattle.steps.specs.State.{Tag, Variable, Constraint, Edit, State}
 use Rattle.steps.specs.Edit.{editTerms}
-use Rattle.steps.specs.Readable.{concat, code, tagSymbols, tags, owned, storedTerms, usesIn, constraintFinite, editFinite, tagKinds, editKinds}
+use Rattle.steps.specs.Readable.{concat, code, tagSymbols, tags, owned, storedTerms, usesIn, constraintFinite, editFinite, tagKinds, markerFits, editKinds}
 use Rattle.keeps.specs.Lists.{All, total, times, times-append, times-map, times-concat, Up, same}
 use Rattle.keeps.specs.Fits.{Fits}
 use Rattle.keeps.specs.Codes.{codes}
@@ -53,6 +53,7 @@ pub record Reads (s : State) : Type 0 where
   pub externals : All (λ (v : Variable). isExternal (v .symbol) ≡ true) (s .changes .variables)
   pub constraints-finite : All (λ (c : Constraint). constraintFinite c ≡ true) (s .constraints)
   pub constraint-kinds : All (λ (c : Constraint). tagKinds (c .strength) (c .tag) ≡ true) (s .constraints)
+  pub constraint-markers : All (λ (c : Constraint). markerFits (c .comparison) (c .tag .marker) ≡ true) (s .constraints)
   pub edits-finite : All (λ (e : Edit). editFinite e ≡ true) (s .edits)
   pub edit-kinds : All (λ (e : Edit). editKinds e ≡ true) (s .edits)
   pub cutoff : cutoffFits (s .tableau .cutoff) ≡ true

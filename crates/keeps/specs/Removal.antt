@@ -233,6 +233,7 @@ module _ (n budget : ℕ) (s : State) (c : Constraint) (r : Reads s) (e : findCo
         edits-up = old .edits-up;
         constraints-finite = all-left _ (old .constraints-finite);
         constraint-kinds = all-left _ (old .constraint-kinds);
+        constraint-markers = all-left _ (old .constraint-markers);
         edits-finite = old .edits-finite;
         edit-kinds = old .edit-kinds;
         groups = all-left _ (old .groups);
@@ -339,6 +340,7 @@ removeEdit-kept n budget s r = go (findEdit n (s .edits)) refl
               edits-up = rw dropEdit-is (drop-up editNumber 0 n (s .edits) (old .edits-up));
               constraints-finite = old .constraints-finite;
               constraint-kinds = old .constraint-kinds;
+              constraint-markers = old .constraint-markers;
               edits-finite = all-left _ (old .edits-finite);
               edit-kinds = all-left _ (old .edit-kinds);
               groups = old .groups;

@@ -192,6 +192,7 @@ module _ (n : ℕ) (new : Float) (e : Edit) (es : List Edit) (found : findEdit n
         edits-up = again-up (t .edits-up);
         constraints-finite = t .constraints-finite;
         constraint-kinds = t .constraint-kinds;
+        constraint-markers = t .constraint-markers;
         edits-finite =
             again-all (λ (e : Edit). editFinite e ≡ true)
             (both (left (isFinite (e .strength)) (isFinite (e .suggestion))
@@ -256,6 +257,7 @@ fetch-kept s r =
       externals = vars .externals;
       constraints-finite = r .constraints-finite;
       constraint-kinds = r .constraint-kinds;
+      constraint-markers = r .constraint-markers;
       edits-finite = r .edits-finite;
       edit-kinds = r .edit-kinds;
       cutoff = r .cutoff;

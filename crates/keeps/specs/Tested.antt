@@ -12,7 +12,7 @@ use Rattle.steps.specs.Number.{isFinite, allWhole}
 use Rattle.steps.specs.Symbol.{Symbol, isExternal}
 use Rattle.steps.specs.State.{Term, Basic, Variable, Constraint, State}
 use Rattle.steps.specs.Changes.{member, neverReported}
-use Rattle.steps.specs.Readable.{all, ascendFrom, ascend, distinct, allIn, code, live, liveIds, basics, basicIds, tags, owned, storedTerms, usesIn, numbers, countsInRange, numbersAscend, symbolsDistinct, idsBelowNext, rowsInRange, holdsNoBasic, noBasicCell, symbolsOwned, usesCounted, tableauFinite, constraintFinite, editFinite, numbersFinite, tagKinds, editKinds, kindsFit, cutoffInRange, groupsFit, goneFits, readable}
+use Rattle.steps.specs.Readable.{all, ascendFrom, ascend, distinct, allIn, code, live, liveIds, basics, basicIds, tags, owned, storedTerms, usesIn, numbers, countsInRange, numbersAscend, symbolsDistinct, idsBelowNext, rowsInRange, holdsNoBasic, noBasicCell, symbolsOwned, usesCounted, tableauFinite, constraintFinite, editFinite, numbersFinite, tagKinds, markerFits, editKinds, kindsFit, cutoffInRange, groupsFit, goneFits, readable}
 use Rattle.keeps.specs.Lists.{All, all-in, all-out, all-to, all-zip, times, member-in, member-out, allIn-in, allIn-out, distinct-in, distinct-out, ascendFrom-in, ascendFrom-out, ascend-in, ascend-out, Up, none-of, so, truly, both, left, right}
 use Rattle.keeps.specs.Along.{ids, Mem}
 use Rattle.keeps.specs.Fits.{Fits, all-map}
@@ -139,7 +139,7 @@ module _ (s : State) where
       let c : Clauses s = clauses-in s e in
       let counts = and3 (leb (length vs) 32) (leb (length (tags s)) 48) (all (λ (c : Constraint). leb (length (c .terms)) 16) (s .constraints)) (c .counts) in
       let finite = and4 (tableauFinite s) (all (λ (v : Variable). isFinite (v .old) || isNan (v .old)) vs) (all constraintFinite (s .constraints)) (all editFinite (s .edits)) (c .finite) in
-      let kinds = and3 (all (λ (v : Variable). isExternal (v .symbol)) vs) (all (λ (c : Constraint). tagKinds (c .strength) (c .tag)) (s .constraints)) (all editKinds (s .edits)) (c .kinds) in
+      let kinds = and4 (all (λ (v : Variable). isExternal (v .symbol)) vs) (all (λ (c : Constraint). tagKinds (c .strength) (c .tag)) (s .constraints)) (all (λ (c : Constraint). markerFits (c .comparison) (c .tag .marker)) (s .constraints)) (all editKinds (s .edits)) (c .kinds) in
       let ups = ups-in (c .ascending) in
       record {
         few-variables = leb→le (length vs) 32 (so (counts .0));
@@ -156,8 +156,9 @@ module _ (s : State) where
         externals = all-in _ vs (kinds .0);
         constraints-finite = all-in _ (s .constraints) (finite .2);
         constraint-kinds = all-in _ (s .constraints) (kinds .1);
+        constraint-markers = all-in _ (s .constraints) (kinds .2);
         edits-finite = all-in _ (s .edits) (finite .3);
-        edit-kinds = all-in _ (s .edits) (kinds .2);
+        edit-kinds = all-in _ (s .edits) (kinds .3);
         cutoff = c .cutoff;
         groups = all-in _ (s .constraints) (c .groups);
         waits = gone-in (c .gone);
@@ -239,7 +240,7 @@ module _ (s : State) where
 
     kinds-out : kindsFit s ≡ true
     unfolding kindsFit
-    kinds-out = both (both (all-out _ vs (r .externals)) (all-out _ (s .constraints) (r .constraint-kinds))) (all-out _ (s .edits) (r .edit-kinds))
+    kinds-out = both (both (both (all-out _ vs (r .externals)) (all-out _ (s .constraints) (r .constraint-kinds))) (all-out _ (s .constraints) (r .constraint-markers))) (all-out _ (s .edits) (r .edit-kinds))
 
     gone-out : goneFits s ≡ true
     unfolding goneFits

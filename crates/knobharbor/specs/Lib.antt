@@ -3,3 +3,6 @@ pub mod Given
 pub mod Places
 pub mod Adding
 pub mod HandedOn
+pub mod Written
+pub mod HandedBack
+pub mod ShownBack

@@ -6,3 +6,5 @@ pub mod given;
 pub mod lines;
 pub mod places;
 pub mod service;
+pub mod showing;
+pub mod written;

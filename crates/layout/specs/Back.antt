@@ -12,11 +12,11 @@ use lib.ListN.{length, getD, length-map}
 use lib.Ieee.{Float, nan}
 use borrow.Author.Tests.{ne-eqb}
 use Rattle.steps.specs.Symbol.{Kind, External, Slack, Error, Dummy, Symbol}
-use Rattle.steps.specs.State.{Term, Basic, Tag, Variable, Constraint, Edit}
+use Rattle.steps.specs.State.{Term, Comparison, noMore, exactly, noLess, Basic, Tag, Variable, Constraint, Edit}
 use Rattle.steps.specs.Readable.{kindCode, code}
 use Rattle.laws.specs.Lists.{listOf, listOf-is, laid-in}
 use Rattle.layout.specs.Laying.{getD-map}
-use Rattle.layout.specs.Layout.{kindOf, symbolOf, otherOf, otherCode, bitOf, variableOf, tagOf, termOf, constraintOf, editOf, cellsOf, basicOf, over, variableNames, variableReals, constraintNames, constraintReals, editNames, editReals, basicRow}
+use Rattle.layout.specs.Layout.{kindOf, symbolOf, otherOf, otherCode, bitOf, comparisonIn, comparisonCode, variableOf, tagOf, termOf, constraintOf, editOf, cellsOf, basicOf, over, variableNames, variableReals, constraintNames, constraintReals, editNames, editReals, basicRow}
 use Rattle.layout.specs.Rooms.{Named}
 
 -- ---- codes and flags
@@ -55,6 +55,12 @@ unfolding bitOf
 bit-back true = refl
 bit-back false = refl
 
+pub comparison-back : (c : Comparison) → comparisonIn (comparisonCode c) ≡ c
+unfolding comparisonIn comparisonCode
+comparison-back noMore = refl
+comparison-back exactly = refl
+comparison-back noLess = refl
+
 -- ---- a list over the first places of a row
 
 module _ {A : Type 0} where
@@ -82,7 +88,7 @@ pub objective-back : (cells row : List Float) → length row ≡ 130 → length 
 unfolding cellsOf
 objective-back cells row l r = listOf-is (λ j. getD (over 1 cells row) (1 + j) nan) cells nan λ j k. over-at 1 cells row j nan nan k (omega arith)
 
-pub variable-back : (v : Variable) (n : List ℕ) (r : List Float) → length n ≡ 20 → length r ≡ 17 → variableOf (over 0 (variableNames v) n) (over 0 (variableReals v) r) ≡ v
+pub variable-back : (v : Variable) (n : List ℕ) (r : List Float) → length n ≡ 21 → length r ≡ 18 → variableOf (over 0 (variableNames v) n) (over 0 (variableReals v) r) ≡ v
 unfolding variableOf variableNames variableReals
 variable-back v n r ln lr =
     let l : List ℕ = variableNames v in
@@ -101,39 +107,39 @@ tag-back : (t : Tag) (l n : List ℕ) → Named (t .other) → getD (over 0 l n)
 unfolding tagOf
 tag-back t l n o a b = rw (a, b, symbol-back (t .marker), other-back (t .other) o) refl
 
-terms-back : (ts : List Term) (n : List ℕ) (r : List Float) → ((j : ℕ) → j < length ts → getD n (4 + j) 0 ≡ getD (map (λ (t : Term). t .variable) ts) j 0)
-    → ((j : ℕ) → j < length ts → getD r (1 + j) nan ≡ getD (map (λ (t : Term). t .coefficient) ts) j nan) → listOf (length ts) (termOf n r) ≡ ts
+terms-back : (ts : List Term) (n : List ℕ) (r : List Float) → ((j : ℕ) → j < length ts → getD n (5 + j) 0 ≡ getD (map (λ (t : Term). t .variable) ts) j 0)
+    → ((j : ℕ) → j < length ts → getD r (2 + j) nan ≡ getD (map (λ (t : Term). t .coefficient) ts) j nan) → listOf (length ts) (termOf n r) ≡ ts
 unfolding termOf
 terms-back ts n r f g =
     let d : Term = record { variable = 0; coefficient = nan } in
     listOf-is (termOf n r) ts d λ j k.
     rw (f j k, g j k, getD-map (λ (t : Term). t .variable) ts j d 0 k, getD-map (λ (t : Term). t .coefficient) ts j d nan k) refl
 
-pub constraint-back : (c : Constraint) (n : List ℕ) (r : List Float) → length n ≡ 20 → length r ≡ 17 → length (c .terms) ≤ 16 → Named (c .tag .other) → c .group ≡ 1 → constraintOf (over 0 (constraintNames c) n) (over 0 (constraintReals c) r) ≡ c
+pub constraint-back : (c : Constraint) (n : List ℕ) (r : List Float) → length n ≡ 21 → length r ≡ 18 → length (c .terms) ≤ 16 → Named (c .tag .other) → c .group ≡ 1 → constraintOf (over 0 (constraintNames c) n) (over 0 (constraintReals c) r) ≡ c
 unfolding constraintOf constraintNames constraintReals
 constraint-back c n r ln lr lt o g =
     let vs : List ℕ = map (λ (t : Term). t .variable) (c .terms) in
     let ks : List Float = map (λ (t : Term). t .coefficient) (c .terms) in
     let lv : length vs ≡ length (c .terms) = length-map (c .terms) (λ (t : Term). t .variable) in
     let lk : length ks ≡ length (c .terms) = length-map (c .terms) (λ (t : Term). t .coefficient) in
-    let l : List ℕ = c .number ∷ code (c .tag .marker) ∷ otherCode (c .tag .other) ∷ length (c .terms) ∷ vs in
-    let m : List Float = c .strength ∷ ks in
-    let a : (i : ℕ) → i < 4 + length (c .terms) → getD (over 0 l n) i 0 ≡ getD l i 0 = λ i h. first-at l n i 0 (omega arith) (omega arith) in
-    let b : (i : ℕ) → i < 1 + length (c .terms) → getD (over 0 m r) i nan ≡ getD m i nan = λ i h. first-at m r i nan (omega arith) (omega arith) in
-    let ts : listOf (length (c .terms)) (termOf (over 0 l n) (over 0 m r)) ≡ c .terms = terms-back (c .terms) (over 0 l n) (over 0 m r) (λ j k. a (4 + j) (omega arith) ∙ past j) (λ j k. b (1 + j) (omega arith) ∙ next j) in
-    rw (a 0 (omega arith), a 3 (omega arith), b 0 (omega arith), tag-back (c .tag) l n o (a 1 (omega arith)) (a 2 (omega arith)), ts, ← g) refl
+    let l : List ℕ = c .number ∷ code (c .tag .marker) ∷ otherCode (c .tag .other) ∷ length (c .terms) ∷ comparisonCode (c .comparison) ∷ vs in
+    let m : List Float = c .strength ∷ c .constant ∷ ks in
+    let a : (i : ℕ) → i < 5 + length (c .terms) → getD (over 0 l n) i 0 ≡ getD l i 0 = λ i h. first-at l n i 0 (omega arith) (omega arith) in
+    let b : (i : ℕ) → i < 2 + length (c .terms) → getD (over 0 m r) i nan ≡ getD m i nan = λ i h. first-at m r i nan (omega arith) (omega arith) in
+    let ts : listOf (length (c .terms)) (termOf (over 0 l n) (over 0 m r)) ≡ c .terms = terms-back (c .terms) (over 0 l n) (over 0 m r) (λ j k. a (5 + j) (omega arith) ∙ past j) (λ j k. b (2 + j) (omega arith) ∙ next j) in
+    rw (a 0 (omega arith), a 3 (omega arith), a 4 (omega arith), comparison-back (c .comparison), b 0 (omega arith), b 1 (omega arith), tag-back (c .tag) l n o (a 1 (omega arith)) (a 2 (omega arith)), ts, ← g) refl
   where
-    past : (j : ℕ) → getD (c .number ∷ code (c .tag .marker) ∷ otherCode (c .tag .other) ∷ length (c .terms) ∷ map (λ (t : Term). t .variable) (c .terms)) (4 + j) 0 ≡ getD (map (λ (t : Term). t .variable) (c .terms)) j 0
+    past : (j : ℕ) → getD (c .number ∷ code (c .tag .marker) ∷ otherCode (c .tag .other) ∷ length (c .terms) ∷ comparisonCode (c .comparison) ∷ map (λ (t : Term). t .variable) (c .terms)) (5 + j) 0 ≡ getD (map (λ (t : Term). t .variable) (c .terms)) j 0
     past j =
-        let e : 4 + j ≡ suc (suc (suc (suc j))) = omega arith in
+        let e : 5 + j ≡ suc (suc (suc (suc (suc j)))) = omega arith in
         rw e refl
 
-    next : (j : ℕ) → getD (c .strength ∷ map (λ (t : Term). t .coefficient) (c .terms)) (1 + j) nan ≡ getD (map (λ (t : Term). t .coefficient) (c .terms)) j nan
+    next : (j : ℕ) → getD (c .strength ∷ c .constant ∷ map (λ (t : Term). t .coefficient) (c .terms)) (2 + j) nan ≡ getD (map (λ (t : Term). t .coefficient) (c .terms)) j nan
     next j =
-        let e : 1 + j ≡ suc j = omega arith in
+        let e : 2 + j ≡ suc (suc j) = omega arith in
         rw e refl
 
-pub edit-back : (e : Edit) (n : List ℕ) (r : List Float) → length n ≡ 20 → length r ≡ 17 → Named (e .tag .other) → editOf (over 0 (editNames e) n) (over 0 (editReals e) r) ≡ e
+pub edit-back : (e : Edit) (n : List ℕ) (r : List Float) → length n ≡ 21 → length r ≡ 18 → Named (e .tag .other) → editOf (over 0 (editNames e) n) (over 0 (editReals e) r) ≡ e
 unfolding editOf editNames editReals
 edit-back e n r ln lr o =
     let l : List ℕ = e .variable ∷ code (e .tag .marker) ∷ otherCode (e .tag .other) ∷ [] in

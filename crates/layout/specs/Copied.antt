@@ -8,9 +8,9 @@ use native.Mathlib.Nat.{zero-add, suc-ne-zero}
 use native.Mathlib.Omega.{arith}
 use lib.ListN.{length, getD, length-map}
 use borrow.Author.Tests.{ne-eqb}
-use Rattle.steps.specs.State.{Variable, Constraint, Term, State}
+use Rattle.steps.specs.State.{Comparison, noMore, exactly, noLess, Variable, Constraint, Term, State}
 use Rattle.laws.specs.Lists.{listOf, length-tab, getD-tab, length-laid}
-use Rattle.layout.specs.Layout.{Tables, symbolsAt, rowsAt, headingEnd, recordCountsAt, basicsAt, constraintsAt, editsAt, changedFlag, termCount, symbolCount, constraintCount, otherOf, bitOf, tagOf, constraintOf, editOf, cellsOf, basicOf, symbolsOf, basicsOf, variablesOf, constraintsOf, editsOf, read, over, variableNames, constraintNames, editNames, heading, recordCounts, writeHead, writeNames, writeReals, writeRows, write}
+use Rattle.layout.specs.Layout.{Tables, symbolsAt, rowsAt, headingEnd, recordCountsAt, basicsAt, constraintsAt, editsAt, changedFlag, termCount, relationKind, symbolCount, constraintCount, otherOf, bitOf, comparisonCode, tagOf, constraintOf, editOf, cellsOf, basicOf, symbolsOf, basicsOf, variablesOf, constraintsOf, editsOf, read, over, variableNames, constraintNames, editNames, heading, recordCounts, writeHead, writeNames, writeReals, writeRows, write}
 use Rattle.layout.specs.Rooms.{Lengths, Wide, Named, Counts, Coded, Fits}
 use Rattle.layout.specs.Copy.{putOver}
 use Rattle.layout.specs.Written.{written-is, code-read}
@@ -80,6 +80,12 @@ unfolding bitOf
 bit-small true = omega arith
 bit-small false = omega arith
 
+pub comparison-small : (c : Comparison) → comparisonCode c ≤ 2
+unfolding comparisonCode
+comparison-small noMore = omega arith
+comparison-small exactly = omega arith
+comparison-small noLess = omega arith
+
 module _ (s : State) (t : Tables) (fits : Fits s) (l : Lengths t) (w : Wide t) where
   pub write-counts : Counts (write s t .head)
   unfolding write heading recordCounts
@@ -98,7 +104,7 @@ module _ (s : State) (t : Tables) (fits : Fits s) (l : Lengths t) (w : Wide t) w
   flag-written j k =
       let v : Variable = getD (s .changes .variables) j noVariable in
       let r = fits .variables in
-      let wide : length (getD (t .names) j []) ≡ 20 = w .0 j (omega arith) in
+      let wide : length (getD (t .names) j []) ≡ 21 = w .0 j (omega arith) in
       rw (
         variable-written (λ v m. over 0 (variableNames v) m) (λ c m. over 0 (constraintNames c) m) (λ e m. over 0 (editNames e) m) s (t .names) (l .1) fits j k,
         first-at (variableNames v) (getD (t .names) j []) 3 0 (omega arith) (omega arith),
@@ -110,12 +116,25 @@ module _ (s : State) (t : Tables) (fits : Fits s) (l : Lengths t) (w : Wide t) w
       let c : Constraint = getD (s .constraints) j noConstraint in
       let r = fits .constraints in
       let few : length (c .terms) ≤ 16 = fits .terms noConstraint j k in
-      let wide : length (getD (t .names) (constraintsAt + j) []) ≡ 20 = w .0 (constraintsAt + j) (omega arith) in
+      let wide : length (getD (t .names) (constraintsAt + j) []) ≡ 21 = w .0 (constraintsAt + j) (omega arith) in
       let n = length-map (c .terms) (λ (x : Term). x .variable) in
       rw (
         constraint-written (λ v m. over 0 (variableNames v) m) (λ c m. over 0 (constraintNames c) m) (λ e m. over 0 (editNames e) m) s (t .names) (l .1) fits j k,
         first-at (constraintNames c) (getD (t .names) (constraintsAt + j) []) 3 0 (omega arith) (omega arith),
       ) few
+
+  kind-written : (j : ℕ) → j < length (s .constraints) → relationKind (getD (writeNames s (t .names)) (constraintsAt + j) []) ≤ 2
+  unfolding writeNames constraintNames
+  kind-written j k =
+      let c : Constraint = getD (s .constraints) j noConstraint in
+      let r = fits .constraints in
+      let few : length (c .terms) ≤ 16 = fits .terms noConstraint j k in
+      let wide : length (getD (t .names) (constraintsAt + j) []) ≡ 21 = w .0 (constraintsAt + j) (omega arith) in
+      let n = length-map (c .terms) (λ (x : Term). x .variable) in
+      rw (
+        constraint-written (λ v m. over 0 (variableNames v) m) (λ c m. over 0 (constraintNames c) m) (λ e m. over 0 (editNames e) m) s (t .names) (l .1) fits j k,
+        first-at (constraintNames c) (getD (t .names) (constraintsAt + j) []) 4 0 (omega arith) (omega arith),
+      ) (comparison-small (c .comparison))
 
   pub write-coded : Coded (write s t)
   unfolding write recordCounts
@@ -125,6 +144,7 @@ module _ (s : State) (t : Tables) (fits : Fits s) (l : Lengths t) (w : Wide t) w
         rw (g 4 (omega arith)) (bit-small (s .whole)),
         λ j k. flag-written j (rw (g 0 (omega arith)) at k),
         λ j k. count-written j (rw (g 1 (omega arith)) at k),
+        λ j k. kind-written j (rw (g 1 (omega arith)) at k),
       )
 
 pub write-lengths : (s : State) (t : Tables) → Lengths t → Lengths (write s t)

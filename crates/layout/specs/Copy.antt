@@ -26,7 +26,7 @@ unfoldable pub putCount : Bool → ℕ → ℕ
 putCount counted n = cond counted (most16 n) 0
 
 unfoldable pub putCounted : ℕ → ℕ → ℕ
-putCounted base n = cond (leb (base + n) 17) (base + n) 17
+putCounted base n = cond (leb (base + n) 18) (base + n) 18
 
 unfoldable pub putNames : List (List ℕ) → ℕ → ℕ → ℕ → Bool → List (List ℕ) → List (List ℕ)
 putNames from a e base counted to = run (remade [] (λ i row. putSpan (getD from i []) 0 (base + putCount counted (termCount (getD from i []))) row)) a e to
@@ -40,10 +40,10 @@ unfoldable pub headOver : List ℕ → List ℕ → List ℕ
 headOver g h = putSpan g rowsAt (rowsAt + rowCount g) (putSpan g symbolsAt (symbolsAt + symbolCount g) (putSpan g recordCountsAt recordCountsEnd (putSpan g 0 headingEnd h)))
 
 unfoldable pub namesOver : List ℕ → List (List ℕ) → List (List ℕ) → List (List ℕ)
-namesOver g from n = putNames from editsAt (editsAt + editCount g) 3 false (putNames from constraintsAt (constraintsAt + constraintCount g) 4 true (putNames from 0 (variableCount g) 4 false n))
+namesOver g from n = putNames from editsAt (editsAt + editCount g) 3 false (putNames from constraintsAt (constraintsAt + constraintCount g) 5 true (putNames from 0 (variableCount g) 4 false n))
 
 unfoldable pub realsOver : List ℕ → List (List ℕ) → List (List Float) → List (List Float) → List (List Float)
-realsOver g names from r = putReals from names editsAt (editsAt + editCount g) 2 false (putReals from names constraintsAt (constraintsAt + constraintCount g) 1 true (putReals from names 0 (variableCount g) 1 false r))
+realsOver g names from r = putReals from names editsAt (editsAt + editCount g) 2 false (putReals from names constraintsAt (constraintsAt + constraintCount g) 2 true (putReals from names 0 (variableCount g) 1 false r))
 
 unfoldable pub rowsOver : List ℕ → List (List Float) → List (List Float) → List (List Float)
 rowsOver g from m = putRows from (symbolCount g) (rowCount g) (set m 0 (putPart (getD from 0 []) cellsAt (cellsAt + symbolCount g) (getD m 0 [])))

@@ -9,7 +9,7 @@ use lib.ListN.{length, getD}
 use lib.Ieee.{Float, nan}
 use Rattle.steps.specs.Number.{usualCutoff}
 use Rattle.steps.specs.Symbol.{Kind, External, Slack, Error, Dummy, Symbol}
-use Rattle.steps.specs.State.{Term, Basic, Tag, Variable, Constraint, Edit, State}
+use Rattle.steps.specs.State.{Term, Comparison, noMore, exactly, noLess, Basic, Tag, Variable, Constraint, Edit, State}
 use Rattle.steps.specs.Readable.{code}
 use Rattle.laws.specs.Lists.{listOf, laid}
 
@@ -18,9 +18,9 @@ use Rattle.laws.specs.Lists.{listOf, laid}
 pub record Tables : Type 0 where
   -- the next id, five counts and two flags; then the symbols and the rows' symbols; places 3 and 9 to 15 hold nothing
   pub head : List ℕ
-  -- rows of 20, an item each: the variables (number, symbol, uses, changed), the constraints (number, marker, other, count of terms, the terms' variables), the edits (variable, marker, other)
+  -- rows of 21, an item each: the variables (number, symbol, uses, changed), the constraints (number, marker, other, count of terms, which relation, the terms' variables), the edits (variable, marker, other)
   pub names : List (List ℕ)
-  -- rows of 17, item by item with `names`: a variable's old value; a constraint's strength and its terms' coefficients; an edit's strength and suggestion
+  -- rows of 18, item by item with `names`: a variable's old value; a constraint's strength, its constant and its terms' coefficients; an edit's strength and suggestion
   pub reals : List (List Float)
   -- rows of 130: the objective (its place 0 is free), then the rows, each its constant and then the cells along the symbols
   pub rows : List (List Float)
@@ -108,10 +108,13 @@ otherSymbol n = getD n 2 0
 abbrev pub termCount : List ℕ → ℕ
 termCount n = getD n 3 0
 
-abbrev pub termsAt : ℕ
-termsAt = 4
+abbrev pub relationKind : List ℕ → ℕ
+relationKind n = getD n 4 0
 
--- in a row of reals
+abbrev pub termsAt : ℕ
+termsAt = 5
+
+-- in a row of reals: a constraint's constant stands where an edit's suggestion does
 abbrev pub oldValue : List Float → Float
 oldValue r = getD r 0 nan
 
@@ -121,8 +124,11 @@ strengthIn r = getD r 0 nan
 abbrev pub suggestionIn : List Float → Float
 suggestionIn r = getD r 1 nan
 
+abbrev pub constantIn : List Float → Float
+constantIn r = getD r 1 nan
+
 abbrev pub coefficientsAt : ℕ
-coefficientsAt = 1
+coefficientsAt = 2
 
 -- in a row of rows, and in the table of them
 abbrev pub cellsAt : ℕ
@@ -150,6 +156,15 @@ otherCode (some s) = code s
 unfoldable pub bitOf : Bool → ℕ
 bitOf b = cond b 1 0
 
+-- which of the three relations: 0 for at most, 1 for equal, 2 for at least
+unfoldable pub comparisonIn : ℕ → Comparison
+comparisonIn k = cond (eqb k 0) noMore (cond (eqb k 1) exactly noLess)
+
+unfoldable pub comparisonCode : Comparison → ℕ
+comparisonCode noMore = 0
+comparisonCode exactly = 1
+comparisonCode noLess = 2
+
 -- ---- the state that tables read as
 
 unfoldable pub variableOf : List ℕ → List Float → Variable
@@ -163,7 +178,16 @@ termOf n r j = record { variable = getD n (termsAt + j) 0; coefficient = getD r 
 
 -- these tables are older than groups and have no place for one: their constraints are in group 1
 unfoldable pub constraintOf : List ℕ → List Float → Constraint
-constraintOf n r = record { number = numberOf n; group = 1; strength = strengthIn r; terms = listOf (termCount n) (termOf n r); tag = tagOf n }
+constraintOf n r =
+    record {
+      number = numberOf n;
+      group = 1;
+      comparison = comparisonIn (relationKind n);
+      strength = strengthIn r;
+      constant = constantIn r;
+      terms = listOf (termCount n) (termOf n r);
+      tag = tagOf n;
+    }
 
 unfoldable pub editOf : List ℕ → List Float → Edit
 editOf n r = record { variable = numberOf n; strength = strengthIn r; tag = tagOf n; suggestion = suggestionIn r }
@@ -221,10 +245,10 @@ unfoldable pub variableReals : Variable → List Float
 variableReals v = v .old ∷ []
 
 unfoldable pub constraintNames : Constraint → List ℕ
-constraintNames c = c .number ∷ code (c .tag .marker) ∷ otherCode (c .tag .other) ∷ length (c .terms) ∷ map (λ (t : Term). t .variable) (c .terms)
+constraintNames c = c .number ∷ code (c .tag .marker) ∷ otherCode (c .tag .other) ∷ length (c .terms) ∷ comparisonCode (c .comparison) ∷ map (λ (t : Term). t .variable) (c .terms)
 
 unfoldable pub constraintReals : Constraint → List Float
-constraintReals c = c .strength ∷ map (λ (t : Term). t .coefficient) (c .terms)
+constraintReals c = c .strength ∷ c .constant ∷ map (λ (t : Term). t .coefficient) (c .terms)
 
 unfoldable pub editNames : Edit → List ℕ
 editNames e = e .variable ∷ code (e .tag .marker) ∷ otherCode (e .tag .other) ∷ []

@@ -10,7 +10,7 @@ use lib.Dec.{eqb}
 use lib.ListN.{length, getD, length-map}
 use lib.Ieee.{Float, nan}
 use Rattle.steps.specs.Symbol.{External, Symbol}
-use Rattle.steps.specs.State.{Basic, Tag, Variable, Constraint, Edit, State}
+use Rattle.steps.specs.State.{exactly, Basic, Tag, Variable, Constraint, Edit, State}
 use Rattle.steps.specs.Readable.{code}
 use Rattle.laws.specs.Lists.{listOf-is, laid, laid-in, laid-before, laid-after, length-laid}
 use Rattle.layout.specs.Laying.{getD-map}
@@ -32,7 +32,7 @@ abbrev pub noVariable : Variable
 noVariable = record { number = 0; symbol = noSymbol; old = nan; uses = 0; changed = eqb 0 1 }
 
 abbrev pub noConstraint : Constraint
-noConstraint = record { number = 0; group = 0; strength = nan; terms = []; tag = noTag }
+noConstraint = record { number = 0; group = 0; comparison = exactly; strength = nan; constant = nan; terms = []; tag = noTag }
 
 abbrev pub noEdit : Edit
 noEdit = record { variable = 0; strength = nan; tag = noTag; suggestion = nan }

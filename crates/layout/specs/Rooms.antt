@@ -12,7 +12,7 @@ use Rattle.steps.specs.Number.{usualCutoff}
 use Rattle.steps.specs.Symbol.{Symbol}
 use Rattle.steps.specs.State.{Basic, Constraint, Edit, State}
 use Rattle.steps.specs.Readable.{code}
-use Rattle.layout.specs.Layout.{Tables, headSize, itemsSize, rowsSize, symbolCount, rowCount, variableCount, constraintCount, editCount, clearFlag, wholeFlag, changedFlag, termCount, constraintsAt}
+use Rattle.layout.specs.Layout.{Tables, headSize, itemsSize, rowsSize, symbolCount, rowCount, variableCount, constraintCount, editCount, clearFlag, wholeFlag, changedFlag, termCount, relationKind, constraintsAt}
 
 -- "a lent table has the wrong length"
 unfoldable pub lengthsRight : Tables → Bool
@@ -26,19 +26,20 @@ abbrev pub Widths : {A : Type 0} → ℕ → List (List A) → Type 0
 Widths w l = (j : ℕ) → j < length l → length (getD l j []) ≡ w
 
 abbrev pub Wide : Tables → Type 0
-Wide t = (Widths 20 (t .names)) × (Widths 17 (t .reals)) × (Widths 130 (t .rows))
+Wide t = (Widths 21 (t .names)) × (Widths 18 (t .reals)) × (Widths 130 (t .rows))
 
 -- each count is within the room: a row has 129 cells
 abbrev pub Counts : List ℕ → Type 0
 Counts h = (symbolCount h ≤ 129) × (rowCount h ≤ 50) × (variableCount h ≤ 32) × (constraintCount h ≤ 48) × (editCount h ≤ 48)
 
--- flags are 0 or 1, and a constraint has at most 16 terms: tables that a state can have written
+-- flags are 0 or 1, a constraint has at most 16 terms, and its relation is one of three: tables that a state can have written
 abbrev pub Coded : Tables → Type 0
 Coded t =
     (clearFlag (t .head) ≤ 1)
     × (wholeFlag (t .head) ≤ 1)
     × ((j : ℕ) → j < variableCount (t .head) → changedFlag (getD (t .names) j []) ≤ 1)
     × ((j : ℕ) → j < constraintCount (t .head) → termCount (getD (t .names) (constraintsAt + j) []) ≤ 16)
+    × ((j : ℕ) → j < constraintCount (t .head) → relationKind (getD (t .names) (constraintsAt + j) []) ≤ 2)
 
 -- code 0 says that there is no other symbol, so a symbol's code is not 0
 abbrev pub Named : Option Symbol → Type 0

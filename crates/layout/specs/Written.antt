@@ -14,7 +14,7 @@ use Rattle.steps.specs.State.{Term}
 use Rattle.steps.specs.Readable.{kindCode, code}
 use Rattle.laws.specs.Lists.{tab, listOf, tab-ext, length-tab, map-tab, laid}
 use Rattle.layout.specs.Laying.{laid-nil, laid-cons, tab-from, stretch, run-list, set-same, run-same}
-use Rattle.layout.specs.Layout.{Tables, symbolsAt, rowsAt, headingEnd, recordCountsAt, recordCountsEnd, constraintsAt, editsAt, symbolCount, rowCount, variableCount, constraintCount, editCount, clearFlag, wholeFlag, changedFlag, termCount, kindOf, symbolOf, otherOf, otherCode, bitOf, variableOf, tagOf, termOf, constraintOf, editOf, cellsOf, basicOf, symbolsOf, variablesOf, constraintsOf, editsOf, basicsOf, read, over, variableNames, variableReals, constraintNames, constraintReals, editNames, editReals, basicRow, basicCode, heading, recordCounts, writeHead, writeNames, writeReals, writeRows, write}
+use Rattle.layout.specs.Layout.{Tables, symbolsAt, rowsAt, headingEnd, recordCountsAt, recordCountsEnd, constraintsAt, editsAt, symbolCount, rowCount, variableCount, constraintCount, editCount, clearFlag, wholeFlag, changedFlag, termCount, relationKind, kindOf, symbolOf, otherOf, otherCode, bitOf, comparisonIn, comparisonCode, variableOf, tagOf, termOf, constraintOf, editOf, cellsOf, basicOf, symbolsOf, variablesOf, constraintsOf, editsOf, basicsOf, read, over, variableNames, variableReals, constraintNames, constraintReals, editNames, editReals, basicRow, basicCode, heading, recordCounts, writeHead, writeNames, writeReals, writeRows, write}
 use Rattle.layout.specs.Rooms.{Coded}
 use Rattle.layout.specs.Copy.{most16, headOver, namesOver, realsOver, rowsOver, putOver, putSpan, putPart, putRows, putNames, putReals, putCount, putCounted}
 
@@ -49,6 +49,13 @@ bit-read zero h = refl
 bit-read (suc zero) h = refl
 bit-read (suc (suc x)) h = absurd (not-suc-le-zero (le-of-suc-le-suc h))
 
+pub comparison-read : (x : ℕ) → x ≤ 2 → comparisonCode (comparisonIn x) ≡ x
+unfolding comparisonCode comparisonIn
+comparison-read zero h = refl
+comparison-read (suc zero) h = refl
+comparison-read (suc (suc zero)) h = refl
+comparison-read (suc (suc (suc x))) h = absurd (not-suc-le-zero (le-of-suc-le-suc (le-of-suc-le-suc h)))
+
 span : (from l : List ℕ) (a k z : ℕ) (to : List ℕ) → z ≡ a + k → l ≡ tab (λ j. getD from j 0) a k → putSpan from a z to ≡ over a l to
 unfolding putSpan over
 span from l a k z to q h = stretch 0 from l a k z to q h
@@ -71,21 +78,21 @@ pub most-is : (c : ℕ) → c ≤ 16 → most16 c ≡ c
 unfolding most16
 most-is c h = rw (le-leb c 16 h) refl
 
-constraint-names : (n : List ℕ) (r : List Float) → constraintNames (constraintOf n r) ≡ tab (λ j. getD n j 0) 0 (4 + getD n 3 0)
+constraint-names : (n : List ℕ) (r : List Float) → getD n 4 0 ≤ 2 → constraintNames (constraintOf n r) ≡ tab (λ j. getD n j 0) 0 (5 + getD n 3 0)
 unfolding constraintNames constraintOf tagOf termOf listOf tab
-constraint-names n r =
+constraint-names n r h =
     let c : ℕ = getD n 3 0 in
-    let e : 4 + c ≡ suc (suc (suc (suc c))) = omega arith in
+    let e : 5 + c ≡ suc (suc (suc (suc (suc c)))) = omega arith in
     let l : length (tab (termOf n r) 0 c) ≡ c = length-tab (termOf n r) 0 c in
-    let m : map (λ (t : Term). t .variable) (tab (termOf n r) 0 c) ≡ tab (λ j. getD n j 0) 4 c = map-tab (λ (t : Term). t .variable) (termOf n r) 0 c ∙ tab-from (λ j. getD n j 0) 4 0 c in
-    rw (e, code-read (getD n 1 0), other-read (getD n 2 0), l, m) refl
+    let m : map (λ (t : Term). t .variable) (tab (termOf n r) 0 c) ≡ tab (λ j. getD n j 0) 5 c = map-tab (λ (t : Term). t .variable) (termOf n r) 0 c ∙ tab-from (λ j. getD n j 0) 5 0 c in
+    rw (e, code-read (getD n 1 0), other-read (getD n 2 0), comparison-read (getD n 4 0) h, l, m) refl
 
-constraint-reals : (n : List ℕ) (r : List Float) → constraintReals (constraintOf n r) ≡ tab (λ j. getD r j nan) 0 (1 + getD n 3 0)
+constraint-reals : (n : List ℕ) (r : List Float) → constraintReals (constraintOf n r) ≡ tab (λ j. getD r j nan) 0 (2 + getD n 3 0)
 unfolding constraintReals constraintOf termOf listOf tab
 constraint-reals n r =
     let c : ℕ = getD n 3 0 in
-    let e : 1 + c ≡ suc c = omega arith in
-    let m : map (λ (t : Term). t .coefficient) (tab (termOf n r) 0 c) ≡ tab (λ j. getD r j nan) 1 c = map-tab (λ (t : Term). t .coefficient) (termOf n r) 0 c ∙ tab-from (λ j. getD r j nan) 1 0 c in
+    let e : 2 + c ≡ suc (suc c) = omega arith in
+    let m : map (λ (t : Term). t .coefficient) (tab (termOf n r) 0 c) ≡ tab (λ j. getD r j nan) 2 c = map-tab (λ (t : Term). t .coefficient) (termOf n r) 0 c ∙ tab-from (λ j. getD r j nan) 2 0 c in
     rw (e, m) refl
 
 edit-names : (n : List ℕ) (r : List Float) → editNames (editOf n r) ≡ tab (λ j. getD n j 0) 0 3
@@ -154,12 +161,13 @@ module _ (w : Tables) where
       run-list [] (λ v m. over 0 (variableNames v) m) _ (λ i. variableOf (getD (w .names) i []) (getD (w .reals) i [])) 0 (variableCount (w .head)) (variableCount (w .head)) n (omega arith) λ j b y.
       rw (zero-add j) (span (getD (w .names) j []) (variableNames (variableOf (getD (w .names) j []) (getD (w .reals) j []))) 0 4 4 y refl (variable-names (getD (w .names) j []) (getD (w .reals) j []) (f j b)))
 
-  put-constraints : ((j : ℕ) → j < constraintCount (w .head) → termCount (getD (w .names) (constraintsAt + j) []) ≤ 16) → (n : List (List ℕ)) → putNames (w .names) constraintsAt (constraintsAt + constraintCount (w .head)) 4 true n ≡ laid (λ c m. over 0 (constraintNames c) m) constraintsAt (read w .constraints) n
+  put-constraints : ((j : ℕ) → j < constraintCount (w .head) → termCount (getD (w .names) (constraintsAt + j) []) ≤ 16) → ((j : ℕ) → j < constraintCount (w .head) → relationKind (getD (w .names) (constraintsAt + j) []) ≤ 2)
+      → (n : List (List ℕ)) → putNames (w .names) constraintsAt (constraintsAt + constraintCount (w .head)) 5 true n ≡ laid (λ c m. over 0 (constraintNames c) m) constraintsAt (read w .constraints) n
   unfolding putNames read constraintsOf putCount
-  put-constraints f n =
+  put-constraints f g n =
       run-list [] (λ c m. over 0 (constraintNames c) m) _ (λ i. constraintOf (getD (w .names) (constraintsAt + i) []) (getD (w .reals) (constraintsAt + i) [])) constraintsAt (constraintCount (w .head)) (constraintsAt + constraintCount (w .head)) n refl λ j b y.
       let row : List ℕ = getD (w .names) (constraintsAt + j) [] in
-      rw (most-is (termCount row) (f j b)) (span row (constraintNames (constraintOf row (getD (w .reals) (constraintsAt + j) []))) 0 (4 + termCount row) (4 + termCount row) y (omega arith) (constraint-names row (getD (w .reals) (constraintsAt + j) [])))
+      rw (most-is (termCount row) (f j b)) (span row (constraintNames (constraintOf row (getD (w .reals) (constraintsAt + j) []))) 0 (5 + termCount row) (5 + termCount row) y (omega arith) (constraint-names row (getD (w .reals) (constraintsAt + j) []) (g j b)))
 
   put-edits : (n : List (List ℕ)) → putNames (w .names) editsAt (editsAt + editCount (w .head)) 3 false n ≡ laid (λ e m. over 0 (editNames e) m) editsAt (read w .edits) n
   unfolding putNames read editsOf putCount
@@ -170,7 +178,7 @@ module _ (w : Tables) where
 
   names-is : Coded w → (n : List (List ℕ)) → namesOver (w .head) (w .names) n ≡ writeNames (read w) n
   unfolding namesOver writeNames
-  names-is c n = rw (put-variables (c .2) n, put-constraints (c .3) (laid (λ v m. over 0 (variableNames v) m) 0 (read w .changes .variables) n)) (put-edits _)
+  names-is c n = rw (put-variables (c .2) n, put-constraints (c .3) (c .4) (laid (λ v m. over 0 (variableNames v) m) 0 (read w .changes .variables) n)) (put-edits _)
 
   real-variables : (r : List (List Float)) → putReals (w .reals) (w .names) 0 (variableCount (w .head)) 1 false r ≡ laid (λ v m. over 0 (variableReals v) m) 0 (read w .changes .variables) r
   unfolding putReals read variablesOf putCount putCounted
@@ -178,13 +186,13 @@ module _ (w : Tables) where
       run-list [] (λ v m. over 0 (variableReals v) m) _ (λ i. variableOf (getD (w .names) i []) (getD (w .reals) i [])) 0 (variableCount (w .head)) (variableCount (w .head)) r (omega arith) λ j b y.
       rw (zero-add j) (part (getD (w .reals) j []) (variableReals (variableOf (getD (w .names) j []) (getD (w .reals) j []))) 0 1 1 y refl (variable-reals (getD (w .names) j []) (getD (w .reals) j [])))
 
-  real-constraints : ((j : ℕ) → j < constraintCount (w .head) → termCount (getD (w .names) (constraintsAt + j) []) ≤ 16) → (r : List (List Float)) → putReals (w .reals) (w .names) constraintsAt (constraintsAt + constraintCount (w .head)) 1 true r ≡ laid (λ c m. over 0 (constraintReals c) m) constraintsAt (read w .constraints) r
+  real-constraints : ((j : ℕ) → j < constraintCount (w .head) → termCount (getD (w .names) (constraintsAt + j) []) ≤ 16) → (r : List (List Float)) → putReals (w .reals) (w .names) constraintsAt (constraintsAt + constraintCount (w .head)) 2 true r ≡ laid (λ c m. over 0 (constraintReals c) m) constraintsAt (read w .constraints) r
   unfolding putReals read constraintsOf putCount putCounted
   real-constraints f r =
       run-list [] (λ c m. over 0 (constraintReals c) m) _ (λ i. constraintOf (getD (w .names) (constraintsAt + i) []) (getD (w .reals) (constraintsAt + i) [])) constraintsAt (constraintCount (w .head)) (constraintsAt + constraintCount (w .head)) r refl λ j b y.
       let row : List ℕ = getD (w .names) (constraintsAt + j) [] in
       let q : termCount row ≤ 16 = f j b in
-      rw (most-is (termCount row) q, le-leb (1 + termCount row) 17 (omega arith)) (part (getD (w .reals) (constraintsAt + j) []) (constraintReals (constraintOf row (getD (w .reals) (constraintsAt + j) []))) 0 (1 + termCount row) (1 + termCount row) y (omega arith) (constraint-reals row (getD (w .reals) (constraintsAt + j) [])))
+      rw (most-is (termCount row) q, le-leb (2 + termCount row) 18 (omega arith)) (part (getD (w .reals) (constraintsAt + j) []) (constraintReals (constraintOf row (getD (w .reals) (constraintsAt + j) []))) 0 (2 + termCount row) (2 + termCount row) y (omega arith) (constraint-reals row (getD (w .reals) (constraintsAt + j) [])))
 
   real-edits : (r : List (List Float)) → putReals (w .reals) (w .names) editsAt (editsAt + editCount (w .head)) 2 false r ≡ laid (λ e m. over 0 (editReals e) m) editsAt (read w .edits) r
   unfolding putReals read editsOf putCount putCounted
@@ -243,10 +251,10 @@ over-itself t =
       s 16 (16 + getD h 1 0),
       s 146 (146 + getD h 2 0),
       n 0 (getD h 4 0) 4 false,
-      n 32 (32 + getD h 5 0) 4 true,
+      n 32 (32 + getD h 5 0) 5 true,
       n 80 (80 + getD h 6 0) 3 false,
       r 0 (getD h 4 0) 1 false,
-      r 32 (32 + getD h 5 0) 1 true,
+      r 32 (32 + getD h 5 0) 2 true,
       r 80 (80 + getD h 6 0) 2 false,
       part-same (getD (t .rows) 0 []) 1 (1 + getD h 1 0),
       set-same [] (t .rows) 0,

@@ -60,14 +60,18 @@ pub const OTHER: usize = 2;
 
 pub const TERM_COUNT: usize = 3;
 
-pub const TERMS: usize = 4;
+pub const RELATION_KIND: usize = 4;
+
+pub const TERMS: usize = 5;
 
 // ---- in a row of reals: of a variable; of a constraint or an edit; of a constraint; of an edit
 pub const OLD_VALUE: usize = 0;
 
 pub const STRENGTH: usize = 0;
 
-pub const COEFFICIENTS: usize = 1;
+pub const CONSTANT: usize = 1;
+
+pub const COEFFICIENTS: usize = 2;
 
 pub const SUGGESTION: usize = 1;
 

@@ -11,13 +11,13 @@ use Rattle.steps.specs.State.{State}
 use Rattle.steps.specs.Changes.{Fetched, fetchChanges}
 use Rattle.steps.specs.Calls.{Answer, Result, reset}
 use Rattle.steps.specs.Readable.{readable}
-use Rattle.layout.specs.Layout.{Tables, read, write, over, nextIdOf, symbolCount, variableCount, constraintCount, clearFlag, wholeFlag, constraintsAt, numberOf, changedFlag}
+use Rattle.layout.specs.Layout.{Tables, read, write, over, nextIdOf, symbolCount, variableCount, constraintCount, clearFlag, wholeFlag, constraintsAt, numberOf, changedFlag, relationKind}
 use Rattle.layout.specs.Rooms.{lengthsRight}
 use Rattle.lending.specs.Lending.{refused18}
 use Rattle.fetches.specs.Fetch.{numbersOf, valuesOf, places}
 use Rattle.narrow.specs.Numbers.{isU32}
 
--- What the layout adds to the state's own test: the symbols are within the room, flags are 0 or 1, numbers are u32.
+-- What the layout adds to the state's own test: the symbols are within the room, flags are 0 or 1, numbers are u32, relations are one of three.
 unfoldable pub codesFit : Tables → Bool
 codesFit t =
     let h : List ℕ = t .head in
@@ -26,7 +26,7 @@ codesFit t =
     && leb (clearFlag h) 1
     && leb (wholeFlag h) 1
     && allIn (λ i. isU32 (numberOf (getD (t .names) i [])) && leb (changedFlag (getD (t .names) i [])) 1) 0 (variableCount h)
-    && allIn (λ i. isU32 (numberOf (getD (t .names) (constraintsAt + i) []))) 0 (constraintCount h)
+    && allIn (λ i. isU32 (numberOf (getD (t .names) (constraintsAt + i) [])) && leb (relationKind (getD (t .names) (constraintsAt + i) [])) 2) 0 (constraintCount h)
 
 -- "18 | a lent table has the wrong length or doesn't read as a state"
 unfoldable pub reads : Tables → Bool

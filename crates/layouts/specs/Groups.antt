@@ -4,7 +4,7 @@ use mathlib.Core.Path.{_≡_, refl, subst, sym}
 use mathlib.Core.List.{List, [], _∷_}
 use native.Mathlib.Omega.{arith}
 use Rattle.laws.specs.Lists.{tab, listOf}
-use Rattle.steps.specs.State.{Constraint, Edit, State, strengthOf}
+use Rattle.steps.specs.State.{Constraint, Edit, State, strengthOf, comparisonOf}
 use Rattle.steps.specs.Tests.{groupOf, keptTerms}
 use Rattle.steps.specs.Changing.{Changing, adds, removes, drops, addsEdit, removesEdit, suggests, made, dropEach, Stores}
 use Rattle.steps.proofs.Refusals.{refusal-keeps}
@@ -42,7 +42,7 @@ each-dropped (d ∷ ds) cs h = each-dropped ds _ (rw dropConstraint-is (drop-all
 
 stored : (c : Changing) (s : State) (cs : List Constraint) (es : List Edit) → NamesOne c → OneGroup s → Stores c s cs es → All InOne cs
 stored (adds g n terms constant relation budget) s cs es one h (tag, e, _) =
-    rw (e, keepConstraint-is) (keep-all conNumber InOne (record { number = n; group = g; strength = strengthOf relation; terms = keptTerms (s .tableau .cutoff) terms; tag = tag }) (s .constraints) one h)
+    rw (e, keepConstraint-is) (keep-all conNumber InOne (record { number = n; group = g; comparison = comparisonOf relation; strength = strengthOf relation; constant = constant; terms = keptTerms (s .tableau .cutoff) terms; tag = tag }) (s .constraints) one h)
 stored (removes n budget) s cs es one h (e, _) = rw (e, dropConstraint-is) (drop-all conNumber InOne n (s .constraints) h)
 stored (drops g budget) s cs es one h (e, _) = rw e (each-dropped (groupOf g (s .constraints)) (s .constraints) h)
 stored (addsEdit n strength budget) s cs es one h (tag, e, _) = rw e h

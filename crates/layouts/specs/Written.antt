@@ -165,7 +165,7 @@ module _ (s : State) (t : Tables) (r : Reads s) (y : Sayable s) (n : Narrow s) (
       let q = write-coded s t (fits-of s r y) l w in
       both (both (both (both (both id-u32 (le-leb _ 129 (c .0))) (le-leb _ 1 (q .0))) (le-leb _ 1 (q .1)))
       (at-all _ 0 (variableCount (u .head)) (λ j a k. both (variable-u32 j k) (le-leb _ 1 (q .2 j k)))))
-      (at-all _ 0 (constraintCount (u .head)) (λ j a k. constraint-u32 j k))
+      (at-all _ 0 (constraintCount (u .head)) (λ j a k. both (constraint-u32 j k) (le-leb _ 2 (q .4 j k))))
 
   pub written-read : reads u ≡ true
   unfolding reads

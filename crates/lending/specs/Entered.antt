@@ -188,6 +188,7 @@ module _ (t : Sparse) (len : length (t .words) ≡ wordsSize) where
         changed = λ i a. f .changed i (omega (arith, a, k₄));
         markers = λ i a. absurd (omega (arith, a, k₅));
         others = λ i a. absurd (omega (arith, a, k₅));
+        relations = λ i a. absurd (omega (arith, a, k₅));
         edited = λ i a. absurd (omega (arith, a, k₆));
         pluses = λ i a. absurd (omega (arith, a, k₆));
         minuses = λ i a. absurd (omega (arith, a, k₆));

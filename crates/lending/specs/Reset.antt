@@ -15,7 +15,7 @@ use Rattle.steps.specs.Calls.{Answer, empty, reset, refusedBy}
 use Rattle.steps.specs.Readable.{concat}
 use Rattle.steps.proofs.Cutoff.{reset-refused, reset-taken}
 use Rattle.cells.specs.Cells.{cells}
-use Rattle.sparse.specs.Places.{wholeAt, idsAt, variableNumbersAt, variableUsesAt, constraintNumbersAt, constraintGroupsAt, goneNumbersAt, kindsAt, rowPlacesAt, variablePlacesAt, changedAt, constraintMarkersAt, constraintOthersAt, termCountsAt, editVariablesAt, editMarkersAt, editOthersAt, termsAt, constantsAt, oldValuesAt, objectiveAt, cutoffAt, constraintStrengthsAt, editStrengthsAt, suggestionsAt, coefficientsAt}
+use Rattle.sparse.specs.Places.{wholeAt, idsAt, variableNumbersAt, variableUsesAt, constraintNumbersAt, constraintGroupsAt, goneNumbersAt, kindsAt, rowPlacesAt, variablePlacesAt, changedAt, constraintMarkersAt, constraintOthersAt, termCountsAt, editVariablesAt, editMarkersAt, editOthersAt, termsAt, relationsAt, constantsAt, oldValuesAt, objectiveAt, cutoffAt, constraintStrengthsAt, editStrengthsAt, suggestionsAt, coefficientsAt, constraintConstantsAt}
 use Rattle.sparse.specs.Sparse.{Sparse, read}
 use Rattle.sparse.specs.Stretches.{lay}
 use Rattle.sparse.specs.Laying.{rowsLaid}
@@ -52,7 +52,7 @@ reset-words cutoff w =
 reset-bytes : (cutoff : Float) (b : List ℕ) → lay (bytesOf (empty cutoff)) b ≡ b
 unfolding lay bytesOf empty concat
 reset-bytes cutoff b =
-    over-nil termsAt _ ∙ over-nil editOthersAt _ ∙ over-nil editMarkersAt _ ∙ over-nil editVariablesAt _ ∙ over-nil termCountsAt _ ∙ over-nil constraintOthersAt _ ∙ over-nil constraintMarkersAt _ ∙ over-nil changedAt _ ∙ over-nil variablePlacesAt _
+    over-nil relationsAt _ ∙ over-nil termsAt _ ∙ over-nil editOthersAt _ ∙ over-nil editMarkersAt _ ∙ over-nil editVariablesAt _ ∙ over-nil termCountsAt _ ∙ over-nil constraintOthersAt _ ∙ over-nil constraintMarkersAt _ ∙ over-nil changedAt _ ∙ over-nil variablePlacesAt _
     ∙ over-nil (rowPlacesAt + 1) _ ∙ over-nil (kindsAt + 1) b
 
 -- one element is set
@@ -63,7 +63,7 @@ over-one a x m = laid-cons (λ x _. x) a x [] m nan ∙ laid-nil (λ x _. x) (su
 reset-reals : (cutoff : Float) (r : List Float) → lay (realsOf (empty cutoff)) r ≡ set r cutoffAt cutoff
 unfolding lay realsOf empty concat
 reset-reals cutoff r =
-    over-nil coefficientsAt _ ∙ over-nil suggestionsAt _ ∙ over-nil editStrengthsAt _ ∙ over-nil constraintStrengthsAt _ ∙ over-one cutoffAt cutoff _
+    over-nil constraintConstantsAt _ ∙ over-nil coefficientsAt _ ∙ over-nil suggestionsAt _ ∙ over-nil editStrengthsAt _ ∙ over-nil constraintStrengthsAt _ ∙ over-one cutoffAt cutoff _
     ∙ ap (λ (m : List Float). set m cutoffAt cutoff) (over-nil (objectiveAt + 1) _ ∙ over-nil oldValuesAt _ ∙ over-nil (constantsAt + 1) r)
 
 reset-cells : (cutoff : Float) (t : Sparse) → laidOf (empty cutoff .tableau) t ≡ cells (t .keys) (t .values) 0

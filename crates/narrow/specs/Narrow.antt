@@ -11,7 +11,7 @@ use lib.Ieee.{Float}
 use borrow.Author.Tests.{leb-true, le-leb, ltb-false}
 use Rattle.steps.specs.Number.{isFinite, zero64}
 use Rattle.steps.specs.Strength.{clip}
-use Rattle.steps.specs.State.{Term, Relation, equal, strengthOf, Tag, Variable, Constraint, Edit, State}
+use Rattle.steps.specs.State.{Term, Relation, equal, strengthOf, comparisonOf, Tag, Variable, Constraint, Edit, State}
 use Rattle.steps.specs.Work.{Work, Outcome, refused, going}
 use Rattle.steps.specs.Changes.{clearChanged, withFlag, reported, fetchChanges}
 use Rattle.steps.specs.Edit.{editTerms, addEditSteps, suggestSteps}
@@ -84,7 +84,7 @@ module _ (s : State) (h : Narrow s) where
   add-narrow g n ts k r budget e q = go (firstRefusal (addTests g n ts k r s)) refl
     where
       new : Tag → Constraint
-      new tag = record { number = n; group = g; strength = strengthOf r; terms = keptTerms (s .tableau .cutoff) ts; tag = tag }
+      new tag = record { number = n; group = g; comparison = comparisonOf r; strength = strengthOf r; constant = k; terms = keptTerms (s .tableau .cutoff) ts; tag = tag }
 
       kept : (tag : Tag) → All (λ (c : Constraint). isU32 (c .number) ≡ true) (keepConstraint (new tag) (s .constraints))
       kept tag = rw keepConstraint-is (keep-all (λ (c : Constraint). c .number) _ (new tag) (s .constraints) e (h .constraints))

@@ -1,5 +1,4 @@
--- "Add a writer with one plain form: no spaces or brackets, terms ascending by variable, then the constant unless it is zero and terms stand, the
--- relation, a right side of `0`, and the ending unless it is required and group 1."
+-- "Add a writer with one plain form: no spaces or brackets, terms ascending by variable, then the constant unless it is zero and terms stand, the relation, a right side of `0`, and the ending unless it is required and group 1."
 use Prim.Native.Nat.{ℕ}
 use mathlib.Core.Bool.{Bool, true, false, cond, not, _&&_}
 use mathlib.Core.List.{List, [], _∷_, _++_}
@@ -90,7 +89,7 @@ pub data Written : Type 0 where
 abbrev pub room : ℕ
 room = 200
 
--- "the writer gives 36 for terms not ascending or anything a line can't say, then 32"
+-- "the writer gives 36 for terms not ascending or anything a line can't say, then 32, and its buffer is all zero"
 unfoldable pub writeLine : Constraint → Written
 unfolding plainText sayable
 writeLine c = cond (sayable c) (cond (leb (length (plainText c)) room) (wrote (plainText c)) (refused 32)) (refused 36)

@@ -1,5 +1,4 @@
--- T-13 of document 02: "Reading what is written gives the constraint back as numbers, equal constraints have equal lines, and writing what was read from a
--- plain line gives that line."
+-- T-13 of document 02: "Reading what is written gives the constraint back as numbers, equal constraints have equal lines, and writing what was read from a plain line gives that line."
 use Prim.Native.Nat.{ℕ, _≤_}
 use mathlib.Core.Path.{_≡_, refl, sym, ap, ap₂, _∙_}
 use mathlib.Core.Bool.{Bool, true, false, cond, _&&_}

@@ -3,9 +3,12 @@ ghost use mathlib.Core.Path.{_≡_};
 ghost use mathlib.Core.List.{[], _++_, _∷_};
 ghost use Prim.Native.Nat.{_+_, _≤_, _<_};
 ghost use Rattle.text.specs.Answers.{numberText};
-ghost use Rattle.replies.specs.Replies.{Put, fewOf, signedText, termText, termsText, relationText, refusalText, headText, readingText, replyText};
+ghost use Rattle.text.specs.Put.{Put};
+ghost use Rattle.replies.specs.Replies.{fewOf, signedText, termText, termsText, relationText, refusalText, headText, readingText, replyText, usual};
 use reader::answers::Reading;
 use reader::sides::Mark;
+use second::Reply;
+use second::endings::REQUIRED;
 use text::writing;
 
 pub type Out = [u8; 8192];
@@ -109,16 +112,25 @@ fn put_refusal(out: &mut Out, at: usize, number: u32, offset: usize) -> usize
     j
 }
 
-// Required, in group 1.
-fn put_head(out: &mut Out, at: usize, m: Mark, constant: u64, count: usize) -> usize
-    requires { ⌜ at + 71 ≤ 8192 ⌝ }
-    ensures { λ r. ⌜ Put (now (out .entry)) (now (out .exit)) at r (headText m constant count) ⌝ }
-    ensures { λ r. ⌜ r ≤ at + 71 ⌝ }
+fn put_head(
+    out: &mut Out,
+    at: usize,
+    m: Mark,
+    strength: u32,
+    group: u16,
+    constant: u64,
+    count: usize,
+) -> usize
+    requires { ⌜ at + 90 ≤ 8192 ⌝ }
+    ensures { λ r. ⌜ Put (now (out .entry)) (now (out .exit)) at r (headText m strength group constant count) ⌝ }
+    ensures { λ r. ⌜ r ≤ at + 90 ⌝ }
 {
     let i = put_word(out, at, b'o', b'k', b' ');
     let j = put_relation(out, i, m);
-    let k = put_number(out, j, 1001001000);
-    let l = put_word(out, k, b' ', b'1', b' ');
+    let k = put_number(out, j, strength as u64);
+    let a = put_byte(out, k, b' ');
+    let b = put_number(out, a, group as u64);
+    let l = put_byte(out, b, b' ');
     let n = put_signed(out, l, constant);
     let o = put_byte(out, n, b' ');
     put_number(out, o, count as u64)
@@ -134,36 +146,52 @@ fn few(count: usize) -> usize
     16
 }
 
-fn put_reading(out: &mut Out, at: usize, r: Reading) -> usize
-    requires { ⌜ at + 759 ≤ 8192 ⌝ }
-    ensures { λ z. ⌜ Put (now (out .entry)) (now (out .exit)) at z (readingText r) ⌝ }
-    ensures { λ z. ⌜ z ≤ at + 759 ⌝ }
+fn put_reading(out: &mut Out, at: usize, x: Reply) -> usize
+    requires { ⌜ at + 778 ≤ 8192 ⌝ }
+    ensures { λ z. ⌜ Put (now (out .entry)) (now (out .exit)) at z (readingText x) ⌝ }
+    ensures { λ z. ⌜ z ≤ at + 778 ⌝ }
 {
+    let r = x.reading;
     let m = r.relation;
     let variables = r.variables;
     let coefficients = r.coefficients;
     let n = few(r.count);
-    let i = put_head(out, at, m, r.constant, n);
+    let i = put_head(out, at, m, x.strength, x.group, r.constant, n);
     put_terms(out, i, variables, coefficients, n)
 }
 
-fn put_reply(out: &mut Out, at: usize, r: Reading) -> usize
-    requires { ⌜ at + 759 ≤ 8192 ⌝ }
-    ensures { λ z. ⌜ Put (now (out .entry)) (now (out .exit)) at z (replyText r) ⌝ }
-    ensures { λ z. ⌜ z ≤ at + 759 ⌝ }
+fn put_reply(out: &mut Out, at: usize, x: Reply) -> usize
+    requires { ⌜ at + 778 ≤ 8192 ⌝ }
+    ensures { λ z. ⌜ Put (now (out .entry)) (now (out .exit)) at z (replyText x) ⌝ }
+    ensures { λ z. ⌜ z ≤ at + 778 ⌝ }
 {
+    let r = x.reading;
     if r.number == 0 {
-        return put_reading(out, at, r);
+        return put_reading(out, at, x);
     }
     put_refusal(out, at, r.number, r.offset)
 }
 
-// An answer and its newline.
-pub fn put_line(out: &mut Out, at: usize, r: Reading) -> usize
+// An answer of the second edition and its newline.
+pub fn put_second(out: &mut Out, at: usize, x: Reply) -> usize
     requires { ⌜ at ≤ 7000 ⌝ }
-    ensures { λ z. ⌜ Put (now (out .entry)) (now (out .exit)) at z (replyText r ++ (10 ∷ [])) ⌝ }
+    ensures { λ z. ⌜ Put (now (out .entry)) (now (out .exit)) at z (replyText x ++ (10 ∷ [])) ⌝ }
     ensures { λ z. ⌜ z ≤ 8192 ⌝ }
 {
-    let i = put_reply(out, at, r);
+    let i = put_reply(out, at, x);
     put_byte(out, i, 10)
+}
+
+// An answer of the first edition, which says neither strength nor group, and its newline.
+pub fn put_line(out: &mut Out, at: usize, r: Reading) -> usize
+    requires { ⌜ at ≤ 7000 ⌝ }
+    ensures { λ z. ⌜ Put (now (out .entry)) (now (out .exit)) at z (replyText (usual r) ++ (10 ∷ [])) ⌝ }
+    ensures { λ z. ⌜ z ≤ 8192 ⌝ }
+{
+    let x = Reply {
+        reading: r,
+        strength: REQUIRED as u32,
+        group: 1,
+    };
+    put_second(out, at, x)
 }

@@ -11,7 +11,7 @@ use lib.ListN.{length}
 use lib.Ieee.{Float}
 use Rattle.simplex.specs.Choose.{All}
 use Rattle.steps.specs.Number.{wholeIf, belowZero, allWhole, saysWhole, isWhole, constantBound}
-use Rattle.steps.specs.State.{Term, Relation, strengthOf, Constraint, State}
+use Rattle.steps.specs.State.{Term, Relation, strengthOf, comparisonOf, Constraint, State}
 use Rattle.steps.specs.CreateRow.{Created}
 use Rattle.steps.specs.Work.{marking, Work, Outcome, refused, going, _>>=_}
 use Rattle.bridge.specs.Runs.{markOf}
@@ -156,7 +156,7 @@ module _ (art : ArtificialEnds) (m : Moment) (g n : ℕ) (ts : List Term) (k : F
   d = record { key = ofConstraint n; group = g; terms = ts; constant = k; relation = r }
 
   abbrev stored : Added → Constraint
-  stored a = record { number = n; group = g; strength = strengthOf r; terms = keptTerms (m .state .tableau .cutoff) ts; tag = a .tag }
+  stored a = record { number = n; group = g; comparison = comparisonOf r; strength = strengthOf r; constant = k; terms = keptTerms (m .state .tableau .cutoff) ts; tag = a .tag }
 
   abbrev after : Added → State
   after a = finish (a .work) (keepConstraint (stored a) (m .state .constraints)) (m .state .edits)

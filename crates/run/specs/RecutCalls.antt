@@ -11,7 +11,7 @@ use Rattle.simplex.specs.Choose.{All}
 use Rattle.exact.specs.Unbroken.{Unbroken}
 use Rattle.steps.specs.Number.{zero64, constantBound, cutoffFits, isFinite, isWhole, within, allWhole, wholeIf, saysWhole}
 use Rattle.steps.specs.Strength.{clip}
-use Rattle.steps.specs.State.{Term, Relation, equal, strengthOf, Tag, Constraint, Edit, State}
+use Rattle.steps.specs.State.{Term, Relation, equal, strengthOf, comparisonOf, Tag, Constraint, Edit, State}
 use Rattle.steps.specs.Work.{Work, Outcome, refused, going, checkFinite, marking}
 use Rattle.steps.specs.Add.{wholeWithin, wholeTerms, wholeInputs, Added, addSteps}
 use Rattle.steps.specs.Remove.{removeSteps}
@@ -230,13 +230,13 @@ module _ (z : Float) (fz : cutoffFits z ≡ true) (s : State) (h : Sound s) wher
       subst (λ (t : List Test). Twin z (at (firstRefusal (addTests g n ts k r s)) s) (at (firstRefusal t) (recutS z s))) (sym (addTests-same g n ts k r u)) (go (firstRefusal (addTests g n ts k r s)) w)
     where
       stores : State → Added → State
-      stores s a = finish (a .work) (keepConstraint (record { number = n; group = g; strength = strengthOf r; terms = keptTerms (s .tableau .cutoff) ts; tag = a .tag }) (s .constraints)) (s .edits)
+      stores s a = finish (a .work) (keepConstraint (record { number = n; group = g; comparison = comparisonOf r; strength = strengthOf r; constant = k; terms = keptTerms (s .tableau .cutoff) ts; tag = a .tag }) (s .constraints)) (s .edits)
 
       at : Option ℕ → State → Result
       at o s = elim o as (λ _. Result) [ some x ↦ refusedBy x 0 (s .whole) s | none ↦ concludeAdd s (addSteps b ts k r (begin s)) (stores s) ]
 
       stored : (a : Added) → stores (recutS z s) (record { work = recut z (a .work); tag = a .tag }) ≡ recutS z (stores s a)
-      stored a = ap (λ (us : List Term). finish (recut z (a .work)) (keepConstraint (record { number = n; group = g; strength = strengthOf r; terms = us; tag = a .tag }) (s .constraints)) (s .edits)) (kept-same y z fy fz ts u) ∙ finished (a .work) _ (s .edits)
+      stored a = ap (λ (us : List Term). finish (recut z (a .work)) (keepConstraint (record { number = n; group = g; comparison = comparisonOf r; strength = strengthOf r; constant = k; terms = us; tag = a .tag }) (s .constraints)) (s .edits)) (kept-same y z fy fz ts u) ∙ finished (a .work) _ (s .edits)
 
       go : (o : Option ℕ) → at o s .answer .whole ≡ true → Twin z (at o s) (at o (recutS z s))
       go (some x) w = refused-twin x 0 (s .whole)

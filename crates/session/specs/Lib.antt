@@ -1,3 +1,4 @@
 pub mod Said
 pub mod Calls
+pub mod Shows
 pub mod Turns

@@ -12,6 +12,7 @@ use lib.Ieee.{nan}
 use Rattle.steps.specs.Number.{zero64}
 use Rattle.steps.specs.Changes.{Change, fetchChanges}
 use Rattle.steps.specs.Session.{Call, turn, answered, resets, adds, removes, drops, addsEdit, removesEdit, suggests, valueOf, fetches, hasConstraints, hasEdits, creates, clips, reads as readsAid, dumps, setsNext}
+use Rattle.steps.specs.Shown.{shown}
 use Rattle.laws.specs.Lists.{listOf-is, laid-in}
 use Rattle.keeps.specs.Tested.{reads-in}
 use Rattle.layout.specs.Layout.{bitOf, over}
@@ -28,6 +29,7 @@ use Rattle.fetches.specs.Few.{fetch-room}
 use Rattle.text.specs.Answers.{listedAt, listedIn, replyText}
 use Rattle.session.specs.Said.{Said, said, fetchSaid}
 use Rattle.session.specs.Calls.{saidBy, replyOf}
+use Rattle.session.specs.Shows.{givenReply, shownReply}
 
 -- the steps' turn, as text and tables
 unfoldable pub turnSaid : Call → Sparse → Said
@@ -113,3 +115,8 @@ module _ (t : Sparse) (ok : reads t ≡ true) where
   reply-turn readsAid e = absurd (subst T (sym e) tt)
   reply-turn dumps e = absurd (subst T (sym e) tt)
   reply-turn (setsNext n) e = absurd (subst T (sym e) tt)
+
+  -- and `show C` by what the steps show; the tables stay
+  pub show-turn : (n : ℕ) → shownReply n t ≡ givenReply (shown n (read t))
+  unfolding shownReply
+  show-turn n = rw ok refl

@@ -12,8 +12,10 @@ ghost use Rattle.text.specs.Words.{wordsOf};
 ghost use Rattle.text.specs.Format.{callOf as Format·callOf};
 ghost use Rattle.text.specs.Lines.{lineOf};
 ghost use Rattle.text.specs.Stream.{heldOf};
+ghost use Rattle.show_text.specs.Show.{asksFor};
 ghost use Rattle.session.specs.Said.{Spoken, fetchSaid};
 ghost use Rattle.session.specs.Calls.{room, replyOf, callFrom, askedText, heldReply};
+ghost use Rattle.session.specs.Shows.{shownReply, heldAnswer};
 use changes::Change;
 use lending::Answer;
 use sparse::Bytes;
@@ -25,6 +27,7 @@ use terms::Pack;
 use text::calls::Call;
 use text::calls::Line;
 use text::calls::Query;
+use text::floats::Id;
 use text::writing;
 
 pub type Out = [u8; 8192];
@@ -127,6 +130,39 @@ fn ask(
     }
 }
 
+// "`show C`": the constraint as it was added.
+fn say_shown(
+    number: u32,
+    words: &Words,
+    keys: &Keys,
+    bytes: &Bytes,
+    reals: &Reals,
+    values: &Values,
+    out: &mut Out,
+    at: usize,
+) -> usize
+    requires { ⌜ at ≤ 5000 ⌝ }
+    ensures { λ z. ⌜ Wrote (now (out .entry)) (now (out .exit)) at z (shownReply number (lent (words .entry) (keys .entry) (bytes .entry) (reals .entry) (values .entry))) ⌝ }
+{
+    let mut w = [0u64; 6];
+    let mut x = [0.0f64; 2];
+    let mut v = [0u32; 16];
+    let mut k = [0.0f64; 16];
+    shown::show(
+        words,
+        keys,
+        bytes,
+        reals,
+        values,
+        number,
+        &mut w,
+        &mut x,
+        &mut v,
+        &mut k,
+    );
+    show_text::answers::put_shown(out, at, &w, &x, &v, &k)
+}
+
 // p: the terms of an add.
 fn answer(
     call: Call,
@@ -164,8 +200,8 @@ fn read_front(line: &[u8], held: usize) -> Line
     text::reading::read_line(&line[..held])
 }
 
-// The line of which `held` bytes were read: no call if they are more than the buffer's.
-pub fn answer_held(
+// A call of the steps in the line of which `held` bytes were read: none if they are more than the buffer's.
+fn answer_line(
     line: &[u8; 4096],
     held: usize,
     words: &mut Words,
@@ -187,4 +223,36 @@ pub fn answer_held(
     let call = l.call;
     let p = l.terms;
     answer(call, p, words, keys, bytes, reals, values, out, at)
+}
+
+fn show_front(line: &[u8], held: usize) -> Id
+    requires { ⌜ held ≤ length (now line) ⌝ }
+    ensures { λ c. ⌜ c ≡ asksFor (wordsOf (take held (now (line .entry)))) ⌝ }
+{
+    show_text::read_show(&line[..held])
+}
+
+// The line of which `held` bytes were read: no call if they are more than the buffer's.
+pub fn answer_held(
+    line: &[u8; 4096],
+    held: usize,
+    words: &mut Words,
+    keys: &mut Keys,
+    bytes: &mut Bytes,
+    reals: &mut Reals,
+    values: &mut Values,
+    out: &mut Out,
+    at: usize,
+) -> usize
+    requires { ⌜ at ≤ 5000 ⌝ }
+    ensures { λ z. ⌜ Spoken (heldAnswer (heldOf (now (line .entry)) held) (lent (words .entry) (keys .entry) (bytes .entry) (reals .entry) (values .entry))) (now (out .entry)) (now (out .exit)) at z (lent (words .exit) (keys .exit) (bytes .exit) (reals .exit) (values .exit)) ⌝ }
+    ensures { λ z. ⌜ z ≤ 8000 ⌝ }
+{
+    if 4096 < held {
+        return answer_line(line, held, words, keys, bytes, reals, values, out, at);
+    }
+    let Id::Is32(n) = show_front(line, held) else {
+        return answer_line(line, held, words, keys, bytes, reals, values, out, at);
+    };
+    say_shown(n, words, keys, bytes, reals, values, out, at)
 }

@@ -11,7 +11,7 @@ use lib.Ieee.{Float}
 use Rattle.laws.specs.Given.{Then, then-given}
 use Rattle.steps.specs.Number.{isFinite}
 use Rattle.steps.specs.State as steps
-use Rattle.steps.specs.State.{Tag, Constraint, State, strengthOf}
+use Rattle.steps.specs.State.{Tag, Constraint, State, strengthOf, comparisonOf}
 use Rattle.steps.specs.Work.{refused, going}
 use Rattle.steps.specs.Add.{addSteps}
 use Rattle.steps.specs.Tests.{firstRefusal, addTests, keptTerms, keepConstraint}
@@ -71,7 +71,7 @@ add-by-test g x budget p constant relation t w u a {k} en q h says ts is =
 
 passed-by : (g x budget : ℕ) (terms : List steps.Term) (constant : Float) (relation : steps.Relation) (s : State) → firstRefusal (addTests g x terms constant relation s) ≡ none
     → add g x terms constant relation budget s
-    ≡ concludeAdd s (addSteps budget terms constant relation (begin s)) (λ a. finish (a .work) (keepConstraint (record { number = x; group = g; strength = strengthOf relation; terms = keptTerms (s .tableau .cutoff) terms; tag = a .tag }) (s .constraints)) (s .edits))
+    ≡ concludeAdd s (addSteps budget terms constant relation (begin s)) (λ a. finish (a .work) (keepConstraint (record { number = x; group = g; comparison = comparisonOf relation; strength = strengthOf relation; constant = constant; terms = keptTerms (s .tableau .cutoff) terms; tag = a .tag }) (s .constraints)) (s .edits))
 unfolding add
 passed-by g x budget terms constant relation s e = rw (e, add) refl
 
@@ -90,7 +90,7 @@ module _ (g x budget : ℕ) (p : Pack) (constant : Float) (relation : steps.Rela
 
   -- the constraint that is stored
   abbrev pub record-of : Tag → Constraint
-  record-of tag = record { number = x; group = g; strength = strengthOf relation; terms = keptTerms (cutoffIn (t .reals)) (termsOf p); tag = tag }
+  record-of tag = record { number = x; group = g; comparison = comparisonOf relation; strength = strengthOf relation; constant = constant; terms = keptTerms (cutoffIn (t .reals)) (termsOf p); tag = tag }
 
   abbrev stored : Tag → List Constraint
   stored tag = keepConstraint (record-of tag) (read t .constraints)
@@ -115,12 +115,12 @@ module _ (g x budget : ℕ) (p : Pack) (constant : Float) (relation : steps.Rela
 
       -- what is stored names the tag's symbols in the closed room, and the kept terms
       record-is : (q : Pack) → q ≡ keptOf (cutoffIn (t .reals)) p → (strength : Float) → strength ≡ strengthOf relation → Standing false (markOf (e .wrote)) u
-          → record { number = x; group = g; strength = strength; terms = termsOf q; tag = tagAt (closed (e .wrote) u) marker other } ≡ record-of (tagAt u marker other)
+          → record { number = x; group = g; comparison = comparisonOf relation; strength = strength; constant = constant; terms = termsOf q; tag = tagAt (closed (e .wrote) u) marker other } ≡ record-of (tagAt u marker other)
       record-is q k strength s st = rw (k, s, kept-terms (cutoffIn (t .reals)) p, closed-tag (e .wrote) u st marker other) refl
 
     -- for the call that brings the record: of any list that the pack is of
     pub addition-comes : (ts : List Term) → p ≡ packOf ts → Goes false e u → e .number ≡ 0 → (q : Pack) → q ≡ keptOf (cutoffIn (t .reals)) p → (strength : Float) → strength ≡ strengthOf relation
-        → (Comes t (closed (e .wrote) u)) × (readable (brought (keepConstraint (record { number = x; group = g; strength = strength; terms = termsOf q; tag = tagAt (closed (e .wrote) u) marker other }) (read t .constraints)) (read t .edits) (closed (e .wrote) u)) ≡ true)
+        → (Comes t (closed (e .wrote) u)) × (readable (brought (keepConstraint (record { number = x; group = g; comparison = comparisonOf relation; strength = strength; constant = constant; terms = termsOf q; tag = tagAt (closed (e .wrote) u) marker other }) (read t .constraints)) (read t .edits) (closed (e .wrote) u)) ≡ true)
     addition-comes ts is goes on q k strength s =
         let st = went e u goes on in
         let r = added-reads (add g x (termsIn ts) constant relation budget) t e u (again ts is) on st (tagAt u marker other) _ stored (λ tag. read t .edits) (call-is ts is) (outcome ts is) in
@@ -132,7 +132,7 @@ module _ (g x budget : ℕ) (p : Pack) (constant : Float) (relation : steps.Rela
           added-refused (add g x (termsIn ts) constant relation budget) t v a e u says (tagAt u marker other) _ (λ a. finish (a .work) (stored (a .tag)) (read t .edits)) (call-is ts is) (outcome ts is) n
 
       pub addition-accepted : Goes false e u → e .number ≡ 0 → (q : Pack) → q ≡ keptOf (cutoffIn (t .reals)) p → (strength : Float) → strength ≡ strengthOf relation → (v : Sparse)
-          → Ends (closed (e .wrote) u) (keepConstraint (record { number = x; group = g; strength = strength; terms = termsOf q; tag = tagAt (closed (e .wrote) u) marker other }) (read t .constraints)) (read t .edits) v → Adds g x p constant relation budget a t v
+          → Ends (closed (e .wrote) u) (keepConstraint (record { number = x; group = g; comparison = comparisonOf relation; strength = strength; constant = constant; terms = termsOf q; tag = tagAt (closed (e .wrote) u) marker other }) (read t .constraints)) (read t .edits) v → Adds g x p constant relation budget a t v
       addition-accepted goes on q k strength s v h ts is =
           let st = went e u goes on in
           added-accepted (add g x (termsIn ts) constant relation budget) t v a e u says (tagAt u marker other) _ stored (λ tag. read t .edits) (call-is ts is) (outcome ts is) on st h

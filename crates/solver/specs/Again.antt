@@ -93,6 +93,7 @@ agree-self t =
       pluses = λ j a. refl;
       minuses = λ j a. refl;
       terms = λ j a. refl;
+      relations = λ j a. refl;
       constants = λ p a b. refl;
       olds = λ j a. refl;
       objective = λ p a b. refl;
@@ -101,6 +102,7 @@ agree-self t =
       editStrengths = λ j a. refl;
       suggestions = λ j a. refl;
       coefficients = λ j a. refl;
+      constraintConstants = λ j a. refl;
       keys = λ j a. refl;
       values = λ j a. refl;
     }

@@ -1,7 +1,7 @@
 -- The records come over: what the code's calls leave in the room, put together.
 -- Assumes nothing.
 use Prim.Native.Nat.{ℕ, _+_, _*_, _≤_, _<_}
-use mathlib.Core.Path.{_≡_, refl, sym, ap, _∙_}
+use mathlib.Core.Path.{_≡_, refl, sym, ap, _∙_, subst}
 use mathlib.Core.Bool.{Bool, true, false}
 use mathlib.Core.List.{List}
 use native.Mathlib.Nat.{zero-add}
@@ -12,7 +12,10 @@ use lib.ListN.{length, getD, set}
 use borrow.Author.Tests.{eq-eqb, ne-eqb}
 use Rattle.laws.specs.Lists.{sumIn, listOf, getD-tab}
 use Rattle.steps.specs.Number.{zero64}
-use Rattle.steps.specs.State.{Constraint, Edit, State}
+use Rattle.layout.specs.Layout.{comparisonIn, comparisonCode}
+use Rattle.layout.specs.Back.{comparison-back}
+use Rattle.layout.specs.Copied.{comparison-small}
+use Rattle.steps.specs.State.{Comparison, Constraint, Edit, State}
 use Rattle.steps.specs.Tests.{keepConstraint, dropConstraint, keepEdit, dropEdit}
 use Rattle.steps.specs.Readable.{readable}
 use Rattle.keeps.specs.Reads.{Reads, editNumber}
@@ -33,7 +36,7 @@ use Rattle.stored.specs.Moved.{Moved}
 use Rattle.stored.specs.Put.{ConstraintKept, EditKept}
 use Rattle.stored.specs.Ended.{Ready, roomOf, Kept}
 use Rattle.stored.specs.Ends.{records-kept, constraint-dropped, edit-dropped}
-use Rattle.stored.specs.Came.{constraint-kept, edit-kept}
+use Rattle.stored.specs.Came.{tagIn, newConstraint, constraint-kept, edit-kept}
 use Rattle.stored.specs.Suggested.{withReal, suggestion-kept}
 use Rattle.terms.specs.declared.Pack.{Pack}
 use Rattle.terms.specs.Terms.{termsOf}
@@ -131,16 +134,29 @@ module _ (t u : Sparse) (come : Comes t u) where
         ends-of u (roomOf u uw ub ur) (read t .constraints) (dropEdit n (read t .edits))
         (edit-dropped t u ready uw ub ur m j n raw h (edit-before j h) (eq-eqb n n refl) (hold-constraints u (read t .constraints) (dropEdit n (read t .edits)) q) (hold-edits u (read t .constraints) (dropEdit n (read t .edits)) q))
 
-    pub constraint-comes : (n g marker other : ℕ) (strength : Float) (p : Pack) → 1 ≤ marker → marker ≤ symbolCount u → other ≤ symbolCount u → constraintCount t + editCount t < mostConstraints → p .count ≤ 16
-        → readable (brought (keepConstraint (record { number = n; group = g; strength = strength; terms = termsOf p; tag = tagAt u marker other }) (read t .constraints)) (read t .edits) u) ≡ true
-        → ConstraintKept n g marker other strength p (t .words) (t .bytes) (t .reals) (u .words) (u .bytes) (u .reals) uw ub ur m
-        → Ends u (keepConstraint (record { number = n; group = g; strength = strength; terms = termsOf p; tag = tagAt u marker other }) (read t .constraints)) (read t .edits) (roomOf u uw ub ur)
-    unfolding tagAt
-    constraint-comes n g marker other strength p low high o room few q raw =
-        let c : Constraint = record { number = n; group = g; strength = strength; terms = termsOf p; tag = tagAt u marker other } in
+    -- the relation by its kind
+    by-kind : (n g marker other k : ℕ) (strength constant : Float) (p : Pack) → 1 ≤ marker → marker ≤ symbolCount u → other ≤ symbolCount u → k ≤ 2 → constraintCount t + editCount t < mostConstraints → p .count ≤ 16
+        → readable (brought (keepConstraint (newConstraint u n g marker other k strength constant p) (read t .constraints)) (read t .edits) u) ≡ true
+        → ConstraintKept n g marker other k strength constant p (t .words) (t .bytes) (t .reals) (u .words) (u .bytes) (u .reals) uw ub ur m
+        → Ends u (keepConstraint (newConstraint u n g marker other k strength constant p) (read t .constraints)) (read t .edits) (roomOf u uw ub ur)
+    by-kind n g marker other k strength constant p low high o few-kinds room few q raw =
+        let c : Constraint = newConstraint u n g marker other k strength constant p in
         ends-of u (roomOf u uw ub ur) (keepConstraint c (read t .constraints)) (read t .edits)
-        (constraint-kept t u ready uw ub ur m n g marker other strength p raw few (holds-new u c (read t .constraints) (read t .edits) q) (low, high) o (omega (arith, room)) (unfold termsFrom in few-terms (omega (arith, room)) (p .count) few)
+        (constraint-kept t u ready uw ub ur m n g marker other k strength constant p raw few (holds-new u c (read t .constraints) (read t .edits) q) (low, high) o few-kinds (omega (arith, room)) (unfold termsFrom in few-terms (omega (arith, room)) (p .count) few)
         (holds-old u c (read t .constraints) (read t .edits) q) (hold-edits u (keepConstraint c (read t .constraints)) (read t .edits) q))
+
+    pub constraint-comes : (n g marker other : ℕ) (relation : Comparison) (strength constant : Float) (p : Pack) → 1 ≤ marker → marker ≤ symbolCount u → other ≤ symbolCount u → constraintCount t + editCount t < mostConstraints → p .count ≤ 16
+        → readable (brought (keepConstraint (record { number = n; group = g; comparison = relation; strength = strength; constant = constant; terms = termsOf p; tag = tagAt u marker other }) (read t .constraints)) (read t .edits) u) ≡ true
+        → {k : ℕ} → k ≡ comparisonCode relation → ConstraintKept n g marker other k strength constant p (t .words) (t .bytes) (t .reals) (u .words) (u .bytes) (u .reals) uw ub ur m
+        → Ends u (keepConstraint (record { number = n; group = g; comparison = relation; strength = strength; constant = constant; terms = termsOf p; tag = tagAt u marker other }) (read t .constraints)) (read t .edits) (roomOf u uw ub ur)
+    unfolding tagAt
+    constraint-comes n g marker other relation strength constant p low high o room few q {k} e raw =
+        let same : comparisonIn k ≡ relation = ap comparisonIn e ∙ comparison-back relation in
+        subst (λ (r : Comparison). Ends u (keepConstraint (of r) (read t .constraints)) (read t .edits) (roomOf u uw ub ur)) same
+        (by-kind n g marker other k strength constant p low high o (rw e (comparison-small relation)) room few (subst (λ (r : Comparison). readable (brought (keepConstraint (of r) (read t .constraints)) (read t .edits) u) ≡ true) (sym same) q) raw)
+      where
+        of : Comparison → Constraint
+        of r = record { number = n; group = g; comparison = r; strength = strength; constant = constant; terms = termsOf p; tag = tagIn u marker other }
 
     pub edit-comes : (n marker other : ℕ) (strength : Float) → 1 ≤ marker → marker ≤ symbolCount u → other ≤ symbolCount u → constraintCount t + editCount t < mostConstraints
         → readable (brought (read t .constraints) (keepEdit (record { variable = n; strength = strength; tag = tagAt u marker other; suggestion = zero64 }) (read t .edits)) u) ≡ true

@@ -174,6 +174,7 @@ module _ (wrote : Wrote) (u : Sparse) (st : Standing false (markOf wrote) u) whe
         changed = λ i a. st .owners .changed i (omega (arith, a, k₄));
         markers = λ i a. absurd (omega (arith, a, no-constraints));
         others = λ i a. absurd (omega (arith, a, no-constraints));
+        relations = λ i a. absurd (omega (arith, a, no-constraints));
         edited = λ i a. absurd (omega (arith, a, no-edits));
         pluses = λ i a. absurd (omega (arith, a, no-edits));
         minuses = λ i a. absurd (omega (arith, a, no-edits));

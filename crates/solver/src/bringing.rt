@@ -3,8 +3,11 @@ ghost use mathlib.Core.Path.{_≡_};
 ghost use mathlib.Core.Bool.{true};
 ghost use Prim.Native.Nat.{_+_, _≤_, _<_};
 ghost use Rattle.steps.specs.Number.{zero64};
+ghost use Rattle.steps.specs.State.{comparisonOf};
 ghost use Rattle.steps.specs.Tests.{keepConstraint, keepEdit, dropEdit};
 ghost use Rattle.steps.specs.Readable.{readable};
+ghost use Rattle.layout.specs.Layout.{comparisonCode};
+ghost use Rattle.tags.specs.Tags.{relationOf};
 ghost use Rattle.sparse.specs.Places.{mostConstraints};
 ghost use Rattle.sparse.specs.Sparse.{symbolCount, constraintCount, editCount, editOf, read};
 ghost use Rattle.waist.specs.Working.{lent};
@@ -19,6 +22,7 @@ use sparse::Values;
 use sparse::Words;
 use stored::new;
 use stored::records;
+use tags::Relation;
 use terms::Pack;
 
 // The j-th edit stays behind.
@@ -43,7 +47,18 @@ pub fn without_edit(
     records::drop_edit(wwords, wbytes, wreals, words, bytes, reals, j);
 }
 
-// A constraint comes to its place by ascending number.
+// Which of the three it is, as the tables have it.
+fn kind_of(relation: Relation) -> u8
+    ensures { λ r. ⌜ r ≡ comparisonCode (comparisonOf (relationOf relation)) ⌝ }
+{
+    match relation {
+        Relation::AtMost(_) => 0,
+        Relation::Equal(_) => 1,
+        Relation::AtLeast(_) => 2,
+    }
+}
+
+// A constraint comes to its place by ascending number; the strength is its relation's.
 pub fn with_constraint(
     words: &Words,
     keys: &Keys,
@@ -57,7 +72,9 @@ pub fn with_constraint(
     wvalues: &mut Values,
     n: u32,
     g: u16,
+    relation: Relation,
     strength: f64,
+    constant: f64,
     marker: u8,
     other: u8,
     p: Pack,
@@ -68,9 +85,10 @@ pub fn with_constraint(
     requires { ⌜ other ≤ symbolCount (lent wwords wkeys wbytes wreals wvalues) ⌝ }
     requires { ⌜ constraintCount (lent words keys bytes reals values) + editCount (lent words keys bytes reals values) < mostConstraints ⌝ }
     requires { ⌜ p .count ≤ 16 ⌝ }
-    requires { ⌜ readable (brought (keepConstraint (record { number = n; group = g; strength = strength; terms = termsOf p; tag = tagAt (lent wwords wkeys wbytes wreals wvalues) marker other }) (read (lent words keys bytes reals values) .constraints)) (read (lent words keys bytes reals values) .edits) (lent wwords wkeys wbytes wreals wvalues)) ≡ true ⌝ }
-    ensures { λ _. ⌜ Ends (lent (wwords .entry) (wkeys .entry) (wbytes .entry) (wreals .entry) (wvalues .entry)) (keepConstraint (record { number = n; group = g; strength = strength; terms = termsOf p; tag = tagAt (lent (wwords .entry) (wkeys .entry) (wbytes .entry) (wreals .entry) (wvalues .entry)) marker other }) (read (lent (words .entry) (keys .entry) (bytes .entry) (reals .entry) (values .entry)) .constraints)) (read (lent (words .entry) (keys .entry) (bytes .entry) (reals .entry) (values .entry)) .edits) (lent (wwords .exit) (wkeys .exit) (wbytes .exit) (wreals .exit) (wvalues .exit)) ⌝ }
+    requires { ⌜ readable (brought (keepConstraint (record { number = n; group = g; comparison = comparisonOf (relationOf relation); strength = strength; constant = constant; terms = termsOf p; tag = tagAt (lent wwords wkeys wbytes wreals wvalues) marker other }) (read (lent words keys bytes reals values) .constraints)) (read (lent words keys bytes reals values) .edits) (lent wwords wkeys wbytes wreals wvalues)) ≡ true ⌝ }
+    ensures { λ _. ⌜ Ends (lent (wwords .entry) (wkeys .entry) (wbytes .entry) (wreals .entry) (wvalues .entry)) (keepConstraint (record { number = n; group = g; comparison = comparisonOf (relationOf relation); strength = strength; constant = constant; terms = termsOf p; tag = tagAt (lent (wwords .entry) (wkeys .entry) (wbytes .entry) (wreals .entry) (wvalues .entry)) marker other }) (read (lent (words .entry) (keys .entry) (bytes .entry) (reals .entry) (values .entry)) .constraints)) (read (lent (words .entry) (keys .entry) (bytes .entry) (reals .entry) (values .entry)) .edits) (lent (wwords .exit) (wkeys .exit) (wbytes .exit) (wreals .exit) (wvalues .exit)) ⌝ }
 {
+    let kind = kind_of(relation);
     new::keep_constraint(
         wwords,
         wbytes,
@@ -82,7 +100,9 @@ pub fn with_constraint(
         g,
         marker,
         other,
+        kind,
         strength,
+        constant,
         p,
     );
 }

@@ -16,7 +16,7 @@ use Rattle.cells.specs.Names.{rowSpan}
 use Rattle.cells.specs.Cells.{Ascending, cellAt, rowOf}
 use Rattle.cells.specs.Seek.{first-within}
 use Rattle.cells.specs.Reads.{cell-within}
-use Rattle.sparse.specs.Places.{idsAt, variableNumbersAt, variableUsesAt, constraintNumbersAt, constraintGroupsAt, goneNumbersAt, kindsAt, rowPlacesAt, variablePlacesAt, changedAt, constraintMarkersAt, constraintOthersAt, termCountsAt, editVariablesAt, editMarkersAt, editOthersAt, termsAt, constantsAt, oldValuesAt, objectiveAt, cutoffAt, constraintStrengthsAt, editStrengthsAt, suggestionsAt, coefficientsAt, wordsSize, bytesSize, realsSize}
+use Rattle.sparse.specs.Places.{idsAt, variableNumbersAt, variableUsesAt, constraintNumbersAt, constraintGroupsAt, goneNumbersAt, kindsAt, rowPlacesAt, variablePlacesAt, changedAt, constraintMarkersAt, constraintOthersAt, termCountsAt, editVariablesAt, editMarkersAt, editOthersAt, termsAt, relationsAt, constantsAt, oldValuesAt, objectiveAt, cutoffAt, constraintStrengthsAt, editStrengthsAt, suggestionsAt, coefficientsAt, constraintConstantsAt, wordsSize, bytesSize, realsSize}
 use Rattle.sparse.specs.Sparse.{Sparse, symbolCount, rowCount, cellCount, variableCount, constraintCount, editCount, goneCount, symbolAt, otherAt, numberAt, variableOf, termsFrom, termOf, constraintOf, editOf, basicOf, symbolsOf, basicsOf, objectiveOf, goneOf, read}
 use Rattle.sparse.specs.Concat.{sum-ext, sum-in, sum-le}
 use Rattle.sparse.specs.Repack.{Held}
@@ -42,6 +42,7 @@ pub record Agree (t u : Sparse) : Type 0 where
   pub pluses : (j : ℕ) → j < editCount t → getD (u .bytes) (editMarkersAt + j) 0 ≡ getD (t .bytes) (editMarkersAt + j) 0
   pub minuses : (j : ℕ) → j < editCount t → getD (u .bytes) (editOthersAt + j) 0 ≡ getD (t .bytes) (editOthersAt + j) 0
   pub terms : (j : ℕ) → j < termsFrom t (constraintCount t) → getD (u .bytes) (termsAt + j) 0 ≡ getD (t .bytes) (termsAt + j) 0
+  pub relations : (j : ℕ) → j < constraintCount t → getD (u .bytes) (relationsAt + j) 0 ≡ getD (t .bytes) (relationsAt + j) 0
   pub constants : (p : ℕ) → 1 ≤ p → p ≤ rowCount t → getD (u .reals) (constantsAt + p) nan ≡ getD (t .reals) (constantsAt + p) nan
   pub olds : (j : ℕ) → j < variableCount t → getD (u .reals) (oldValuesAt + j) nan ≡ getD (t .reals) (oldValuesAt + j) nan
   pub objective : (p : ℕ) → 1 ≤ p → p ≤ symbolCount t → getD (u .reals) (objectiveAt + p) nan ≡ getD (t .reals) (objectiveAt + p) nan
@@ -50,6 +51,7 @@ pub record Agree (t u : Sparse) : Type 0 where
   pub editStrengths : (j : ℕ) → j < editCount t → getD (u .reals) (editStrengthsAt + j) nan ≡ getD (t .reals) (editStrengthsAt + j) nan
   pub suggestions : (j : ℕ) → j < editCount t → getD (u .reals) (suggestionsAt + j) nan ≡ getD (t .reals) (suggestionsAt + j) nan
   pub coefficients : (j : ℕ) → j < termsFrom t (constraintCount t) → getD (u .reals) (coefficientsAt + j) nan ≡ getD (t .reals) (coefficientsAt + j) nan
+  pub constraintConstants : (j : ℕ) → j < constraintCount t → getD (u .reals) (constraintConstantsAt + j) nan ≡ getD (t .reals) (constraintConstantsAt + j) nan
   pub keys : (j : ℕ) → j < cellCount t → getD (u .keys) j 0 ≡ getD (t .keys) j 0
   pub values : (j : ℕ) → j < cellCount t → getD (u .values) j nan ≡ getD (t .values) j nan
 
@@ -115,7 +117,7 @@ module _ (t u : Sparse) (same : Agree t u) where
     unfolding constraintOf
     constraint-same i h =
         let ts : listOf (getD (t .bytes) (termCountsAt + i) 0) (termOf u (termsFrom t i)) ≡ listOf (getD (t .bytes) (termCountsAt + i) 0) (termOf t (termsFrom t i)) = list-ext _ _ _ λ j k. term-same i j h k in
-        rw (same .constraintNumbers i h, same .constraintGroups i h, same .strengths i h, same .termCounts i h, terms-same i (omega arith), ts, same .markers i h, symbol-same (getD (t .bytes) (constraintMarkersAt + i) 0) (form .markers i h), same .others i h, other-same (getD (t .bytes) (constraintOthersAt + i) 0) (form .others i h)) refl
+        rw (same .constraintNumbers i h, same .constraintGroups i h, same .relations i h, same .strengths i h, same .constraintConstants i h, same .termCounts i h, terms-same i (omega arith), ts, same .markers i h, symbol-same (getD (t .bytes) (constraintMarkersAt + i) 0) (form .markers i h), same .others i h, other-same (getD (t .bytes) (constraintOthersAt + i) 0) (form .others i h)) refl
 
     edit-same : (i : ℕ) → i < editCount t → editOf u i ≡ editOf t i
     unfolding editOf
@@ -182,6 +184,7 @@ module _ (t u : Sparse) (same : Agree t u) where
           changed = λ i a. let b = rw k₄ at a in rw (same .changed i b) (form .changed i b);
           markers = λ i a. let b = rw k₅ at a in at-same _ (rw (same .markers i b) (form .markers i b));
           others = λ i a. let b = rw k₅ at a in rw (k₁, same .others i b) (form .others i b);
+          relations = λ i a. let b = rw k₅ at a in rw (same .relations i b) (form .relations i b);
           edited = λ i a. let b = rw k₆ at a in rw (k₄, same .edited i b, index-same (getD (t .bytes) (editVariablesAt + i) 0)) (form .edited i b);
           pluses = λ i a. let b = rw k₆ at a in at-same _ (rw (same .pluses i b) (form .pluses i b));
           minuses = λ i a. let b = rw k₆ at a in rw (k₁, same .minuses i b) (form .minuses i b);

@@ -8,7 +8,7 @@ use native.Mathlib.Omega.{arith}
 use lib.Ieee.{Float, nan}
 use lib.ListN.{length, getD}
 use Rattle.laws.specs.Lists.{tab, getD-tab, length-tab}
-use Rattle.sparse.specs.Places.{nextIdAt, idsAt, variableNumbersAt, variableUsesAt, constraintNumbersAt, constraintGroupsAt, goneNumbersAt, kindsAt, rowPlacesAt, variablePlacesAt, changedAt, constraintMarkersAt, constraintOthersAt, termCountsAt, editVariablesAt, editMarkersAt, editOthersAt, termsAt, constantsAt, oldValuesAt, objectiveAt, cutoffAt, constraintStrengthsAt, editStrengthsAt, suggestionsAt, coefficientsAt, wordsSize, bytesSize, realsSize}
+use Rattle.sparse.specs.Places.{nextIdAt, idsAt, variableNumbersAt, variableUsesAt, constraintNumbersAt, constraintGroupsAt, goneNumbersAt, kindsAt, rowPlacesAt, variablePlacesAt, changedAt, constraintMarkersAt, constraintOthersAt, termCountsAt, editVariablesAt, editMarkersAt, editOthersAt, termsAt, relationsAt, constantsAt, oldValuesAt, objectiveAt, cutoffAt, constraintStrengthsAt, editStrengthsAt, suggestionsAt, coefficientsAt, constraintConstantsAt, wordsSize, bytesSize, realsSize}
 use Rattle.sparse.specs.Sparse.{Sparse, symbolCount, rowCount, cellCount, variableCount, constraintCount, editCount, goneCount, termsFrom, read}
 use Rattle.sparse.specs.Stretches.{Stretch, Within, lay, lay-in, length-lay, copied-at, length-copied}
 use Rattle.sparse.specs.Fits.{Lengths}
@@ -40,7 +40,7 @@ module _ (t w : Sparse) (c : Counts t) (len : Lengths w) where
       let e = c .edits in
       let r = c .rows in
       let q = c .terms in
-      (omega (arith, l termsAt (termsFrom t (constraintCount t)), q), (omega (arith, l editOthersAt (editCount t), e), (omega (arith, l editMarkersAt (editCount t), e), (omega (arith, l editVariablesAt (editCount t), e), (omega (arith, l termCountsAt (constraintCount t), m), (omega (arith, l constraintOthersAt (constraintCount t), m), (omega (arith, l constraintMarkersAt (constraintCount t), m), (omega (arith, l changedAt (variableCount t), v), (omega (arith, l variablePlacesAt (variableCount t), v), (omega (arith, l (rowPlacesAt + 1) (rowCount t), r), (omega (arith, l (kindsAt + 1) (symbolCount t), k), tt)))))))))))
+      (omega (arith, l relationsAt (constraintCount t), m), (omega (arith, l termsAt (termsFrom t (constraintCount t)), q), (omega (arith, l editOthersAt (editCount t), e), (omega (arith, l editMarkersAt (editCount t), e), (omega (arith, l editVariablesAt (editCount t), e), (omega (arith, l termCountsAt (constraintCount t), m), (omega (arith, l constraintOthersAt (constraintCount t), m), (omega (arith, l constraintMarkersAt (constraintCount t), m), (omega (arith, l changedAt (variableCount t), v), (omega (arith, l variablePlacesAt (variableCount t), v), (omega (arith, l (rowPlacesAt + 1) (rowCount t), r), (omega (arith, l (kindsAt + 1) (symbolCount t), k), tt))))))))))))
 
   within-reals : Within realsSize (liveReals t)
   unfolding liveReals
@@ -52,7 +52,7 @@ module _ (t w : Sparse) (c : Counts t) (len : Lengths w) where
       let e = c .edits in
       let r = c .rows in
       let q = c .terms in
-      (omega (arith, l coefficientsAt (termsFrom t (constraintCount t)), q), (omega (arith, l suggestionsAt (editCount t), e), (omega (arith, l editStrengthsAt (editCount t), e), (omega (arith, l constraintStrengthsAt (constraintCount t), m), (omega (arith, l cutoffAt 1), (omega (arith, l (objectiveAt + 1) (symbolCount t), k), (omega (arith, l oldValuesAt (variableCount t), v), (omega (arith, l (constantsAt + 1) (rowCount t), r), tt))))))))
+      (omega (arith, l constraintConstantsAt (constraintCount t), m), (omega (arith, l coefficientsAt (termsFrom t (constraintCount t)), q), (omega (arith, l suggestionsAt (editCount t), e), (omega (arith, l editStrengthsAt (editCount t), e), (omega (arith, l constraintStrengthsAt (constraintCount t), m), (omega (arith, l cutoffAt 1), (omega (arith, l (objectiveAt + 1) (symbolCount t), k), (omega (arith, l oldValuesAt (variableCount t), v), (omega (arith, l (constantsAt + 1) (rowCount t), r), tt)))))))))
 
   -- ---- a place of the i-th stretch, if it begins at a and has n places
 
@@ -66,14 +66,14 @@ module _ (t w : Sparse) (c : Counts t) (len : Lengths w) where
       let x = lay-in wordsSize (liveWords t) (w .words) within-words (omega (arith, len .0)) i j 0 (unfold liveWords in h) (rw (q, length-tab g a n) k) in
       (rw q at x) ∙ getD-tab g a n j 0 k
 
-  byte : (i a n j : ℕ) → i < 11 → getD (liveBytes t) i none ≡ (record { at = a; list = tab (λ j. getD (t .bytes) j 0) a n }) → j < n → getD (u .bytes) (a + j) 0 ≡ getD (t .bytes) (a + j) 0
+  byte : (i a n j : ℕ) → i < 12 → getD (liveBytes t) i none ≡ (record { at = a; list = tab (λ j. getD (t .bytes) j 0) a n }) → j < n → getD (u .bytes) (a + j) 0 ≡ getD (t .bytes) (a + j) 0
   unfolding putOver
   byte i a n j h q k =
       let g : ℕ → ℕ = λ j. getD (t .bytes) j 0 in
       let x = lay-in bytesSize (liveBytes t) (w .bytes) within-bytes (omega (arith, len .2)) i j 0 (unfold liveBytes in h) (rw (q, length-tab g a n) k) in
       (rw q at x) ∙ getD-tab g a n j 0 k
 
-  real : (i a n j : ℕ) → i < 8 → getD (liveReals t) i none ≡ (record { at = a; list = tab (λ j. getD (t .reals) j nan) a n }) → j < n → getD (u .reals) (a + j) nan ≡ getD (t .reals) (a + j) nan
+  real : (i a n j : ℕ) → i < 9 → getD (liveReals t) i none ≡ (record { at = a; list = tab (λ j. getD (t .reals) j nan) a n }) → j < n → getD (u .reals) (a + j) nan ≡ getD (t .reals) (a + j) nan
   unfolding putOver
   real i a n j h q k =
       let g : ℕ → Float = λ j. getD (t .reals) j nan in
@@ -97,25 +97,27 @@ module _ (t w : Sparse) (c : Counts t) (len : Lengths w) where
         constraintNumbers = λ j h. word 2 constraintNumbersAt (constraintCount t) j (omega arith) refl h;
         constraintGroups = λ j h. word 1 constraintGroupsAt (constraintCount t) j (omega arith) refl h;
         gone = λ j h. word 0 goneNumbersAt (goneCount t) j (omega arith) refl h;
-        kinds = λ p a b. from-one (u .bytes) (t .bytes) 0 kindsAt p a (byte 10 (kindsAt + 1) (symbolCount t) (p - 1) (omega arith) refl (omega (arith, a, b)));
-        rowPlaces = λ p a b. from-one (u .bytes) (t .bytes) 0 rowPlacesAt p a (byte 9 (rowPlacesAt + 1) (rowCount t) (p - 1) (omega arith) refl (omega (arith, a, b)));
-        owners = λ j h. byte 8 variablePlacesAt (variableCount t) j (omega arith) refl h;
-        changed = λ j h. byte 7 changedAt (variableCount t) j (omega arith) refl h;
-        markers = λ j h. byte 6 constraintMarkersAt (constraintCount t) j (omega arith) refl h;
-        others = λ j h. byte 5 constraintOthersAt (constraintCount t) j (omega arith) refl h;
-        termCounts = λ j h. byte 4 termCountsAt (constraintCount t) j (omega arith) refl h;
-        edited = λ j h. byte 3 editVariablesAt (editCount t) j (omega arith) refl h;
-        pluses = λ j h. byte 2 editMarkersAt (editCount t) j (omega arith) refl h;
-        minuses = λ j h. byte 1 editOthersAt (editCount t) j (omega arith) refl h;
-        terms = λ j h. byte 0 termsAt (termsFrom t (constraintCount t)) j (omega arith) refl h;
-        constants = λ p a b. from-one (u .reals) (t .reals) nan constantsAt p a (real 7 (constantsAt + 1) (rowCount t) (p - 1) (omega arith) refl (omega (arith, a, b)));
-        olds = λ j h. real 6 oldValuesAt (variableCount t) j (omega arith) refl h;
-        objective = λ p a b. from-one (u .reals) (t .reals) nan objectiveAt p a (real 5 (objectiveAt + 1) (symbolCount t) (p - 1) (omega arith) refl (omega (arith, a, b)));
-        cutoff = real 4 cutoffAt 1 0 (omega arith) refl (omega arith);
-        strengths = λ j h. real 3 constraintStrengthsAt (constraintCount t) j (omega arith) refl h;
-        editStrengths = λ j h. real 2 editStrengthsAt (editCount t) j (omega arith) refl h;
-        suggestions = λ j h. real 1 suggestionsAt (editCount t) j (omega arith) refl h;
-        coefficients = λ j h. real 0 coefficientsAt (termsFrom t (constraintCount t)) j (omega arith) refl h;
+        kinds = λ p a b. from-one (u .bytes) (t .bytes) 0 kindsAt p a (byte 11 (kindsAt + 1) (symbolCount t) (p - 1) (omega arith) refl (omega (arith, a, b)));
+        rowPlaces = λ p a b. from-one (u .bytes) (t .bytes) 0 rowPlacesAt p a (byte 10 (rowPlacesAt + 1) (rowCount t) (p - 1) (omega arith) refl (omega (arith, a, b)));
+        owners = λ j h. byte 9 variablePlacesAt (variableCount t) j (omega arith) refl h;
+        changed = λ j h. byte 8 changedAt (variableCount t) j (omega arith) refl h;
+        markers = λ j h. byte 7 constraintMarkersAt (constraintCount t) j (omega arith) refl h;
+        others = λ j h. byte 6 constraintOthersAt (constraintCount t) j (omega arith) refl h;
+        termCounts = λ j h. byte 5 termCountsAt (constraintCount t) j (omega arith) refl h;
+        edited = λ j h. byte 4 editVariablesAt (editCount t) j (omega arith) refl h;
+        pluses = λ j h. byte 3 editMarkersAt (editCount t) j (omega arith) refl h;
+        minuses = λ j h. byte 2 editOthersAt (editCount t) j (omega arith) refl h;
+        terms = λ j h. byte 1 termsAt (termsFrom t (constraintCount t)) j (omega arith) refl h;
+        relations = λ j h. byte 0 relationsAt (constraintCount t) j (omega arith) refl h;
+        constants = λ p a b. from-one (u .reals) (t .reals) nan constantsAt p a (real 8 (constantsAt + 1) (rowCount t) (p - 1) (omega arith) refl (omega (arith, a, b)));
+        olds = λ j h. real 7 oldValuesAt (variableCount t) j (omega arith) refl h;
+        objective = λ p a b. from-one (u .reals) (t .reals) nan objectiveAt p a (real 6 (objectiveAt + 1) (symbolCount t) (p - 1) (omega arith) refl (omega (arith, a, b)));
+        cutoff = real 5 cutoffAt 1 0 (omega arith) refl (omega arith);
+        strengths = λ j h. real 4 constraintStrengthsAt (constraintCount t) j (omega arith) refl h;
+        editStrengths = λ j h. real 3 editStrengthsAt (editCount t) j (omega arith) refl h;
+        suggestions = λ j h. real 2 suggestionsAt (editCount t) j (omega arith) refl h;
+        coefficients = λ j h. real 1 coefficientsAt (termsFrom t (constraintCount t)) j (omega arith) refl h;
+        constraintConstants = λ j h. real 0 constraintConstantsAt (constraintCount t) j (omega arith) refl h;
         keys = keys-same;
         values = values-same;
       }

@@ -3,7 +3,7 @@ use Prim.Native.Nat.{ℕ, _+_}
 use mathlib.Core.List.{List, [], _∷_}
 use lib.Ieee.{Float, nan}
 use lib.ListN.{getD}
-use Rattle.sparse.specs.Places.{nextIdAt, goneCountAt, idsAt, variableNumbersAt, variableUsesAt, constraintNumbersAt, constraintGroupsAt, goneNumbersAt, kindsAt, rowPlacesAt, variablePlacesAt, changedAt, constraintMarkersAt, constraintOthersAt, termCountsAt, editVariablesAt, editMarkersAt, editOthersAt, termsAt, constantsAt, oldValuesAt, objectiveAt, cutoffAt, constraintStrengthsAt, editStrengthsAt, suggestionsAt, coefficientsAt}
+use Rattle.sparse.specs.Places.{nextIdAt, goneCountAt, idsAt, variableNumbersAt, variableUsesAt, constraintNumbersAt, constraintGroupsAt, goneNumbersAt, kindsAt, rowPlacesAt, variablePlacesAt, changedAt, constraintMarkersAt, constraintOthersAt, termCountsAt, editVariablesAt, editMarkersAt, editOthersAt, termsAt, relationsAt, constantsAt, oldValuesAt, objectiveAt, cutoffAt, constraintStrengthsAt, editStrengthsAt, suggestionsAt, coefficientsAt, constraintConstantsAt}
 use Rattle.sparse.specs.Sparse.{Sparse, symbolCount, rowCount, cellCount, variableCount, constraintCount, editCount, goneCount, termsFrom}
 use Rattle.sparse.specs.Stretches.{Stretch, part, lay, copied}
 
@@ -24,7 +24,8 @@ liveWords t =
 
 unfoldable pub liveBytes : Sparse → List (Stretch ℕ)
 liveBytes t =
-    part 0 (t .bytes) termsAt (termsFrom t (constraintCount t))
+    part 0 (t .bytes) relationsAt (constraintCount t)
+    ∷ part 0 (t .bytes) termsAt (termsFrom t (constraintCount t))
     ∷ part 0 (t .bytes) editOthersAt (editCount t)
     ∷ part 0 (t .bytes) editMarkersAt (editCount t)
     ∷ part 0 (t .bytes) editVariablesAt (editCount t)
@@ -39,7 +40,8 @@ liveBytes t =
 
 unfoldable pub liveReals : Sparse → List (Stretch Float)
 liveReals t =
-    part nan (t .reals) coefficientsAt (termsFrom t (constraintCount t))
+    part nan (t .reals) constraintConstantsAt (constraintCount t)
+    ∷ part nan (t .reals) coefficientsAt (termsFrom t (constraintCount t))
     ∷ part nan (t .reals) suggestionsAt (editCount t)
     ∷ part nan (t .reals) editStrengthsAt (editCount t)
     ∷ part nan (t .reals) constraintStrengthsAt (constraintCount t)

@@ -16,12 +16,12 @@ use Rattle.laws.specs.Lists.{tab, tab-ext, tab-getD, listOf, listOf-is, sumIn}
 use Rattle.steps.specs.Symbol.{Kind, External, Slack, Error, Dummy, Symbol}
 use Rattle.steps.specs.State.{Term, Basic, Variable, Constraint, Edit, State}
 use Rattle.steps.specs.Readable.{kindCode}
-use Rattle.layout.specs.Layout.{kindOf, bitOf}
+use Rattle.layout.specs.Layout.{kindOf, bitOf, comparisonIn, comparisonCode}
 use Rattle.layout.specs.Laying.{getD-map, tab-from}
-use Rattle.layout.specs.Back.{bit-back}
+use Rattle.layout.specs.Back.{bit-back, comparison-back}
 use Rattle.cells.specs.Cells.{rowOf}
 use Rattle.cells.specs.Seek.{first-elim, first-at}
-use Rattle.sparse.specs.Places.{idsAt, variableNumbersAt, variableUsesAt, constraintNumbersAt, constraintGroupsAt, goneNumbersAt, kindsAt, rowPlacesAt, variablePlacesAt, changedAt, constraintMarkersAt, constraintOthersAt, termCountsAt, editVariablesAt, editMarkersAt, editOthersAt, termsAt, constantsAt, oldValuesAt, objectiveAt, cutoffAt, constraintStrengthsAt, editStrengthsAt, suggestionsAt, coefficientsAt, wordsSize, bytesSize, realsSize}
+use Rattle.sparse.specs.Places.{idsAt, variableNumbersAt, variableUsesAt, constraintNumbersAt, constraintGroupsAt, goneNumbersAt, kindsAt, rowPlacesAt, variablePlacesAt, changedAt, constraintMarkersAt, constraintOthersAt, termCountsAt, editVariablesAt, editMarkersAt, editOthersAt, termsAt, relationsAt, constantsAt, oldValuesAt, objectiveAt, cutoffAt, constraintStrengthsAt, editStrengthsAt, suggestionsAt, coefficientsAt, constraintConstantsAt, wordsSize, bytesSize, realsSize}
 use Rattle.sparse.specs.Sparse.{Sparse, symbolAt, otherAt, numberAt, variableOf, termsFrom, termOf, constraintOf, editOf, basicOf, symbolsOf, basicsOf, objectiveOf, read}
 use Rattle.sparse.specs.Stretches.{Stretch, Within, lay-in}
 use Rattle.sparse.specs.Concat.{sum-ext, sum-in, before, concat-at}
@@ -82,7 +82,8 @@ module _ (s : State) (t : Sparse) (fits : Fits s) (len : Lengths t) where
       let l₉ = length-map vs (λ (v : Variable). placeOf xs (v .symbol)) in
       let l₁₀ = length-map (s .tableau .rows) (λ (r : Basic). placeOf xs (r .symbol)) in
       let l₁₁ = length-map xs (λ (x : Symbol). kindCode (x .kind)) in
-      (omega (arith, l₁, m), (omega (arith, l₂, e), (omega (arith, l₃, e), (omega (arith, l₄, e), (omega (arith, l₅, c), (omega (arith, l₆, c), (omega (arith, l₇, c), (omega (arith, l₈, v), (omega (arith, l₉, v), (omega (arith, l₁₀, r), (omega (arith, l₁₁, k), tt)))))))))))
+      let l₁₂ = length-map (s .constraints) (λ (c : Constraint). comparisonCode (c .comparison)) in
+      (omega (arith, l₁₂, c), (omega (arith, l₁, m), (omega (arith, l₂, e), (omega (arith, l₃, e), (omega (arith, l₄, e), (omega (arith, l₅, c), (omega (arith, l₆, c), (omega (arith, l₇, c), (omega (arith, l₈, v), (omega (arith, l₉, v), (omega (arith, l₁₀, r), (omega (arith, l₁₁, k), tt))))))))))))
 
   within-reals : Within realsSize (realsOf s)
   unfolding realsOf
@@ -100,7 +101,8 @@ module _ (s : State) (t : Sparse) (fits : Fits s) (len : Lengths t) where
       let l₄ = length-map (s .constraints) (λ (c : Constraint). c .strength) in
       let l₆ = length-map vs (λ (v : Variable). v .old) in
       let l₇ = length-map (s .tableau .rows) (λ (r : Basic). r .row .constant) in
-      (omega (arith, l₁, m), (omega (arith, l₂, e), (omega (arith, l₃, e), (omega (arith, l₄, c), (omega arith, (omega (arith, o, k), (omega (arith, l₆, v), (omega (arith, l₇, r), tt))))))))
+      let l₈ = length-map (s .constraints) (λ (c : Constraint). c .constant) in
+      (omega (arith, l₈, c), (omega (arith, l₁, m), (omega (arith, l₂, e), (omega (arith, l₃, e), (omega (arith, l₄, c), (omega arith, (omega (arith, o, k), (omega (arith, l₆, v), (omega (arith, l₇, r), tt)))))))))
 
   -- ---- each element
 
@@ -108,11 +110,11 @@ module _ (s : State) (t : Sparse) (fits : Fits s) (len : Lengths t) where
   unfolding write wordsOf
   word i j h k = lay-in wordsSize (wordsOf s size) (t .words) within-words (omega (arith, len .0)) i j 0 h k
 
-  byte : (i j : ℕ) → i < 11 → j < length (getD (bytesOf s) i (record { at = 0; list = [] }) .list) → getD (t' .bytes) (getD (bytesOf s) i (record { at = 0; list = [] }) .at + j) 0 ≡ getD (getD (bytesOf s) i (record { at = 0; list = [] }) .list) j 0
+  byte : (i j : ℕ) → i < 12 → j < length (getD (bytesOf s) i (record { at = 0; list = [] }) .list) → getD (t' .bytes) (getD (bytesOf s) i (record { at = 0; list = [] }) .at + j) 0 ≡ getD (getD (bytesOf s) i (record { at = 0; list = [] }) .list) j 0
   unfolding write bytesOf
   byte i j h k = lay-in bytesSize (bytesOf s) (t .bytes) within-bytes (omega (arith, len .2)) i j 0 h k
 
-  real : (i j : ℕ) → i < 8 → j < length (getD (realsOf s) i (record { at = 0; list = [] }) .list) → getD (t' .reals) (getD (realsOf s) i (record { at = 0; list = [] }) .at + j) nan ≡ getD (getD (realsOf s) i (record { at = 0; list = [] }) .list) j nan
+  real : (i j : ℕ) → i < 9 → j < length (getD (realsOf s) i (record { at = 0; list = [] }) .list) → getD (t' .reals) (getD (realsOf s) i (record { at = 0; list = [] }) .at + j) nan ≡ getD (getD (realsOf s) i (record { at = 0; list = [] }) .list) j nan
   unfolding write realsOf
   real i j h k = lay-in realsSize (realsOf s) (t .reals) within-reals (omega (arith, len .3)) i j nan h k
 
@@ -146,76 +148,87 @@ module _ (s : State) (t : Sparse) (fits : Fits s) (len : Lengths t) where
 
   pub kind-laid : (j : ℕ) → j < length xs → getD (t' .bytes) (kindsAt + 1 + j) 0 ≡ kindCode (getD xs j noSymbol .kind)
   unfolding bytesOf
-  kind-laid j h = through (λ (x : Symbol). kindCode (x .kind)) xs j 0 noSymbol h (byte 10 j (omega arith))
+  kind-laid j h = through (λ (x : Symbol). kindCode (x .kind)) xs j 0 noSymbol h (byte 11 j (omega arith))
 
   pub row-place : (j : ℕ) → j < length (s .tableau .rows) → getD (t' .bytes) (rowPlacesAt + 1 + j) 0 ≡ placeOf xs (getD (s .tableau .rows) j noBasic .symbol)
   unfolding bytesOf
-  row-place j h = through (λ (r : Basic). placeOf xs (r .symbol)) (s .tableau .rows) j 0 noBasic h (byte 9 j (omega arith))
+  row-place j h = through (λ (r : Basic). placeOf xs (r .symbol)) (s .tableau .rows) j 0 noBasic h (byte 10 j (omega arith))
 
   pub variable-place : (j : ℕ) → j < length vs → getD (t' .bytes) (variablePlacesAt + j) 0 ≡ placeOf xs (getD vs j noVariable .symbol)
   unfolding bytesOf
-  variable-place j h = through (λ (v : Variable). placeOf xs (v .symbol)) vs j 0 noVariable h (byte 8 j (omega arith))
+  variable-place j h = through (λ (v : Variable). placeOf xs (v .symbol)) vs j 0 noVariable h (byte 9 j (omega arith))
 
   pub changed-back : (j : ℕ) → j < length vs → getD (t' .bytes) (changedAt + j) 0 ≡ bitOf (getD vs j noVariable .changed)
   unfolding bytesOf
-  changed-back j h = through (λ (v : Variable). bitOf (v .changed)) vs j 0 noVariable h (byte 7 j (omega arith))
+  changed-back j h = through (λ (v : Variable). bitOf (v .changed)) vs j 0 noVariable h (byte 8 j (omega arith))
 
   pub marker-place : (j : ℕ) → j < length (s .constraints) → getD (t' .bytes) (constraintMarkersAt + j) 0 ≡ placeOf xs (getD (s .constraints) j noConstraint .tag .marker)
   unfolding bytesOf
-  marker-place j h = through (λ (c : Constraint). placeOf xs (c .tag .marker)) (s .constraints) j 0 noConstraint h (byte 6 j (omega arith))
+  marker-place j h = through (λ (c : Constraint). placeOf xs (c .tag .marker)) (s .constraints) j 0 noConstraint h (byte 7 j (omega arith))
 
   pub other-place : (j : ℕ) → j < length (s .constraints) → getD (t' .bytes) (constraintOthersAt + j) 0 ≡ otherPlace xs (getD (s .constraints) j noConstraint .tag .other)
   unfolding bytesOf
-  other-place j h = through (λ (c : Constraint). otherPlace xs (c .tag .other)) (s .constraints) j 0 noConstraint h (byte 5 j (omega arith))
+  other-place j h = through (λ (c : Constraint). otherPlace xs (c .tag .other)) (s .constraints) j 0 noConstraint h (byte 6 j (omega arith))
 
   pub count-back : (j : ℕ) → j < length (s .constraints) → getD (t' .bytes) (termCountsAt + j) 0 ≡ length (getD (s .constraints) j noConstraint .terms)
   unfolding bytesOf
-  count-back j h = through (λ (c : Constraint). length (c .terms)) (s .constraints) j 0 noConstraint h (byte 4 j (omega arith))
+  count-back j h = through (λ (c : Constraint). length (c .terms)) (s .constraints) j 0 noConstraint h (byte 5 j (omega arith))
 
   pub edit-variable : (j : ℕ) → j < length (s .edits) → getD (t' .bytes) (editVariablesAt + j) 0 ≡ numberPlace xs vs (getD (s .edits) j noEdit .variable)
   unfolding bytesOf
-  edit-variable j h = through (λ (e : Edit). numberPlace xs vs (e .variable)) (s .edits) j 0 noEdit h (byte 3 j (omega arith))
+  edit-variable j h = through (λ (e : Edit). numberPlace xs vs (e .variable)) (s .edits) j 0 noEdit h (byte 4 j (omega arith))
 
   pub plus-place : (j : ℕ) → j < length (s .edits) → getD (t' .bytes) (editMarkersAt + j) 0 ≡ placeOf xs (getD (s .edits) j noEdit .tag .marker)
   unfolding bytesOf
-  plus-place j h = through (λ (e : Edit). placeOf xs (e .tag .marker)) (s .edits) j 0 noEdit h (byte 2 j (omega arith))
+  plus-place j h = through (λ (e : Edit). placeOf xs (e .tag .marker)) (s .edits) j 0 noEdit h (byte 3 j (omega arith))
 
   pub minus-place : (j : ℕ) → j < length (s .edits) → getD (t' .bytes) (editOthersAt + j) 0 ≡ otherPlace xs (getD (s .edits) j noEdit .tag .other)
   unfolding bytesOf
-  minus-place j h = through (λ (e : Edit). otherPlace xs (e .tag .other)) (s .edits) j 0 noEdit h (byte 1 j (omega arith))
+  minus-place j h = through (λ (e : Edit). otherPlace xs (e .tag .other)) (s .edits) j 0 noEdit h (byte 2 j (omega arith))
 
   pub term-place : (j : ℕ) → j < length (allTerms s) → getD (t' .bytes) (termsAt + j) 0 ≡ numberPlace xs vs (getD (allTerms s) j noTerm .variable)
   unfolding bytesOf
-  term-place j h = through (λ (t : Term). numberPlace xs vs (t .variable)) (allTerms s) j 0 noTerm h (byte 0 j (omega arith))
+  term-place j h = through (λ (t : Term). numberPlace xs vs (t .variable)) (allTerms s) j 0 noTerm h (byte 1 j (omega arith))
 
   pub constant-back : (j : ℕ) → j < length (s .tableau .rows) → getD (t' .reals) (constantsAt + 1 + j) nan ≡ getD (s .tableau .rows) j noBasic .row .constant
   unfolding realsOf
-  constant-back j h = through (λ (r : Basic). r .row .constant) (s .tableau .rows) j nan noBasic h (real 7 j (omega arith))
+  constant-back j h = through (λ (r : Basic). r .row .constant) (s .tableau .rows) j nan noBasic h (real 8 j (omega arith))
 
   pub old-back : (j : ℕ) → j < length vs → getD (t' .reals) (oldValuesAt + j) nan ≡ getD vs j noVariable .old
   unfolding realsOf
-  old-back j h = through (λ (v : Variable). v .old) vs j nan noVariable h (real 6 j (omega arith))
+  old-back j h = through (λ (v : Variable). v .old) vs j nan noVariable h (real 7 j (omega arith))
 
   pub cost-back : (j : ℕ) → j < length (s .tableau .objective) → getD (t' .reals) (objectiveAt + 1 + j) nan ≡ getD (s .tableau .objective) j nan
   unfolding realsOf
-  cost-back j h = real 5 j (omega arith) h
+  cost-back j h = real 6 j (omega arith) h
 
   pub cutoff-back : getD (t' .reals) cutoffAt nan ≡ s .tableau .cutoff
   unfolding realsOf
-  cutoff-back = real 4 0 (omega arith) (omega arith)
+  cutoff-back = real 5 0 (omega arith) (omega arith)
 
   pub strength-back : (j : ℕ) → j < length (s .constraints) → getD (t' .reals) (constraintStrengthsAt + j) nan ≡ getD (s .constraints) j noConstraint .strength
   unfolding realsOf
-  strength-back j h = through (λ (c : Constraint). c .strength) (s .constraints) j nan noConstraint h (real 3 j (omega arith))
+  strength-back j h = through (λ (c : Constraint). c .strength) (s .constraints) j nan noConstraint h (real 4 j (omega arith))
 
   pub edit-strength : (j : ℕ) → j < length (s .edits) → getD (t' .reals) (editStrengthsAt + j) nan ≡ getD (s .edits) j noEdit .strength
   unfolding realsOf
-  edit-strength j h = through (λ (e : Edit). e .strength) (s .edits) j nan noEdit h (real 2 j (omega arith))
+  edit-strength j h = through (λ (e : Edit). e .strength) (s .edits) j nan noEdit h (real 3 j (omega arith))
 
   pub suggestion-back : (j : ℕ) → j < length (s .edits) → getD (t' .reals) (suggestionsAt + j) nan ≡ getD (s .edits) j noEdit .suggestion
   unfolding realsOf
-  suggestion-back j h = through (λ (e : Edit). e .suggestion) (s .edits) j nan noEdit h (real 1 j (omega arith))
+  suggestion-back j h = through (λ (e : Edit). e .suggestion) (s .edits) j nan noEdit h (real 2 j (omega arith))
 
   pub coefficient-back : (j : ℕ) → j < length (allTerms s) → getD (t' .reals) (coefficientsAt + j) nan ≡ getD (allTerms s) j noTerm .coefficient
   unfolding realsOf
-  coefficient-back j h = through (λ (t : Term). t .coefficient) (allTerms s) j nan noTerm h (real 0 j (omega arith))
+  coefficient-back j h = through (λ (t : Term). t .coefficient) (allTerms s) j nan noTerm h (real 1 j (omega arith))
+
+  pub relation-laid : (j : ℕ) → j < length (s .constraints) → getD (t' .bytes) (relationsAt + j) 0 ≡ comparisonCode (getD (s .constraints) j noConstraint .comparison)
+  unfolding bytesOf
+  relation-laid j h = through (λ (c : Constraint). comparisonCode (c .comparison)) (s .constraints) j 0 noConstraint h (byte 0 j (omega arith))
+
+  pub comparison-laid : (j : ℕ) → j < length (s .constraints) → comparisonIn (getD (t' .bytes) (relationsAt + j) 0) ≡ getD (s .constraints) j noConstraint .comparison
+  comparison-laid j h = ap comparisonIn (relation-laid j h) ∙ comparison-back (getD (s .constraints) j noConstraint .comparison)
+
+  pub own-constant : (j : ℕ) → j < length (s .constraints) → getD (t' .reals) (constraintConstantsAt + j) nan ≡ getD (s .constraints) j noConstraint .constant
+  unfolding realsOf
+  own-constant j h = through (λ (c : Constraint). c .constant) (s .constraints) j nan noConstraint h (real 0 j (omega arith))

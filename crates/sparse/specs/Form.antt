@@ -1,4 +1,4 @@
--- The sparse form that tables have where they hold a state: counts within the room, each symbol named by a live place, ids, numbers and keys ascending, no cell 0.0, flags 0 or 1.
+-- The sparse form that tables have where they hold a state: counts within the room, each symbol named by a live place, ids, numbers and keys ascending, no cell 0.0, flags 0 or 1, relations one of three.
 -- Tables of this form are what the state that they read as writes into them: there is one form only.
 use Prim.Native.Nat.{ℕ, _+_, _/_, _%_, _≤_, _<_}
 use mathlib.Core.Path.{_≡_, sym}
@@ -9,7 +9,7 @@ use borrow.Author.Tests.{eqb-true}
 use Rattle.laws.specs.Loops.{first}
 use Rattle.cells.specs.Names.{lastPlace, cellRoom}
 use Rattle.cells.specs.Seek.{first-elim, first-at}
-use Rattle.sparse.specs.Places.{mostRows, mostVariables, mostConstraints, mostTerms, mostGone, shouldClearAt, wholeAt, idsAt, variableNumbersAt, kindsAt, rowPlacesAt, variablePlacesAt, changedAt, constraintMarkersAt, constraintOthersAt, editVariablesAt, editMarkersAt, editOthersAt, termsAt}
+use Rattle.sparse.specs.Places.{mostRows, mostVariables, mostConstraints, mostTerms, mostGone, shouldClearAt, wholeAt, idsAt, variableNumbersAt, kindsAt, rowPlacesAt, variablePlacesAt, changedAt, constraintMarkersAt, constraintOthersAt, editVariablesAt, editMarkersAt, editOthersAt, termsAt, relationsAt}
 use Rattle.sparse.specs.Lookup.{Ascends}
 use Rattle.sparse.specs.Sparse.{Sparse, symbolCount, rowCount, cellCount, variableCount, constraintCount, editCount, goneCount, numberAt, termsFrom}
 use Rattle.sparse.specs.Repack.{Held}
@@ -57,6 +57,7 @@ pub record Form (t : Sparse) : Type 0 where
   pub changed : (i : ℕ) → i < variableCount t → getD (t .bytes) (changedAt + i) 0 ≤ 1
   pub markers : (i : ℕ) → i < constraintCount t → At t (getD (t .bytes) (constraintMarkersAt + i) 0)
   pub others : (i : ℕ) → i < constraintCount t → getD (t .bytes) (constraintOthersAt + i) 0 ≤ symbolCount t
+  pub relations : (i : ℕ) → i < constraintCount t → getD (t .bytes) (relationsAt + i) 0 ≤ 2
   pub edited : (i : ℕ) → i < editCount t → indexAt t (getD (t .bytes) (editVariablesAt + i) 0) < variableCount t
   pub pluses : (i : ℕ) → i < editCount t → At t (getD (t .bytes) (editMarkersAt + i) 0)
   pub minuses : (i : ℕ) → i < editCount t → getD (t .bytes) (editOthersAt + i) 0 ≤ symbolCount t

@@ -72,7 +72,7 @@ goneNumbersAt = 306
 abbrev pub wordsSize : ℕ
 wordsSize = 338
 
--- ---- bytes: the symbols' kinds and the rows' symbols; the variables' symbols and changed flags; the constraints' marker, other, count of terms; the edits' variable, marker, other; the terms' variables
+-- ---- bytes: the symbols' kinds and the rows' symbols; the variables' symbols and changed flags; the constraints' marker, other, count of terms; the edits' variable, marker, other; the terms' variables; the constraints' relations
 abbrev pub kindsAt : ℕ
 kindsAt = 0
 
@@ -106,10 +106,14 @@ editOthersAt = 496
 abbrev pub termsAt : ℕ
 termsAt = 544
 
-abbrev pub bytesSize : ℕ
-bytesSize = 1312
+-- 0 for at most, 1 for equal, 2 for at least
+abbrev pub relationsAt : ℕ
+relationsAt = 1312
 
--- ---- reals: the rows' constants, the variables' old values, the objective along the places, the cutoff of near zero; the constraints' strengths, the edits' strengths and suggestions; the terms' coefficients
+abbrev pub bytesSize : ℕ
+bytesSize = 1360
+
+-- ---- reals: the rows' constants, the variables' old values, the objective along the places, the cutoff of near zero; the constraints' strengths, the edits' strengths and suggestions; the terms' coefficients; the constraints' constants
 abbrev pub constantsAt : ℕ
 constantsAt = 0
 
@@ -134,5 +138,8 @@ suggestionsAt = 316
 abbrev pub coefficientsAt : ℕ
 coefficientsAt = 364
 
+abbrev pub constraintConstantsAt : ℕ
+constraintConstantsAt = 1132
+
 abbrev pub realsSize : ℕ
-realsSize = 1132
+realsSize = 1180

@@ -24,7 +24,7 @@ use Rattle.sparse.specs.Concat.{sum-ext, sum-in, sum-le, before, concat-
 use Rattle.sparse.specs.Laying.{rows-back}
 use Rattle.sparse.specs.Write.{noSymbol, noBasic, noVariable, noTerm, noConstraint, noEdit, placeOf, otherPlace, indexOf, numberPlace, allTerms, cellsOf, laidOf, headingOf, write}
 use Rattle.sparse.specs.Fits.{Lengths, Live, LiveOther, Fits}
-use Rattle.sparse.specs.Elements.{heading-back, id-back, number-back, uses-back, constraint-number, group-back, gone-back, kind-laid, row-place, variable-place, changed-back, marker-place, other-place, count-back, edit-variable, plus-place, minus-place, term-place, constant-back, old-back, cost-back, cutoff-back, strength-back, edit-strength, suggestion-back, coefficient-back}
+use Rattle.sparse.specs.Elements.{heading-back, id-back, number-back, uses-back, constraint-number, group-back, gone-back, kind-laid, row-place, variable-place, changed-back, marker-place, other-place, count-back, edit-variable, plus-place, minus-place, term-place, constant-back, old-back, cost-back, cutoff-back, strength-back, edit-strength, suggestion-back, coefficient-back, comparison-laid, own-constant}
 
 kind-back : (k : Kind) → kindOf (kindCode k) ≡ k
 unfolding kindOf kindCode
@@ -160,7 +160,7 @@ module _ (s : State) (t : Sparse) (fits : Fits s) (len : Lengths t) where
   constraint-back i h =
       let c : Constraint = getD (s .constraints) i noConstraint in
       let ts : listOf (length (c .terms)) (termOf t' (termsFrom t' i)) ≡ c .terms = listOf-is (termOf t' (termsFrom t' i)) (c .terms) noTerm λ j k. term-back i j h k in
-      rw (constraint-number s t fits len i h, group-back s t fits len i h, strength-back s t fits len i h, count-back s t fits len i h, ts, marker-place s t fits len i h, live-back (c .tag .marker) (fits .markers i h), other-place s t fits len i h, other-back (c .tag .other) (fits .others i h)) refl
+      rw (constraint-number s t fits len i h, group-back s t fits len i h, comparison-laid s t fits len i h, strength-back s t fits len i h, own-constant s t fits len i h, count-back s t fits len i h, ts, marker-place s t fits len i h, live-back (c .tag .marker) (fits .markers i h), other-place s t fits len i h, other-back (c .tag .other) (fits .others i h)) refl
 
   edit-back : (i : ℕ) → i < length (s .edits) → editOf t' i ≡ getD (s .edits) i noEdit
   unfolding editOf

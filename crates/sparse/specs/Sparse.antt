@@ -12,9 +12,9 @@ use Rattle.laws.specs.Loops.{first}
 use Rattle.laws.specs.Lists.{tab, listOf, sumIn}
 use Rattle.steps.specs.Symbol.{Symbol}
 use Rattle.steps.specs.State.{Term, Basic, Variable, Constraint, Edit, State}
-use Rattle.layout.specs.Layout.{kindOf}
+use Rattle.layout.specs.Layout.{kindOf, comparisonIn}
 use Rattle.cells.specs.Cells.{rowOf}
-use Rattle.sparse.specs.Places.{nextIdAt, symbolCountAt, rowCountAt, cellCountAt, variableCountAt, constraintCountAt, editCountAt, shouldClearAt, wholeAt, goneCountAt, idsAt, variableNumbersAt, variableUsesAt, constraintNumbersAt, constraintGroupsAt, goneNumbersAt, kindsAt, rowPlacesAt, variablePlacesAt, changedAt, constraintMarkersAt, constraintOthersAt, termCountsAt, editVariablesAt, editMarkersAt, editOthersAt, termsAt, constantsAt, oldValuesAt, objectiveAt, cutoffAt, constraintStrengthsAt, editStrengthsAt, suggestionsAt, coefficientsAt}
+use Rattle.sparse.specs.Places.{nextIdAt, symbolCountAt, rowCountAt, cellCountAt, variableCountAt, constraintCountAt, editCountAt, shouldClearAt, wholeAt, goneCountAt, idsAt, variableNumbersAt, variableUsesAt, constraintNumbersAt, constraintGroupsAt, goneNumbersAt, kindsAt, rowPlacesAt, variablePlacesAt, changedAt, constraintMarkersAt, constraintOthersAt, termCountsAt, editVariablesAt, editMarkersAt, editOthersAt, termsAt, relationsAt, constantsAt, oldValuesAt, objectiveAt, cutoffAt, constraintStrengthsAt, editStrengthsAt, suggestionsAt, coefficientsAt, constraintConstantsAt}
 
 pub record Sparse : Type 0 where
   -- u64
@@ -88,7 +88,9 @@ constraintOf t i =
     record {
       number = getD (t .words) (constraintNumbersAt + i) 0;
       group = getD (t .words) (constraintGroupsAt + i) 0;
+      comparison = comparisonIn (getD (t .bytes) (relationsAt + i) 0);
       strength = getD (t .reals) (constraintStrengthsAt + i) nan;
+      constant = getD (t .reals) (constraintConstantsAt + i) nan;
       terms = listOf (getD (t .bytes) (termCountsAt + i) 0) (termOf t (termsFrom t i));
       tag = record { marker = symbolAt t (getD (t .bytes) (constraintMarkersAt + i) 0); other = otherAt t (getD (t .bytes) (constraintOthersAt + i) 0) };
     }

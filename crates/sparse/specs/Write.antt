@@ -8,11 +8,11 @@ use lib.ListN.{length, getD}
 use lib.Ieee.{Float, nan}
 use Rattle.laws.specs.Loops.{first}
 use Rattle.steps.specs.Symbol.{External, Symbol}
-use Rattle.steps.specs.State.{Term, Basic, Tag, Variable, Constraint, Edit, Tableau, State}
+use Rattle.steps.specs.State.{Term, exactly, Basic, Tag, Variable, Constraint, Edit, Tableau, State}
 use Rattle.steps.specs.Readable.{concat, kindCode}
-use Rattle.layout.specs.Layout.{bitOf}
+use Rattle.layout.specs.Layout.{bitOf, comparisonCode}
 use Rattle.cells.specs.Cells.{Cells, cells}
-use Rattle.sparse.specs.Places.{nextIdAt, idsAt, variableNumbersAt, variableUsesAt, constraintNumbersAt, constraintGroupsAt, goneNumbersAt, kindsAt, rowPlacesAt, variablePlacesAt, changedAt, constraintMarkersAt, constraintOthersAt, termCountsAt, editVariablesAt, editMarkersAt, editOthersAt, termsAt, constantsAt, oldValuesAt, objectiveAt, cutoffAt, constraintStrengthsAt, editStrengthsAt, suggestionsAt, coefficientsAt}
+use Rattle.sparse.specs.Places.{nextIdAt, idsAt, variableNumbersAt, variableUsesAt, constraintNumbersAt, constraintGroupsAt, goneNumbersAt, kindsAt, rowPlacesAt, variablePlacesAt, changedAt, constraintMarkersAt, constraintOthersAt, termCountsAt, editVariablesAt, editMarkersAt, editOthersAt, termsAt, relationsAt, constantsAt, oldValuesAt, objectiveAt, cutoffAt, constraintStrengthsAt, editStrengthsAt, suggestionsAt, coefficientsAt, constraintConstantsAt}
 use Rattle.sparse.specs.Sparse.{Sparse}
 use Rattle.sparse.specs.Stretches.{Stretch, from, lay}
 use Rattle.sparse.specs.Laying.{rowsLaid}
@@ -34,7 +34,7 @@ abbrev pub noTerm : Term
 noTerm = record { variable = 0; coefficient = nan }
 
 abbrev pub noConstraint : Constraint
-noConstraint = record { number = 0; group = 0; strength = nan; terms = []; tag = noTag }
+noConstraint = record { number = 0; group = 0; comparison = exactly; strength = nan; constant = nan; terms = []; tag = noTag }
 
 abbrev pub noEdit : Edit
 noEdit = record { variable = 0; strength = nan; tag = noTag; suggestion = nan }
@@ -90,7 +90,8 @@ unfoldable pub bytesOf : State → List (Stretch ℕ)
 bytesOf s =
     let xs : List Symbol = s .tableau .symbols in
     let vs : List Variable = s .changes .variables in
-    from termsAt (map (λ (t : Term). numberPlace xs vs (t .variable)) (allTerms s))
+    from relationsAt (map (λ (c : Constraint). comparisonCode (c .comparison)) (s .constraints))
+    ∷ from termsAt (map (λ (t : Term). numberPlace xs vs (t .variable)) (allTerms s))
     ∷ from editOthersAt (map (λ (e : Edit). otherPlace xs (e .tag .other)) (s .edits))
     ∷ from editMarkersAt (map (λ (e : Edit). placeOf xs (e .tag .marker)) (s .edits))
     ∷ from editVariablesAt (map (λ (e : Edit). numberPlace xs vs (e .variable)) (s .edits))
@@ -105,7 +106,8 @@ bytesOf s =
 
 unfoldable pub realsOf : State → List (Stretch Float)
 realsOf s =
-    from coefficientsAt (map (λ (t : Term). t .coefficient) (allTerms s))
+    from constraintConstantsAt (map (λ (c : Constraint). c .constant) (s .constraints))
+    ∷ from coefficientsAt (map (λ (t : Term). t .coefficient) (allTerms s))
     ∷ from suggestionsAt (map (λ (e : Edit). e .suggestion) (s .edits))
     ∷ from editStrengthsAt (map (λ (e : Edit). e .strength) (s .edits))
     ∷ from constraintStrengthsAt (map (λ (c : Constraint). c .strength) (s .constraints))

@@ -15,12 +15,13 @@ use Rattle.laws.specs.Lists.{tab, listOf, map-tab, getD-tab, length-tab}
 use Rattle.steps.specs.Symbol.{Symbol}
 use Rattle.steps.specs.State.{Term, Basic, Variable, Constraint, Edit, State}
 use Rattle.steps.specs.Readable.{concat, kindCode}
-use Rattle.layout.specs.Layout.{kindOf, bitOf, over}
+use Rattle.layout.specs.Layout.{kindOf, bitOf, comparisonCode, over}
 use Rattle.layout.specs.Laying.{tab-from}
+use Rattle.layout.specs.Written.{comparison-read}
 use Rattle.layout.specs.Copied.{length-listOf, getD-listOf}
 use Rattle.cells.specs.Cells.{Cells, cells, rowOf}
 use Rattle.cells.specs.Seek.{first-elim, first-at}
-use Rattle.sparse.specs.Places.{idsAt, variableNumbersAt, variableUsesAt, constraintNumbersAt, constraintGroupsAt, goneNumbersAt, kindsAt, rowPlacesAt, variablePlacesAt, changedAt, constraintMarkersAt, constraintOthersAt, termCountsAt, editVariablesAt, editMarkersAt, editOthersAt, termsAt, constantsAt, oldValuesAt, objectiveAt, cutoffAt, constraintStrengthsAt, editStrengthsAt, suggestionsAt, coefficientsAt}
+use Rattle.sparse.specs.Places.{idsAt, variableNumbersAt, variableUsesAt, constraintNumbersAt, constraintGroupsAt, goneNumbersAt, kindsAt, rowPlacesAt, variablePlacesAt, changedAt, constraintMarkersAt, constraintOthersAt, termCountsAt, editVariablesAt, editMarkersAt, editOthersAt, termsAt, relationsAt, constantsAt, oldValuesAt, objectiveAt, cutoffAt, constraintStrengthsAt, editStrengthsAt, suggestionsAt, coefficientsAt, constraintConstantsAt}
 use Rattle.sparse.specs.Sparse.{Sparse, symbolCount, rowCount, cellCount, variableCount, constraintCount, editCount, goneCount, symbolAt, otherAt, numberAt, variableOf, termsFrom, termOf, constraintOf, editOf, basicOf, symbolsOf, basicsOf, objectiveOf, goneOf, read}
 use Rattle.sparse.specs.Stretches.{Stretch, part, lay, copied, over-itself, lay-itself, copied-itself}
 use Rattle.sparse.specs.Concat.{listed-concat}
@@ -218,6 +219,12 @@ module _ (w : Sparse) (form : Form w) where
       part-is (λ (c : Constraint). length (c .terms)) (constraintOf w) byte 0 termCountsAt (constraintCount w) λ j h.
       rw (zero-add j) (length-listOf (byte (termCountsAt + j)) (termOf w (termsFrom w j)))
 
+  relations-are : map (λ (c : Constraint). comparisonCode (c .comparison)) cs ≡ tab byte relationsAt (constraintCount w)
+  unfolding listOf constraintOf
+  relations-are =
+      part-is (λ (c : Constraint). comparisonCode (c .comparison)) (constraintOf w) byte 0 relationsAt (constraintCount w) λ j h.
+      rw (zero-add j) (comparison-read (byte (relationsAt + j)) (form .relations j h))
+
   abbrev es : List Edit
   es = listOf (editCount w) (editOf w)
 
@@ -248,7 +255,7 @@ module _ (w : Sparse) (form : Form w) where
 
   bytes-are : bytesOf (read w) ≡ liveBytes w
   unfolding bytesOf liveBytes read
-  bytes-are = rw (kinds-are, basics-are, owners-are, changed-are, markers-are, others-are, counts-are, edited-are, pluses-are, minuses-are, named-are) refl
+  bytes-are = rw (kinds-are, basics-are, owners-are, changed-are, markers-are, others-are, counts-are, edited-are, pluses-are, minuses-are, named-are, relations-are) refl
 
   -- ---- reals
 
@@ -281,6 +288,7 @@ module _ (w : Sparse) (form : Form w) where
         part-is (λ (e : Edit). e .strength) (editOf w) real 0 editStrengthsAt (editCount w) (λ j h. unfold editOf in rw (zero-add j) refl),
         part-is (λ (e : Edit). e .suggestion) (editOf w) real 0 suggestionsAt (editCount w) (λ j h. unfold editOf in rw (zero-add j) refl),
         coefficients-are,
+        part-is (λ (c : Constraint). c .constant) (constraintOf w) real 0 constraintConstantsAt (constraintCount w) (λ j h. unfold constraintOf in rw (zero-add j) refl),
       ) refl
 
   -- ---- the law
@@ -299,8 +307,8 @@ put-itself t =
     let r : (a n : ℕ) → over a (tab (λ j. getD (t .reals) j nan) a n) (t .reals) ≡ t .reals = over-itself nan (t .reals) in
     rw (
       lay-itself (liveWords t) (t .words) (u _ _, (u _ _, (u _ _, (u _ _, (u _ _, (u _ _, (u _ _, tt))))))),
-      lay-itself (liveBytes t) (t .bytes) (b _ _, (b _ _, (b _ _, (b _ _, (b _ _, (b _ _, (b _ _, (b _ _, (b _ _, (b _ _, (b _ _, tt))))))))))),
-      lay-itself (liveReals t) (t .reals) (r _ _, (r _ _, (r _ _, (r _ _, (r _ _, (r _ _, (r _ _, (r _ _, tt)))))))),
+      lay-itself (liveBytes t) (t .bytes) (b _ _, (b _ _, (b _ _, (b _ _, (b _ _, (b _ _, (b _ _, (b _ _, (b _ _, (b _ _, (b _ _, (b _ _, tt)))))))))))),
+      lay-itself (liveReals t) (t .reals) (r _ _, (r _ _, (r _ _, (r _ _, (r _ _, (r _ _, (r _ _, (r _ _, (r _ _, tt))))))))),
       copied-itself 0 (cellCount t) (t .keys),
       copied-itself nan (cellCount t) (t .values),
     ) refl

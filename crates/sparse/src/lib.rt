@@ -59,7 +59,7 @@ pub const GONE_NUMBERS: usize = 306;
 
 pub const WORDS_SIZE: usize = 338;
 
-// ---- bytes: the symbols' kinds and the rows' symbols; the variables' symbols and changed flags; the constraints' marker, other, count of terms; the edits' variable, marker, other; the terms' variables
+// ---- bytes: the symbols' kinds and the rows' symbols; the variables' symbols and changed flags; the constraints' marker, other, count of terms; the edits' variable, marker, other; the terms' variables; the constraints' relations
 pub const KINDS: usize = 0;
 
 pub const ROW_PLACES: usize = 136;
@@ -82,9 +82,12 @@ pub const EDIT_OTHERS: usize = 496;
 
 pub const TERMS: usize = 544;
 
-pub const BYTES_SIZE: usize = 1312;
+// 0 for at most, 1 for equal, 2 for at least
+pub const RELATIONS: usize = 1312;
 
-// ---- reals: the rows' constants, the variables' old values, the objective along the places, the cutoff of near zero; the constraints' strengths, the edits' strengths and suggestions; the terms' coefficients
+pub const BYTES_SIZE: usize = 1360;
+
+// ---- reals: the rows' constants, the variables' old values, the objective along the places, the cutoff of near zero; the constraints' strengths, the edits' strengths and suggestions; the terms' coefficients; the constraints' constants
 pub const CONSTANTS: usize = 0;
 
 pub const OLD_VALUES: usize = 56;
@@ -101,4 +104,6 @@ pub const SUGGESTIONS: usize = 316;
 
 pub const COEFFICIENTS: usize = 364;
 
-pub const REALS_SIZE: usize = 1132;
+pub const CONSTRAINT_CONSTANTS: usize = 1132;
+
+pub const REALS_SIZE: usize = 1180;

@@ -10,7 +10,7 @@ use Rattle.laws.specs.Lists.{tab}
 use Rattle.layout.specs.Layout.{over}
 use Rattle.layout.specs.Laying.{remade, stretch}
 use Rattle.steps.specs.Number.{zero64}
-use Rattle.sparse.specs.Places.{nextIdAt, idsAt, variableNumbersAt, variableUsesAt, constraintNumbersAt, constraintGroupsAt, goneNumbersAt, kindsAt, rowPlacesAt, variablePlacesAt, changedAt, constraintMarkersAt, constraintOthersAt, termCountsAt, editVariablesAt, editMarkersAt, editOthersAt, termsAt, constantsAt, oldValuesAt, objectiveAt, cutoffAt, constraintStrengthsAt, editStrengthsAt, suggestionsAt, coefficientsAt}
+use Rattle.sparse.specs.Places.{nextIdAt, idsAt, variableNumbersAt, variableUsesAt, constraintNumbersAt, constraintGroupsAt, goneNumbersAt, kindsAt, rowPlacesAt, variablePlacesAt, changedAt, constraintMarkersAt, constraintOthersAt, termCountsAt, editVariablesAt, editMarkersAt, editOthersAt, termsAt, relationsAt, constantsAt, oldValuesAt, objectiveAt, cutoffAt, constraintStrengthsAt, editStrengthsAt, suggestionsAt, coefficientsAt, constraintConstantsAt}
 use Rattle.sparse.specs.Sparse.{Sparse, symbolCount, rowCount, cellCount, variableCount, constraintCount, editCount, goneCount, termsFrom}
 use Rattle.sparse.specs.Stretches.{Stretch, part, lay, copied}
 use Rattle.sparse.specs.Copy.{headingEnd, liveWords, liveBytes, liveReals, putOver}
@@ -37,11 +37,11 @@ namesOver b k r v to = putPart 0 b changedAt v (putPart 0 b variablePlacesAt v (
 
 unfoldable pub recordsOver : List ℕ → ℕ → ℕ → ℕ → List ℕ → List ℕ
 recordsOver b c e m to =
-    putPart 0 b termsAt m (putPart 0 b editOthersAt e (putPart 0 b editMarkersAt e (putPart 0 b editVariablesAt e (putPart 0 b termCountsAt c (putPart 0 b constraintOthersAt c (putPart 0 b constraintMarkersAt c to))))))
+    putPart 0 b relationsAt c (putPart 0 b termsAt m (putPart 0 b editOthersAt e (putPart 0 b editMarkersAt e (putPart 0 b editVariablesAt e (putPart 0 b termCountsAt c (putPart 0 b constraintOthersAt c (putPart 0 b constraintMarkersAt c to)))))))
 
 unfoldable pub realsOver : List Float → ℕ → ℕ → ℕ → ℕ → ℕ → ℕ → List Float → List Float
 realsOver f k r v c e m to =
-    putPart nan f coefficientsAt m (putPart nan f suggestionsAt e (putPart nan f editStrengthsAt e (putPart nan f constraintStrengthsAt c (putPart nan f cutoffAt 1 (putPart nan f (objectiveAt + 1) k (putPart nan f oldValuesAt v (putPart nan f (constantsAt + 1) r to)))))))
+    putPart nan f constraintConstantsAt c (putPart nan f coefficientsAt m (putPart nan f suggestionsAt e (putPart nan f editStrengthsAt e (putPart nan f constraintStrengthsAt c (putPart nan f cutoffAt 1 (putPart nan f (objectiveAt + 1) k (putPart nan f oldValuesAt v (putPart nan f (constantsAt + 1) r to))))))))
 
 abbrev allOver : Sparse → Sparse → Sparse
 allOver w t =

@@ -110,6 +110,7 @@ pub fn put_records(to: &mut Bytes, from: &Bytes, c: usize, e: usize, m: usize)
     bytes_part(to, from, sparse::EDIT_MARKERS, e);
     bytes_part(to, from, sparse::EDIT_OTHERS, e);
     bytes_part(to, from, sparse::TERMS, m);
+    bytes_part(to, from, sparse::RELATIONS, c);
 }
 
 pub fn put_reals(
@@ -138,4 +139,5 @@ pub fn put_reals(
     reals_part(to, from, sparse::EDIT_STRENGTHS, e);
     reals_part(to, from, sparse::SUGGESTIONS, e);
     reals_part(to, from, sparse::COEFFICIENTS, m);
+    reals_part(to, from, sparse::CONSTRAINT_CONSTANTS, c);
 }

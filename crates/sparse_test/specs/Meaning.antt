@@ -21,7 +21,7 @@ use Rattle.cells.specs.Cells.{ascendsOf, presentOf}
 use Rattle.cells.specs.Load.{ascends-true}
 use Rattle.places.specs.Finding.{all-at, at-all}
 use Rattle.places.specs.Listed.{join, listed-at, at-listed, ascend-list, from-list}
-use Rattle.sparse.specs.Places.{mostVariables, mostConstraints, mostTerms, mostGone, nextIdAt, shouldClearAt, wholeAt, idsAt, variableNumbersAt, constraintNumbersAt, goneNumbersAt, kindsAt, rowPlacesAt, variablePlacesAt, changedAt, constraintMarkersAt, constraintOthersAt, termCountsAt, editVariablesAt, editMarkersAt, editOthersAt, termsAt}
+use Rattle.sparse.specs.Places.{mostVariables, mostConstraints, mostTerms, mostGone, nextIdAt, shouldClearAt, wholeAt, idsAt, variableNumbersAt, constraintNumbersAt, goneNumbersAt, kindsAt, rowPlacesAt, variablePlacesAt, changedAt, constraintMarkersAt, constraintOthersAt, termCountsAt, editVariablesAt, editMarkersAt, editOthersAt, termsAt, relationsAt}
 use Rattle.sparse.specs.Sparse.{Sparse, symbolCount, rowCount, cellCount, variableCount, constraintCount, editCount, goneCount, termsFrom, termOf, constraintOf, read}
 use Rattle.sparse.specs.Concat.{sum-most}
 use Rattle.sparse.specs.Repack.{Held}
@@ -97,11 +97,13 @@ pub record FormParts (t : Sparse) : Type 0 where
   pub pluses : liveIn t editMarkersAt (editCount t) ≡ true
   pub minuses : mostIn (t .bytes) editOthersAt (editCount t) (symbolCount t) ≡ true
   pub gone : mostIn (t .words) goneNumbersAt (goneCount t) greatestU32 ≡ true
+  pub relations : mostIn (t .bytes) relationsAt (constraintCount t) 2 ≡ true
 
 pub form-parts : (t : Sparse) → formFits t ≡ true → FormParts t
 unfolding formFits
 form-parts t q =
-    let z = both _ _ q in
+    let y = both _ _ q in
+    let z = both _ _ (y .0) in
     let a = both _ _ (z .0) in
     let b = both _ _ (a .0) in
     let c = both _ _ (b .0) in
@@ -131,12 +133,13 @@ form-parts t q =
       pluses = b .1;
       minuses = a .1;
       gone = z .1;
+      relations = y .1;
     }
 
 pub form-joined : (t : Sparse) → FormParts t → formFits t ≡ true
 unfolding formFits
 form-joined t p =
-    join (join (join (join (join (join (join (join (join (join (join (join (join (join (recounted t (p .counts)) (p .kinds)) (p .rows)) (p .cells)) (p .numbers)) (p .owners)) (p .changed)) (p .constraints)) (p .markers)) (p .others)) (p .named)) (p .edited)) (p .pluses)) (p .minuses)) (p .gone)
+    join (join (join (join (join (join (join (join (join (join (join (join (join (join (join (recounted t (p .counts)) (p .kinds)) (p .rows)) (p .cells)) (p .numbers)) (p .owners)) (p .changed)) (p .constraints)) (p .markers)) (p .others)) (p .named)) (p .edited)) (p .pluses)) (p .minuses)) (p .gone)) (p .relations)
 
 -- ---- what they say of each place
 
@@ -229,6 +232,7 @@ module _ (t : Sparse) where
         changed = most (t .bytes) changedAt (variableCount t) 1 (p .changed);
         markers = live-at constraintMarkersAt (constraintCount t) (p .markers);
         others = most (t .bytes) constraintOthersAt (constraintCount t) (symbolCount t) (p .others);
+        relations = most (t .bytes) relationsAt (constraintCount t) 2 (p .relations);
         edited = named-at editVariablesAt (editCount t) (p .edited);
         pluses = live-at editMarkersAt (editCount t) (p .pluses);
         minuses = most (t .bytes) editOthersAt (editCount t) (symbolCount t) (p .minuses);

@@ -34,7 +34,7 @@ use Rattle.sparse_test.specs.Parts.{Parts, parts, joined}
 use Rattle.sparse_test.specs.Injective.{each-list, list-each, both-lists, first-list, second-list, distinct-apart}
 use Rattle.sparse_test.specs.Owners.{IdsUp, Owns, fit-owns, owns-fit, owns-distinct, Placed, placed, all-placed}
 use Rattle.sparse_test.specs.Uses.{NumbersUp, number-is, uses-counted, counted-uses}
-use Rattle.sparse_test.specs.Records.{all-ext, externals-are, constraint-kinds-are, groups-are, gone-ascend, notTold, returned-are, edit-kinds-are, olds-are, constraints-finite-are, edits-finite-are}
+use Rattle.sparse_test.specs.Records.{all-ext, externals-are, constraint-kinds-are, markers-are, groups-are, gone-ascend, notTold, returned-are, edit-kinds-are, olds-are, constraints-finite-are, edits-finite-are}
 use Rattle.sparse_test.specs.Tableau.{ids-in, ordered, orderly, RowsLive, rows-up, rows-live, Clear, no-basic, basic-no}
 use Rattle.sparse_test.specs.Cells.{cells-form, cells-clear, cells-finite, finite-cells, form-keys, form-costs, form-values}
 
@@ -146,6 +146,7 @@ module _ (t : Sparse) where
           pluses = live-in editMarkersAt (editCount t) (l .pluses);
           minuses = in-most (t .bytes) editOthersAt (editCount t) k (l .minuses);
           gone = p .gone;
+          relations = p .relations;
         }
 
     counts-clause : steps.countsInRange (read t) ≡ true
@@ -180,13 +181,13 @@ module _ (t : Sparse) where
     finite-clause : steps.numbersFinite (read t) ≡ true
     unfolding steps.numbersFinite
     finite-clause =
-        join (join (join (cells-finite t (p .values) (p .constants) (p .objective)) (olds-are t ∙ p .olds)) (constraints-finite-are t ∙ join (p .strengths) (p .coefficients))) (edits-finite-are t ∙ join (p .editStrengths) (p .suggestions))
+        join (join (join (cells-finite t (p .values) (p .constants) (p .objective)) (olds-are t ∙ p .olds)) (constraints-finite-are t ∙ join (join (p .strengths) (p .ownConstants)) (p .coefficients))) (edits-finite-are t ∙ join (p .editStrengths) (p .suggestions))
 
     kinds-clause : steps.kindsFit (read t) ≡ true
     unfolding steps.kindsFit
     kinds-clause =
         let l = placed t (owning .1) in
-        join (join (externals-are t (λ i h. kind-near (p .kinds) _ (l .variables i h)) ∙ p .externals) (constraint-kinds-are t ∙ p .tags)) (edit-kinds-are t ∙ join (p .errors) (p .editTags))
+        join (join (join (externals-are t (λ i h. kind-near (p .kinds) _ (l .variables i h)) ∙ p .externals) (constraint-kinds-are t ∙ p .tags)) (markers-are t ∙ p .markers)) (edit-kinds-are t ∙ join (p .errors) (p .editTags))
 
     gone-clause : steps.goneFits (read t) ≡ true
     unfolding steps.goneFits
@@ -284,9 +285,10 @@ module _ (t : Sparse) where
     unfolding steps.numbersFinite
     finite-of = and4 (steps.tableauFinite (read t)) (steps.all (λ (v : Variable). isFinite (v .old) || isNan (v .old)) (read t .changes .variables)) (steps.all steps.constraintFinite (read t .constraints)) (steps.all steps.editFinite (read t .edits)) (c .finite)
 
-    kinds-of : (steps.all (λ (v : Variable). isExternal (v .symbol)) (read t .changes .variables) ≡ true) × (steps.all (λ (c : Constraint). steps.tagKinds (c .strength) (c .tag)) (read t .constraints) ≡ true) × (steps.all steps.editKinds (read t .edits) ≡ true)
+    kinds-of : (steps.all (λ (v : Variable). isExternal (v .symbol)) (read t .changes .variables) ≡ true) × (steps.all (λ (c : Constraint). steps.tagKinds (c .strength) (c .tag)) (read t .constraints) ≡ true)
+        × (steps.all (λ (c : Constraint). steps.markerFits (c .comparison) (c .tag .marker)) (read t .constraints) ≡ true) × (steps.all steps.editKinds (read t .edits) ≡ true)
     unfolding steps.kindsFit
-    kinds-of = and3 (steps.all (λ (v : Variable). isExternal (v .symbol)) (read t .changes .variables)) (steps.all (λ (c : Constraint). steps.tagKinds (c .strength) (c .tag)) (read t .constraints)) (steps.all steps.editKinds (read t .edits)) (c .kinds)
+    kinds-of = and4 (steps.all (λ (v : Variable). isExternal (v .symbol)) (read t .changes .variables)) (steps.all (λ (c : Constraint). steps.tagKinds (c .strength) (c .tag)) (read t .constraints)) (steps.all (λ (c : Constraint). steps.markerFits (c .comparison) (c .tag .marker)) (read t .constraints)) (steps.all steps.editKinds (read t .edits)) (c .kinds)
 
     gone-of : (leb (length (read t .changes .gone)) 32 ≡ true) × (steps.ascend (read t .changes .gone) ≡ true) × (steps.all (notTold t) (read t .changes .variables) ≡ true)
     unfolding steps.goneFits
@@ -303,8 +305,9 @@ module _ (t : Sparse) where
         let clear : Clear t = basic-no t up-of live-of (c .cells) in
         let cells = finite-cells t (n .0) in
         let cf = both _ _ (sym (constraints-finite-are t) ∙ n .2) in
+        let cs = both _ _ (cf .0) in
         let ef = both _ _ (sym (edits-finite-are t) ∙ n .3) in
-        let ek = both _ _ (sym (edit-kinds-are t) ∙ s .2) in
+        let ek = both _ _ (sym (edit-kinds-are t) ∙ s .3) in
         joined t (record {
           counts = f .counts;
           idsUp = ids-of .0;
@@ -321,18 +324,21 @@ module _ (t : Sparse) where
           termCounts = in-most (t .bytes) termCountsAt (constraintCount t) 16 (few-in t few-of);
           rowsUp = sym (rows-up t up-of live-of) ∙ ordered-of .1;
           rows = rows-of;
+          relations = f .relations;
           owned = owns-fit t up-of (f .counts .symbols) l owned-of;
           externals = sym (externals-are t (λ i h. kind-near (f .kinds) _ (placed-of .variables i h))) ∙ s .0;
           tags = sym (constraint-kinds-are t) ∙ s .1;
+          markers = sym (markers-are t) ∙ s .2;
           errors = ek .0;
           editTags = ek .1;
           constants = cells .0;
           olds = sym (olds-are t) ∙ n .1;
           objective = cells .1;
-          strengths = cf .0;
+          strengths = cs .0;
           editStrengths = ef .0;
           suggestions = ef .1;
           coefficients = cf .1;
+          ownConstants = cs .1;
           cutoff = sym cutoff-is ∙ c .cutoff;
           edits = sym edits-up ∙ u .2;
           uses = counted-uses t (numbers-rise numbers) apart (f .counts .variables) named-of (c .uses);

@@ -7,7 +7,7 @@ use Rattle.laws.specs.Lists.{allIn}
 use Rattle.steps.specs.Readable.{readable}
 use Rattle.cells.specs.Names.{rowSpan, lastPlace, cellRoom}
 use Rattle.cells.specs.Cells.{ascendsOf, presentOf}
-use Rattle.sparse.specs.Places.{mostVariables, mostConstraints, mostGone, nextIdAt, shouldClearAt, wholeAt, variableNumbersAt, constraintNumbersAt, goneNumbersAt, kindsAt, rowPlacesAt, variablePlacesAt, changedAt, constraintMarkersAt, constraintOthersAt, editVariablesAt, editMarkersAt, editOthersAt, termsAt}
+use Rattle.sparse.specs.Places.{mostVariables, mostConstraints, mostGone, nextIdAt, shouldClearAt, wholeAt, variableNumbersAt, constraintNumbersAt, goneNumbersAt, kindsAt, rowPlacesAt, variablePlacesAt, changedAt, constraintMarkersAt, constraintOthersAt, editVariablesAt, editMarkersAt, editOthersAt, termsAt, relationsAt}
 use Rattle.sparse.specs.Sparse.{Sparse, symbolCount, rowCount, cellCount, variableCount, constraintCount, editCount, goneCount, termsFrom, read}
 use Rattle.sparse.specs.Form.{indexAt}
 use Rattle.sparse_test.specs.Stretch.{betweenIn, mostIn}
@@ -45,7 +45,7 @@ keyFits t x = leb 1 (x / rowSpan) && leb (x / rowSpan) (rowCount t) && (leb 1 (x
 unfoldable pub cellsFit : Sparse → Bool
 cellsFit t = ascendsOf (t .keys) (cellCount t) && presentOf (t .values) (cellCount t) && allIn (λ j. keyFits t (getD (t .keys) j 0)) 0 (cellCount t)
 
--- the sparse form: counts within the room, a symbol named by its place, numbers that a u32 holds, flags
+-- the sparse form: counts within the room, a symbol named by its place, numbers that a u32 holds, flags, relations that are one of three
 unfoldable pub formFits : Sparse → Bool
 formFits t =
     countsFit t
@@ -63,6 +63,7 @@ formFits t =
     && liveIn t editMarkersAt (editCount t)
     && mostIn (t .bytes) editOthersAt (editCount t) (symbolCount t)
     && mostIn (t .words) goneNumbersAt (goneCount t) greatestU32
+    && mostIn (t .bytes) relationsAt (constraintCount t) 2
 
 -- 18 is given exactly if this is false
 unfoldable pub reads : Sparse → Bool

@@ -11,7 +11,7 @@ use lib.Dec.{eqb, ltb}
 use lib.Ieee.{Float, nan, isNan, ne}
 use lib.ListN.{getD}
 use Rattle.laws.specs.Lists.{listOf, allIn}
-use Rattle.layout.specs.Layout.{kindOf}
+use Rattle.layout.specs.Layout.{kindOf, comparisonIn}
 use Rattle.layout.specs.Rooms.{both}
 use Rattle.steps.specs.Number.{isFinite}
 use Rattle.steps.specs.Symbol.{Error, Slack, Dummy, External, isExternal, isError}
@@ -23,12 +23,12 @@ use Rattle.keeps.specs.Clauses.{and3, and4}
 use Rattle.places.specs.Finding.{all-at, at-all}
 use Rattle.places.specs.Listed.{join, same, all-list, at-listed, listed-at, member-list, ascend-list}
 use Rattle.places.specs.Shares.{finiteIn}
-use Rattle.sparse.specs.Places.{variableNumbersAt, constraintGroupsAt, goneNumbersAt, kindsAt, variablePlacesAt, constraintMarkersAt, constraintOthersAt, editMarkersAt, editOthersAt, oldValuesAt, constraintStrengthsAt, editStrengthsAt, suggestionsAt, coefficientsAt}
+use Rattle.sparse.specs.Places.{variableNumbersAt, constraintGroupsAt, goneNumbersAt, kindsAt, variablePlacesAt, constraintMarkersAt, constraintOthersAt, editMarkersAt, editOthersAt, relationsAt, oldValuesAt, constraintStrengthsAt, editStrengthsAt, suggestionsAt, coefficientsAt, constraintConstantsAt}
 use Rattle.sparse.specs.Lookup.{placeFrom}
 use Rattle.sparse.specs.Sparse.{Sparse, variableCount, constraintCount, editCount, goneCount, goneOf, symbolAt, otherAt, variableOf, termsFrom, constraintOf, editOf, read}
 use Rattle.sparse.specs.Written.{termAt, terms-are}
 use Rattle.sparse_test.specs.Stretch.{ascendIn, aboveZeroIn}
-use Rattle.sparse_test.specs.Tested.{kindAt, externalsIn, tagOfKinds, tagsFit, errorsIn, oldsFit, returnedFit}
+use Rattle.sparse_test.specs.Tested.{kindAt, kindSymbol, externalsIn, tagOfKinds, tagsFit, markersFit, errorsIn, oldsFit, returnedFit}
 
 -- ---- tests over places that say the same
 
@@ -110,6 +110,10 @@ module _ (t : Sparse) where
       all-list (λ (c : Constraint). steps.tagKinds (c .strength) (c .tag)) (constraintCount t) (constraintOf t)
       ∙ all-ext _ _ 0 (constraintCount t) λ j a b. tag-is (real (constraintStrengthsAt + j)) (byte (constraintMarkersAt + j)) (byte (constraintOthersAt + j))
 
+  pub markers-are : steps.all (λ (c : Constraint). steps.markerFits (c .comparison) (c .tag .marker)) (read t .constraints) ≡ markersFit (t .bytes) (constraintCount t)
+  unfolding read constraintOf markersFit symbolAt kindAt steps.markerFits
+  markers-are = all-list (λ (c : Constraint). steps.markerFits (c .comparison) (c .tag .marker)) (constraintCount t) (constraintOf t)
+
   pub groups-are : steps.groupsFit (read t) ≡ aboveZeroIn (t .words) constraintGroupsAt (constraintCount t)
   unfolding steps.groupsFit read constraintOf aboveZeroIn
   groups-are = all-list (λ (c : Constraint). ltb 0 (c .group)) (constraintCount t) (constraintOf t)
@@ -165,14 +169,17 @@ module _ (t : Sparse) where
       ∙ ap (steps.all (λ (x : Term). isFinite (x .coefficient))) (terms-are t)
       ∙ all-list (λ (x : Term). isFinite (x .coefficient)) (termsFrom t (constraintCount t)) (termAt t)
 
-  pub constraints-finite-are : steps.all steps.constraintFinite (read t .constraints) ≡ finiteIn (t .reals) constraintStrengthsAt (constraintCount t) && finiteIn (t .reals) coefficientsAt (termsFrom t (constraintCount t))
+  pub constraints-finite-are : steps.all steps.constraintFinite (read t .constraints) ≡ finiteIn (t .reals) constraintStrengthsAt (constraintCount t) && finiteIn (t .reals) constraintConstantsAt (constraintCount t) && finiteIn (t .reals) coefficientsAt (termsFrom t (constraintCount t))
   unfolding steps.constraintFinite
   constraints-finite-are =
-      all-both (λ (c : Constraint). isFinite (c .strength)) (λ (c : Constraint). steps.all (λ (x : Term). isFinite (x .coefficient)) (c .terms)) (read t .constraints)
-      ∙ (rw (strengths, coefficients-are) refl)
+      all-both (λ (c : Constraint). isFinite (c .strength) && isFinite (c .constant)) (λ (c : Constraint). steps.all (λ (x : Term). isFinite (x .coefficient)) (c .terms)) (read t .constraints)
+      ∙ (rw (all-both (λ (c : Constraint). isFinite (c .strength)) (λ (c : Constraint). isFinite (c .constant)) (read t .constraints), strengths, constants, coefficients-are) refl)
     where
       strengths : steps.all (λ (c : Constraint). isFinite (c .strength)) (read t .constraints) ≡ finiteIn (t .reals) constraintStrengthsAt (constraintCount t)
       strengths = unfold read constraintOf finiteIn in all-list (λ (c : Constraint). isFinite (c .strength)) (constraintCount t) (constraintOf t)
+
+      constants : steps.all (λ (c : Constraint). isFinite (c .constant)) (read t .constraints) ≡ finiteIn (t .reals) constraintConstantsAt (constraintCount t)
+      constants = unfold read constraintOf finiteIn in all-list (λ (c : Constraint). isFinite (c .constant)) (constraintCount t) (constraintOf t)
 
   pub edits-finite-are : steps.all steps.editFinite (read t .edits) ≡ finiteIn (t .reals) editStrengthsAt (editCount t) && finiteIn (t .reals) suggestionsAt (editCount t)
   unfolding steps.editFinite

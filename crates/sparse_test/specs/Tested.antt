@@ -8,17 +8,17 @@ use lib.Ieee.{Float, nan, isNan, ne}
 use lib.ListN.{getD, replicate}
 use Rattle.laws.specs.Loops.{run}
 use Rattle.laws.specs.Lists.{listOf, allIn, sumIn}
-use Rattle.layout.specs.Layout.{kindOf}
+use Rattle.layout.specs.Layout.{kindOf, comparisonIn}
 use Rattle.steps.specs.Number.{isFinite, cutoffFits}
 use Rattle.steps.specs.Symbol.{Symbol, absent}
 use Rattle.steps.specs.State.{Tag}
 use Rattle.steps.specs.Tests.{member}
-use Rattle.steps.specs.Readable.{tagKinds}
+use Rattle.steps.specs.Readable.{tagKinds, markerFits}
 use Rattle.cells.specs.Names.{rowSpan}
 use Rattle.cells.specs.Cells.{ascendsOf, presentOf}
 use Rattle.places.specs.Finding.{placeIn}
 use Rattle.places.specs.Shares.{Shares, shares, take, noneLeft, stock, finiteIn}
-use Rattle.sparse.specs.Places.{nextIdAt, idsAt, variableNumbersAt, variableUsesAt, constraintNumbersAt, constraintGroupsAt, goneNumbersAt, kindsAt, rowPlacesAt, variablePlacesAt, changedAt, constraintMarkersAt, constraintOthersAt, termCountsAt, editVariablesAt, editMarkersAt, editOthersAt, termsAt, constantsAt, oldValuesAt, objectiveAt, cutoffAt, constraintStrengthsAt, editStrengthsAt, suggestionsAt, coefficientsAt}
+use Rattle.sparse.specs.Places.{nextIdAt, idsAt, variableNumbersAt, variableUsesAt, constraintNumbersAt, constraintGroupsAt, goneNumbersAt, kindsAt, rowPlacesAt, variablePlacesAt, changedAt, constraintMarkersAt, constraintOthersAt, termCountsAt, editVariablesAt, editMarkersAt, editOthersAt, termsAt, relationsAt, constantsAt, oldValuesAt, objectiveAt, cutoffAt, constraintStrengthsAt, editStrengthsAt, suggestionsAt, coefficientsAt, constraintConstantsAt}
 use Rattle.sparse.specs.Lookup.{placeFrom}
 use Rattle.sparse.specs.Sparse.{Sparse, symbolCount, rowCount, cellCount, variableCount, constraintCount, editCount, goneCount}
 use Rattle.sparse_test.specs.Stretch.{ascendIn, betweenIn, mostIn, aboveZeroIn}
@@ -38,7 +38,7 @@ wordsFit w k v c g =
     && ascendIn w goneNumbersAt g
     && mostIn w goneNumbersAt g greatestU32
 
--- ---- bytes: kinds, flags, counts of terms; rows' symbols in order
+-- ---- bytes: kinds, flags, counts of terms; rows' symbols in order; relations
 
 unfoldable pub bytesFit : List ℕ → ℕ → ℕ → ℕ → ℕ → Bool
 bytesFit b k r v c =
@@ -47,6 +47,7 @@ bytesFit b k r v c =
     && mostIn b termCountsAt c 16
     && ascendIn b (rowPlacesAt + 1) r
     && betweenIn b (rowPlacesAt + 1) r 1 (k + 1)
+    && mostIn b relationsAt c 2
 
 -- ---- owners: each live symbol has one share, and each owner takes one
 
@@ -84,7 +85,7 @@ kindAt b p = getD b (kindsAt + p) 0
 unfoldable pub externalsIn : List ℕ → ℕ → Bool
 externalsIn b v = allIn (λ i. eqb (kindAt b (getD b (variablePlacesAt + i) 0)) 0) 0 v
 
-abbrev kindSymbol : ℕ → Symbol
+abbrev pub kindSymbol : ℕ → Symbol
 kindSymbol k = record { id = 0; kind = kindOf k }
 
 -- a tag whose marker has the kind m, and whose other symbol, if p is not 0, the kind o
@@ -95,13 +96,17 @@ tagOfKinds m p o = record { marker = kindSymbol m; other = cond (eqb p 0) none (
 unfoldable pub tagsFit : List ℕ → List Float → ℕ → ℕ → ℕ → ℕ → Bool
 tagsFit b r strengths m o n = allIn (λ i. tagKinds (getD r (strengths + i) nan) (tagOfKinds (kindAt b (getD b (m + i) 0)) (getD b (o + i) 0) (kindAt b (getD b (o + i) 0)))) 0 n
 
+-- the kind of each constraint's marker is that of its relation
+unfoldable pub markersFit : List ℕ → ℕ → Bool
+markersFit b c = allIn (λ i. markerFits (comparisonIn (getD b (relationsAt + i) 0)) (kindSymbol (kindAt b (getD b (constraintMarkersAt + i) 0)))) 0 c
+
 -- an edit's marker is an Error
 unfoldable pub errorsIn : List ℕ → ℕ → Bool
 errorsIn b e = allIn (λ i. eqb (kindAt b (getD b (editMarkersAt + i) 0)) 2) 0 e
 
 unfoldable pub kindsFit : List ℕ → List Float → ℕ → ℕ → ℕ → Bool
 kindsFit b r v c e =
-    externalsIn b v && tagsFit b r constraintStrengthsAt constraintMarkersAt constraintOthersAt c && errorsIn b e && tagsFit b r editStrengthsAt editMarkersAt editOthersAt e
+    externalsIn b v && tagsFit b r constraintStrengthsAt constraintMarkersAt constraintOthersAt c && markersFit b c && errorsIn b e && tagsFit b r editStrengthsAt editMarkersAt editOthersAt e
 
 -- ---- finite numbers, and a cutoff that reset takes
 
@@ -122,6 +127,7 @@ realsFit f k r v c e m =
     && finiteIn f editStrengthsAt e
     && finiteIn f suggestionsAt e
     && finiteIn f coefficientsAt m
+    && finiteIn f constraintConstantsAt c
     && cutoffFits (getD f cutoffAt nan)
 
 -- ---- variables by the places of their symbols

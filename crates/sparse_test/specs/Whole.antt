@@ -10,7 +10,7 @@ use lib.Ieee.{Float}
 use lib.ListN.{getD}
 use Rattle.layout.specs.Rooms.{both}
 use Rattle.cells.specs.Names.{lastPlace, cellRoom}
-use Rattle.sparse.specs.Places.{mostRows, mostVariables, mostConstraints, mostGone, nextIdAt, symbolCountAt, rowCountAt, cellCountAt, variableCountAt, constraintCountAt, editCountAt, shouldClearAt, wholeAt, goneCountAt, idsAt, variableNumbersAt, constraintNumbersAt, constraintGroupsAt, goneNumbersAt, kindsAt, rowPlacesAt, changedAt, termCountsAt}
+use Rattle.sparse.specs.Places.{mostRows, mostVariables, mostConstraints, mostGone, nextIdAt, symbolCountAt, rowCountAt, cellCountAt, variableCountAt, constraintCountAt, editCountAt, shouldClearAt, wholeAt, goneCountAt, idsAt, variableNumbersAt, constraintNumbersAt, constraintGroupsAt, goneNumbersAt, kindsAt, rowPlacesAt, changedAt, termCountsAt, relationsAt}
 use Rattle.sparse.specs.Lookup.{Ascends}
 use Rattle.sparse.specs.Sparse.{Sparse, symbolCount, rowCount, variableCount, constraintCount, goneCount}
 use Rattle.sparse_test.specs.Stretch.{ascendIn, betweenIn, mostIn, aboveZeroIn, ascends}
@@ -57,11 +57,11 @@ module _ (t : Sparse) where
   pub few-terms : {x : Bool} → x ≡ bytes-test → x ≡ true → mostIn (t .bytes) termCountsAt (constraintCount t) 16 ≡ true
   unfolding bytesFit
   few-terms e h =
-      third (mostIn (t .bytes) (kindsAt + 1) (symbolCount t) 3) (mostIn (t .bytes) changedAt (variableCount t) 1) (mostIn (t .bytes) termCountsAt (constraintCount t) 16) (ascendIn (t .bytes) (rowPlacesAt + 1) (rowCount t)) (betweenIn (t .bytes) (rowPlacesAt + 1) (rowCount t) 1 (symbolCount t + 1)) (sym e ∙ h)
+      third (mostIn (t .bytes) (kindsAt + 1) (symbolCount t) 3) (mostIn (t .bytes) changedAt (variableCount t) 1) (mostIn (t .bytes) termCountsAt (constraintCount t) 16) (ascendIn (t .bytes) (rowPlacesAt + 1) (rowCount t)) (betweenIn (t .bytes) (rowPlacesAt + 1) (rowCount t) 1 (symbolCount t + 1)) (mostIn (t .bytes) relationsAt (constraintCount t) 2) (sym e ∙ h)
     where
-      third : (a b c d f : Bool) → (a && b && c && d && f) ≡ true → c ≡ true
-      third a b c d f q =
-          let x = both (a && b && c && d) f q in
+      third : (a b c d f g : Bool) → (a && b && c && d && f && g) ≡ true → c ≡ true
+      third a b c d f g q =
+          let x = both (a && b && c && d) f (both (a && b && c && d && f) g q .0) in
           let y = both (a && b && c) d (x .0) in
           both (a && b) c (y .0) .1
 

@@ -12,7 +12,7 @@ use lib.ListN.{length, getD, length-map}
 use borrow.Author.Tests.{le-leb, lt-ltb, eq-eqb}
 use Rattle.laws.specs.Lists.{allIn}
 use Rattle.layout.specs.Layout.{bitOf}
-use Rattle.layout.specs.Copied.{bit-small}
+use Rattle.layout.specs.Copied.{bit-small, comparison-small}
 use Rattle.steps.specs.Number.{zero64}
 use Rattle.steps.specs.Symbol.{Kind, External, Slack, Error, Dummy, Symbol}
 use Rattle.steps.specs.State.{Basic, Variable, Constraint, Edit, State}
@@ -24,14 +24,14 @@ use Rattle.cells.specs.Cells.{ascendsOf, presentOf}
 use Rattle.cells.specs.Reads.{ascending-lt}
 use Rattle.places.specs.Finding.{at-all, placeIn, place-live}
 use Rattle.places.specs.Listed.{join}
-use Rattle.sparse.specs.Places.{kindsAt, rowPlacesAt, variableNumbersAt, constraintNumbersAt, goneNumbersAt, variablePlacesAt, changedAt, constraintMarkersAt, constraintOthersAt, editVariablesAt, editMarkersAt, editOthersAt, termsAt}
+use Rattle.sparse.specs.Places.{kindsAt, rowPlacesAt, variableNumbersAt, constraintNumbersAt, goneNumbersAt, variablePlacesAt, changedAt, constraintMarkersAt, constraintOthersAt, editVariablesAt, editMarkersAt, editOthersAt, termsAt, relationsAt}
 use Rattle.sparse.specs.Sparse.{Sparse, symbolCount, rowCount, cellCount, variableCount, constraintCount, editCount, goneCount, termsFrom, read}
 use Rattle.sparse.specs.Concat.{sum-ext, sum-in, concat-length}
 use Rattle.sparse.specs.Repack.{Held}
 use Rattle.sparse.specs.HeldLaid.{rows-held, rows-size}
 use Rattle.sparse.specs.Write.{noSymbol, noBasic, noVariable, noTerm, noConstraint, noEdit, placeOf, otherPlace, indexOf, numberPlace, allTerms, cellsOf, laidOf, headingOf, write}
 use Rattle.sparse.specs.Fits.{Lengths, Live, LiveOther, Fits}
-use Rattle.sparse.specs.Elements.{heading-back, number-back, constraint-number, gone-back, kind-laid, row-place, variable-place, changed-back, marker-place, other-place, count-back, edit-variable, plus-place, minus-place, term-place}
+use Rattle.sparse.specs.Elements.{heading-back, number-back, constraint-number, gone-back, kind-laid, row-place, variable-place, changed-back, marker-place, other-place, count-back, edit-variable, plus-place, minus-place, term-place, relation-laid}
 use Rattle.sparse.specs.ReadBack.{read-write}
 use Rattle.sparse.specs.Form.{indexAt, At}
 use Rattle.sparse_test.specs.Stretch.{mostIn, in-between, in-most}
@@ -194,6 +194,7 @@ module _ (s : State) (t : Sparse) (fits : Fits s) (len : Lengths t) (narrow : Na
         pluses = rw edits-are (lives editMarkersAt (length (s .edits)) λ j h. rw (plus-place s t fits len j h) (at-place (getD (s .edits) j noEdit .tag .marker) (fits .pluses j h)));
         minuses = rw edits-are (in-most (u .bytes) editOthersAt (length (s .edits)) (symbolCount u) λ j h. rw (minus-place s t fits len j h) (at-other (getD (s .edits) j noEdit .tag .other) (fits .minuses j h)));
         gone = rw gone-are (in-most (u .words) goneNumbersAt (length (s .changes .gone)) greatestU32 λ j h. rw (gone-back s t fits len j h) (narrow .gone j h));
+        relations = rw constraints-are (in-most (u .bytes) relationsAt (length (s .constraints)) 2 λ j h. rw (relation-laid s t fits len j h) (comparison-small (getD (s .constraints) j noConstraint .comparison)));
       }
 
   pub written-reads : reads u ≡ true

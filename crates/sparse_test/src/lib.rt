@@ -87,6 +87,7 @@ fn bytes_fit(bytes: &Bytes, k: usize, r: usize, v: usize, c: usize) -> bool
         & stretch::bytes_most(bytes, sparse::TERM_COUNTS, c, 16)
         & stretch::bytes_ascend(bytes, sparse::ROW_PLACES + 1, r)
         & stretch::bytes_between(bytes, sparse::ROW_PLACES + 1, r, 1, (k + 1) as u8)
+        & stretch::bytes_most(bytes, sparse::RELATIONS, c, 2)
 }
 
 // How many terms all constraints have.

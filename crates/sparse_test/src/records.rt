@@ -2,11 +2,12 @@
 ghost use mathlib.Core.Path.{_≡_};
 ghost use Prim.Native.Nat.{_+_, _≤_};
 ghost use Rattle.steps.specs.Number.{cutoffFits};
-ghost use Rattle.steps.specs.Readable.{tagKinds};
+ghost use Rattle.steps.specs.Readable.{tagKinds, markerFits};
+ghost use Rattle.layout.specs.Layout.{comparisonIn};
 ghost use Rattle.cells.specs.Names.{lastPlace};
 ghost use Rattle.sparse.specs.Places.{mostRows, mostVariables, mostConstraints, mostTerms, mostGone, goneNumbersAt, bytesSize, realsSize};
 ghost use Rattle.sparse.specs.Lookup.{Ascends};
-ghost use Rattle.sparse_test.specs.Tested.{kindAt, externalsIn, tagOfKinds, tagsFit, errorsIn, kindsFit, oldsFit, returnedFit, realsFit};
+ghost use Rattle.sparse_test.specs.Tested.{kindAt, kindSymbol, externalsIn, tagOfKinds, tagsFit, markersFit, errorsIn, kindsFit, oldsFit, returnedFit, realsFit};
 use crate::stretch::reals_finite;
 use crate::stretch::wide;
 use places::old_fits;
@@ -72,6 +73,31 @@ fn tags_fit(bytes: &Bytes, reals: &Reals, strengths: usize, m: usize, o: usize, 
     ok
 }
 
+// A marker of kind m, of a relation: an inequality's is its slack, and no equality's is.
+fn marker_fits(relation: u8, m: u8) -> bool
+    ensures { λ r. ⌜ r ≡ markerFits (comparisonIn relation) (kindSymbol m) ⌝ }
+{
+    if m == 1 {
+        !(relation == 1)
+    } else {
+        relation == 1
+    }
+}
+
+fn markers_fit(bytes: &Bytes, c: usize) -> bool
+    requires { ⌜ c ≤ mostConstraints ⌝ }
+    ensures { λ r. ⌜ r ≡ markersFit (now (bytes .entry)) c ⌝ }
+{
+    let mut ok = true;
+    let mut i = 0;
+    while i < c {
+        let marker = kind_at(bytes, bytes[sparse::CONSTRAINT_MARKERS + i]);
+        ok = ok & marker_fits(bytes[sparse::RELATIONS + i], marker);
+        i += 1;
+    }
+    ok
+}
+
 fn errors_in(bytes: &Bytes, e: usize) -> bool
     requires { ⌜ e ≤ mostConstraints ⌝ }
     ensures { λ r. ⌜ r ≡ errorsIn (now (bytes .entry)) e ⌝ }
@@ -100,6 +126,7 @@ pub fn kinds_fit(bytes: &Bytes, reals: &Reals, v: usize, c: usize, e: usize) -> 
             sparse::CONSTRAINT_OTHERS,
             c,
         )
+        & markers_fit(bytes, c)
         & errors_in(bytes, e)
         & tags_fit(
             bytes,
@@ -171,5 +198,6 @@ pub fn reals_fit(reals: &Reals, k: usize, r: usize, v: usize, c: usize, e: usize
         & reals_finite(reals, sparse::EDIT_STRENGTHS, e)
         & reals_finite(reals, sparse::SUGGESTIONS, e)
         & reals_finite(reals, sparse::COEFFICIENTS, m)
+        & reals_finite(reals, sparse::CONSTRAINT_CONSTANTS, c)
         & cutoff_fits(reals[sparse::CUTOFF])
 }

@@ -63,7 +63,7 @@ unfolding passesOf make add
 add-answers g n ts k r b s = go (firstRefusal (addTests g n ts k r s)) refl
   where
     next : Added → State
-    next a = finish (a .work) (keepConstraint (record { number = n; group = g; strength = Rattle.steps.specs.State.strengthOf r; terms = keptTerms (s .tableau .cutoff) ts; tag = a .tag }) (s .constraints)) (s .edits)
+    next a = finish (a .work) (keepConstraint (record { number = n; group = g; comparison = Rattle.steps.specs.State.comparisonOf r; strength = Rattle.steps.specs.State.strengthOf r; constant = k; terms = keptTerms (s .tableau .cutoff) ts; tag = a .tag }) (s .constraints)) (s .edits)
 
     go : (o : Option ℕ) → firstRefusal (addTests g n ts k r s) ≡ o
         → Answers b (elim o [ some x ↦ [] | none ↦ addPasses b ts k r (begin s) ]) (elim o [ some x ↦ refusedBy x 0 (s .whole) s | none ↦ concludeAdd s (addSteps b ts k r (begin s)) next ])

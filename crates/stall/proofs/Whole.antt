@@ -9,7 +9,7 @@ use lib.Ieee.{Float}
 use Rattle.simplex.specs.Choose.{All}
 use Rattle.steps.specs.Number.{zero64, cutoffFits, belowZero, allWhole}
 use Rattle.steps.specs.Strength.{clip}
-use Rattle.steps.specs.State.{Term, Relation, equal, strengthOf, State}
+use Rattle.steps.specs.State.{Term, Relation, equal, strengthOf, comparisonOf, State}
 use Rattle.steps.specs.Add.{Added, addSteps}
 use Rattle.steps.specs.Edit.{editTerms, addEditSteps}
 use Rattle.steps.specs.Tests.{firstRefusal, addTests, addEditTests, keepConstraint, keepEdit, keptTerms}
@@ -54,7 +54,7 @@ unfolding passesOf make add
 adds-start m I g n ts k r b = go (firstRefusal (addTests g n ts k r (m .state))) refl
   where
     next : Added → State
-    next a = finish (a .work) (keepConstraint (record { number = n; group = g; strength = strengthOf r; terms = keptTerms (m .state .tableau .cutoff) ts; tag = a .tag }) (m .state .constraints)) (m .state .edits)
+    next a = finish (a .work) (keepConstraint (record { number = n; group = g; comparison = comparisonOf r; strength = strengthOf r; constant = k; terms = keptTerms (m .state .tableau .cutoff) ts; tag = a .tag }) (m .state .constraints)) (m .state .edits)
 
     go : (o : Option ℕ) → firstRefusal (addTests g n ts k r (m .state)) ≡ o
         → (elim o as (λ x. Result) [ some x ↦ refusedBy x 0 (m .state .whole) (m .state) | none ↦ concludeAdd (m .state) (addSteps b ts k r (begin (m .state))) next ]) .answer .whole ≡ true

@@ -7,7 +7,7 @@ use mathlib.Core.Option.{some}
 use lib.Ieee.{Float}
 use Rattle.steps.specs.Number.{zero64, isFinite}
 use Rattle.steps.specs.Strength.{clip}
-use Rattle.steps.specs.State.{Term, Relation, strengthOf, Tag, Constraint, Edit, State}
+use Rattle.steps.specs.State.{Term, Relation, strengthOf, comparisonOf, Tag, Constraint, Edit, State}
 use Rattle.steps.specs.Tests.{Test, _if_, findEdit, keepConstraint, dropConstraint, keepEdit, dropEdit, keptTerms, hasEdit, addTests, addEditTests, removeTests, removeEditTests, dropTests, groupOf}
 use Rattle.steps.specs.Calls.{Result, add, remove, dropGroup, addEdit, removeEdit, suggest}
 
@@ -79,7 +79,7 @@ dropEach (d ∷ ds) cs = dropEach ds (dropConstraint (d .number) cs)
 -- the constraints and edits that it stores if it is accepted: added in their place with the tag that the steps gave, dropped, or with the new suggestion
 abbrev pub Stores : Changing → State → List Constraint → List Edit → Type 0
 Stores (adds g n terms constant relation budget) s cs es =
-    (tag : Tag) × (cs ≡ keepConstraint (record { number = n; group = g; strength = strengthOf relation; terms = keptTerms (s .tableau .cutoff) terms; tag = tag }) (s .constraints)) × (es ≡ s .edits)
+    (tag : Tag) × (cs ≡ keepConstraint (record { number = n; group = g; comparison = comparisonOf relation; strength = strengthOf relation; constant = constant; terms = keptTerms (s .tableau .cutoff) terms; tag = tag }) (s .constraints)) × (es ≡ s .edits)
 Stores (removes n budget) s cs es = (cs ≡ dropConstraint n (s .constraints)) × (es ≡ s .edits)
 Stores (drops g budget) s cs es = (cs ≡ dropEach (groupOf g (s .constraints)) (s .constraints)) × (es ≡ s .edits)
 Stores (addsEdit n strength budget) s cs es =

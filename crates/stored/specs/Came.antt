@@ -11,6 +11,7 @@ use lib.Ieee.{Float, nan}
 use lib.ListN.{getD}
 use borrow.Author.Tests.{lt-ltb, le-ltb, le-leb}
 use Rattle.laws.specs.Lists.{listOf, sumIn}
+use Rattle.layout.specs.Layout.{comparisonIn}
 use Rattle.layout.specs.Copy.{most16}
 use Rattle.layout.specs.Laying.{list-ext}
 use Rattle.layout.specs.Copied.{length-listOf, getD-listOf}
@@ -20,7 +21,7 @@ use Rattle.steps.specs.Tests.{keepConstraint, keepEdit}
 use Rattle.keeps.specs.Lists.{All}
 use Rattle.terms.specs.declared.Pack.{Pack}
 use Rattle.terms.specs.Terms as terms
-use Rattle.sparse.specs.Places.{mostConstraints, mostTerms, constraintNumbersAt, constraintGroupsAt, constraintMarkersAt, constraintOthersAt, termCountsAt, editVariablesAt, editMarkersAt, editOthersAt, termsAt, constraintStrengthsAt, editStrengthsAt, suggestionsAt, coefficientsAt}
+use Rattle.sparse.specs.Places.{mostConstraints, mostTerms, constraintNumbersAt, constraintGroupsAt, constraintMarkersAt, constraintOthersAt, termCountsAt, editVariablesAt, editMarkersAt, editOthersAt, termsAt, relationsAt, constraintStrengthsAt, editStrengthsAt, suggestionsAt, coefficientsAt, constraintConstantsAt}
 use Rattle.sparse.specs.Sparse.{Sparse, symbolCount, variableCount, constraintCount, editCount, symbolAt, otherAt, numberAt, termsFrom, termOf, constraintOf, editOf, read}
 use Rattle.sparse.specs.Write.{noTerm}
 use Rattle.sparse.specs.Form.{indexAt, At}
@@ -41,8 +42,9 @@ abbrev pub tagIn : Sparse → ℕ → ℕ → Tag
 tagIn w marker other = record { marker = symbolAt w marker; other = otherAt w other }
 
 -- the constraint that comes in, and the edit
-abbrev pub newConstraint : Sparse → ℕ → ℕ → ℕ → ℕ → Float → Pack → Constraint
-newConstraint w n g marker other strength p = record { number = n; group = g; strength = strength; terms = terms.termsOf p; tag = tagIn w marker other }
+abbrev pub newConstraint : Sparse → ℕ → ℕ → ℕ → ℕ → ℕ → Float → Float → Pack → Constraint
+newConstraint w n g marker other relation strength constant p =
+    record { number = n; group = g; comparison = comparisonIn relation; strength = strength; constant = constant; terms = terms.termsOf p; tag = tagIn w marker other }
 
 abbrev pub newEdit : Sparse → ℕ → ℕ → ℕ → Float → Edit
 newEdit w n marker other strength = record { variable = n; strength = strength; tag = tagIn w marker other; suggestion = zero64 }
@@ -103,8 +105,8 @@ hold-around Q i n f l h k a = rw (past-none i k) (all-at Q f n h k (omega (arith
 
 -- ---- a constraint
 
-module _ (t w : Sparse) (ready : Ready t w) (uw ub : List ℕ) (ur : List Float) (r n g marker other : ℕ) (strength : Float) (p : Pack)
-    (raw : ConstraintKept n g marker other strength p (t .words) (t .bytes) (t .reals) (w .words) (w .bytes) (w .reals) uw ub ur r) where
+module _ (t w : Sparse) (ready : Ready t w) (uw ub : List ℕ) (ur : List Float) (r n g marker other relation : ℕ) (strength constant : Float) (p : Pack)
+    (raw : ConstraintKept n g marker other relation strength constant p (t .words) (t .bytes) (t .reals) (w .words) (w .bytes) (w .reals) uw ub ur r) where
   abbrev u : Sparse
   u = roomOf w uw ub ur
 
@@ -124,7 +126,7 @@ module _ (t w : Sparse) (ready : Ready t w) (uw ub : List ℕ) (ur : List Float)
   s = termsPlan (countsIn (t .bytes)) c (p .count)
 
   abbrev y : Constraint
-  y = newConstraint w n g marker other strength p
+  y = newConstraint w n g marker other relation strength constant p
 
   o : Own w
   o = own w (ready .room) (ready .own)
@@ -178,7 +180,7 @@ module _ (t w : Sparse) (ready : Ready t w) (uw ub : List ℕ) (ur : List Float)
     unfolding terms.termsOf terms.termOf terms.termIn termOf
     terms-in = rw (sixteen (p .count) few) (list-ext _ _ _ λ j h. rw (variable-in j h .1, real-in j h) refl)
 
-    module _ (marked : At w marker) (othered : other ≤ symbolCount w) where
+    module _ (marked : At w marker) (othered : other ≤ symbolCount w) (related : relation ≤ 2) where
       marker-in : getD ub (constraintMarkersAt + i) 0 ≡ marker
       marker-in = gap-one 0 _ constraintMarkersAt c (t .bytes) (raw .mb) ub refl (raw .moved .carried .bytes .markers) ∙ raw .put .markerAt
 
@@ -194,11 +196,17 @@ module _ (t w : Sparse) (ready : Ready t w) (uw ub : List ℕ) (ur : List Float)
       strength-in : getD ur (constraintStrengthsAt + i) nan ≡ strength
       strength-in = gap-one nan _ constraintStrengthsAt c (t .reals) (raw .mr) ur refl (raw .moved .carried .reals .strengths) ∙ raw .put .strengthAt
 
+      relation-in : getD ub (relationsAt + i) 0 ≡ relation
+      relation-in = gap-one 0 _ relationsAt c (t .bytes) (raw .mb) ub refl (raw .moved .carried .bytes .relations) ∙ raw .put .relationAt
+
+      constant-in : getD ur (constraintConstantsAt + i) nan ≡ constant
+      constant-in = gap-one nan _ constraintConstantsAt c (t .reals) (raw .mr) ur refl (raw .moved .carried .reals .constants) ∙ raw .put .constantAt
+
       constraint-in : constraintOf u i ≡ y
       unfolding constraintOf
       constraint-in =
           let f : termsFrom u i ≡ s .at = unfold termsFrom termsPlan in begins in
-          rw (number-in, group-in, strength-in, count-in, f, terms-in, marker-in, symbol-beside w u o bu marker (marked .1), other-in, other-beside w u o bu other othered) refl
+          rw (number-in, group-in, relation-in, strength-in, constant-in, count-in, f, terms-in, marker-in, symbol-beside w u o bu marker (marked .1), other-in, other-beside w u o bu other othered) refl
 
       gap : GapForm c s e u
       gap =
@@ -206,6 +214,7 @@ module _ (t w : Sparse) (ready : Ready t w) (uw ub : List ℕ) (ur : List Float)
           record {
             markers = one (λ j. At u (getD ub (constraintMarkersAt + j) 0)) i (rw (marker-in, k) marked);
             others = one (λ j. getD ub (constraintOthersAt + j) 0 ≤ symbolCount u) i (rw (other-in, k) othered);
+            relations = one (λ j. getD ub (relationsAt + j) 0 ≤ 2) i (rw relation-in related);
             terms = λ j h. variable-in j (let f = terms-free (countsIn (t .bytes)) c (p .count) in omega (arith, h, f)) .0;
             edited = λ j h. absurd (omega (arith, h));
             pluses = λ j h. absurd (omega (arith, h));
@@ -315,6 +324,7 @@ module _ (t w : Sparse) (ready : Ready t w) (uw ub : List ℕ) (ur : List Float)
         record {
           markers = λ j h. absurd (omega (arith, h));
           others = λ j h. absurd (omega (arith, h));
+          relations = λ j h. absurd (omega (arith, h));
           terms = λ j h. let f = terms-free (countsIn (t .bytes)) c₁ 0 in absurd (omega (arith, h, f));
           edited = one (λ j. indexAt u₁ (getD ub (editVariablesAt + j) 0) < variableCount u₁) i₁ (variable-in₁ .0);
           pluses = one (λ j. At u₁ (getD ub (editMarkersAt + j) 0)) i₁ (rw (plus-in, k) marked);

@@ -7,7 +7,7 @@ use native.Mathlib.Omega.{arith}
 use lib.Ieee.{Float, nan}
 use lib.ListN.{length, getD, set}
 use lib.Seq.{getD-set-same, getD-set-other}
-use Rattle.sparse.specs.Places.{mostConstraints, mostTerms, constraintCountAt, editCountAt, constraintNumbersAt, constraintGroupsAt, goneNumbersAt, constraintMarkersAt, constraintOthersAt, termCountsAt, editVariablesAt, editMarkersAt, editOthersAt, termsAt, constraintStrengthsAt, editStrengthsAt, suggestionsAt, coefficientsAt, wordsSize}
+use Rattle.sparse.specs.Places.{mostConstraints, mostTerms, constraintCountAt, editCountAt, constraintNumbersAt, constraintGroupsAt, goneNumbersAt, constraintMarkersAt, constraintOthersAt, termCountsAt, editVariablesAt, editMarkersAt, editOthersAt, termsAt, relationsAt, constraintStrengthsAt, editStrengthsAt, suggestionsAt, coefficientsAt, constraintConstantsAt, wordsSize}
 use Rattle.stored.specs.declared.parts.Plan.{Plan}
 use Rattle.stored.specs.Parts.{Region, Rest, targetSize, later, earlier, rest-join, set-rest}
 use Rattle.stored.specs.Maps.{TagPlaces, VariablePlaces}
@@ -50,6 +50,7 @@ pub record BytesCarried (tags vars : List ℕ) (c s e : Plan) (from w u : List �
   pub pluses : Region 0 (by tags) editMarkersAt e from w u
   pub minuses : Region 0 (by tags) editOthersAt e from w u
   pub terms : Region 0 (by vars) termsAt s from w u
+  pub relations : Region 0 itself relationsAt c from w u
   pub before : (q : ℕ) → q < constraintMarkersAt → getD u q 0 ≡ getD w q 0
   pub long : length u ≡ length w
 
@@ -58,6 +59,7 @@ pub record RealsCarried (c s e : Plan) (from w u : List Float) : Type 0 where
   pub editStrengths : Region nan itself editStrengthsAt e from w u
   pub suggestions : Region nan itself suggestionsAt e from w u
   pub coefficients : Region nan itself coefficientsAt s from w u
+  pub constants : Region nan itself constraintConstantsAt c from w u
   pub before : (q : ℕ) → q < constraintStrengthsAt → getD u q nan ≡ getD w q nan
   pub long : length u ≡ length w
 
@@ -130,9 +132,10 @@ module _ (tags vars : List ℕ) (e : Plan) (f : targetSize e ≤ mostConstraints
 abbrev block : ℕ
 block = mostConstraints + mostConstraints + mostConstraints
 
-module _ (tags vars : List ℕ) (c s e : Plan) (f : Plans c s e) (from w : List ℕ) {v₁ v₂ u : List ℕ} where
-  pub bytes-carried : ConstraintBytes tags c from w v₁ → EditBytes tags vars e from v₁ v₂ → Region 0 (by vars) termsAt s from v₂ u → Rest 0 termsAt mostTerms v₂ u → BytesCarried tags vars c s e from w u
-  bytes-carried x y r t =
+module _ (tags vars : List ℕ) (c s e : Plan) (f : Plans c s e) (from w : List ℕ) {v₁ v₂ v₃ u : List ℕ} where
+  pub bytes-carried : ConstraintBytes tags c from w v₁ → EditBytes tags vars e from v₁ v₂ → Region 0 (by vars) termsAt s from v₂ v₃ → Rest 0 termsAt mostTerms v₂ v₃
+      → Region 0 itself relationsAt c from v₃ u → Rest 0 relationsAt mostConstraints v₃ u → BytesCarried tags vars c s e from w u
+  bytes-carried x y r₁ t₁ r t =
       record {
         markers = after-all (by tags) constraintMarkersAt (omega arith) (x .markers);
         others = after-all (by tags) constraintOthersAt (omega arith) (x .others);
@@ -140,30 +143,38 @@ module _ (tags vars : List ℕ) (c s e : Plan) (f : Plans c s e) (from w : List 
         edited = between (by vars) editVariablesAt (omega arith) (omega arith) (y .edited);
         pluses = between (by tags) editMarkersAt (omega arith) (omega arith) (y .pluses);
         minuses = between (by tags) editOthersAt (omega arith) (omega arith) (y .minuses);
-        terms = earlier 0 (by vars) termsAt mostTerms s (f .1) from constraintMarkersAt block (omega arith) (x .rest) (earlier 0 (by vars) termsAt mostTerms s (f .1) from editVariablesAt block (omega arith) (y .rest) r);
-        before = λ q h. t .before q (omega (arith, h)) ∙ y .rest .before q (omega (arith, h)) ∙ x .rest .before q h;
-        long = t .long ∙ y .rest .long ∙ x .rest .long;
+        terms = later 0 (by vars) termsAt mostTerms s (f .1) from relationsAt mostConstraints (omega arith) (earlier 0 (by vars) termsAt mostTerms s (f .1) from constraintMarkersAt block (omega arith) (x .rest) (earlier 0 (by vars) termsAt mostTerms s (f .1) from editVariablesAt block (omega arith) (y .rest) r₁)) t;
+        relations = behind constraintMarkersAt block (omega arith) (x .rest) (behind editVariablesAt block (omega arith) (y .rest) (behind termsAt mostTerms (omega arith) t₁ r));
+        before = λ q h. t .before q (omega (arith, h)) ∙ t₁ .before q (omega (arith, h)) ∙ y .rest .before q (omega (arith, h)) ∙ x .rest .before q h;
+        long = t .long ∙ t₁ .long ∙ y .rest .long ∙ x .rest .long;
       }
     where
       after-all : (g : ℕ → ℕ) (at : ℕ) → at + mostConstraints ≤ editVariablesAt → Region 0 g at c from w v₁ → Region 0 g at c from w u
-      after-all g at h q = later 0 g at mostConstraints c (f .0) from termsAt mostTerms (omega (arith, h)) (later 0 g at mostConstraints c (f .0) from editVariablesAt block h q (y .rest)) t
+      after-all g at h q = later 0 g at mostConstraints c (f .0) from relationsAt mostConstraints (omega (arith, h)) (later 0 g at mostConstraints c (f .0) from termsAt mostTerms (omega (arith, h)) (later 0 g at mostConstraints c (f .0) from editVariablesAt block h q (y .rest)) t₁) t
 
       between : (g : ℕ → ℕ) (at : ℕ) → constraintMarkersAt + block ≤ at → at + mostConstraints ≤ termsAt → Region 0 g at e from v₁ v₂ → Region 0 g at e from w u
-      between g at h k q = later 0 g at mostConstraints e (f .2) from termsAt mostTerms k (earlier 0 g at mostConstraints e (f .2) from constraintMarkersAt block h (x .rest) q) t
+      between g at h k q = later 0 g at mostConstraints e (f .2) from relationsAt mostConstraints (omega (arith, k)) (later 0 g at mostConstraints e (f .2) from termsAt mostTerms k (earlier 0 g at mostConstraints e (f .2) from constraintMarkersAt block h (x .rest) q) t₁) t
 
-module _ (c s e : Plan) (f : Plans c s e) (from w : List Float) {v₁ v₂ v₃ u : List Float} where
+      behind : {v z : List ℕ} (b m : ℕ) → b + m ≤ relationsAt → Rest 0 b m v z → Region 0 itself relationsAt c from z u → Region 0 itself relationsAt c from v u
+      behind b m h q = earlier 0 itself relationsAt mostConstraints c (f .0) from b m h q
+
+module _ (c s e : Plan) (f : Plans c s e) (from w : List Float) {v₁ v₂ v₃ v₄ u : List Float} where
   pub reals-carried : Region nan itself constraintStrengthsAt c from w v₁ → Rest nan constraintStrengthsAt mostConstraints w v₁
       → Region nan itself editStrengthsAt e from v₁ v₂ → Rest nan editStrengthsAt mostConstraints v₁ v₂
       → Region nan itself suggestionsAt e from v₂ v₃ → Rest nan suggestionsAt mostConstraints v₂ v₃
-      → Region nan itself coefficientsAt s from v₃ u → Rest nan coefficientsAt mostTerms v₃ u → RealsCarried c s e from w u
-  reals-carried r₁ t₁ r₂ t₂ r₃ t₃ r₄ t₄ =
+      → Region nan itself coefficientsAt s from v₃ v₄ → Rest nan coefficientsAt mostTerms v₃ v₄
+      → Region nan itself constraintConstantsAt c from v₄ u → Rest nan constraintConstantsAt mostConstraints v₄ u → RealsCarried c s e from w u
+  reals-carried r₁ t₁ r₂ t₂ r₃ t₃ r₄ t₄ r₅ t₅ =
       let front : Rest nan constraintStrengthsAt (mostConstraints + mostConstraints) w v₂ = rest-join nan constraintStrengthsAt mostConstraints editStrengthsAt mostConstraints (mostConstraints + mostConstraints) (omega arith) (omega arith) t₁ t₂ in
-      let back : Rest nan suggestionsAt (mostConstraints + mostTerms) v₂ u = rest-join nan suggestionsAt mostConstraints coefficientsAt mostTerms (mostConstraints + mostTerms) (omega arith) (omega arith) t₃ t₄ in
+      let ends : Rest nan coefficientsAt (mostTerms + mostConstraints) v₃ u = rest-join nan coefficientsAt mostTerms constraintConstantsAt mostConstraints (mostTerms + mostConstraints) (omega arith) (omega arith) t₄ t₅ in
+      let most : Rest nan constraintStrengthsAt (mostConstraints + mostConstraints + mostConstraints) w v₃ = rest-join nan constraintStrengthsAt (mostConstraints + mostConstraints) suggestionsAt mostConstraints (mostConstraints + mostConstraints + mostConstraints) (omega arith) (omega arith) front t₃ in
+      let back : Rest nan suggestionsAt (mostConstraints + mostTerms + mostConstraints) v₂ u = rest-join nan suggestionsAt mostConstraints coefficientsAt (mostTerms + mostConstraints) (mostConstraints + mostTerms + mostConstraints) (omega arith) (omega arith) t₃ ends in
       record {
-        strengths = later nan itself constraintStrengthsAt mostConstraints c (f .0) from suggestionsAt (mostConstraints + mostTerms) (omega arith) (later nan itself constraintStrengthsAt mostConstraints c (f .0) from editStrengthsAt mostConstraints (omega arith) r₁ t₂) back;
-        editStrengths = later nan itself editStrengthsAt mostConstraints e (f .2) from suggestionsAt (mostConstraints + mostTerms) (omega arith) (earlier nan itself editStrengthsAt mostConstraints e (f .2) from constraintStrengthsAt mostConstraints (omega arith) t₁ r₂) back;
-        suggestions = later nan itself suggestionsAt mostConstraints e (f .2) from coefficientsAt mostTerms (omega arith) (earlier nan itself suggestionsAt mostConstraints e (f .2) from constraintStrengthsAt (mostConstraints + mostConstraints) (omega arith) front r₃) t₄;
-        coefficients = earlier nan itself coefficientsAt mostTerms s (f .1) from constraintStrengthsAt (mostConstraints + mostConstraints) (omega arith) front (earlier nan itself coefficientsAt mostTerms s (f .1) from suggestionsAt mostConstraints (omega arith) t₃ r₄);
+        strengths = later nan itself constraintStrengthsAt mostConstraints c (f .0) from suggestionsAt (mostConstraints + mostTerms + mostConstraints) (omega arith) (later nan itself constraintStrengthsAt mostConstraints c (f .0) from editStrengthsAt mostConstraints (omega arith) r₁ t₂) back;
+        editStrengths = later nan itself editStrengthsAt mostConstraints e (f .2) from suggestionsAt (mostConstraints + mostTerms + mostConstraints) (omega arith) (earlier nan itself editStrengthsAt mostConstraints e (f .2) from constraintStrengthsAt mostConstraints (omega arith) t₁ r₂) back;
+        suggestions = later nan itself suggestionsAt mostConstraints e (f .2) from coefficientsAt (mostTerms + mostConstraints) (omega arith) (earlier nan itself suggestionsAt mostConstraints e (f .2) from constraintStrengthsAt (mostConstraints + mostConstraints) (omega arith) front r₃) ends;
+        coefficients = later nan itself coefficientsAt mostTerms s (f .1) from constraintConstantsAt mostConstraints (omega arith) (earlier nan itself coefficientsAt mostTerms s (f .1) from constraintStrengthsAt (mostConstraints + mostConstraints + mostConstraints) (omega arith) most r₄) t₅;
+        constants = earlier nan itself constraintConstantsAt mostConstraints c (f .0) from constraintStrengthsAt (mostConstraints + mostConstraints + mostConstraints) (omega arith) most (earlier nan itself constraintConstantsAt mostConstraints c (f .0) from coefficientsAt mostTerms (omega arith) t₄ r₅);
         before = λ q h. back .before q (omega (arith, h)) ∙ front .before q h;
         long = back .long ∙ front .long;
       }

@@ -10,7 +10,7 @@ use lib.ListN.{getD}
 use Rattle.laws.specs.Lists.{tab, listOf, sumIn}
 use Rattle.steps.specs.State.{Constraint, Edit}
 use Rattle.keeps.specs.Lists.{All}
-use Rattle.sparse.specs.Places.{mostConstraints, mostTerms, wholeAt, constraintMarkersAt, constraintOthersAt, editVariablesAt, editMarkersAt, editOthersAt, termsAt}
+use Rattle.sparse.specs.Places.{mostConstraints, mostTerms, wholeAt, constraintMarkersAt, constraintOthersAt, editVariablesAt, editMarkersAt, editOthersAt, termsAt, relationsAt}
 use Rattle.sparse.specs.Sparse.{Sparse, symbolCount, variableCount, constraintCount, editCount, termsFrom, constraintOf, editOf, read}
 use Rattle.sparse.specs.Fits.{Lengths}
 use Rattle.sparse.specs.Form.{indexAt, At, Form}
@@ -20,7 +20,7 @@ use Rattle.stored.specs.Maps.{Apart, countsIn}
 use Rattle.stored.specs.Moved.{termsPlan, terms-target, Moved}
 use Rattle.stored.specs.Beside.{Beside, Own, beside-join, tableau-beside, changes-beside, whole-beside, own-beside}
 use Rattle.stored.specs.Holds.{HoldsC, HoldsE}
-use Rattle.stored.specs.Reading.{terms-total, markers-form, others-form, terms-form, edited-form, pluses-form, minuses-form}
+use Rattle.stored.specs.Reading.{terms-total, markers-form, others-form, relations-form, terms-form, edited-form, pluses-form, minuses-form}
 
 -- the lent tables and the room
 pub record Ready (t w : Sparse) : Type 0 where
@@ -50,6 +50,7 @@ pub record Kept (w u : Sparse) (cs : List Constraint) (es : List Edit) (m : ℕ)
 pub record GapForm (c s e : Plan) (u : Sparse) : Type 0 where
   pub markers : (k : ℕ) → k < c .free → At u (getD (u .bytes) (constraintMarkersAt + (c .at + k)) 0)
   pub others : (k : ℕ) → k < c .free → getD (u .bytes) (constraintOthersAt + (c .at + k)) 0 ≤ symbolCount u
+  pub relations : (k : ℕ) → k < c .free → getD (u .bytes) (relationsAt + (c .at + k)) 0 ≤ 2
   pub terms : (k : ℕ) → k < s .free → indexAt u (getD (u .bytes) (termsAt + (s .at + k)) 0) < variableCount u
   pub edited : (k : ℕ) → k < e .free → indexAt u (getD (u .bytes) (editVariablesAt + (e .at + k)) 0) < variableCount u
   pub pluses : (k : ℕ) → k < e .free → At u (getD (u .bytes) (editMarkersAt + (e .at + k)) 0)
@@ -147,6 +148,7 @@ module _ (t w v u : Sparse) (lent : Form t) (o : Own w) (b : Beside w v) (d : Be
             changed = ou .changed;
             markers = λ i a. markers-form t v u lent ov d c e n r m ac gapped hc (g .markers) i (rw cc at a);
             others = λ i a. others-form t v u lent ov d c e n r m ac gapped hc (g .others) i (rw cc at a);
+            relations = λ i a. relations-form t v u lent ov d c e n r m ac gapped hc (g .relations) i (rw cc at a);
             edited = λ i a. edited-form t v u lent ov d c e n r m ae he (g .edited) i (rw ec at a);
             pluses = λ i a. pluses-form t v u lent ov d c e n r m ae he (g .pluses) i (rw ec at a);
             minuses = λ i a. minuses-form t v u lent ov d c e n r m ae he (g .minuses) i (rw ec at a);

@@ -39,6 +39,7 @@ no-gap c s e u p q r =
     record {
       markers = λ k h. absurd (omega (arith, h, p));
       others = λ k h. absurd (omega (arith, h, p));
+      relations = λ k h. absurd (omega (arith, h, p));
       terms = λ k h. absurd (omega (arith, h, q));
       edited = λ k h. absurd (omega (arith, h, r));
       pluses = λ k h. absurd (omega (arith, h, r));

@@ -13,7 +13,7 @@ use borrow.Author.Tests.{ltb-true, ltb-false}
 use Rattle.laws.specs.Loops.{first}
 use Rattle.laws.specs.Lists.{sumIn}
 use Rattle.steps.specs.Number.{zero64}
-use Rattle.sparse.specs.Places.{mostVariables, mostConstraints, variableCountAt, constraintCountAt, editCountAt, variableNumbersAt, constraintNumbersAt, constraintGroupsAt, goneNumbersAt, variablePlacesAt, constraintMarkersAt, constraintOthersAt, termCountsAt, editVariablesAt, editMarkersAt, editOthersAt, termsAt, constraintStrengthsAt, editStrengthsAt, suggestionsAt, coefficientsAt, wordsSize, bytesSize, realsSize}
+use Rattle.sparse.specs.Places.{mostVariables, mostConstraints, mostTerms, variableCountAt, constraintCountAt, editCountAt, variableNumbersAt, constraintNumbersAt, constraintGroupsAt, goneNumbersAt, variablePlacesAt, constraintMarkersAt, constraintOthersAt, termCountsAt, editVariablesAt, editMarkersAt, editOthersAt, termsAt, relationsAt, constraintStrengthsAt, editStrengthsAt, suggestionsAt, coefficientsAt, constraintConstantsAt, wordsSize, bytesSize, realsSize}
 use Rattle.terms.specs.declared.Pack.{Pack}
 use Rattle.stored.specs.declared.parts.Plan.{Plan}
 use Rattle.stored.specs.Parts.{Rest, allOf, opened}
@@ -98,13 +98,15 @@ module _ (coefs : List Float) (s : ℕ) (b : List Float) where
 
 -- ---- a constraint at the i-th place, its terms from s on
 
-pub record ConstraintPut (i s n g marker other : ℕ) (strength : Float) (p : Pack) (ww wb : List ℕ) (wr : List Float) (uw ub : List ℕ) (ur : List Float) : Type 0 where
+pub record ConstraintPut (i s n g marker other relation : ℕ) (strength constant : Float) (p : Pack) (ww wb : List ℕ) (wr : List Float) (uw ub : List ℕ) (ur : List Float) : Type 0 where
   pub number : getD uw (constraintNumbersAt + i) 0 ≡ n
   pub group : getD uw (constraintGroupsAt + i) 0 ≡ g
   pub markerAt : getD ub (constraintMarkersAt + i) 0 ≡ marker
   pub otherAt : getD ub (constraintOthersAt + i) 0 ≡ other
   pub count : getD ub (termCountsAt + i) 0 ≡ p .count
+  pub relationAt : getD ub (relationsAt + i) 0 ≡ relation
   pub strengthAt : getD ur (constraintStrengthsAt + i) nan ≡ strength
+  pub constantAt : getD ur (constraintConstantsAt + i) nan ≡ constant
   pub terms : (j : ℕ) → j < p .count → NumberPlace ww wb (getD (p .vars) j 0) (getD ub (termsAt + (s + j)) 0)
   pub coefficients : (j : ℕ) → j < p .count → getD ur (coefficientsAt + (s + j)) nan ≡ getD (p .coefs) j nan
   pub words : (q : ℕ) → q < constraintNumbersAt → getD uw q 0 ≡ getD ww q 0
@@ -113,41 +115,55 @@ pub record ConstraintPut (i s n g marker other : ℕ) (strength : Float) (p : Pa
   pub reals : (q : ℕ) → q < constraintStrengthsAt → getD ur q nan ≡ getD wr q nan
   pub long : (length uw ≡ length ww) × (length ub ≡ length wb) × (length ur ≡ length wr)
 
-module _ (i s n g marker other : ℕ) (strength : Float) (p : Pack) (ww wb : List ℕ) (wr : List Float) where
-  pub constraint-put : {mb : List ℕ} {mr : List Float} {k : ℕ} → length ww ≡ wordsSize → length wb ≡ bytesSize → length wr ≡ realsSize → i < mostConstraints → k ≡ p .count
+module _ (i s n g marker other relation : ℕ) (strength constant : Float) (p : Pack) (ww wb : List ℕ) (wr : List Float) where
+  pub constraint-put : {mb : List ℕ} {mr : List Float} {k : ℕ} → length ww ≡ wordsSize → length wb ≡ bytesSize → length wr ≡ realsSize → i < mostConstraints → s + p .count ≤ mostTerms → k ≡ p .count
       → TermsPut ww (p .vars) s (p .count) wb mb → CoefficientsPut (p .coefs) s (p .count) wr mr
-      → ConstraintPut i s n g marker other strength p ww wb wr (set (set ww (constraintNumbersAt + i) n) (constraintGroupsAt + i) g) (set (set (set mb (constraintMarkersAt + i) marker) (constraintOthersAt + i) other) (termCountsAt + i) k) (set mr (constraintStrengthsAt + i) strength)
-  constraint-put {mb} {mr} {k} lw lb lr h e t x =
+      → ConstraintPut i s n g marker other relation strength constant p ww wb wr (set (set ww (constraintNumbersAt + i) n) (constraintGroupsAt + i) g)
+      (set (set (set (set mb (constraintMarkersAt + i) marker) (constraintOthersAt + i) other) (termCountsAt + i) k) (relationsAt + i) relation) (set (set mr (constraintStrengthsAt + i) strength) (constraintConstantsAt + i) constant)
+  constraint-put {mb} {mr} {k} lw lb lr h few e t x =
       let w₁ : List ℕ = set ww (constraintNumbersAt + i) n in
       let lw₁ : length w₁ ≡ wordsSize = length-set ww (constraintNumbersAt + i) n ∙ lw in
       let b₁ : List ℕ = set mb (constraintMarkersAt + i) marker in
       let b₂ : List ℕ = set b₁ (constraintOthersAt + i) other in
+      let b₃ : List ℕ = set b₂ (termCountsAt + i) k in
+      let r₁ : List Float = set mr (constraintStrengthsAt + i) strength in
       let l₁ : length b₁ ≡ bytesSize = length-set mb (constraintMarkersAt + i) marker ∙ t .rest .long ∙ lb in
       let l₂ : length b₂ ≡ bytesSize = length-set b₁ (constraintOthersAt + i) other ∙ l₁ in
-      let thrice : (q : ℕ) → (q ≡ constraintMarkersAt + i → ⊥) → (q ≡ constraintOthersAt + i → ⊥) → (q ≡ termCountsAt + i → ⊥) → getD (set b₂ (termCountsAt + i) k) q 0 ≡ getD mb q 0 =
-      λ q a c d. getD-set-other b₂ (termCountsAt + i) q k 0 d ∙ getD-set-other b₁ (constraintOthersAt + i) q other 0 c ∙ getD-set-other mb (constraintMarkersAt + i) q marker 0 a in
+      let l₃ : length b₃ ≡ bytesSize = length-set b₂ (termCountsAt + i) k ∙ l₂ in
+      let l₄ : length r₁ ≡ realsSize = length-set mr (constraintStrengthsAt + i) strength ∙ x .rest .long ∙ lr in
+      let last : (q : ℕ) → (q ≡ relationsAt + i → ⊥) → getD (set b₃ (relationsAt + i) relation) q 0 ≡ getD b₃ q 0 = λ q a. getD-set-other b₃ (relationsAt + i) q relation 0 a in
+      let each : (q : ℕ) → (q ≡ constraintMarkersAt + i → ⊥) → (q ≡ constraintOthersAt + i → ⊥) → (q ≡ termCountsAt + i → ⊥) → (q ≡ relationsAt + i → ⊥) → getD (set b₃ (relationsAt + i) relation) q 0 ≡ getD mb q 0 =
+      λ q a c d f. last q f ∙ getD-set-other b₂ (termCountsAt + i) q k 0 d ∙ getD-set-other b₁ (constraintOthersAt + i) q other 0 c ∙ getD-set-other mb (constraintMarkersAt + i) q marker 0 a in
+      let both : (q : ℕ) → (q ≡ constraintStrengthsAt + i → ⊥) → (q ≡ constraintConstantsAt + i → ⊥) → getD (set r₁ (constraintConstantsAt + i) constant) q nan ≡ getD mr q nan =
+      λ q a c. getD-set-other r₁ (constraintConstantsAt + i) q constant nan c ∙ getD-set-other mr (constraintStrengthsAt + i) q strength nan a in
       let low = t .rest .long in
       let lx = x .rest .long in
       record {
         number = getD-set-other w₁ (constraintGroupsAt + i) (constraintNumbersAt + i) g 0 (λ z. omega (arith, z, h)) ∙ getD-set-same ww (constraintNumbersAt + i) n 0 (omega (arith, lw, h));
         group = getD-set-same w₁ (constraintGroupsAt + i) g 0 (omega (arith, lw₁, h));
         markerAt =
-            getD-set-other b₂ (termCountsAt + i) (constraintMarkersAt + i) k 0 (λ z. omega (arith, z, h))
+            last (constraintMarkersAt + i) (λ z. omega (arith, z, h))
+            ∙ getD-set-other b₂ (termCountsAt + i) (constraintMarkersAt + i) k 0 (λ z. omega (arith, z, h))
             ∙ getD-set-other b₁ (constraintOthersAt + i) (constraintMarkersAt + i) other 0 (λ z. omega (arith, z, h))
             ∙ getD-set-same mb (constraintMarkersAt + i) marker 0 (omega (arith, lb, low, h));
-        otherAt = getD-set-other b₂ (termCountsAt + i) (constraintOthersAt + i) k 0 (λ z. omega (arith, z, h)) ∙ getD-set-same b₁ (constraintOthersAt + i) other 0 (omega (arith, l₁, h));
-        count = getD-set-same b₂ (termCountsAt + i) k 0 (omega (arith, l₂, h)) ∙ e;
-        strengthAt = getD-set-same mr (constraintStrengthsAt + i) strength nan (omega (arith, lr, lx, h));
-        terms = λ j a v b f. thrice (termsAt + (s + j)) (λ z. omega (arith, z, h)) (λ z. omega (arith, z, h)) (λ z. omega (arith, z, h)) ∙ t .placed j a v b f;
-        coefficients = λ j a. getD-set-other mr (constraintStrengthsAt + i) (coefficientsAt + (s + j)) strength nan (λ z. omega (arith, z, h)) ∙ x .put j a;
+        otherAt =
+            last (constraintOthersAt + i) (λ z. omega (arith, z, h))
+            ∙ getD-set-other b₂ (termCountsAt + i) (constraintOthersAt + i) k 0 (λ z. omega (arith, z, h))
+            ∙ getD-set-same b₁ (constraintOthersAt + i) other 0 (omega (arith, l₁, h));
+        count = last (termCountsAt + i) (λ z. omega (arith, z, h)) ∙ getD-set-same b₂ (termCountsAt + i) k 0 (omega (arith, l₂, h)) ∙ e;
+        relationAt = getD-set-same b₃ (relationsAt + i) relation 0 (omega (arith, l₃, h));
+        strengthAt = getD-set-other r₁ (constraintConstantsAt + i) (constraintStrengthsAt + i) constant nan (λ z. omega (arith, z, h)) ∙ getD-set-same mr (constraintStrengthsAt + i) strength nan (omega (arith, lr, lx, h));
+        constantAt = getD-set-same r₁ (constraintConstantsAt + i) constant nan (omega (arith, l₄, h));
+        terms = λ j a v b f. each (termsAt + (s + j)) (λ z. omega (arith, z, h)) (λ z. omega (arith, z, h)) (λ z. omega (arith, z, h)) (λ z. omega (arith, z, a, few)) ∙ t .placed j a v b f;
+        coefficients = λ j a. both (coefficientsAt + (s + j)) (λ z. omega (arith, z, h)) (λ z. omega (arith, z, a, few)) ∙ x .put j a;
         words = λ q a. getD-set-other w₁ (constraintGroupsAt + i) q g 0 (λ z. omega (arith, z, a)) ∙ getD-set-other ww (constraintNumbersAt + i) q n 0 (λ z. omega (arith, z, a));
         gone = λ q a. getD-set-other w₁ (constraintGroupsAt + i) q g 0 (λ z. omega (arith, z, a, h)) ∙ getD-set-other ww (constraintNumbersAt + i) q n 0 (λ z. omega (arith, z, a, h));
-        bytes = λ q a. thrice q (λ z. omega (arith, z, a)) (λ z. omega (arith, z, a)) (λ z. omega (arith, z, a)) ∙ t .rest .before q (omega (arith, a));
-        reals = λ q a. getD-set-other mr (constraintStrengthsAt + i) q strength nan (λ z. omega (arith, z, a)) ∙ x .rest .before q (omega (arith, a));
+        bytes = λ q a. each q (λ z. omega (arith, z, a)) (λ z. omega (arith, z, a)) (λ z. omega (arith, z, a)) (λ z. omega (arith, z, a)) ∙ t .rest .before q (omega (arith, a));
+        reals = λ q a. both q (λ z. omega (arith, z, a)) (λ z. omega (arith, z, a)) ∙ x .rest .before q (omega (arith, a));
         long = (
           length-set w₁ (constraintGroupsAt + i) g ∙ length-set ww (constraintNumbersAt + i) n,
-          length-set b₂ (termCountsAt + i) k ∙ l₂ ∙ sym lb,
-          length-set mr (constraintStrengthsAt + i) strength ∙ lx,
+          length-set b₃ (relationsAt + i) relation ∙ l₃ ∙ sym lb,
+          length-set r₁ (constraintConstantsAt + i) constant ∙ l₄ ∙ sym lr,
         );
       }
 
@@ -208,13 +224,13 @@ pub record EditSought (w b : List ℕ) (n r : ℕ) : Type 0 where
 
 -- ---- with the others around it
 
-pub record ConstraintKept (n g marker other : ℕ) (strength : Float) (p : Pack) (fw fb : List ℕ) (fr : List Float) (ww wb : List ℕ) (wr : List Float) (uw ub : List ℕ) (ur : List Float) (r : ℕ) : Type 0 where
+pub record ConstraintKept (n g marker other relation : ℕ) (strength constant : Float) (p : Pack) (fw fb : List ℕ) (fr : List Float) (ww wb : List ℕ) (wr : List Float) (uw ub : List ℕ) (ur : List Float) (r : ℕ) : Type 0 where
   pub at : ℕ
   pub mw : List ℕ
   pub mb : List ℕ
   pub mr : List Float
   pub sought : Sought fw constraintNumbersAt 0 (getD fw constraintCountAt 0) (n + 1) at
-  pub put : ConstraintPut at (sumIn (countsIn fb) 0 at) n g marker other strength p ww wb wr mw mb mr
+  pub put : ConstraintPut at (sumIn (countsIn fb) 0 at) n g marker other relation strength constant p ww wb wr mw mb mr
   pub moved : Moved (opened at (getD fw constraintCountAt 0)) (allOf (getD fw editCountAt 0)) (p .count) fw fb fr mw mb mr uw ub ur r
 
 pub record EditKept (n marker other : ℕ) (strength : Float) (fw fb : List ℕ) (fr : List Float) (ww wb : List ℕ) (wr : List Float) (uw ub : List ℕ) (ur : List Float) (r : ℕ) : Type 0 where
@@ -242,17 +258,17 @@ before-fits g i n o m h k e =
     let a = sum-split g 0 i n (omega arith) h in
     omega (arith, a, k, e)
 
-pub put-names : (i s n g marker other : ℕ) (strength : Float) (p : Pack) (ww wb : List ℕ) (wr : List Float) (uw ub : List ℕ) (ur : List Float) → Names ww wb → ConstraintPut i s n g marker other strength p ww wb wr uw ub ur → Names uw ub
-put-names i s n g marker other strength p ww wb wr uw ub ur m t = names-same ww wb uw ub m (t .words) (t .bytes)
+pub put-names : (i s n g marker other relation : ℕ) (strength constant : Float) (p : Pack) (ww wb : List ℕ) (wr : List Float) (uw ub : List ℕ) (ur : List Float) → Names ww wb → ConstraintPut i s n g marker other relation strength constant p ww wb wr uw ub ur → Names uw ub
+put-names i s n g marker other relation strength constant p ww wb wr uw ub ur m t = names-same ww wb uw ub m (t .words) (t .bytes)
 
 pub put-edit-names : (i n marker other : ℕ) (strength : Float) (ww wb : List ℕ) (wr : List Float) (ub : List ℕ) (ur : List Float) → Names ww wb → EditPut i n marker other strength ww wb wr ub ur → Names ww ub
 put-edit-names i n marker other strength ww wb wr ub ur m t = names-same ww wb ww ub m (λ q h. refl) (t .bytes)
 
-pub constraint-kept-by : (n g marker other : ℕ) (strength : Float) (p : Pack) (fw fb : List ℕ) (fr : List Float) (ww wb : List ℕ) (wr : List Float) (uw ub : List ℕ) (ur : List Float) (r at s : ℕ) (mw mb : List ℕ) (mr : List Float) {c e : Plan}
-    → Sought fw constraintNumbersAt 0 (getD fw constraintCountAt 0) (n + 1) at → s ≡ sumIn (countsIn fb) 0 at → ConstraintPut at s n g marker other strength p ww wb wr mw mb mr
+pub constraint-kept-by : (n g marker other relation : ℕ) (strength constant : Float) (p : Pack) (fw fb : List ℕ) (fr : List Float) (ww wb : List ℕ) (wr : List Float) (uw ub : List ℕ) (ur : List Float) (r at s : ℕ) (mw mb : List ℕ) (mr : List Float) {c e : Plan}
+    → Sought fw constraintNumbersAt 0 (getD fw constraintCountAt 0) (n + 1) at → s ≡ sumIn (countsIn fb) 0 at → ConstraintPut at s n g marker other relation strength constant p ww wb wr mw mb mr
     → c ≡ opened at (getD fw constraintCountAt 0) → e ≡ allOf (getD fw editCountAt 0) → Moved c e (p .count) fw fb fr mw mb mr uw ub ur r
-    → ConstraintKept n g marker other strength p fw fb fr ww wb wr uw ub ur r
-constraint-kept-by n g marker other strength p fw fb fr ww wb wr uw ub ur r at s mw mb mr a b c d e m =
+    → ConstraintKept n g marker other relation strength constant p fw fb fr ww wb wr uw ub ur r
+constraint-kept-by n g marker other relation strength constant p fw fb fr ww wb wr uw ub ur r at s mw mb mr a b c d e m =
     record {
       at = at;
       mw = mw;

@@ -10,7 +10,7 @@ use borrow.Author.Tests.{ltb-true, ltb-false}
 use Rattle.laws.specs.Lists.{listOf, sumIn}
 use Rattle.layout.specs.Laying.{list-ext}
 use Rattle.layout.specs.Copied.{length-listOf, getD-listOf}
-use Rattle.sparse.specs.Places.{constraintMarkersAt, constraintOthersAt, editVariablesAt, editMarkersAt, editOthersAt, termsAt}
+use Rattle.sparse.specs.Places.{constraintMarkersAt, constraintOthersAt, editVariablesAt, editMarkersAt, editOthersAt, termsAt, relationsAt}
 use Rattle.sparse.specs.Sparse.{Sparse, symbolCount, variableCount, constraintCount, editCount, symbolAt, otherAt, numberAt, termsFrom, termOf, constraintOf, editOf}
 use Rattle.sparse.specs.Concat.{sum-in, sum-le}
 use Rattle.sparse.specs.Write.{noTerm}
@@ -113,7 +113,7 @@ module _ (t w u : Sparse) (form : Form t) (o : Own w) (b : Beside w u) (c e : Pl
       unfolding constraintOf
       kept-constraint k l =
           let ts : listOf (h k) (termOf u (termsFrom u (target c k))) ≡ listOf (h k) (termOf t (termsFrom t (source c k))) = list-ext _ _ _ λ j i. term-kept k j l i in
-          rw (x .words .numbers .kept k l, x .words .groups .kept k l, x .reals .strengths .kept k l, x .bytes .counts .kept k l, ts, marker-kept k l .1, other-kept k l .1) refl
+          rw (x .words .numbers .kept k l, x .words .groups .kept k l, x .bytes .relations .kept k l, x .reals .strengths .kept k l, x .reals .constants .kept k l, x .bytes .counts .kept k l, ts, marker-kept k l .1, other-kept k l .1) refl
 
       -- ---- the form, if the gap has it
 
@@ -122,6 +122,10 @@ module _ (t w u : Sparse) (form : Form t) (o : Own w) (b : Beside w u) (c e : Pl
 
       pub others-form : ((k : ℕ) → k < c .free → getD (u .bytes) (constraintOthersAt + (c .at + k)) 0 ≤ symbolCount u) → (i : ℕ) → i < targetSize c → getD (u .bytes) (constraintOthersAt + i) 0 ≤ symbolCount u
       others-form g = gap-cases (λ i. getD (u .bytes) (constraintOthersAt + i) 0 ≤ symbolCount u) c (λ k l. other-kept k l .0) g
+
+      pub relations-form : ((k : ℕ) → k < c .free → getD (u .bytes) (relationsAt + (c .at + k)) 0 ≤ 2) → (i : ℕ) → i < targetSize c → getD (u .bytes) (relationsAt + i) 0 ≤ 2
+      relations-form g =
+          gap-cases (λ i. getD (u .bytes) (relationsAt + i) 0 ≤ 2) c (λ k l. let q = source-within c k l in rw (x .bytes .relations .kept k l) (form .relations (source c k) (omega (arith, q, all)))) g
 
       pub terms-form : ((k : ℕ) → k < s .free → indexAt u (getD (u .bytes) (termsAt + (s .at + k)) 0) < variableCount u) → (j : ℕ) → j < targetSize s → indexAt u (getD (u .bytes) (termsAt + j) 0) < variableCount u
       terms-form g =

@@ -16,7 +16,7 @@ use Rattle.layout.specs.Laying.{list-ext}
 use Rattle.layout.specs.Copied.{length-listOf, getD-listOf}
 use Rattle.steps.specs.State.{Constraint, Edit}
 use Rattle.steps.specs.Tests.{keepEdit, dropEdit}
-use Rattle.sparse.specs.Places.{mostConstraints, termCountsAt, editMarkersAt, editOthersAt, constraintStrengthsAt, editStrengthsAt, suggestionsAt, coefficientsAt}
+use Rattle.sparse.specs.Places.{mostConstraints, termCountsAt, editMarkersAt, editOthersAt, constraintStrengthsAt, editStrengthsAt, suggestionsAt, coefficientsAt, constraintConstantsAt}
 use Rattle.sparse.specs.Sparse.{Sparse, constraintCount, editCount, symbolAt, otherAt, numberAt, termsFrom, termOf, constraintOf, editOf, read}
 use Rattle.sparse.specs.Write.{noEdit}
 use Rattle.sparse.specs.Form.{indexAt, Form}
@@ -141,8 +141,9 @@ module _ (w u : Sparse) (cs : List Constraint) (es : List Edit) (r : ℕ) (kept 
   unfolding constraintOf
   constraint-same i h =
       let f = kept .form .counts .constraints in
+      let g = few in
       let ts : listOf (getD (u .bytes) (termCountsAt + i) 0) (termOf u' (termsFrom u i)) ≡ listOf (getD (u .bytes) (termCountsAt + i) 0) (termOf u (termsFrom u i)) = list-ext _ _ _ (λ k l. term-same (termsFrom u i) k) in
-      rw (real (constraintStrengthsAt + i) (λ e. omega (arith, e, h, f)), terms-same i, ts, symbol-same, other-same) refl
+      rw (real (constraintStrengthsAt + i) (λ e. omega (arith, e, h, f)), real (constraintConstantsAt + i) (λ e. omega (arith, e, g)), terms-same i, ts, symbol-same, other-same) refl
 
   edit-other : (i : ℕ) → i < editCount u → (i ≡ j → ⊥) → editOf u' i ≡ editOf u i
   unfolding editOf
@@ -182,6 +183,7 @@ module _ (w u : Sparse) (cs : List Constraint) (es : List Edit) (r : ℕ) (kept 
         changed = f .changed;
         markers = f .markers;
         others = f .others;
+        relations = f .relations;
         edited = f .edited;
         pluses = f .pluses;
         minuses = f .minuses;

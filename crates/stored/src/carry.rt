@@ -92,6 +92,7 @@ fn carry_bytes(
     constraint_bytes(bytes, from, tags, c);
     edit_bytes(bytes, from, tags, vars, e);
     split_named(bytes, from, vars, sparse::TERMS, MOST_TERMS, s);
+    split_bytes(bytes, from, sparse::RELATIONS, MOST_CONSTRAINTS, c);
 }
 
 fn carry_reals(reals: &mut Reals, from: &Reals, c: Plan, s: Plan, e: Plan)
@@ -113,6 +114,13 @@ fn carry_reals(reals: &mut Reals, from: &Reals, c: Plan, s: Plan, e: Plan)
     split_reals(reals, from, sparse::EDIT_STRENGTHS, MOST_CONSTRAINTS, e);
     split_reals(reals, from, sparse::SUGGESTIONS, MOST_CONSTRAINTS, e);
     split_reals(reals, from, sparse::COEFFICIENTS, MOST_TERMS, s);
+    split_reals(
+        reals,
+        from,
+        sparse::CONSTRAINT_CONSTANTS,
+        MOST_CONSTRAINTS,
+        c,
+    );
 }
 
 // c of the constraints, s of their terms, e of the edits.

@@ -66,14 +66,16 @@ fn put_constraint(
     g: u16,
     marker: u8,
     other: u8,
+    relation: u8,
     strength: f64,
+    constant: f64,
     p: Pack,
 )
     requires { ⌜ Names (now words) (now bytes) ⌝ }
     requires { ⌜ i < mostConstraints ⌝ }
     requires { ⌜ p .count ≤ 16 ⌝ }
     requires { ⌜ s + p .count ≤ mostTerms ⌝ }
-    ensures { λ _. ⌜ ConstraintPut i s n g marker other strength p (now (words .entry)) (now (bytes .entry)) (now (reals .entry)) (now (words .exit)) (now (bytes .exit)) (now (reals .exit)) ⌝ }
+    ensures { λ _. ⌜ ConstraintPut i s n g marker other relation strength constant p (now (words .entry)) (now (bytes .entry)) (now (reals .entry)) (now (words .exit)) (now (bytes .exit)) (now (reals .exit)) ⌝ }
 {
     long_words(words);
     long_bytes(bytes);
@@ -85,7 +87,9 @@ fn put_constraint(
     bytes[sparse::CONSTRAINT_MARKERS + i] = marker;
     bytes[sparse::CONSTRAINT_OTHERS + i] = other;
     bytes[sparse::TERM_COUNTS + i] = p.count as u8;
+    bytes[sparse::RELATIONS + i] = relation;
     reals[sparse::CONSTRAINT_STRENGTHS + i] = strength;
+    reals[sparse::CONSTRAINT_CONSTANTS + i] = constant;
 }
 
 // The room's own constraints are written over: those of the lent tables, and this one among them.
@@ -100,7 +104,9 @@ pub fn keep_constraint(
     g: u16,
     marker: u8,
     other: u8,
+    relation: u8,
     strength: f64,
+    constant: f64,
     p: Pack,
 ) -> usize
     requires { ⌜ Stores (now fwords) (now fbytes) ⌝ }
@@ -109,12 +115,26 @@ pub fn keep_constraint(
     requires { ⌜ p .count ≤ 16 ⌝ }
     requires { ⌜ getD (now fwords) constraintCountAt 0 < mostConstraints ⌝ }
     requires { ⌜ sumIn (countsIn (now fbytes)) 0 (getD (now fwords) constraintCountAt 0) + p .count ≤ mostTerms ⌝ }
-    ensures { λ r. ⌜ ConstraintKept n g marker other strength p (now (fwords .entry)) (now (fbytes .entry)) (now (freals .entry)) (now (words .entry)) (now (bytes .entry)) (now (reals .entry)) (now (words .exit)) (now (bytes .exit)) (now (reals .exit)) r ⌝ }
+    ensures { λ r. ⌜ ConstraintKept n g marker other relation strength constant p (now (fwords .entry)) (now (fbytes .entry)) (now (freals .entry)) (now (words .entry)) (now (bytes .entry)) (now (reals .entry)) (now (words .exit)) (now (bytes .exit)) (now (reals .exit)) r ⌝ }
 {
     let k = fwords[sparse::CONSTRAINT_COUNT] as usize;
     let i = seek(fwords, sparse::CONSTRAINT_NUMBERS, 0, k, n + 1);
     let s = terms_in(fbytes, 0, i);
-    put_constraint(words, bytes, reals, i, s, n, g, marker, other, strength, p);
+    put_constraint(
+        words,
+        bytes,
+        reals,
+        i,
+        s,
+        n,
+        g,
+        marker,
+        other,
+        relation,
+        strength,
+        constant,
+        p,
+    );
     let c = with_one(i, k);
     let e = all_of(fwords[sparse::EDIT_COUNT] as usize);
     move_records(words, bytes, reals, fwords, fbytes, freals, c, e, p.count)

@@ -11,7 +11,7 @@ use lib.Ieee.{Float, lt}
 use Rattle.steps.specs.Number.{zero64, isFinite, allWhole, notWhole}
 use Rattle.steps.specs.Strength.{required, clip}
 use Rattle.steps.specs.Symbol.{Kind, External, Slack, Error, Dummy, Symbol, isExternal, isError}
-use Rattle.steps.specs.State.{Term, Relation, equal, strengthOf, Tag, Constraint, Edit, State}
+use Rattle.steps.specs.State.{Term, Relation, equal, strengthOf, comparisonOf, Tag, Constraint, Edit, State}
 use Rattle.steps.specs.Work.{Work, Outcome, refused, going}
 use Rattle.steps.specs.Add.{Added, addSteps}
 use Rattle.steps.specs.Remove.{removeSteps}
@@ -130,7 +130,7 @@ unfolding add refusedBy
 add-informed g n ts k r b s reads i = go (firstRefusal (addTests g n ts k r s)) refl
   where
     stores : Added → List Constraint
-    stores a = keepConstraint (record { number = n; group = g; strength = strengthOf r; terms = keptTerms (s .tableau .cutoff) ts; tag = a .tag }) (s .constraints)
+    stores a = keepConstraint (record { number = n; group = g; comparison = comparisonOf r; strength = strengthOf r; constant = k; terms = keptTerms (s .tableau .cutoff) ts; tag = a .tag }) (s .constraints)
 
     go : (o : Option ℕ) → firstRefusal (addTests g n ts k r s) ≡ o
         → Informed (elim o as (λ _. Result) [ some x ↦ refusedBy x 0 (s .whole) s | none ↦ concludeAdd s (addSteps b ts k r (begin s)) (λ a. finish (a .work) (stores a) (s .edits)) ] .state)

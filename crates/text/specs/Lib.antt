@@ -10,4 +10,5 @@ pub mod Lines
 pub mod LineLaws
 pub mod FormatLaws
 pub mod Answers
+pub mod Put
 pub mod Stream

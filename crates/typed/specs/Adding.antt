@@ -74,7 +74,7 @@ Fit (reads r) = (natAbs (r .constant) ≤ most) × (smallTerms (r .terms) ≡ tr
 Fit (outside at) = Unit {0}
 Fit (refused n) = n ≡ 0 → ⊥
 
-judged-fit : (r : grammar.Reading) → Fit (judged r)
+pub judged-fit : (r : grammar.Reading) → Fit (judged r)
 unfolding judged
 judged-fit r = by (leb (natAbs (r .constant)) most) (smallTerms (r .terms)) (leb (length (r .terms)) 16) refl refl refl
   where

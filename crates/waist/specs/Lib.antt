@@ -29,10 +29,10 @@ pub mod PurgingCells
 pub mod Lowering
 pub mod PurgingPlaces
 pub mod Purging
+pub mod Rows
 pub mod PurgeCalls
 pub mod ArtificialCopy
 pub mod ArtificialStands
-pub mod Rows
 pub mod Tags
 pub mod Subject
 pub mod MarkerRow

@@ -9,7 +9,7 @@ use Rattle.steps.specs.Number.{zero64, isFinite, constantBound, wholeIf, _-₆�
 use Rattle.steps.specs.Strength.{clip}
 use Rattle.steps.specs.Symbol.{Symbol, isError, isExternal}
 use Rattle.steps.specs.Row.{Row}
-use Rattle.steps.specs.State.{Term, Relation, equal, strengthOf, Tag, Basic, Variable, Constraint, Edit, State}
+use Rattle.steps.specs.State.{Term, Relation, equal, strengthOf, comparisonOf, Tag, Basic, Variable, Constraint, Edit, State}
 use Rattle.steps.specs.Work.{Work, Outcome, refused, going, _>>=_, refuse, checkFinite, withTableau, withChanges, withRows, marking, findRow, dropRow, purge}
 use Rattle.steps.specs.Changes.{note, tellGone, fetchChanges}
 use Rattle.steps.specs.Substitute.{rowsOf, pivot}
@@ -178,7 +178,7 @@ unfolding add
 add-plain g n ts k r b s h = go (firstRefusal (addTests g n ts k r s))
   where
     next : Added → State
-    next a = finish (a .work) (keepConstraint (record { number = n; group = g; strength = strengthOf r; terms = keptTerms (s .tableau .cutoff) ts; tag = a .tag }) (s .constraints)) (s .edits)
+    next a = finish (a .work) (keepConstraint (record { number = n; group = g; comparison = comparisonOf r; strength = strengthOf r; constant = k; terms = keptTerms (s .tableau .cutoff) ts; tag = a .tag }) (s .constraints)) (s .edits)
 
     go : (o : Option ℕ) → PlainState (elim o as (λ _. Result) [ some q ↦ refusedBy q 0 (s .whole) s | none ↦ concludeAdd s (addSteps b ts k r (begin s)) next ] .state)
     go (some q) = unfold refusedBy in h

@@ -5,16 +5,17 @@ use crate::{RelationalOperator, Term};
 // The lengths of the tables.
 const WORDS: usize = 338;
 const CELLS: usize = 6579;
-const BYTES: usize = 1312;
-const REALS: usize = 1132;
+const BYTES: usize = 1360;
+const REALS: usize = 1180;
 
 /// The places of a fetch's three lists.
 pub const PLACES: usize = 64;
 
-/// The bytes of the service cable's reader, and the places of what it hands over.
+/// The bytes of the service cable's reader, the places of what a line's reader hands over, and the writer's buffer.
 pub const CABLE: usize = 201;
 pub const TERMS: usize = 16;
-const LINE_WORDS: usize = 5;
+pub const LINE: usize = 200;
+const LINE_WORDS: usize = 6;
 const LINE_REALS: usize = 2;
 
 /// What a changing call answers: 0 or a refusal's number, the pivots made, the whole mark.
@@ -137,6 +138,31 @@ extern "C" {
         moved: &mut [f64; PLACES],
         gone: &mut [u8; PLACES],
     );
+    fn knobharbor_show(
+        words: &[u64; WORDS],
+        keys: &[u16; CELLS],
+        bytes: &[u8; BYTES],
+        reals: &[f64; REALS],
+        values: &[f64; CELLS],
+        number: u32,
+        line_words: *mut u64,
+        line_reals: *mut f64,
+        variables: *mut u32,
+        coefficients: *mut f64,
+    );
+    fn knobharbor_read_line(line: *const u8, length: u64, words: *mut u64, reals: *mut f64, variables: *mut u32, coefficients: *mut f64);
+    fn knobharbor_write_line(
+        buffer: *mut u8,
+        length: u64,
+        kind: u32,
+        strength: f64,
+        group: u16,
+        constant: f64,
+        vars: *const u32,
+        var_count: u64,
+        coefs: *const f64,
+        coef_count: u64,
+    ) -> u32;
     fn knobharbor_cable_take(
         cable: *mut u8,
         piece: *const u8,
@@ -266,7 +292,8 @@ pub fn has_edit(t: &Tables, variable: u32) -> bool {
     ask!(knobharbor_has_edit, t, variable)
 }
 
-/// What the cable's reader hands over, in the places of include/knobharbor.h; what an answer does not say is 0.
+/// What a line's reader hands over, or of the solver's own a constraint that is shown, in the places of include/knobharbor.h; what an answer
+/// does not say is 0.
 pub struct Handed {
     words: [u64; LINE_WORDS],
     reals: [f64; LINE_REALS],
@@ -297,6 +324,10 @@ impl Handed {
         self.words[4] as usize
     }
 
+    pub fn group(&self) -> u16 {
+        self.words[5] as u16
+    }
+
     pub fn constant(&self) -> f64 {
         self.reals[0]
     }
@@ -309,12 +340,38 @@ impl Handed {
 macro_rules! hand_over {
     ($f:ident($($arg:expr),*)) => {{
         let mut h = Handed::NONE;
-        // The pointers are to whole arrays that nobody else holds during the call, and to a slice that it only reads.
+        // The pointers are to whole arrays that nobody else holds during the call, and to what it only reads.
         let answered = unsafe {
             $f($($arg,)* h.words.as_mut_ptr(), h.reals.as_mut_ptr(), h.variables.as_mut_ptr(), h.coefficients.as_mut_ptr())
         };
         (answered, h)
     }};
+}
+
+pub fn read_line(line: &[u8]) -> Handed {
+    let (_, handed) = hand_over!(knobharbor_read_line(line.as_ptr(), line.len() as u64));
+    handed
+}
+
+/// The constraint of this number as it was added.
+pub fn show(t: &Tables, number: u32) -> Handed {
+    let (_, handed) = hand_over!(knobharbor_show(&t.words, &t.keys, &t.bytes, &t.reals, &t.values, number));
+    handed
+}
+
+/// One term more than a line has, so that too many of them are seen to be.
+const ENOUGH: usize = TERMS + 1;
+
+pub fn write_line(buffer: &mut [u8; LINE], terms: &[Term], constant: f64, op: RelationalOperator, strength: f64, group: u16) -> u32 {
+    let (mut vars, mut coefs) = ([0; ENOUGH], [0.0; ENOUGH]);
+    for (term, (v, k)) in terms.iter().zip(vars.iter_mut().zip(&mut coefs)) {
+        (*v, *k) = (term.variable.number(), term.coefficient);
+    }
+    let n = terms.len().min(ENOUGH) as u64;
+    // The buffer is a whole array that nobody else holds during the call, and both lists have at least n elements.
+    unsafe {
+        knobharbor_write_line(buffer.as_mut_ptr(), LINE as u64, op.kind(), strength, group, constant, vars.as_ptr(), n, coefs.as_ptr(), n)
+    }
 }
 
 /// Whether a line ends in the piece, and what is handed over.

@@ -1,6 +1,6 @@
 //! Lines of text over the service cable, which come in pieces.
-use crate::archive::{self, Handed, CABLE, TERMS};
-use crate::{Refusal, RelationalOperator, Term, Variable};
+use crate::archive::{self, CABLE};
+use crate::{Line, Refusal};
 
 /// A reader of lines of text that come in pieces, cut anywhere. A line is answered when its newline is there, and holds 200 bytes at
 /// most, its newline apart. However the bytes are cut, the answers and the reader at the end are those of one piece.
@@ -16,7 +16,7 @@ use crate::{Refusal, RelationalOperator, Term, Variable};
 ///     while let Some(line) = cable.take(&mut piece) {
 ///         number += 1;
 ///         match line {
-///             Ok(line) => solver.add(number, line.terms(), line.constant, line.op, line.strength)?,
+///             Ok(line) => solver.add_in(line.group, number, line.terms(), line.constant, line.op, line.strength)?,
 ///             Err((refusal, offset)) => assert_eq!((number, refusal, offset), (3, Refusal::LineNotInGrammar, 3)),
 ///         }
 ///     }
@@ -49,37 +49,5 @@ impl CableReader {
     pub fn close(&mut self) -> Result<(), Refusal> {
         let (_, handed) = archive::cable_close(&mut self.state);
         Refusal::of(handed.number()).map_or(Ok(()), Err)
-    }
-}
-
-/// The constraint that a line reads as: the terms plus the constant are `op` zero, at this strength. The terms ascend by variable.
-#[derive(Copy, Clone, Debug)]
-pub struct Line {
-    /// How the sum relates to zero.
-    pub op: RelationalOperator,
-    /// Required: a line says none.
-    pub strength: f64,
-    /// What stands beside the terms.
-    pub constant: f64,
-    terms: [Term; TERMS],
-    count: usize,
-}
-
-impl Line {
-    fn of(handed: &Handed) -> Result<Line, (Refusal, usize)> {
-        if let Some(refusal) = Refusal::of(handed.number()) {
-            return Err((refusal, handed.offset()));
-        }
-        let mut terms = [Term::new(Variable::from_number(0), 0.0); TERMS];
-        for (place, (&v, &k)) in terms.iter_mut().zip(handed.variables.iter().zip(&handed.coefficients)) {
-            *place = Term::new(Variable::from_number(v), k);
-        }
-        let op = RelationalOperator::of_kind(handed.kind());
-        Ok(Line { op, strength: handed.strength(), constant: handed.constant(), terms, count: handed.count() })
-    }
-
-    /// The terms, at most 16.
-    pub fn terms(&self) -> &[Term] {
-        &self.terms[..self.count]
     }
 }

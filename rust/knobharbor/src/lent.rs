@@ -1,7 +1,7 @@
 //! The calls over tables that the caller lends: fixed sizes, no heap.
 use crate::archive::{self, Added, Answer, Tables};
 use crate::changes::{Changes, Entries};
-use crate::{Refusal, RelationalOperator, Term, Variable, LARGEST_BUDGET, USUAL_CUTOFF, USUAL_GROUP};
+use crate::{Line, Refusal, RelationalOperator, Term, Variable, LARGEST_BUDGET, USUAL_CUTOFF, USUAL_GROUP};
 
 /// A solver over lent tables. Constraints have numbers, which the caller chooses. Every call ends within the pivot budget, and a
 /// refused call changes nothing.
@@ -136,6 +136,31 @@ impl<'a> LentSolver<'a> {
     /// Whether there is a constraint of this number.
     pub fn has(&self, number: u32) -> bool {
         archive::has_constraint(self.tables, number)
+    }
+
+    /// The constraint of this number as it was added, with its group: terms that the add skipped, because their coefficient is near zero, are
+    /// left out. `Line::to_line` writes it, so that a unit can send its whole layout over the service cable, number by number. For a number
+    /// that is not live `Refusal::UnknownConstraint`, and where the tables hold no solver `Refusal::TablesDoNotRead`.
+    ///
+    /// ```
+    /// use knobharbor::strength::REQUIRED;
+    /// use knobharbor::{Line, LentSolver, Refusal, RelationalOperator::*, Tables, Variable};
+    ///
+    /// const LEFT: Variable = Variable::from_number(1);
+    /// const RIGHT: Variable = Variable::from_number(2);
+    /// let (mut tables, mut room) = (Tables::new(), Tables::new());
+    /// let mut solver = LentSolver::new(&mut tables, &mut room);
+    /// solver.add_in(2, 7, &[LEFT * -1.0, RIGHT * 1.0], -40.0, GreaterOrEqual, REQUIRED)?;
+    /// solver.add(8, &[RIGHT * 0.5], 0.0, LessOrEqual, 1.0)?;
+    /// let line = solver.show(7)?.to_line()?;
+    /// assert_eq!(&*line, "-v1+v2-40>=0@1001001000,2");
+    /// assert_eq!(Line::parse(line.as_bytes()).unwrap().group, 2);
+    /// assert_eq!(solver.show(8)?.to_line(), Err(Refusal::LineCannotSay)); // a half
+    /// assert_eq!(solver.show(9).unwrap_err(), Refusal::UnknownConstraint);
+    /// # Ok::<(), Refusal>(())
+    /// ```
+    pub fn show(&self, number: u32) -> Result<Line, Refusal> {
+        Line::shown(self.tables, number)
     }
 
     /// Makes the variable one that can be dragged, at this strength.

@@ -42,7 +42,8 @@
 //! ```
 //!
 //! Without the feature `alloc`, which is on by default, the crate needs no heap: [`LentSolver`] is the solver over two tables that the
-//! caller lends, with the terms of a constraint as a slice, and [`CableReader`] reads constraints as text that comes in pieces. The crate uses nothing of `std`; the feature `std` adds
+//! caller lends, with the terms of a constraint as a slice, and [`Line`] is a constraint as text, read and written, also
+//! in pieces, by [`CableReader`]. The crate uses nothing of `std`; the feature `std` adds
 //! `std::error::Error` to its errors.
 #![no_std]
 #![warn(missing_docs)]
@@ -62,6 +63,7 @@ mod errors;
 #[cfg(feature = "alloc")]
 mod expression;
 mod lent;
+mod line;
 mod refusal;
 #[cfg(feature = "alloc")]
 mod solver;
@@ -71,13 +73,14 @@ mod sums;
 mod variable;
 
 pub use archive::Tables;
-pub use cable::{CableReader, Line};
+pub use cable::CableReader;
 pub use changes::{Change, Changes, Entries};
 #[cfg(feature = "alloc")]
 pub use errors::{AddConstraintError, AddEditVariableError, Refused, RemoveConstraintError, RemoveEditVariableError, SuggestValueError};
 #[cfg(feature = "alloc")]
 pub use expression::{Constraint, Expression, PartialConstraint};
 pub use lent::LentSolver;
+pub use line::{to_line, Line, PlainLine};
 pub use refusal::Refusal;
 #[cfg(feature = "alloc")]
 pub use solver::Solver;

@@ -85,10 +85,16 @@ refusals! {
     GroupZero = 26, "group 0 is the edits' own";
     /// No constraint is in the group.
     EmptyGroup = 27, "there is no constraint in the group";
-    /// Over the service cable a line has at most 200 bytes.
+    /// Over the service cable a line has at most 200 bytes, and no longer one is written.
     CableLineTooLong = 32, "the line has more than 200 bytes";
     /// The service cable was closed inside a line.
     LineUnended = 33, "the input ended inside a line";
+    /// A strength is at most `strength::REQUIRED`.
+    LineStrengthOutOfRange = 34, "the line's strength is above 1,001,001,000";
+    /// A group is from 1 to 65,535.
+    LineGroupOutOfRange = 35, "the line's group is not from 1 to 65,535";
+    /// Terms that do not ascend by variable, a number that is not whole or too large, a zero coefficient, group 0.
+    LineCannotSay = 36, "no line can say the constraint";
 }
 
 impl Refusal {

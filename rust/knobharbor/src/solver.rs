@@ -2,7 +2,7 @@
 use crate::archive::{self, Added, Answer, Tables};
 use crate::changes::{Change, Changes, Entries};
 use crate::{
-    AddConstraintError, AddEditVariableError, Constraint, Refusal, Refused, RemoveConstraintError, RemoveEditVariableError,
+    AddConstraintError, AddEditVariableError, Constraint, Line, Refusal, Refused, RemoveConstraintError, RemoveEditVariableError,
     SuggestValueError, Variable, LARGEST_BUDGET, USUAL_CUTOFF, USUAL_GROUP,
 };
 use alloc::alloc::{alloc_zeroed, handle_alloc_error, Layout};
@@ -175,6 +175,27 @@ impl Solver {
             Some(number) => archive::has_constraint(&self.held.tables, number),
             None => false,
         }
+    }
+
+    /// The constraint as the solver keeps it, with its group, by which `Line::to_line` writes it: see `LentSolver::show`.
+    /// `Refusal::UnknownConstraint` for one that is not in the solver.
+    ///
+    /// ```
+    /// use knobharbor::strength::WEAK;
+    /// use knobharbor::WeightedRelation::*;
+    /// use knobharbor::{Refusal, Solver, Variable};
+    ///
+    /// let (left, right) = (Variable::from_number(1), Variable::from_number(2));
+    /// let width = left + 40.0 |LE(WEAK)| right;
+    /// let mut solver = Solver::new();
+    /// assert_eq!(solver.line_of(&width).unwrap_err(), Refusal::UnknownConstraint);
+    /// solver.add_constraint_in(3, width.clone()).unwrap();
+    /// assert_eq!(&*solver.line_of(&width)?.to_line()?, "v1-v2+40<=0@1,3");
+    /// # Ok::<(), Refusal>(())
+    /// ```
+    pub fn line_of(&self, constraint: &Constraint) -> Result<Line, Refusal> {
+        let number = self.number_of(constraint).ok_or(Refusal::UnknownConstraint)?;
+        Line::shown(&self.held.tables, number)
     }
 
     /// Makes the variable one that can be dragged, at a strength below required.

@@ -67,7 +67,13 @@ fn refusals_have_the_same_words() {
     for (i, refusal) in all.into_iter().enumerate() {
         assert_eq!((refusal.number() as usize, refusal.words()), (i + 1, words[i + 1]));
     }
-    let apart = [("LINE_OVER", Refusal::CableLineTooLong), ("LINE_UNENDED", Refusal::LineUnended)];
+    let apart = [
+        ("LINE_OVER", Refusal::CableLineTooLong),
+        ("LINE_UNENDED", Refusal::LineUnended),
+        ("LINE_STRENGTH", Refusal::LineStrengthOutOfRange),
+        ("LINE_GROUP", Refusal::LineGroupOutOfRange),
+        ("LINE_UNSAID", Refusal::LineCannotSay),
+    ];
     for (name, refusal) in apart {
         assert!(HEADER.contains(&format!("KNOBHARBOR_{name} = {}", refusal.number())));
         assert!(HEADER.contains(&format!("if (number == KNOBHARBOR_{name})\n        return \"{}\";", refusal.words())));

@@ -6,8 +6,8 @@ use lib.Seq.{length-take-le}
 use Rattle.cable_lines.proofs.read_front.Statement.{statement}
 use Rattle.cable_lines.proofs.read_front.Tie as tie
 
-slice-aggregate-read-line : tie.Need-slice-aggregate-read-line
-slice-aggregate-read-line c = sym (length-take-le (c .before .before .args .n) _ (c .before .before .pre))
+slice-aggregate-read-second : tie.Need-slice-aggregate-read-second
+slice-aggregate-read-second c = sym (length-take-le (c .before .before .args .n) _ (c .before .before .pre))
 
 pub read-front-spec : {M : Type 1} → statement M
-read-front-spec = tie.close (tie.spec slice-aggregate-read-line (λ c κs. search needs) (λ c. search needs))
+read-front-spec = tie.close (tie.spec slice-aggregate-read-second (λ c κs. search needs) (λ c. search needs))

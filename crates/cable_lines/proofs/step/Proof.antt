@@ -6,7 +6,7 @@ use mathlib.Core.Bool.{true, false}
 use native.Mathlib.Omega.{arith}
 use borrow.Author.Needs.{needs}
 use lib.ListN.{length}
-use Rattle.reader.specs.declared.answers.Reading.{Reading}
+use Rattle.second.specs.declared.Reply.{Reply}
 use Rattle.cable_lines.specs.declared.Taken.{Taken}
 use Rattle.cable_lines.specs.Given.{asBegun, same-begun}
 use Rattle.cable_lines.specs.State.{kept-all, kept-ends}
@@ -16,14 +16,14 @@ use Rattle.cable_lines.proofs.step.Tie as tie
 returns : tie.Need-returns
 returns c =
     let k = c .before .before .keep-line in
-    same-begun (ap (λ (x : Reading). record { answered = false; answer = x; taken = k .result }) (c .refuse .ensures)) refl ∙ ap asBegun (sym (kept-all (k .ensures .0) (c .before .if1 .taken)))
+    same-begun (ap (λ (x : Reply). record { answered = false; answer = x; taken = k .result }) (c .refuse .ensures)) refl ∙ ap asBegun (sym (kept-all (k .ensures .0) (c .before .if1 .taken)))
 
 returns-2 : tie.Need-returns-2
 returns-2 c =
     let k = c .before .before .before .before .before .keep-line in
     let a = c .before .before .before .before .before .before .before .before .args in
     let l : k .result < length (a .piece .now) = omega (arith, k .ensures .0 .within) in
-    same-begun (ap (λ (x : Reading). record { answered = true; answer = x; taken = k .result + 1 }) (c .before .before .answer-held .ensures)) (c .renew .ensures)
+    same-begun (ap (λ (x : Reply). record { answered = true; answer = x; taken = k .result + 1 }) (c .before .before .answer-held .ensures)) (c .renew .ensures)
     ∙ ap asBegun (sym (kept-ends (k .ensures .0) l (k .ensures .1 l)))
 
 pub step-spec : {M : Type 1} → statement M

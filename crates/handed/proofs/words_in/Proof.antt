@@ -5,7 +5,7 @@ use Rattle.handed.proofs.words_in.Statement.{statement}
 use Rattle.handed.proofs.words_in.Tie as tie
 
 returns : tie.Need-returns
-returns c = rw (c .before .kind-in .ensures) refl
+returns c = rw (c .before .before .kind-in .ensures) refl
 
 pub words-in-spec : {M : Type 1} → statement M
-words-in-spec = tie.close (tie.spec (λ c κs. search needs) (λ c. search needs) returns)
+words-in-spec = tie.close (tie.spec (λ c κs. search needs) (λ c. search needs) (λ c. search needs) returns)

@@ -1,13 +1,8 @@
 -- `replies::put_line` meets its contract.
 -- Assumes nothing.
-use native.Mathlib.Omega.{arith}
 use borrow.Author.Needs.{needs}
-use Rattle.replies.specs.Replies.{put-then}
 use Rattle.replies.proofs.put_line.Statement.{statement}
 use Rattle.replies.proofs.put_line.Tie as tie
 
-returns : tie.Need-returns
-returns c = (put-then (c .before .before .put-reply .ensures .0) (c .put-byte .ensures .0), omega arith)
-
 pub put-line-spec : {M : Type 1} → statement M
-put-line-spec = tie.close (tie.spec (λ c κs. search needs) (λ c κs. search needs) returns)
+put-line-spec = tie.close (tie.spec (λ c. search needs) (λ c κs. search needs) (λ c. search needs))

@@ -1,7 +1,8 @@
 -- `replies::put_number` meets its contract.
 -- Assumes nothing.
 use native.Mathlib.Omega.{arith}
-use Rattle.replies.specs.Replies.{put-wrote, number-short}
+use Rattle.text.specs.Put.{put-wrote}
+use Rattle.replies.specs.Replies.{number-short}
 use borrow.Author.Needs.{needs}
 use Rattle.replies.proofs.put_number.Statement.{statement}
 use Rattle.replies.proofs.put_number.Tie as tie

@@ -5,14 +5,16 @@ use mathlib.Core.Path.{ap}
 use mathlib.Core.List.{_++_}
 use native.Mathlib.Omega.{arith}
 use borrow.Author.Needs.{needs}
-use Rattle.replies.specs.Replies.{headText, termsText, put-then, put-as}
+use Rattle.text.specs.Put.{put-then, put-as}
+use Rattle.replies.specs.Replies.{headText, termsText}
 use Rattle.replies.proofs.put_reading.Statement.{statement}
 use Rattle.replies.proofs.put_reading.Tie as tie
 
 returns : tie.Need-returns
 returns c =
-    let r = c .before .before .before .before .before .before .before .args .r in (
-      put-as (ap (λ (n : ℕ). headText (r .relation) (r .constant) n ++ termsText n (r .variables) (r .coefficients)) (c .before .before .before .before .few .ensures .0))
+    let x = c .before .before .before .before .before .before .before .before .args .x in
+    let r = x .reading in (
+      put-as (ap (λ (n : ℕ). headText (r .relation) (x .strength) (x .group) (r .constant) n ++ termsText n (r .variables) (r .coefficients)) (c .before .before .before .before .few .ensures .0))
           (put-then (c .before .before .put-head .ensures .0) (c .put-terms .ensures .0)),
       omega arith,
     )

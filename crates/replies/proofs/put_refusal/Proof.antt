@@ -3,7 +3,7 @@
 use mathlib.Core.Path.{refl, sym}
 use native.Mathlib.Omega.{arith}
 use borrow.Author.Tests.{eq-eqb, ne-eqb}
-use Rattle.replies.specs.Replies.{put-none, put-then, put-as}
+use Rattle.text.specs.Put.{put-none, put-then, put-as}
 use borrow.Author.Needs.{needs}
 use Rattle.replies.proofs.put_refusal.Statement.{statement}
 use Rattle.replies.proofs.put_refusal.Tie as tie

@@ -2,7 +2,8 @@
 -- Assumes nothing.
 use mathlib.Core.Path.{ap, sym}
 use native.Mathlib.Omega.{arith}
-use Rattle.replies.specs.Replies.{relationText, put-as}
+use Rattle.text.specs.Put.{put-as}
+use Rattle.replies.specs.Replies.{relationText}
 use borrow.Author.Needs.{needs}
 use Rattle.replies.proofs.put_relation.Statement.{statement}
 use Rattle.replies.proofs.put_relation.Tie as tie

@@ -4,7 +4,8 @@ use mathlib.Core.Path.{refl, sym}
 use native.Mathlib.Omega.{arith}
 use borrow.Author.Tests.{eq-eqb, ne-eqb}
 use borrow.Author.Needs.{needs}
-use Rattle.replies.specs.Replies.{replyText, put-as}
+use Rattle.text.specs.Put.{put-as}
+use Rattle.replies.specs.Replies.{replyText}
 use Rattle.replies.proofs.put_reply.Statement.{statement}
 use Rattle.replies.proofs.put_reply.Tie as tie
 

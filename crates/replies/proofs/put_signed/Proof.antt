@@ -3,7 +3,7 @@
 use mathlib.Core.Path.{refl, sym}
 use native.Mathlib.Omega.{arith}
 use borrow.Author.Tests.{lt-ltb, le-ltb}
-use Rattle.replies.specs.Replies.{put-then, put-as}
+use Rattle.text.specs.Put.{put-then, put-as}
 use borrow.Author.Needs.{needs}
 use Rattle.replies.proofs.put_signed.Statement.{statement}
 use Rattle.replies.proofs.put_signed.Tie as tie

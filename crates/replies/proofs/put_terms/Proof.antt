@@ -4,7 +4,8 @@ use Prim.Native.Nat.{_+_, _-_, _*_, _≤_}
 use mathlib.Core.Path.{_≡_, sym}
 use borrow.Author.Needs.{needs}
 use native.Mathlib.Omega.{arith}
-use Rattle.replies.specs.Replies.{Put, termsText, terms-next, put-none, put-then, put-as}
+use Rattle.text.specs.Put.{Put, put-none, put-then, put-as}
+use Rattle.replies.specs.Replies.{termsText, terms-next}
 use Rattle.replies.proofs.put_terms.Statement.{statement}
 use Rattle.replies.proofs.put_terms.Tie as tie
 

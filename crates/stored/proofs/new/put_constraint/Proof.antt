@@ -8,7 +8,7 @@ use Rattle.stored.proofs.new.put_constraint.Statement.{statement}
 use Rattle.stored.proofs.new.put_constraint.Tie as tie
 
 returns : tie.Need-returns
-returns c = constraint-put _ _ _ _ _ _ _ _ _ _ _ (c .before .before .before .before .before .before .before .before .before .before .long-words .ensures) (c .before .before .before .before .before .before .before .before .long-bytes .ensures) (c .before .before .before .before .before .before .long-reals .ensures) (omega arith) refl (c .before .before .before .put-terms .ensures) (c .before .put-coefficients .ensures)
+returns c = constraint-put _ _ _ _ _ _ _ _ _ _ _ _ _ (c .before .before .before .before .before .before .before .before .before .before .long-words .ensures) (c .before .before .before .before .before .before .before .before .long-bytes .ensures) (c .before .before .before .before .before .before .long-reals .ensures) (omega arith) (omega arith) refl (c .before .before .before .put-terms .ensures) (c .before .put-coefficients .ensures)
 
 pub put-constraint-spec : {M : Type 1} → statement M
 put-constraint-spec =
@@ -19,6 +19,11 @@ put-constraint-spec =
     (λ c κs. search needs)
     (λ c κs. search needs)
     (λ c κs. search needs)
+    (λ c. search needs)
+    (λ c. search needs)
+    (λ c. search needs)
+    (λ c. search needs)
+    (λ c. search needs)
     (λ c. search needs)
     (λ c. search needs)
     (λ c. search needs)

@@ -1,0 +1,3 @@
+-- "`show C`" as text.
+pub mod Puts
+pub mod Show

@@ -1,0 +1,12 @@
+-- `shown::refuse` meets its contract. Assumes nothing.
+use mathlib.Core.Path.{refl}
+use Rattle.steps.specs.Number.{zero64}
+use Rattle.shown.proofs.refuse.Statement.{statement}
+use Rattle.shown.proofs.refuse.Tie as tie
+
+returns : tie.Need-returns
+unfolding zero64
+returns c = refl
+
+pub refuse-spec : {M : Type 1} → statement M
+refuse-spec = tie.close (tie.spec returns)
