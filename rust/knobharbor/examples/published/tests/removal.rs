@@ -1,4 +1,5 @@
 //! The crate's own test (NOTICE), by the rename line in Cargo.toml.
+extern crate cassowary;
 
 use cassowary::{Variable, Solver, Constraint};
 use cassowary::WeightedRelation::*;

@@ -1,4 +1,6 @@
 //! The crate's own test (NOTICE), by the rename line in Cargo.toml.
+extern crate cassowary;
+
 use cassowary::{ Solver, Variable };
 use cassowary::WeightedRelation::*;
 

@@ -19,7 +19,7 @@ impl Values {
     }
 }
 
-pub fn new_values() -> (Box<dyn Fn(Variable) -> f64>, Box<dyn Fn(&[(Variable, f64)])>) {
+pub fn new_values() -> (Box<Fn(Variable) -> f64>, Box<Fn(&[(Variable, f64)])>) {
     let values = Values(Rc::new(RefCell::new(HashMap::new())));
     let value_of = {
         let values = values.clone();
