@@ -10,9 +10,11 @@ ghost use Rattle.waist.specs.Working.{lent};
 ghost use Rattle.lending.specs.Lending.{answerOf, called, callOf};
 ghost use Rattle.lending.specs.Entered.{zeroRoom};
 ghost use Rattle.changes.specs.Change.{changingOf};
-ghost use Rattle.entry.specs.Entry.{lists, onceEach, lentOnce, zeroes, each, zeroed, callOn, resetOn};
+ghost use Rattle.lengths.specs.Lengths.{lists, onceEach};
+ghost use Rattle.entry.specs.Entry.{lentOnce, zeroes, each, zeroed, callOn, resetOn};
 use changes::Change;
 use lending::Answer;
+use lengths::once;
 use sparse::Bytes;
 use sparse::Keys;
 use sparse::Reals;
@@ -89,16 +91,6 @@ fn clear(
     clear_all_bytes(wbytes);
     clear_all_reals(wreals);
     clear_all_values(wvalues);
-}
-
-fn once(words: &[Words], keys: &[Keys], bytes: &[Bytes], reals: &[Reals], values: &[Values]) -> bool
-    ensures { λ r. ⌜ r ≡ onceEach (lists (now (words .entry)) (now (keys .entry)) (now (bytes .entry)) (now (reals .entry)) (now (values .entry))) ⌝ }
-{
-    (words.len() == 1)
-        & (keys.len() == 1)
-        & (bytes.len() == 1)
-        & (reals.len() == 1)
-        & (values.len() == 1)
 }
 
 // Each lent once: the call over arrays. The room is told its lengths, so that what is cleared is all of it.
