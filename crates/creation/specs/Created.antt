@@ -28,9 +28,10 @@ use Rattle.keeps.specs.Creating.{createRow-tagged}
 use Rattle.rows.specs.Marks.{markOf}
 use Rattle.rows.specs.Table.{reverseSignIn}
 use Rattle.rows.specs.Reading as dense
-use Rattle.layout.specs.Layout.{cellsOf}
-use Rattle.cells.specs.Names.{rowRoom}
+use Rattle.layout.specs.Layout.{cellsOf, termRoom}
+use Rattle.cells.specs.Names.{rowRoom, lastPlace}
 use Rattle.sparse.specs.Sparse.{Sparse, symbolCount, rowCount, variableCount, symbolAt, variableOf, symbolsOf, basicsOf, read}
+use Rattle.sparse.specs.Places.{mostVariables}
 use Rattle.substituting.specs.Loose.{SettledRow}
 use Rattle.variables.specs.Found.{variables-are}
 use Rattle.waist.specs.Working.{cutoffOf, workOf, artificialOf, dense-cells}
@@ -57,9 +58,9 @@ pub record Opening (a : Mark) (terms : List Term) (constant : Float) (t : Sparse
   pub U : ℕ → ℕ
   pub good : Good K U (workOf false a 0 t)
   pub finite : isFinite constant ≡ true
-  pub few-terms : length terms ≤ 16
+  pub few-terms : length terms ≤ termRoom
   pub few-rows : rowCount t ≤ 47
-  pub few-variables : variableCount t + newIn terms t ≤ 32
+  pub few-variables : variableCount t + newIn terms t ≤ mostVariables
   pub few-symbols : symbolCount t + newIn terms t ≤ 126
   pub few-ids : nextId t ≤ 4294900000
 
@@ -169,7 +170,7 @@ closed-tags relation a t u row row₁ r h wide e =
 pub record Creates (terms : List Term) (constant : Float) (relation : Relation) (a : Mark) (t u : Sparse) (row : List Float) (r : Tagged) : Type 0 where
   pub reads : createdOf r u row ≡ createRow terms constant relation (workOf false a 0 t)
   pub stands : Standing false (markOf (r .wrote)) u
-  pub few-symbols : symbolCount u ≤ 128
+  pub few-symbols : symbolCount u < lastPlace
   pub few-rows : rowCount u ≤ 47
   pub few-ids : nextId u ≤ 4294900018
   pub own : OwnTag r u

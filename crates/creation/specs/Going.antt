@@ -17,7 +17,9 @@ use Rattle.steps.specs.CreateRow.{Building, insertTerm, insertTerms}
 use Rattle.steps.specs.Tests.{keptTerms, member, newVariables}
 use Rattle.keeps.specs.Terms.{insertTerms-length}
 use Rattle.layout.specs.Copy.{most16}
+use Rattle.layout.specs.Layout.{termRoom}
 use Rattle.sparse.specs.Sparse.{Sparse, symbolCount, rowCount, variableCount, read}
+use Rattle.sparse.specs.Places.{mostVariables}
 use Rattle.terms.specs.declared.Pack.{Pack}
 use Rattle.terms.specs.Terms.{termOf, termIn, termsOf}
 use Rattle.waist.specs.Working.{cutoffOf}
@@ -61,7 +63,7 @@ terms-of p e q = rw q refl
 -- tables on which terms may be inserted
 pub record Ready (a : Mark) (terms : List Term) (t : Sparse) : Type 0 where
   pub standing : Standing false a t
-  pub few-variables : variableCount t + newIn terms t ≤ 32
+  pub few-variables : variableCount t + newIn terms t ≤ mostVariables
   pub few-symbols : symbolCount t + newIn terms t ≤ 126
   pub few-ids : nextId t ≤ 4294900000
   pub spare : Used 4294900000 t
@@ -93,7 +95,7 @@ module _ (e : ℕ) (vars : List ℕ) (coefs : List Float) (a₀ : Mark) (t₀ : 
       record { reads = rw q at (g .reads); stands = g .stands }
 
   -- what the terms leave room for
-  pub going-few : e ≤ j → e ≤ 16 → Ready a₀ (termsFrom e vars coefs) t₀ → (symbolCount t ≤ 126) × (rowCount t ≡ rowCount t₀) × (nextId t ≤ 4294900016)
+  pub going-few : e ≤ j → e ≤ termRoom → Ready a₀ (termsFrom e vars coefs) t₀ → (symbolCount t ≤ 126) × (rowCount t ≡ rowCount t₀) × (nextId t ≤ 4294900016)
   going-few h m r =
       let w = whole-is (termsFrom e vars coefs) a₀ t₀ row₀ in
       let c : count (buildingOf a t row) ≡ count (insertTerms (cutoffOf t₀) (termsFrom e vars coefs) (buildingOf a₀ t₀ row₀)) = ap count (going-end h .reads) in
@@ -139,7 +141,7 @@ module _ (e : ℕ) (vars : List ℕ) (coefs : List Float) (a₀ : Mark) (t₀ : 
     pub going-turn : {m : ℕ} {z : Float} (c : Mark) (u : Sparse) (row₁ : List Float) → m ≡ n → z ≡ cutoffOf t₀ → Builds a c (keptBy z m k) t u row row₁ → Steps 1 1 t u → Going e vars coefs a₀ t₀ row₀ (j + 1) c u row₁
     going-turn c u row₁ q y b s = let b' : Builds a c (keptBy (cutoffOf t₀) n k) t u row row₁ = rw (q, y) at b in going-next c u row₁ b' s
 
-    module _ (few : e ≤ 16) (r : Ready a₀ (termsFrom e vars coefs) t₀) where
+    module _ (few : e ≤ termRoom) (r : Ready a₀ (termsFrom e vars coefs) t₀) where
       abbrev whole : ℕ
       whole = count (insertTerms (cutoffOf t₀) (termsFrom e vars coefs) (buildingOf a₀ t₀ row₀))
 

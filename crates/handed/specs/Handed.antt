@@ -27,6 +27,7 @@ use Rattle.cable_lines.specs.Given.{asTaken, Given, given, asGiven}
 use Rattle.cable_lines.specs.declared.Taken.{Taken}
 use Rattle.layout.specs.Rooms.{and-left, and-right}
 use Rattle.steps.specs.Number.{zero64}
+use Rattle.layout.specs.Layout.{termRoom}
 use Rattle.typed.specs.Typed.{wholeOf, value-stands}
 use Rattle.handed.specs.Fits.{Fits, line-fits}
 
@@ -51,11 +52,11 @@ handed b w x v k c = record { answered = b; words = w; reals = x; variables = v;
 
 -- what the terms have, each in its place of 16, zeros behind them
 abbrev pub placed : {A : Type 0} → A → (Term → A) → List Term → List A
-placed z f ts = map f ts ++ replicate (16 - length ts) z
+placed z f ts = map f ts ++ replicate (termRoom - length ts) z
 
 -- no constraint: of all that one would have zeros
 abbrev pub without : Bool → ℕ → ℕ → ℕ → List ℕ → Handed
-without b n k at c = handed b (n ∷ k ∷ at ∷ 0 ∷ 0 ∷ 0 ∷ []) (zero64 ∷ zero64 ∷ []) (replicate 16 0) (replicate 16 zero64) c
+without b n k at c = handed b (n ∷ k ∷ at ∷ 0 ∷ 0 ∷ 0 ∷ []) (zero64 ∷ zero64 ∷ []) (replicate termRoom 0) (replicate termRoom zero64) c
 
 -- what a constraint says, each in its place
 abbrev pub said : Constraint → ℕ → List ℕ → Handed
@@ -120,10 +121,10 @@ module _ {A : Type 0} (f : Term → A) where
   laid-front z [] k = rw zero-add
   laid-front z (t ∷ ts) k = rw suc-add (laid-past 0 ts (f t) (replicate (length ts + k) z) ∙ ap (λ (r : List A). f t ∷ r) (laid-front z ts k))
 
-  laid-placed : (z : A) (ts : List Term) → length ts ≤ 16 → laid f 0 ts (replicate 16 z) ≡ placed z f ts
+  laid-placed : (z : A) (ts : List Term) → length ts ≤ termRoom → laid f 0 ts (replicate termRoom z) ≡ placed z f ts
   laid-placed z ts h =
-      let e : length ts + (16 - length ts) ≡ 16 = omega arith in
-      ap (λ (n : ℕ). laid f 0 ts (replicate n z)) (sym e) ∙ laid-front z ts (16 - length ts)
+      let e : length ts + (termRoom - length ts) ≡ termRoom = omega arith in
+      ap (λ (n : ℕ). laid f 0 ts (replicate n z)) (sym e) ∙ laid-front z ts (termRoom - length ts)
 
 map-laid : (f : Term → ℕ) (i : ℕ) (ts : List Term) (l : List ℕ) → map wholeAt (laid f i ts l) ≡ laid (λ t. wholeAt (f t)) i ts (map wholeAt l)
 unfolding laid
@@ -151,12 +152,12 @@ mark-back atMost = refl
 mark-back equal = refl
 mark-back atLeast = refl
 
-coefficients-placed : (ts : List Term) → smallTerms ts ≡ true → length ts ≤ 16 → map wholeAt (laid (λ t. standsAs (t .coefficient)) 0 ts noCoefficients) ≡ placed zero64 (λ t. wholeOf (t .coefficient)) ts
+coefficients-placed : (ts : List Term) → smallTerms ts ≡ true → length ts ≤ termRoom → map wholeAt (laid (λ t. standsAs (t .coefficient)) 0 ts noCoefficients) ≡ placed zero64 (λ t. wholeOf (t .coefficient)) ts
 coefficients-placed ts small few =
     map-laid (λ t. standsAs (t .coefficient)) 0 ts noCoefficients
-    ∙ (ap (λ (z : Float). laid (λ t. wholeAt (standsAs (t .coefficient))) 0 ts (replicate 16 z)) zero-at
+    ∙ (ap (λ (z : Float). laid (λ t. wholeAt (standsAs (t .coefficient))) 0 ts (replicate termRoom z)) zero-at
     ∙ (laid-placed (λ t. wholeAt (standsAs (t .coefficient))) zero64 ts few
-    ∙ ap (λ (l : List Float). l ++ replicate (16 - length ts) zero64) (small-wholes ts small)))
+    ∙ ap (λ (l : List Float). l ++ replicate (termRoom - length ts) zero64) (small-wholes ts small)))
 
 -- ---- every answer's numbers are few and small
 

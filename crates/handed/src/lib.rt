@@ -8,6 +8,7 @@ ghost use Rattle.cable_lines.specs.State.{heldBy};
 ghost use Rattle.handed.specs.Handed.{kindOf, handed, handedBy, readBy, readsIn, kindIn, wordsIn, realsIn, wholeAt};
 use cable_lines::Taken;
 use cable_lines::state::State;
+use layout::TERM_ROOM;
 use reader::sides::Mark;
 use second::read_second;
 use typed::pack::whole;
@@ -19,9 +20,9 @@ pub type Words = [u64; 6];
 pub type Reals = [f64; 2];
 
 // The terms, zeros behind them.
-pub type Variables = [u32; 16];
+pub type Variables = [u32; TERM_ROOM];
 
-pub type Coefficients = [f64; 16];
+pub type Coefficients = [f64; TERM_ROOM];
 
 fn kind_of(m: Mark) -> u64
     ensures { λ r. ⌜ r ≡ kindOf (relationOf m) ⌝ }
@@ -78,12 +79,12 @@ fn reals_in(t: Taken) -> Reals
     [constant, strength]
 }
 
-fn wholes(x: [u64; 16]) -> Coefficients
+fn wholes(x: [u64; TERM_ROOM]) -> Coefficients
     ensures { λ r. ⌜ r ≡ map wholeAt x ⌝ }
 {
-    let mut r = [0.0; 16];
+    let mut r = [0.0; TERM_ROOM];
     let mut i: usize = 0;
-    while i < 16 {
+    while i < TERM_ROOM {
         r[i] = whole(x[i]);
         i += 1;
     }

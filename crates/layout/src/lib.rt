@@ -3,6 +3,9 @@
 // ---- lengths of the tables
 pub const HEAD_SIZE: usize = 196;
 
+// "16 terms in a constraint"
+pub const TERM_ROOM: usize = 16;
+
 pub const ITEMS_SIZE: usize = 128;
 
 pub const ROWS_SIZE: usize = 51;

@@ -12,6 +12,7 @@ use borrow.Author.Tests.{eq-eqb, ne-eqb, eqb-true}
 use Rattle.steps.specs.Number.{isFinite, zero64, one64}
 use Rattle.steps.specs.Symbol.{absent}
 use Rattle.laws.specs.Lists.{allFrom, allIn, sumFrom, sumIn}
+use Rattle.cells.specs.Names.{rowRoom}
 use Rattle.places.specs.Finding.{all-at, at-all}
 use Rattle.places.specs.Listed.{same}
 use Rattle.places.specs.Products.{by-zero, by-one}
@@ -27,7 +28,7 @@ marked m j = eq (getD m j nan) one64
 
 -- each place of a row has a mark
 abbrev pub Marks : List Float → Type 0
-Marks m = (j : ℕ) → j < 130 → getD m j nan ≡ markOf (marked m j)
+Marks m = (j : ℕ) → j < rowRoom → getD m j nan ≡ markOf (marked m j)
 
 -- the places from a up to e
 unfoldable pub fitsIn : List Float → List Float → ℕ → ℕ → Bool

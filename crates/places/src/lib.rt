@@ -5,8 +5,10 @@ ghost use Prim.Native.Nat.{_+_, _-_, _<_, _≤_};
 ghost use lib.ListN.{length};
 ghost use lib.Ieee.{isNan};
 ghost use Rattle.steps.specs.Number.{isFinite};
+ghost use Rattle.cells.specs.Names.{rowRoom};
 ghost use Rattle.places.specs.Shares.{shares, take, noneLeft, finiteIn};
 ghost use Rattle.places.specs.Marked.{Marks, Hits, fitsIn, hitsIn};
+use cells::ROW_ROOM;
 
 // a product with 0.0 is 0.0 of what is finite, and NaN of what is not
 pub fn is_finite(x: f64) -> bool
@@ -46,8 +48,8 @@ fn cell_hit(x: f64, m: f64) -> usize
 }
 
 // Counted, not joined: a loop that counts is run over several cells at once.
-fn row_hits(row: &[f64; 130], marks: &[f64; 130], a: usize, e: usize) -> usize
-    requires { ⌜ e ≤ 130 ⌝ }
+fn row_hits(row: &[f64; ROW_ROOM], marks: &[f64; ROW_ROOM], a: usize, e: usize) -> usize
+    requires { ⌜ e ≤ rowRoom ⌝ }
     requires { ⌜ Marks (now marks) ⌝ }
     ensures { λ r. ⌜ r ≡ hitsIn (now (row .entry)) (now (marks .entry)) a e ⌝ }
 {
@@ -60,9 +62,9 @@ fn row_hits(row: &[f64; 130], marks: &[f64; 130], a: usize, e: usize) -> usize
     hits
 }
 
-pub fn row_fits(row: &[f64; 130], marks: &[f64; 130], a: usize, e: usize) -> bool
+pub fn row_fits(row: &[f64; ROW_ROOM], marks: &[f64; ROW_ROOM], a: usize, e: usize) -> bool
     requires { ⌜ a ≤ e ⌝ }
-    requires { ⌜ e ≤ 130 ⌝ }
+    requires { ⌜ e ≤ rowRoom ⌝ }
     requires { ⌜ Marks (now marks) ⌝ }
     ensures { λ r. ⌜ r ≡ fitsIn (now (row .entry)) (now (marks .entry)) a e ⌝ }
 {

@@ -16,6 +16,7 @@ use Rattle.steps.specs.State as steps
 use Rattle.steps.specs.Edit.{editTerms}
 use Rattle.steps.specs.Tests.{Test, _if_, firstRefusal, newVariables, hasConstraint, hasEdit, constraintsFull, variablesFull, idsUsed, keptTerms, addTests, addEditTests}
 use Rattle.laws.specs.Lists.{listOf, length-tab}
+use Rattle.layout.specs.Layout.{termRoom}
 use Rattle.sparse.specs.Places.{mostVariables, mostConstraints, constraintNumbersAt}
 use Rattle.sparse.specs.Sparse.{Sparse, variableCount, constraintCount, editCount, read}
 use Rattle.sparse_test.specs.Reads.{reads}
@@ -46,8 +47,8 @@ unfolding firstRefusal numberOr0
 none-left = refl
 
 -- the lent list had at most 16 terms, so that its pack reads as it
-pub few-terms : (ts : List Term) → eqb (packOf ts .count) 17 ≡ false → length ts ≤ 16
-few-terms ts e = let k = ltb-false 16 (length (termsIn ts)) (pack-many ts ∙ e) in rw (length-terms ts) at k
+pub few-terms : (ts : List Term) → eqb (packOf ts .count) 17 ≡ false → length ts ≤ termRoom
+few-terms ts e = let k = ltb-false termRoom (length (termsIn ts)) (pack-many ts ∙ e) in rw (length-terms ts) at k
 
 one-term : (x : ℕ) → termsIn (record { variable = x; coefficient = one64 } ∷ []) ≡ record { variable = x; coefficient = one64 } ∷ []
 unfolding termsIn termOf

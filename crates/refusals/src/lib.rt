@@ -4,18 +4,17 @@ pub mod gone;
 ghost use mathlib.Core.Path.{_≡_};
 ghost use mathlib.Core.Bool.{cond};
 ghost use Prim.Native.Nat.{_+_, _<_, _≤_};
+ghost use Rattle.layout.specs.Layout.{termRoom};
 ghost use Rattle.sparse.specs.Places.{mostVariables, mostConstraints, variableNumbersAt, constraintNumbersAt, wordsSize};
 ghost use Rattle.sparse.specs.Lookup.{Ascends};
 ghost use Rattle.refusals.specs.Refusals.{variablesIn, constraintsIn, editsIn, liveIn, editedIn, Tabled, groupPlace, groupIn, firstOf, newAt, newIn, constraintsFullIn, variablesFullIn, idsUsedIn, roomRefusal, inputRefusal, addRefusal, editPack, addEditRefusal, suggestRefusal, removeRefusal, removeEditRefusal, dropRefusal};
 use gone::Taken;
 use gone::gone_full;
 use sparse::Bytes;
+use sparse::MOST_CONSTRAINTS;
 use sparse::Reals;
 use sparse::Words;
 use sparse::lookup::look_up;
-
-// As many as the words have numbers for.
-const MOST_CONSTRAINTS: usize = sparse::CONSTRAINT_GROUPS - sparse::CONSTRAINT_NUMBERS;
 
 // A test that fails gives its number, one that passes what the tests after it give.
 fn refusal(fails: bool, number: u64, rest: u64) -> u64
@@ -69,7 +68,7 @@ pub fn group_lives(words: &Words, g: u16) -> bool
 // ---- new variables
 
 fn first_of(p: terms::Pack, i: usize) -> bool
-    requires { ⌜ i < 16 ⌝ }
+    requires { ⌜ i < termRoom ⌝ }
     ensures { λ r. ⌜ r ≡ firstOf p i ⌝ }
 {
     let vars = p.vars;
@@ -85,7 +84,7 @@ fn first_of(p: terms::Pack, i: usize) -> bool
 
 fn new_at(words: &Words, v: usize, p: terms::Pack, i: usize) -> u64
     requires { ⌜ v ≤ mostVariables ⌝ }
-    requires { ⌜ i < 16 ⌝ }
+    requires { ⌜ i < termRoom ⌝ }
     requires { ⌜ Ascends (now words) variableNumbersAt v ⌝ }
     ensures { λ r. ⌜ r ≡ newAt (now (words .entry)) v p i ⌝ }
     ensures { λ r. ⌜ r ≤ 1 ⌝ }
@@ -103,7 +102,7 @@ fn new_variables(words: &Words, v: usize, p: terms::Pack) -> u64
     requires { ⌜ v ≤ mostVariables ⌝ }
     requires { ⌜ Ascends (now words) variableNumbersAt v ⌝ }
     ensures { λ r. ⌜ r ≡ newIn (now (words .entry)) v p ⌝ }
-    ensures { λ r. ⌜ r ≤ 16 ⌝ }
+    ensures { λ r. ⌜ r ≤ termRoom ⌝ }
 {
     let e = terms::shown(p);
     let mut s = 0;

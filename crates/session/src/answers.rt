@@ -17,7 +17,10 @@ ghost use Rattle.session.specs.Said.{Spoken, fetchSaid};
 ghost use Rattle.session.specs.Calls.{room, replyOf, callFrom, askedText, heldReply};
 ghost use Rattle.session.specs.Shows.{shownReply, heldAnswer};
 use changes::Change;
+use layout::TERM_ROOM;
 use lending::Answer;
+use shown::LINE_REALS;
+use shown::LINE_WORDS;
 use sparse::Bytes;
 use sparse::Keys;
 use sparse::Reals;
@@ -144,10 +147,10 @@ fn say_shown(
     requires { ⌜ at ≤ 5000 ⌝ }
     ensures { λ z. ⌜ Wrote (now (out .entry)) (now (out .exit)) at z (shownReply number (lent (words .entry) (keys .entry) (bytes .entry) (reals .entry) (values .entry))) ⌝ }
 {
-    let mut w = [0u64; 6];
-    let mut x = [0.0f64; 2];
-    let mut v = [0u32; 16];
-    let mut k = [0.0f64; 16];
+    let mut w = [0u64; LINE_WORDS];
+    let mut x = [0.0f64; LINE_REALS];
+    let mut v = [0u32; TERM_ROOM];
+    let mut k = [0.0f64; TERM_ROOM];
     shown::show(
         words,
         keys,

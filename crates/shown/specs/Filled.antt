@@ -8,13 +8,14 @@ use native.Mathlib.Omega.{arith}
 use lib.ListN.{length, set, replicate}
 use lib.Seq.{set-at}
 use Rattle.laws.specs.Lists.{tab, listOf, length-tab}
+use Rattle.layout.specs.Layout.{termRoom}
 
 module _ {A : Type 0} (z : A) (g : ℕ → A) where
   -- the first n filled
   unfoldable pub filled : ℕ → List A
-  filled n = listOf n g ++ replicate (16 - n) z
+  filled n = listOf n g ++ replicate (termRoom - n) z
 
-  pub filled-none : replicate 16 z ≡ filled 0
+  pub filled-none : replicate termRoom z ≡ filled 0
   unfolding filled listOf tab
   filled-none = refl
 
@@ -25,14 +26,14 @@ module _ {A : Type 0} (z : A) (g : ℕ → A) where
       let e : suc i + n ≡ i + suc n = omega arith in
       ap (λ (l : List A). g i ∷ l) (rw e at (snoc (suc i) n))
 
-  pub filled-next : (n : ℕ) {x : A} {r : List A} → n < 16 → r ≡ filled n → x ≡ g n → set r n x ≡ filled (n + 1)
+  pub filled-next : (n : ℕ) {x : A} {r : List A} → n < termRoom → r ≡ filled n → x ≡ g n → set r n x ≡ filled (n + 1)
   unfolding filled listOf
   filled-next n {x} {r} h q e =
-      let k : 16 - n ≡ suc (16 - suc n) = omega arith in
+      let k : termRoom - n ≡ suc (termRoom - suc n) = omega arith in
       let o : 0 + n ≡ n = omega arith in
       rw (q, add-one n, k, e)
-      (set-at (tab g 0 n) z (replicate (16 - suc n) z) (g n) n (length-tab g 0 n)
-      ∙ (sym-assoc (tab g 0 n) (g n) (replicate (16 - suc n) z) ∙ ap (λ (l : List A). l ++ replicate (16 - suc n) z) (rw o at (back (snoc 0 n)))))
+      (set-at (tab g 0 n) z (replicate (termRoom - suc n) z) (g n) n (length-tab g 0 n)
+      ∙ (sym-assoc (tab g 0 n) (g n) (replicate (termRoom - suc n) z) ∙ ap (λ (l : List A). l ++ replicate (termRoom - suc n) z) (rw o at (back (snoc 0 n)))))
     where
       sym-assoc : (l : List A) (y : A) (r : List A) → l ++ (y ∷ r) ≡ (l ++ (y ∷ [])) ++ r
       sym-assoc [] y r = refl

@@ -8,7 +8,7 @@ use lib.Ieee.{Float}
 use Rattle.steps.specs.Number.{zero64}
 use Rattle.steps.specs.State.{Term, strengthOf, comparisonOf}
 use Rattle.steps.specs.Shown.{Given, shown}
-use Rattle.layout.specs.Layout.{comparisonCode}
+use Rattle.layout.specs.Layout.{comparisonCode, termRoom}
 use Rattle.sparse.specs.Sparse.{Sparse, read}
 use Rattle.sparse_test.specs.Reads.{reads}
 
@@ -24,11 +24,11 @@ line w x v k = record { words = w; reals = x; variables = v; coefficients = k }
 
 -- what the terms have, each in its place of 16, zeros behind them
 abbrev pub placed : {A : Type 0} → A → (Term → A) → List Term → List A
-placed z f ts = map f ts ++ replicate (16 - length ts) z
+placed z f ts = map f ts ++ replicate (termRoom - length ts) z
 
 -- no constraint: of all that one would have zeros
 abbrev pub without : ℕ → Line
-without k = line (0 ∷ k ∷ 0 ∷ 0 ∷ 0 ∷ 0 ∷ []) (zero64 ∷ zero64 ∷ []) (replicate 16 0) (replicate 16 zero64)
+without k = line (0 ∷ k ∷ 0 ∷ 0 ∷ 0 ∷ 0 ∷ []) (zero64 ∷ zero64 ∷ []) (replicate termRoom 0) (replicate termRoom zero64)
 
 -- "a live constraint as it was added (skipped terms left out) with its group"; the kind is 0 for at most, 1 for equal, 2 for at least
 abbrev pub said : Given → Line

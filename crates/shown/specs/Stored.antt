@@ -13,7 +13,7 @@ use Rattle.steps.specs.State.{Comparison, noMore, exactly, noLess, Relation, st
 use Rattle.steps.specs.Shown.{givenOf}
 use Rattle.steps.specs.Readable as steps
 use Rattle.keeps.specs.Clauses.{and3, clauses-in}
-use Rattle.layout.specs.Layout.{comparisonIn, comparisonCode}
+use Rattle.layout.specs.Layout.{comparisonIn, comparisonCode, termRoom}
 use Rattle.layout.specs.Written.{comparison-read}
 use Rattle.sparse.specs.Places.{mostVariables, mostConstraints, variableCountAt, variableNumbersAt, constraintGroupsAt, termCountsAt, termsAt, relationsAt, constraintStrengthsAt, coefficientsAt, constraintConstantsAt}
 use Rattle.sparse.specs.Sparse.{Sparse, variableCount, constraintCount, numberAt, termsFrom, termOf, constraintOf, read}
@@ -57,9 +57,9 @@ strength-of noLess s = refl
 -- ---- what the code needs of tables that read
 
 module _ (t : Sparse) (ok : reads t ≡ true) where
-  few : (i : ℕ) → i < constraintCount t → getD (t .bytes) (termCountsAt + i) 0 ≤ 16
+  few : (i : ℕ) → i < constraintCount t → getD (t .bytes) (termCountsAt + i) 0 ≤ termRoom
   unfolding steps.countsInRange
-  few = few-in t (and3 (leb (length (read t .changes .variables)) 32) (leb (length (steps.tags (read t))) 48) (steps.all (fewTerms t) (read t .constraints)) (clauses-in (read t) (reads-readable t ok) .counts) .2)
+  few = few-in t (and3 (leb (length (read t .changes .variables)) mostVariables) (leb (length (steps.tags (read t))) mostConstraints) (steps.all (fewTerms t) (read t .constraints)) (clauses-in (read t) (reads-readable t ok) .counts) .2)
 
   pub few-variables : variableCount t ≤ mostVariables
   few-variables = reads-form t ok .counts .variables
@@ -70,8 +70,8 @@ module _ (t : Sparse) (ok : reads t ≡ true) where
   pub narrow-numbers : mostIn (t .words) variableNumbersAt (variableCount t) greatestU32 ≡ true
   narrow-numbers = reads-parts t ok .numbers
 
-  pub few-counts : (i : ℕ) → i < constraintCount t → mostIn (t .bytes) termCountsAt (i + 1) 16 ≡ true
-  few-counts i h = in-most (t .bytes) termCountsAt (i + 1) 16 λ j k. few j (omega (arith, h, k))
+  pub few-counts : (i : ℕ) → i < constraintCount t → mostIn (t .bytes) termCountsAt (i + 1) termRoom ≡ true
+  few-counts i h = in-most (t .bytes) termCountsAt (i + 1) termRoom λ j k. few j (omega (arith, h, k))
 
   -- ---- the constraint
 

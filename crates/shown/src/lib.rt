@@ -4,6 +4,7 @@ ghost use mathlib.Core.Bool.{true};
 ghost use Prim.Native.Nat.{_+_, _≤_, _<_};
 ghost use lib.ListN.{getD};
 ghost use Rattle.steps.specs.Number.{zero64};
+ghost use Rattle.layout.specs.Layout.{termRoom};
 ghost use Rattle.sparse.specs.Places.{mostVariables, mostConstraints, mostTerms, variableCountAt, variableNumbersAt, termCountsAt};
 ghost use Rattle.sparse_test.specs.Stretch.{mostIn};
 ghost use Rattle.sparse_test.specs.Reads.{greatestU32};
@@ -12,6 +13,7 @@ ghost use Rattle.sparse_test.specs.Whole.{tables};
 ghost use Rattle.shown.specs.Shown.{line, without, showOf};
 ghost use Rattle.shown.specs.Filled.{filled};
 ghost use Rattle.shown.specs.Stored.{variableAt, coefficientAt, lineIn};
+use layout::TERM_ROOM;
 use sparse::Bytes;
 use sparse::Keys;
 use sparse::Reals;
@@ -23,22 +25,26 @@ use sparse_test::reads_as_state;
 use sparse_test::stretch::wide;
 
 // 0, 0 or the refusal's number, 0, the kind, how many terms, the group.
-pub type LineWords = [u64; 6];
+pub type LineWords = [u64; LINE_WORDS];
+
+pub const LINE_WORDS: usize = 6;
 
 // The constant, the strength.
-pub type LineReals = [f64; 2];
+pub type LineReals = [f64; LINE_REALS];
+
+pub const LINE_REALS: usize = 2;
 
 // The terms, zeros behind them.
-pub type Variables = [u32; 16];
+pub type Variables = [u32; TERM_ROOM];
 
-pub type Coefficients = [f64; 16];
+pub type Coefficients = [f64; TERM_ROOM];
 
 // How many terms the constraints before i have.
 fn terms_before(bytes: &Bytes, i: usize) -> usize
     requires { ⌜ i < mostConstraints ⌝ }
-    requires { ⌜ mostIn (now bytes) termCountsAt (i + 1) 16 ≡ true ⌝ }
+    requires { ⌜ mostIn (now bytes) termCountsAt (i + 1) termRoom ≡ true ⌝ }
     ensures { λ r. ⌜ r ≡ termCount (now (bytes .entry)) i ⌝ }
-    ensures { λ r. ⌜ r + 16 ≤ mostTerms ⌝ }
+    ensures { λ r. ⌜ r + termRoom ≤ mostTerms ⌝ }
 {
     let mut m = 0;
     let mut j = 0;
@@ -63,14 +69,14 @@ fn number_of(words: &Words, bytes: &Bytes, v: usize, p: u8) -> u32
 }
 
 fn variables_of(words: &Words, bytes: &Bytes, from: usize, n: usize) -> Variables
-    requires { ⌜ n ≤ 16 ⌝ }
-    requires { ⌜ from + 16 ≤ mostTerms ⌝ }
+    requires { ⌜ n ≤ termRoom ⌝ }
+    requires { ⌜ from + termRoom ≤ mostTerms ⌝ }
     requires { ⌜ getD (now words) variableCountAt 0 ≤ mostVariables ⌝ }
     requires { ⌜ mostIn (now words) variableNumbersAt (getD (now words) variableCountAt 0) greatestU32 ≡ true ⌝ }
     ensures { λ r. ⌜ r ≡ filled 0 (variableAt (now (words .entry)) (now (bytes .entry)) from) n ⌝ }
 {
     let v = words[sparse::VARIABLE_COUNT] as usize;
-    let mut r = [0u32; 16];
+    let mut r = [0u32; TERM_ROOM];
     let mut j = 0;
     while j < n {
         r[j] = number_of(words, bytes, v, bytes[sparse::TERMS + (from + j)]);
@@ -80,11 +86,11 @@ fn variables_of(words: &Words, bytes: &Bytes, from: usize, n: usize) -> Variable
 }
 
 fn coefficients_of(reals: &Reals, from: usize, n: usize) -> Coefficients
-    requires { ⌜ n ≤ 16 ⌝ }
-    requires { ⌜ from + 16 ≤ mostTerms ⌝ }
+    requires { ⌜ n ≤ termRoom ⌝ }
+    requires { ⌜ from + termRoom ≤ mostTerms ⌝ }
     ensures { λ r. ⌜ r ≡ filled zero64 (coefficientAt (now (reals .entry)) from) n ⌝ }
 {
-    let mut r = [0.0f64; 16];
+    let mut r = [0.0f64; TERM_ROOM];
     let mut j = 0;
     while j < n {
         r[j] = reals[sparse::COEFFICIENTS + (from + j)];
@@ -104,7 +110,7 @@ fn hand_over(
     coefficients: &mut Coefficients,
 )
     requires { ⌜ i < mostConstraints ⌝ }
-    requires { ⌜ mostIn (now bytes) termCountsAt (i + 1) 16 ≡ true ⌝ }
+    requires { ⌜ mostIn (now bytes) termCountsAt (i + 1) termRoom ≡ true ⌝ }
     requires { ⌜ getD (now words) variableCountAt 0 ≤ mostVariables ⌝ }
     requires { ⌜ mostIn (now words) variableNumbersAt (getD (now words) variableCountAt 0) greatestU32 ≡ true ⌝ }
     ensures { λ _. ⌜ line (now (lwords .exit)) (now (lreals .exit)) (now (variables .exit)) (now (coefficients .exit)) ≡ lineIn (now (words .entry)) (now (bytes .entry)) (now (reals .entry)) i ⌝ }
@@ -138,9 +144,9 @@ fn refuse(
     ensures { λ _. ⌜ line (now (lwords .exit)) (now (lreals .exit)) (now (variables .exit)) (now (coefficients .exit)) ≡ without number ⌝ }
 {
     *lwords = [0, number, 0, 0, 0, 0];
-    *lreals = [0.0; 2];
-    *variables = [0; 16];
-    *coefficients = [0.0; 16];
+    *lreals = [0.0; LINE_REALS];
+    *variables = [0; TERM_ROOM];
+    *coefficients = [0.0; TERM_ROOM];
 }
 
 // 18 for tables that do not read as a state, then 5 for a number that is not live.

@@ -21,6 +21,12 @@ pub const MOST_ROWS: usize = 50;
 
 pub const MOST_VARIABLES: usize = 32;
 
+// Edits counted.
+pub const MOST_CONSTRAINTS: usize = 48;
+
+// Of all constraints.
+pub const MOST_TERMS: usize = 768;
+
 // "At most 32 gone entries wait."
 pub const MOST_GONE: usize = 32;
 

@@ -16,16 +16,17 @@ use Rattle.steps.specs.Tests.{keptTerms}
 use Rattle.laws.specs.Loops.{turns, run}
 use Rattle.laws.specs.Lists.{tab, listOf, length-tab}
 use Rattle.layout.specs.Copy.{most16}
+use Rattle.layout.specs.Layout.{termRoom}
 use Rattle.terms.specs.declared.Pack.{Pack}
 use Rattle.terms.specs.Terms.{noPack, pushed, termOf, termIn, termsOf, pushedKept, keptOf}
 use Rattle.terms.specs.Packed.{Sized, pushed-room, pushed-sized, none-sized, few-none, none-terms, terms-pushed}
 
-pub most-le : (n : ℕ) → most16 n ≤ 16
+pub most-le : (n : ℕ) → most16 n ≤ termRoom
 unfolding most16
-most-le n = go (leb n 16) refl
+most-le n = go (leb n termRoom) refl
   where
-    go : (b : Bool) → leb n 16 ≡ b → cond b n 16 ≤ 16
-    go true e = leb-true n 16 e
+    go : (b : Bool) → leb n termRoom ≡ b → cond b n termRoom ≤ termRoom
+    go true e = leb-true n termRoom e
     go false e = omega arith
 
 pub terms-length : (p : Pack) → length (termsOf p) ≡ most16 (p .count)
@@ -53,7 +54,7 @@ module _ (cutoff : Float) (p : Pack) where
 
   -- what a turn gives: a pack with room for n terms more, which reads as the list
   abbrev Holds : ℕ → List steps.Term → Pack → Type 0
-  Holds n l q = (Sized q) × (q .count + n ≤ 16) × (termsOf q ≡ l)
+  Holds n l q = (Sized q) × (q .count + n ≤ termRoom) × (termsOf q ≡ l)
 
   kept-turn : (j n : ℕ) (q : Pack) (l : List steps.Term) → Holds (suc n) l q → Holds n (l ++ keptTerms cutoff (term j ∷ [])) (keeps j q)
   unfolding pushedKept keptTerms termOf

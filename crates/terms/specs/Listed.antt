@@ -17,6 +17,7 @@ use Rattle.laws.specs.Loops.{turns, run}
 use Rattle.laws.specs.Lists.{tab, listOf, map-tab, length-tab}
 use Rattle.layout.specs.Copy.{most16}
 use Rattle.layout.specs.Rooms.{both}
+use Rattle.layout.specs.Layout.{termRoom}
 use Rattle.terms.specs.declared.Term.{Term}
 use Rattle.terms.specs.declared.Pack.{Pack}
 use Rattle.terms.specs.Terms.{noTerm, noPack, pushed, packFrom, packOf, termOf, termsIn, termIn, termsOf, zeroTerm, shownIn, pastIn, listed}
@@ -41,26 +42,26 @@ pack-more p [] t = refl
 pack-more p (x ∷ ts) t = pack-more (pushed p x) ts t
 
 module _ (p : Pack) where
-  past-none : p .finite ≡ true → p .count ≤ 16 → listed p ≡ shownIn p
+  past-none : p .finite ≡ true → p .count ≤ termRoom → listed p ≡ shownIn p
   unfolding listed pastIn
   past-none f c =
-      ap (λ (b : Bool). shownIn p ++ cond b (cond (leb (p .count) 16) [] (zeroTerm ∷ [])) (noTerm ∷ [])) f
-      ∙ ap (λ (b : Bool). shownIn p ++ cond b [] (zeroTerm ∷ [])) (le-leb (p .count) 16 c)
+      ap (λ (b : Bool). shownIn p ++ cond b (cond (leb (p .count) termRoom) [] (zeroTerm ∷ [])) (noTerm ∷ [])) f
+      ∙ ap (λ (b : Bool). shownIn p ++ cond b [] (zeroTerm ∷ [])) (le-leb (p .count) termRoom c)
       ∙ append-nil (shownIn p)
 
-  past-zero : p .finite ≡ true → 16 < p .count → listed p ≡ shownIn p ++ (zeroTerm ∷ [])
+  past-zero : p .finite ≡ true → termRoom < p .count → listed p ≡ shownIn p ++ (zeroTerm ∷ [])
   unfolding listed pastIn
-  past-zero f c = rw (f, lt-leb (p .count) 16 c) refl
+  past-zero f c = rw (f, lt-leb (p .count) termRoom c) refl
 
   past-nan : p .finite ≡ false → listed p ≡ shownIn p ++ (noTerm ∷ [])
   unfolding listed pastIn
   past-nan f = rw f refl
 
   module _ {q : Pack} (e : q ≡ packOf (shownIn p)) where
-    pub proper-none : p .finite ≡ true → p .count ≤ 16 → q ≡ packOf (listed p)
+    pub proper-none : p .finite ≡ true → p .count ≤ termRoom → q ≡ packOf (listed p)
     proper-none f c = e ∙ ap packOf (sym (past-none f c))
 
-    pub proper-zero : p .finite ≡ true → 16 < p .count → pushed q zeroTerm ≡ packOf (listed p)
+    pub proper-zero : p .finite ≡ true → termRoom < p .count → pushed q zeroTerm ≡ packOf (listed p)
     unfolding packOf
     proper-zero f c = ap (λ (r : Pack). pushed r zeroTerm) e ∙ sym (pack-more noPack (shownIn p) zeroTerm) ∙ ap packOf (sym (past-zero f c))
 
@@ -92,26 +93,26 @@ finite-append (x ∷ xs) ys = go (isFinite (x .coefficient)) (finite-append xs y
 abbrev Sound : Pack → Type 0
 Sound p = p .finite ≡ true → finiteTerms (termsOf p) ≡ true
 
-most-full : (n : ℕ) → 16 ≤ n → most16 n ≡ 16
+most-full : (n : ℕ) → termRoom ≤ n → most16 n ≡ termRoom
 unfolding most16
-most-full n h = go (leb n 16) refl
+most-full n h = go (leb n termRoom) refl
   where
-    go : (b : Bool) → leb n 16 ≡ b → cond b n 16 ≡ 16
-    go true e = let k = leb-true n 16 e in omega (arith, h, k)
+    go : (b : Bool) → leb n termRoom ≡ b → cond b n termRoom ≡ termRoom
+    go true e = let k = leb-true n termRoom e in omega (arith, h, k)
     go false e = refl
 
-terms-full : (p : Pack) (t : Term) → 16 ≤ p .count → termsOf (pushed p t) ≡ termsOf p
+terms-full : (p : Pack) (t : Term) → termRoom ≤ p .count → termsOf (pushed p t) ≡ termsOf p
 unfolding termsOf termIn
 terms-full p t h = rw (pushed-full p t h, most-full (p .count) h, most-full 17 (omega arith)) refl
 
 pushed-sound : (p : Pack) (t : Term) → Sized p → Sound p → Sound (pushed p t)
 unfolding finiteTerms termOf
-pushed-sound p t z s f = go (ltb (p .count) 16) refl
+pushed-sound p t z s f = go (ltb (p .count) termRoom) refl
   where
     finite : (p .finite ≡ true) × (isFinite (t .coefficient) ≡ true)
     finite = both (p .finite) (isFinite (t .coefficient)) (sym (pushed-finite p t) ∙ f)
 
-    go : (b : Bool) → ltb (p .count) 16 ≡ b → finiteTerms (termsOf (pushed p t)) ≡ true
+    go : (b : Bool) → ltb (p .count) termRoom ≡ b → finiteTerms (termsOf (pushed p t)) ≡ true
     go true e = rw (terms-pushed p t (ltb-true _ _ e) z, finite-append (termsOf p) (termOf t ∷ []), s (finite .0), finite .1) refl
     go false e = rw (terms-full p t (ltb-false _ _ e)) (s (finite .0))
 
@@ -141,9 +142,9 @@ module _ (ts : List Term) where
   listed-is : (b : Bool) → p .finite ≡ b → finiteTerms (termsIn (listed p)) ≡ b
   unfolding isFinite zero64 ofBits
   listed-is false f = ap (λ (l : List Term). finiteTerms (termsIn l)) (past-nan p f) ∙ with-one noTerm ∙ and-false (finiteTerms (termsOf p))
-  listed-is true f = go (leb (p .count) 16) refl
+  listed-is true f = go (leb (p .count) termRoom) refl
     where
-      go : (b : Bool) → leb (p .count) 16 ≡ b → finiteTerms (termsIn (listed p)) ≡ true
+      go : (b : Bool) → leb (p .count) termRoom ≡ b → finiteTerms (termsIn (listed p)) ≡ true
       go true e = ap (λ (l : List Term). finiteTerms (termsIn l)) (past-none p f (leb-true _ _ e)) ∙ ap finiteTerms (shown-terms p) ∙ pack-sound ts f
       go false e = ap (λ (l : List Term). finiteTerms (termsIn l)) (past-zero p f (leb-false _ _ e)) ∙ with-one zeroTerm ∙ rw (pack-sound ts f) refl
 
@@ -152,13 +153,13 @@ module _ (ts : List Term) where
   listed-finite = listed-is (p .finite) refl ∙ pack-finite ts
 
   -- the list itself, where all are finite and there are at most sixteen
-  pub listed-few : finiteTerms (termsIn ts) ≡ true → length ts ≤ 16 → termsIn (listed p) ≡ termsIn ts
+  pub listed-few : finiteTerms (termsIn ts) ≡ true → length ts ≤ termRoom → termsIn (listed p) ≡ termsIn ts
   listed-few f h = ap termsIn (past-none p (pack-finite ts ∙ f) (rw (pack-few ts h) h)) ∙ shown-terms p ∙ pack-terms ts h
 
   -- more than sixteen, where all are finite and the list has more
-  pub listed-many : finiteTerms (termsIn ts) ≡ true → 16 < length ts → 16 < length (termsIn (listed p))
+  pub listed-many : finiteTerms (termsIn ts) ≡ true → termRoom < length ts → termRoom < length (termsIn (listed p))
   unfolding shownIn listOf
   listed-many f h =
-      let c : p .count ≡ 17 = eqb-true (p .count) 17 (sym (pack-many ts) ∙ lt-ltb 16 (length (termsIn ts)) (rw (length-terms ts) h)) in
+      let c : p .count ≡ 17 = eqb-true (p .count) 17 (sym (pack-many ts) ∙ lt-ltb termRoom (length (termsIn ts)) (rw (length-terms ts) h)) in
       let e = past-zero p (pack-finite ts ∙ f) (rw c (omega arith)) in
       omega (arith, c, length-terms (listed p), ap length e, length-append (shownIn p) (zeroTerm ∷ []), length-tab (termIn p) 0 (most16 (p .count)), most-full (p .count) (rw c (omega arith)))

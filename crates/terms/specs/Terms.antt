@@ -10,6 +10,7 @@ use Rattle.steps.specs.State as steps
 use Rattle.laws.specs.Loops.{run}
 use Rattle.laws.specs.Lists.{listOf}
 use Rattle.layout.specs.Copy.{most16}
+use Rattle.layout.specs.Layout.{termRoom}
 use Rattle.terms.specs.declared.Term.{Term}
 use Rattle.terms.specs.declared.Pack.{Pack}
 
@@ -18,13 +19,13 @@ abbrev pub noTerm : Term
 noTerm = record { variable = 0; coefficient = nan }
 
 unfoldable pub noPack : Pack
-noPack = record { count = 0; finite = true; vars = replicate 16 0; coefs = replicate 16 zero64 }
+noPack = record { count = 0; finite = true; vars = replicate termRoom 0; coefs = replicate termRoom zero64 }
 
 -- a pack with one term more; where it is full, the count becomes 17 and stays there
 unfoldable pub pushed : Pack → Term → Pack
 pushed p t =
     let finite : Bool = p .finite && isFinite (t .coefficient) in
-    cond (ltb (p .count) 16)
+    cond (ltb (p .count) termRoom)
     (record { count = p .count + 1; finite = finite; vars = set (p .vars) (p .count) (t .variable); coefs = set (p .coefs) (p .count) (t .coefficient) })
     (record { count = 17; finite = finite; vars = p .vars; coefs = p .coefs })
 
@@ -74,7 +75,7 @@ zeroTerm = record { variable = 0; coefficient = zero64 }
 
 -- past these: where it says that not all are finite, one that is not; where it counts more than sixteen, one more
 unfoldable pub pastIn : Pack → List Term
-pastIn p = cond (p .finite) (cond (leb (p .count) 16) [] (zeroTerm ∷ [])) (noTerm ∷ [])
+pastIn p = cond (p .finite) (cond (leb (p .count) termRoom) [] (zeroTerm ∷ [])) (noTerm ∷ [])
 
 unfoldable pub listed : Pack → List Term
 listed p = shownIn p ++ pastIn p

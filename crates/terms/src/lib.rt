@@ -3,7 +3,9 @@ ghost use mathlib.Core.Path.{_≡_};
 ghost use Prim.Native.Nat.{_<_, _≤_};
 ghost use lib.ListN.{length, getD};
 ghost use Rattle.layout.specs.Copy.{most16};
+ghost use Rattle.layout.specs.Layout.{termRoom};
 ghost use Rattle.terms.specs.Terms.{noTerm, noPack, pushed, packOf, termIn, pushedKept, keptOf, shownIn, listed};
+use layout::TERM_ROOM;
 
 // "A term is one record, a variable number and an f64 coefficient, and the terms of a constraint come as a lent list of such records."
 #[repr(C)]
@@ -16,8 +18,8 @@ pub struct Term {
 pub struct Pack {
     pub count: usize,
     pub finite: bool,
-    pub vars: [u32; 16],
-    pub coefs: [f64; 16],
+    pub vars: [u32; TERM_ROOM],
+    pub coefs: [f64; TERM_ROOM],
 }
 
 pub fn term_at(terms: &[Term], i: usize) -> Term
@@ -33,8 +35,8 @@ pub fn none() -> Pack
     Pack {
         count: 0,
         finite: true,
-        vars: [0u32; 16],
-        coefs: [0.0f64; 16],
+        vars: [0u32; TERM_ROOM],
+        coefs: [0.0f64; TERM_ROOM],
     }
 }
 
@@ -44,7 +46,7 @@ pub fn push(p: Pack, t: Term) -> Pack
     let n = p.count;
     let mut q = p;
     q.finite = p.finite & rows::number::is_finite(t.coefficient);
-    if n < 16 {
+    if n < TERM_ROOM {
         q.vars[n] = t.variable;
         q.coefs[n] = t.coefficient;
         q.count = n + 1;
@@ -73,7 +75,7 @@ pub fn collect(terms: &[Term]) -> Pack
 
 // The term at place i.
 fn packed(p: Pack, i: usize) -> Term
-    requires { ⌜ i < 16 ⌝ }
+    requires { ⌜ i < termRoom ⌝ }
     ensures { λ r. ⌜ r ≡ termIn p i ⌝ }
 {
     let vars = p.vars;
@@ -87,10 +89,10 @@ fn packed(p: Pack, i: usize) -> Term
 // How many terms the pack shows.
 pub fn shown(p: Pack) -> usize
     ensures { λ r. ⌜ r ≡ most16 (p .count) ⌝ }
-    ensures { λ r. ⌜ r ≤ 16 ⌝ }
+    ensures { λ r. ⌜ r ≤ termRoom ⌝ }
 {
     let n = p.count;
-    if n <= 16 { n } else { 16 }
+    if n <= TERM_ROOM { n } else { TERM_ROOM }
 }
 
 fn push_kept(cutoff: f64, p: Pack, t: Term) -> Pack
@@ -149,7 +151,7 @@ pub fn proper(p: Pack) -> Pack
             },
         );
     }
-    if p.count > 16 {
+    if p.count > TERM_ROOM {
         return push(
             q,
             Term {

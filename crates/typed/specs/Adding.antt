@@ -23,6 +23,7 @@ use Rattle.steps.specs.State.{State}
 use Rattle.steps.specs.State as steps
 use Rattle.steps.specs.Calls as calls
 use Rattle.steps.specs.Calls.{add}
+use Rattle.layout.specs.Layout.{termRoom}
 use Rattle.sparse.specs.Places.{wholeAt}
 use Rattle.sparse.specs.Sparse.{Sparse}
 use Rattle.sparse.specs.Sparse as sparse
@@ -70,16 +71,16 @@ textAnswer r = record { number = r .number; pivots = r .pivots; whole = r .whole
 -- ---- what every answer to a line keeps: 0 refuses nothing, and a line that reads has few small numbers
 
 abbrev pub Fit : Answer → Type 0
-Fit (reads r) = (natAbs (r .constant) ≤ most) × (smallTerms (r .terms) ≡ true) × (length (r .terms) ≤ 16)
+Fit (reads r) = (natAbs (r .constant) ≤ most) × (smallTerms (r .terms) ≡ true) × (length (r .terms) ≤ termRoom)
 Fit (outside at) = Unit {0}
 Fit (refused n) = n ≡ 0 → ⊥
 
 pub judged-fit : (r : grammar.Reading) → Fit (judged r)
 unfolding judged
-judged-fit r = by (leb (natAbs (r .constant)) most) (smallTerms (r .terms)) (leb (length (r .terms)) 16) refl refl refl
+judged-fit r = by (leb (natAbs (r .constant)) most) (smallTerms (r .terms)) (leb (length (r .terms)) termRoom) refl refl refl
   where
-    by : (a b c : Bool) → leb (natAbs (r .constant)) most ≡ a → smallTerms (r .terms) ≡ b → leb (length (r .terms)) 16 ≡ c → Fit (cond (a && b) (cond c (reads r) (refused 23)) (refused 22))
-    by true true true e f g = (leb-true (natAbs (r .constant)) most e, f, leb-true (length (r .terms)) 16 g)
+    by : (a b c : Bool) → leb (natAbs (r .constant)) most ≡ a → smallTerms (r .terms) ≡ b → leb (length (r .terms)) termRoom ≡ c → Fit (cond (a && b) (cond c (reads r) (refused 23)) (refused 22))
+    by true true true e f g = (leb-true (natAbs (r .constant)) most e, f, leb-true (length (r .terms)) termRoom g)
     by true true false e f g = λ h. omega arith
     by true false c e f g = λ h. omega arith
     by false b c e f g = λ h. omega arith

@@ -26,6 +26,7 @@ use Rattle.steps.specs.Strength.{required}
 use Rattle.layout.specs.Copy.{most16}
 use Rattle.layout.specs.Rooms.{and-left, and-right}
 use Rattle.layout.specs.Laying.{getD-map}
+use Rattle.layout.specs.Layout.{termRoom}
 use Rattle.terms.specs.declared.Term.{Term}
 use Rattle.terms.specs.declared.Pack.{Pack}
 use Rattle.terms.specs.Terms.{noTerm, noPack, pushed, packOf}
@@ -119,7 +120,7 @@ length-typed : (ts : List grammar.Term) → length (typedTerms ts) ≡ length ts
 length-typed [] = refl
 length-typed (t ∷ ts) = ap suc (length-typed ts)
 
-module _ (r : grammar.Reading) (few : length (r .terms) ≤ 16) (small : smallTerms (r .terms) ≡ true) where
+module _ (r : grammar.Reading) (few : length (r .terms) ≤ termRoom) (small : smallTerms (r .terms) ≡ true) where
   abbrev ts : List grammar.Term
   ts = r .terms
 

@@ -4,9 +4,11 @@ ghost use Prim.Native.Nat.{_≤_, _<_};
 ghost use Rattle.layout.specs.Copy.{most16};
 ghost use Rattle.sums.specs.Held.{valueOf};
 ghost use Rattle.reader.specs.Sides as sides;
+ghost use Rattle.layout.specs.Layout.{termRoom};
 ghost use Rattle.tags.specs.Tags.{relationOf};
 ghost use Rattle.terms.specs.Terms.{packOf};
 ghost use Rattle.typed.specs.Typed.{wholeOf, termRead, termsRead, requiredBy};
+use layout::TERM_ROOM;
 use reader::answers::Reading;
 use reader::sides::Mark;
 use sums::ZERO;
@@ -37,13 +39,13 @@ pub fn required_by(m: Mark) -> Relation
 // A line that reads has at most 16 terms.
 fn shown(count: usize) -> usize
     ensures { λ r. ⌜ r ≡ most16 count ⌝ }
-    ensures { λ r. ⌜ r ≤ 16 ⌝ }
+    ensures { λ r. ⌜ r ≤ termRoom ⌝ }
 {
-    if count <= 16 { count } else { 16 }
+    if count <= TERM_ROOM { count } else { TERM_ROOM }
 }
 
 fn term_of(r: Reading, i: usize) -> Term
-    requires { ⌜ i < 16 ⌝ }
+    requires { ⌜ i < termRoom ⌝ }
     ensures { λ t. ⌜ t ≡ termRead r i ⌝ }
 {
     let variables = r.variables;

@@ -41,7 +41,7 @@ use Rattle.waist.specs.Entering.{Later, later-then, later-alone, later-s
 
 -- ---- no cell of a solved row is -0.0
 
-abbrev Fine : Float → Type 0
+abbrev pub Fine : Float → Type 0
 Fine c = settled c ≡ c
 
 scale-one : (f c : Float) → Fine c → Fine (cellValue (scaleCell f c))
@@ -52,12 +52,12 @@ scale-one f c h = go (absent c)
     go true = h
     go false = settled-stored (c *₆₄ f)
 
-scale-fine : (f : Float) (cs : List Float) → Every Fine cs → Every Fine (cellValues (scaleCells f cs))
+pub scale-fine : (f : Float) (cs : List Float) → Every Fine cs → Every Fine (cellValues (scaleCells f cs))
 unfolding Every scaleCells cellValues
 scale-fine f [] h = tt
 scale-fine f (c ∷ cs) h = (scale-one f c (h .0), scale-fine f cs (h .1))
 
-clear-fine : (s : ℕ) (xs : List Symbol) (cs : List Float) → Every Fine cs → Every Fine (clearCell s xs cs)
+pub clear-fine : (s : ℕ) (xs : List Symbol) (cs : List Float) → Every Fine cs → Every Fine (clearCell s xs cs)
 unfolding Every clearCell
 clear-fine s [] cs h = tt
 clear-fine s (x ∷ xs) [] h = tt

@@ -73,7 +73,7 @@ pub fn close_reals(reals: &mut Reals, i: usize, e: usize)
     }
 }
 
-fn open_bytes(bytes: &mut Bytes, i: usize, e: usize, x: u8)
+pub fn open_bytes(bytes: &mut Bytes, i: usize, e: usize, x: u8)
     requires { ⌜ i ≤ e ⌝ }
     requires { ⌜ e < bytesSize ⌝ }
     ensures { λ _. ⌜ now (bytes .exit) ≡ opened i e x (now (bytes .entry)) ⌝ }
@@ -87,7 +87,7 @@ fn open_bytes(bytes: &mut Bytes, i: usize, e: usize, x: u8)
     bytes[i] = x;
 }
 
-fn open_reals(reals: &mut Reals, i: usize, e: usize, x: f64)
+pub fn open_reals(reals: &mut Reals, i: usize, e: usize, x: f64)
     requires { ⌜ i ≤ e ⌝ }
     requires { ⌜ e < realsSize ⌝ }
     ensures { λ _. ⌜ now (reals .exit) ≡ opened i e x (now (reals .entry)) ⌝ }

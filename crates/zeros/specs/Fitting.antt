@@ -24,6 +24,7 @@ use Rattle.keeps.specs.Codes.{codes, codes-mem, mem-codes, codes-once}
 use Rattle.zeros.specs.Plain.{Plain}
 use Rattle.zeros.specs.PlainCalls.{PlainState}
 use Rattle.keeps.specs.Reads.{Reads, varCode, tagCode, ownedBy, tags-length, owned-total}
+use Rattle.layout.specs.Layout.{termRoom}
 use Rattle.cells.specs.Names.{cellRoom}
 use Rattle.cells.specs.Cells.{settled}
 use Rattle.cells.specs.Seek.{first-at}
@@ -136,7 +137,7 @@ uses-at (t ∷ ts) (suc j) l = omega (arith, uses-at ts j (omega (arith, l)))
 
 -- ---- how long the terms and the symbols are
 
-terms-long : (cs : List Constraint) → All (λ (c : Constraint). length (c .terms) ≤ 16) cs → length (concat (map (λ (c : Constraint). c .terms) cs)) ≤ 16 * length cs
+terms-long : (cs : List Constraint) → All (λ (c : Constraint). length (c .terms) ≤ termRoom) cs → length (concat (map (λ (c : Constraint). c .terms) cs)) ≤ termRoom * length cs
 unfolding concat
 terms-long [] h = omega arith
 terms-long (c ∷ cs) h = omega (arith, terms-long cs (h .1), h .0, length-append (c .terms) (concat (map (λ (c : Constraint). c .terms) cs)))

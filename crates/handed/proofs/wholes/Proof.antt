@@ -6,25 +6,26 @@ use native.Mathlib.Omega.{arith}
 use borrow.Author.Needs.{needs}
 use Rattle.laws.specs.Loops.{zipIn, zip-next, zip-last}
 use Rattle.steps.specs.Number.{zero64}
+use Rattle.layout.specs.Layout.{termRoom}
 use Rattle.handed.specs.Handed.{wholeAt, wholes-start}
 use Rattle.handed.proofs.wholes.Statement.{statement}
 use Rattle.handed.proofs.wholes.Tie as tie
 
 abbrev Inv-loop : tie.InvT-loop
-Inv-loop x r₀ i₀ r i = zipIn (λ _ y. wholeAt y) i 16 r x ≡ map wholeAt x
+Inv-loop x r₀ i₀ r i = zipIn (λ _ y. wholeAt y) i termRoom r x ≡ map wholeAt x
 
 abbrev μ-loop : tie.MeasureT-loop
-μ-loop x r₀ i₀ r i = 16 - i
+μ-loop x r₀ i₀ r i = termRoom - i
 
 loop-holds : tie.Need-loop-holds Inv-loop μ-loop
-loop-holds c = wholes-start 16 _ _ refl (search needs)
+loop-holds c = wholes-start termRoom _ _ refl (search needs)
 
 loop-again : tie.Need-loop-again Inv-loop μ-loop
 unfolding wholeAt
-loop-again c = zip-next (λ _ y. wholeAt y) _ 16 _ _ zero64 0 (omega arith) (omega arith) (c .whole .ensures) (c .before .before .loop .inv)
+loop-again c = zip-next (λ _ y. wholeAt y) _ termRoom _ _ zero64 0 (omega arith) (omega arith) (c .whole .ensures) (c .before .before .loop .inv)
 
 returns : tie.Need-returns Inv-loop μ-loop
-returns c = zip-last (λ _ y. wholeAt y) _ 16 _ _ (omega arith) (c .before .loop .inv)
+returns c = zip-last (λ _ y. wholeAt y) _ termRoom _ _ (omega arith) (c .before .loop .inv)
 
 pub wholes-spec : {M : Type 1} → statement M
 wholes-spec =

@@ -8,6 +8,7 @@ use borrow.Author.Needs.{needs}
 use lib.ListN.{getD}
 use lib.Ieee.{Float, nan}
 use Rattle.steps.specs.Number.{zero64}
+use Rattle.layout.specs.Layout.{termRoom}
 use Rattle.sparse.specs.Places.{constraintGroupsAt, termCountsAt, relationsAt, constraintStrengthsAt, constraintConstantsAt}
 use Rattle.sparse_test.specs.Stretch.{mostIn, most}
 use Rattle.sparse_test.specs.Tested.{termCount}
@@ -18,8 +19,8 @@ use Rattle.shown.proofs.hand_over.Statement.{statement}
 use Rattle.shown.proofs.hand_over.Tie as tie
 
 -- a constraint has few terms
-few : (b : List ℕ) (i : ℕ) {n : ℕ} → mostIn b termCountsAt (i + 1) 16 ≡ true → n ≡ getD b (termCountsAt + i) 0 → n ≤ 16
-few b i h e = let q = most b termCountsAt (i + 1) 16 h i (omega arith) in omega (arith, q, e)
+few : (b : List ℕ) (i : ℕ) {n : ℕ} → mostIn b termCountsAt (i + 1) termRoom ≡ true → n ≡ getD b (termCountsAt + i) 0 → n ≤ termRoom
+few b i h e = let q = most b termCountsAt (i + 1) termRoom h i (omega arith) in omega (arith, q, e)
 
 variables-of-requires : tie.Need-variables-of-requires
 variables-of-requires c κs =

@@ -4,7 +4,7 @@ use native.Mathlib.Omega.{arith}
 use borrow.Author.Tests.{not-true, not-false}
 use borrow.Author.Needs.{needs}
 use Rattle.sparse_test.specs.Whole.{tables}
-use Rattle.sparse_test.specs.Asked.{constraints-asked}
+use Rattle.sparse_test.specs.Meant.{reads-constraints}
 use Rattle.shown.specs.Stored.{few-variables, few-constraints, narrow-numbers, few-counts, stored-said}
 use Rattle.shown.specs.Found.{unread-line, unknown-line, known-line}
 use Rattle.shown.proofs.show.Statement.{statement}
@@ -23,7 +23,7 @@ look-up-requires c κs =
     let e = c .before .before .reads-as-state .ensures in
     let h = not-false _ (c .before .if1 .left) in
     let q = few-constraints t (sym e ∙ h) in
-    (omega (arith, q), constraints-asked t (a .number) e h)
+    (omega (arith, q), reads-constraints t (sym e ∙ h))
 
 hand-over-requires : tie.Need-hand-over-requires
 hand-over-requires c κs =

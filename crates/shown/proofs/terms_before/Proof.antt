@@ -6,6 +6,7 @@ use mathlib.Core.List.{List}
 use native.Mathlib.Omega.{arith}
 use lib.ListN.{getD}
 use Rattle.laws.specs.Lists.{sumOn, sum-start, sum-next, sum-last}
+use Rattle.layout.specs.Layout.{termRoom}
 use Rattle.sparse.specs.Places.{termCountsAt}
 use Rattle.sparse_test.specs.Stretch.{mostIn, most}
 use Rattle.sparse_test.specs.Tested.{termCount}
@@ -13,11 +14,11 @@ use borrow.Author.Needs.{needs}
 use Rattle.shown.proofs.terms_before.Statement.{statement}
 use Rattle.shown.proofs.terms_before.Tie as tie
 
-few : (b : List ℕ) (i j : ℕ) {w : ℕ} → mostIn b termCountsAt (i + 1) 16 ≡ true → j < i → w ≡ getD b (termCountsAt + j) 0 → w ≤ 16
-few b i j h k e = let q = most b termCountsAt (i + 1) 16 h j (omega (arith, k)) in omega (arith, q, e)
+few : (b : List ℕ) (i j : ℕ) {w : ℕ} → mostIn b termCountsAt (i + 1) termRoom ≡ true → j < i → w ≡ getD b (termCountsAt + j) 0 → w ≤ termRoom
+few b i j h k e = let q = most b termCountsAt (i + 1) termRoom h j (omega (arith, k)) in omega (arith, q, e)
 
 abbrev Inv-loop : tie.InvT-loop
-Inv-loop bytes i m₀ j₀ m j = (sumOn (λ k. getD bytes (termCountsAt + k) 0) j i m ≡ termCount bytes i) × (m ≤ j * 16) × (j ≤ i)
+Inv-loop bytes i m₀ j₀ m j = (sumOn (λ k. getD bytes (termCountsAt + k) 0) j i m ≡ termCount bytes i) × (m ≤ j * termRoom) × (j ≤ i)
 
 abbrev μ-loop : tie.MeasureT-loop
 μ-loop bytes i m₀ j₀ m j = i - j

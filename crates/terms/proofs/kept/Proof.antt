@@ -6,6 +6,7 @@ use borrow.Author.Needs.{needs}
 use lib.Ieee.{Float}
 use Rattle.laws.specs.Loops.{run, run-next, run-last}
 use Rattle.layout.specs.Copy.{most16}
+use Rattle.layout.specs.Layout.{termRoom}
 use Rattle.terms.specs.declared.Term.{Term}
 use Rattle.terms.specs.declared.Pack.{Pack}
 use Rattle.terms.specs.Terms.{noPack, termIn, pushedKept, keptOf}
@@ -23,7 +24,7 @@ turn : (cutoff : Float) (p : Pack) (j : ℕ) (q : Pack) {t : Term} {r : Pack} �
 turn cutoff p j q e f = rw (f, e) refl
 
 abbrev Inv-loop : tie.InvT-loop
-Inv-loop cutoff p n q₀ i₀ q i = (run (keeps cutoff p) i n q ≡ keptOf cutoff p) × (n ≤ 16)
+Inv-loop cutoff p n q₀ i₀ q i = (run (keeps cutoff p) i n q ≡ keptOf cutoff p) × (n ≤ termRoom)
 
 abbrev μ-loop : tie.MeasureT-loop
 μ-loop cutoff p n q₀ i₀ q i = n - i

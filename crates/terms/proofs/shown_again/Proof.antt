@@ -4,6 +4,7 @@ use mathlib.Core.Path.{_≡_, refl}
 use native.Mathlib.Omega.{arith}
 use borrow.Author.Needs.{needs}
 use Rattle.laws.specs.Loops.{run, run-next, run-last}
+use Rattle.layout.specs.Layout.{termRoom}
 use Rattle.terms.specs.declared.Term.{Term}
 use Rattle.terms.specs.declared.Pack.{Pack}
 use Rattle.terms.specs.Terms.{pushed, packOf, termIn, shownIn}
@@ -18,7 +19,7 @@ turn : (p : Pack) (j : ℕ) (q : Pack) {t : Term} {r : Pack} → t ≡ termIn p 
 turn p j q e f = rw (f, e) refl
 
 abbrev Inv-loop : tie.InvT-loop
-Inv-loop p n q₀ i₀ q i = (run (pushes p) i n q ≡ packOf (shownIn p)) × (n ≤ 16)
+Inv-loop p n q₀ i₀ q i = (run (pushes p) i n q ≡ packOf (shownIn p)) × (n ≤ termRoom)
 
 abbrev μ-loop : tie.MeasureT-loop
 μ-loop p n q₀ i₀ q i = n - i

@@ -5,6 +5,7 @@ use native.Mathlib.Omega.{arith}
 use borrow.Author.Needs.{needs}
 use Rattle.laws.specs.Loops.{run, run-next, run-last}
 use Rattle.reader.specs.declared.answers.Reading.{Reading}
+use Rattle.layout.specs.Layout.{termRoom}
 use Rattle.terms.specs.declared.Term.{Term}
 use Rattle.terms.specs.declared.Pack.{Pack}
 use Rattle.terms.specs.Terms.{pushed, packOf}
@@ -16,7 +17,7 @@ turn : (r : Reading) (j : ℕ) (q : Pack) {t : Term} {z : Pack} → t ≡ termRe
 turn r j q e f = rw (f, e) refl
 
 abbrev Inv-loop : tie.InvT-loop
-Inv-loop r n p₀ i₀ p i = (run (packs r) i n p ≡ packOf (termsRead r)) × (n ≤ 16)
+Inv-loop r n p₀ i₀ p i = (run (packs r) i n p ≡ packOf (termsRead r)) × (n ≤ termRoom)
 
 abbrev μ-loop : tie.MeasureT-loop
 μ-loop r n p₀ i₀ p i = n - i
