@@ -5,6 +5,10 @@ use Prim.Native.Nat.{ℕ}
 abbrev pub rowSpan : ℕ
 rowSpan = 256
 
+-- a table by place has an entry for each
+abbrev pub placeRoom : ℕ
+placeRoom = 256
+
 -- rows are below this one, so that a row after each has keys
 abbrev pub topRow : ℕ
 topRow = 255

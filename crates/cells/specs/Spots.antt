@@ -2,10 +2,10 @@
 -- Assumes nothing.
 use Prim.Native.Nat.{ℕ, suc, _+_, _*_, _/_, _%_, _≤_, _<_}
 use mathlib.Core.Path.{_≡_, refl, sym, ap, _∙_, subst}
-use mathlib.Core.Bool.{Bool, true, false, cond}
+use mathlib.Core.Bool.{Bool, true, false, _||_, cond}
 use mathlib.Core.List.{List}
 use native.Mathlib.Omega.{arith}
-use lib.Dec.{eqb, ltb}
+use lib.Dec.{T, eqb, ltb}
 use lib.Ieee.{Float, nan}
 use lib.ListN.{length, getD, set, replicate, length-set, length-replicate, getD-replicate}
 use lib.Seq.{getD-set-same, getD-set-other}
@@ -32,6 +32,53 @@ abbrev pub Spots : List ℕ → ℕ → ℕ → List ℕ → Type 0
 Spots keys n p spots = SpotsTo keys n p n spots
 
 -- ---- the walk
+
+-- how many keys are looked at together
+abbrev pub blockSize : ℕ
+blockSize = 16
+
+-- none of the keys from a on, before e, names the place
+unfoldable pub Unnamed : List ℕ → ℕ → ℕ → ℕ → Type 0
+Unnamed keys p a e = (t : ℕ) → a ≤ t → t < e → getD keys t 0 % rowSpan ≡ p → ⊥
+
+pub unnamed-none : (keys : List ℕ) (p a : ℕ) → Unnamed keys p a (a + 0)
+unfolding Unnamed
+unnamed-none keys p a t h k = absurd (omega (arith, h, k))
+
+unnamed-more : (keys : List ℕ) (p a j : ℕ) → Unnamed keys p a (a + j) → (getD keys (a + j) 0 % rowSpan ≡ p → ⊥) → Unnamed keys p a (a + (j + 1))
+unfolding Unnamed
+unnamed-more keys p a j u q t h k e = go (ltb t (a + j)) refl
+  where
+    go : (x : Bool) → ltb t (a + j) ≡ x → ⊥
+    go true c = u t h (ltb-true t (a + j) c) e
+    go false c =
+        let o : t ≡ a + j = omega (arith, k, ltb-false t (a + j) c) in
+        q (subst (λ (z : ℕ). getD keys z 0 % rowSpan ≡ p) o e)
+
+pub unnamed-next : (keys : List ℕ) (p a j : ℕ) (on : Bool) → (on ≡ false → Unnamed keys p a (a + j)) → (on || eqb (getD keys (a + j) 0 % rowSpan) p) ≡ false → Unnamed keys p a (a + (j + 1))
+unnamed-next keys p a j true h e = absurd (subst T e tt)
+unnamed-next keys p a j false h e = unnamed-more keys p a j (h refl) (eqb-false (getD keys (a + j) 0 % rowSpan) p e)
+
+pub unnamed-all : (keys : List ℕ) (p a j : ℕ) → blockSize ≤ j → j ≤ blockSize → Unnamed keys p a (a + j) → Unnamed keys p a (a + blockSize)
+unnamed-all keys p a j h k u =
+    let e : j ≡ blockSize = omega (arith, h, k) in
+    subst (λ (z : ℕ). Unnamed keys p a (a + z)) e u
+
+-- keys that name another place are passed over
+pub spots-skip : (keys : List ℕ) (n p a e : ℕ) {spots : List ℕ} → p < rowSpan → a ≤ e → Unnamed keys p a e → SpotsTo keys n p a spots → SpotsTo keys n p e spots
+unfolding Unnamed
+spots-skip keys n p a e {spots} small l u h = record { at = λ i k. passed i (h .at i k); wide = h .wide }
+  where
+    passed : (i : ℕ) {s : ℕ} → Spot keys n a (i * rowSpan + p) s → Spot keys n e (i * rowSpan + p) s
+    passed i {s} g =
+        record {
+          here = λ c. let b = g .here c in (omega (arith, b .0, l), b .1);
+          none = λ c t b d. go c t b d (ltb t a) refl;
+        }
+      where
+        go : n ≤ s → (t : ℕ) → t < e → getD keys t 0 ≡ i * rowSpan + p → (x : Bool) → ltb t a ≡ x → ⊥
+        go c t b d true q = g .none c t (ltb-true t a q) d
+        go c t b d false q = u t (ltb-false t a q) b (omega (arith, d, small))
 
 pub spots-none : (keys : List ℕ) (n p : ℕ) {spots : List ℕ} → n ≤ cellRoom → spots ≡ replicate linesRoom cellRoom → SpotsTo keys n p 0 spots
 spots-none keys n p {spots} h e =
@@ -86,14 +133,14 @@ module _ (keys : List ℕ) (n p j : ℕ) (l : j < n) (small : p < rowSpan) where
   pub spots-miss : {spots : List ℕ} → (getD keys j 0 % rowSpan ≡ p → ⊥) → SpotsTo keys n p j spots → SpotsTo keys n p (j + 1) spots
   spots-miss q h = record { at = λ i u. kept-spot (λ w. q (place-is (getD keys j 0) i w)) (h .at i u); wide = h .wide }
 
-pub spots-all : (keys : List ℕ) (n p j : ℕ) {spots : List ℕ} → n ≤ j → j ≤ n → SpotsTo keys n p j spots → Spots keys n p spots
-spots-all keys n p j {spots} a b h =
-    let e : j ≡ n = omega arith in
-    subst (λ (z : ℕ). SpotsTo keys n p z spots) e h
+pub spots-all : (keys : List ℕ) (n p j e : ℕ) {spots : List ℕ} → e ≤ j → j ≤ e → SpotsTo keys n p j spots → SpotsTo keys n p e spots
+spots-all keys n p j e {spots} a b h =
+    let q : j ≡ e = omega arith in
+    subst (λ (z : ℕ). SpotsTo keys n p z spots) q h
 
-pub lined : (keys : List ℕ) (n j : ℕ) → Lined keys n → j < n → getD keys j 0 / rowSpan < linesRoom
+pub lined : (keys : List ℕ) (n e j : ℕ) → Lined keys n → e ≤ n → j < e → getD keys j 0 / rowSpan < linesRoom
 unfolding Lined
-lined keys n j h l = let b = h j l in omega (arith, b)
+lined keys n e j h k l = let b = h j (omega (arith, k, l)) in omega (arith, b)
 
 -- ---- what a spot reads as
 

@@ -1,10 +1,11 @@
 // A column at one walk: for each row, which cell names a place. A loop over the rows then looks for nothing.
 ghost use mathlib.Core.Path.{_≡_};
+ghost use mathlib.Core.Bool.{false};
 ghost use Prim.Native.Nat.{_≤_, _<_, _+_, _*_};
 ghost use lib.ListN.{replicate};
 ghost use Rattle.cells.specs.Names.{cellRoom, linesRoom, rowSpan};
 ghost use Rattle.cells.specs.Cells.{Ascending, cellAt};
-ghost use Rattle.cells.specs.Spots.{Lined, Spots};
+ghost use Rattle.cells.specs.Spots.{blockSize, Unnamed, Lined, SpotsTo, Spots};
 use crate::CELL_ROOM;
 use crate::LINES_ROOM;
 use crate::ROW_SPAN;
@@ -16,15 +17,41 @@ pub fn no_spots() -> [u16; LINES_ROOM]
     [CELL_ROOM as u16; LINES_ROOM]
 }
 
-// Which of the first n cells names place p, for each row.
-pub fn fill_spots(keys: &[u16; CELL_ROOM], n: usize, p: u8, spots: &mut [u16; LINES_ROOM])
+// Most cells name another place, so that this many are looked at together, which the compiler does at once.
+const BLOCK: usize = 16;
+
+// Whether one of the block's cells from a on names place p.
+fn any_names(keys: &[u16; CELL_ROOM], a: usize, p: u8) -> bool
+    requires { ⌜ a + blockSize ≤ cellRoom ⌝ }
+    ensures { λ r. ⌜ (r ≡ false → Unnamed (now (keys .entry)) p a (a + blockSize)) ⌝ }
+{
+    let mut on = false;
+    let mut j = 0;
+    while j < BLOCK {
+        on = on | (keys[a + j] % ROW_SPAN == p as u16);
+        j += 1;
+    }
+    on
+}
+
+// Those from place a on, before e.
+fn fill_part(
+    keys: &[u16; CELL_ROOM],
+    n: usize,
+    p: u8,
+    a: usize,
+    e: usize,
+    spots: &mut [u16; LINES_ROOM],
+)
+    requires { ⌜ a ≤ e ⌝ }
+    requires { ⌜ e ≤ n ⌝ }
     requires { ⌜ n ≤ cellRoom ⌝ }
     requires { ⌜ Lined (now keys) n ⌝ }
-    requires { ⌜ now spots ≡ replicate linesRoom cellRoom ⌝ }
-    ensures { λ _. ⌜ Spots (now (keys .entry)) n p (now (spots .exit)) ⌝ }
+    requires { ⌜ SpotsTo (now keys) n p a (now spots) ⌝ }
+    ensures { λ _. ⌜ SpotsTo (now (keys .entry)) n p e (now (spots .exit)) ⌝ }
 {
-    let mut j = 0;
-    while j < n {
+    let mut j = a;
+    while j < e {
         let x = keys[j];
         if x % ROW_SPAN == p as u16 {
             spots[(x / ROW_SPAN) as usize] = j as u16;
@@ -33,6 +60,25 @@ pub fn fill_spots(keys: &[u16; CELL_ROOM], n: usize, p: u8, spots: &mut [u16; LI
         }
         j += 1;
     }
+}
+
+// Which of the first n cells names place p, for each row.
+pub fn fill_spots(keys: &[u16; CELL_ROOM], n: usize, p: u8, spots: &mut [u16; LINES_ROOM])
+    requires { ⌜ n ≤ cellRoom ⌝ }
+    requires { ⌜ Lined (now keys) n ⌝ }
+    requires { ⌜ now spots ≡ replicate linesRoom cellRoom ⌝ }
+    ensures { λ _. ⌜ Spots (now (keys .entry)) n p (now (spots .exit)) ⌝ }
+{
+    let mut j = 0;
+    while j + BLOCK <= n {
+        if any_names(keys, j, p) {
+            fill_part(keys, n, p, j, j + BLOCK, spots);
+            j += BLOCK;
+            continue;
+        }
+        j += BLOCK;
+    }
+    fill_part(keys, n, p, j, n, spots);
 }
 
 fn wide(x: u16) -> usize

@@ -1,10 +1,9 @@
 -- `cells::spots::fill_spots` meets its contract.
 -- Assumes nothing.
 use Prim.Native.Nat.{_-_, _≤_}
-use mathlib.Core.Path.{refl}
 use native.Mathlib.Omega.{arith}
 use borrow.Author.Needs.{needs}
-use Rattle.cells.specs.Spots.{SpotsTo, spots-none, spots-hit, spots-miss, spots-all, lined}
+use Rattle.cells.specs.Spots.{SpotsTo, spots-none, spots-skip}
 use Rattle.cells.proofs.spots.fill_spots.Statement.{statement}
 use Rattle.cells.proofs.spots.fill_spots.Tie as tie
 
@@ -17,23 +16,20 @@ abbrev μ-loop : tie.MeasureT-loop
 loop-holds : tie.Need-loop-holds Inv-loop μ-loop
 loop-holds c = (spots-none _ _ _ (c .pre .0) (c .pre .1 .1), omega arith)
 
-cast-spots-2 : tie.Need-cast-spots-2 Inv-loop μ-loop
-cast-spots-2 c = omega (arith, lined _ _ _ (c .before .before .before .before .pre .1 .0) (c .before .before .loop-test .taken))
-
-mul-spots : tie.Need-mul-spots Inv-loop μ-loop
-mul-spots c = omega (arith, lined _ _ _ (c .before .before .before .before .pre .1 .0) (c .before .before .loop-test .taken))
-
-element-write-spots : tie.Need-element-write-spots Inv-loop μ-loop
-element-write-spots c = omega (arith, lined _ _ _ (c .before .before .before .before .pre .1 .0) (c .before .before .loop-test .taken))
-
 loop-again : tie.Need-loop-again Inv-loop μ-loop
-loop-again c = (spots-hit _ _ _ _ (omega arith) (omega arith) _ (c .before .before .before .before .pre .1 .0) refl (c .if1 .taken) (c .before .before .before .loop .inv .0), omega arith)
+loop-again c = (c .fill-part .ensures, omega arith)
 
 loop-again-2 : tie.Need-loop-again-2 Inv-loop μ-loop
-loop-again-2 c = (spots-miss _ _ _ _ (omega arith) (omega arith) (c .if1 .left) (c .before .before .before .loop .inv .0), omega arith)
+loop-again-2 c = (spots-skip _ _ _ _ _ (omega arith) (omega arith) (c .before .any-names .ensures (c .if1 .left)) (c .before .before .before .loop .inv .0), omega arith)
+
+fill-part-requires-2 : tie.Need-fill-part-requires-2 Inv-loop μ-loop
+fill-part-requires-2 c κs =
+    let q = c .before .before .before .pre in
+    let v = c .before .before .loop .inv in
+    (v .1, (omega arith, (q .0, (q .1 .0, v .0))))
 
 returns : tie.Need-returns Inv-loop μ-loop
-returns c = spots-all _ _ _ _ (omega arith) (omega arith) (c .before .loop .inv .0)
+returns c = c .fill-part2 .ensures
 
 pub fill-spots-spec : {M : Type 1} → statement M
 fill-spots-spec =
@@ -42,16 +38,15 @@ fill-spots-spec =
     Inv-loop
     μ-loop
     loop-holds
-    (λ c. search needs)  -- mul-x
-    (λ c. search needs)  -- element-copy-out-x
-    (λ c. search needs)  -- cast-spots
-    cast-spots-2
-    mul-spots
-    element-write-spots
+    (λ c. search needs)  -- add-loop
+    (λ c κs. search needs)  -- any-names-requires
+    (λ c. search needs)  -- add-fill-part
+    (λ c κs. search needs)  -- fill-part-requires
     (λ c. search needs)  -- add-j
     (λ c. search needs)  -- loop-less
     loop-again
     (λ c. search needs)  -- add-j-2
     (λ c. search needs)  -- loop-less-2
     loop-again-2
+    fill-part-requires-2
     returns)
