@@ -25,6 +25,7 @@ use Rattle.layout.specs.Copy.{most16}
 use Rattle.steps.specs.Number.{zero64, isFinite, isWhole}
 use Rattle.steps.specs.State as steps
 use Rattle.steps.specs.Tests.{finiteTerms}
+use Rattle.layout.specs.Layout.{termRoom}
 use Rattle.rows.specs.Integral.{small}
 use Rattle.terms.specs.declared.Pack.{Pack}
 use Rattle.terms.specs.Terms.{packOf, termOf, termsIn, termIn, termsOf}
@@ -130,11 +131,11 @@ length-typed : (ts : List Term) → length (typedTerms ts) ≡ length ts
 length-typed [] = refl
 length-typed (t ∷ ts) = ap suc (length-typed ts)
 
-module _ (ts : List Term) (few : length ts ≤ 16) (h : smallTerms ts ≡ true) where
+module _ (ts : List Term) (few : length ts ≤ termRoom) (h : smallTerms ts ≡ true) where
   abbrev pack : Pack
   pack = packOf (typedTerms ts)
 
-  held : length (typedTerms ts) ≤ 16
+  held : length (typedTerms ts) ≤ termRoom
   held = rw (length-typed ts) few
 
   counted : pack .count ≡ length ts
@@ -150,8 +151,8 @@ module _ (ts : List Term) (few : length ts ≤ 16) (h : smallTerms ts ≡ true) 
   all-terms : tab (termAt (pack .vars) (pack .coefs)) 0 (pack .count) ≡ ts
   all-terms = ap (tab (termAt (pack .vars) (pack .coefs)) 0) counted ∙ (sym (worth-from pack (length ts)) ∙ (ap (map worth) tabbed ∙ terms-worth ts h))
 
-  all-few : pack .finite && leb (pack .count) 16 ≡ true
-  all-few = rw (pack-finite (typedTerms ts), terms-finite ts h, counted, le-leb (length ts) 16 few)
+  all-few : pack .finite && leb (pack .count) termRoom ≡ true
+  all-few = rw (pack-finite (typedTerms ts), terms-finite ts h, counted, le-leb (length ts) termRoom few)
 
 -- ---- the constraint
 
@@ -180,8 +181,8 @@ module _ (x : Constraint) (s : Says x) where
   abbrev constant : Float
   constant = wholeOf (x .reading .constant)
 
-  few : length ts ≤ 16
-  few = leb→le (length ts) 16 (s .few)
+  few : length ts ≤ termRoom
+  few = leb→le (length ts) termRoom (s .few)
 
   small-ones : smallTerms ts ≡ true
   small-ones = to-true (smallTerms ts) (small-terms ts (s .terms))

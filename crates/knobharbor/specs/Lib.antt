@@ -2,6 +2,8 @@
 pub mod Given
 pub mod Places
 pub mod Adding
+pub mod Held
+pub mod Dragged
 pub mod HandedOn
 pub mod Written
 pub mod HandedBack

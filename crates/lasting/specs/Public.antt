@@ -31,7 +31,9 @@ use Rattle.run.specs.Demand.{Call, resets, fetches, adds, removes, drops, addsE
 use Rattle.narrow.specs.Numbers.{isU32}
 use Rattle.narrow.specs.Narrow.{Typed}
 use Rattle.narrow.specs.NearAdd.{TermNamed}
-use Rattle.lasting.specs.Promises.{Holds, call-holds, fetch-holds, reset-made}
+use Rattle.narrow.specs.Holds.{Holds}
+use Rattle.solver.specs.Change.{call-holds}
+use Rattle.lasting.specs.Promises.{fetch-holds, reset-made}
 
 -- a call of a run over tables, with its working room: what its contract says that it answers and leaves. A fetch is no changing call: it leaves what its contract
 -- says, and counts as accepted here, with the stored mark, as in `make`; what it lists is `tables-fetch`.

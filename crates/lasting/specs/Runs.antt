@@ -24,7 +24,8 @@ use Rattle.run.specs.Run.{yes-stored, marked-best, marked-12}
 use Rattle.stall.specs.Stall.{allWays, passesOf, budgetOf, Demand3, NoSetTwice}
 use Rattle.stall.proofs.Whole.{marked-never-stalls}
 use Rattle.stall.proofs.DropSets.{marked-never-returns}
-use Rattle.lasting.specs.Promises.{Holds, reset-holds}
+use Rattle.narrow.specs.Holds.{Holds}
+use Rattle.lasting.specs.Promises.{reset-holds}
 use Rattle.lasting.specs.Fetched.{Lists, fetch-lists}
 use Rattle.lasting.specs.Public.{Public, publicOn, runCall, unfitNumber, TypedPublic, Steps, public-step}
 

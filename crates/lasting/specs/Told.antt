@@ -24,7 +24,8 @@ use Rattle.lending.specs.Lending.{callIn}
 use Rattle.lending.specs.Reset.{refused24, resetOf}
 use Rattle.fetches.specs.Fetch.{fetchOf}
 use Rattle.run.specs.Demand.{Call, resets, fetches, adds, removes, drops, addsEdit, removesEdit, suggests, make, next, start, after}
-use Rattle.lasting.specs.Promises.{Holds, reset-leaves}
+use Rattle.narrow.specs.Holds.{Holds}
+use Rattle.lasting.specs.Promises.{reset-leaves}
 use Rattle.lasting.specs.Fetched.{entriesOf, fetch-lists, entries-are}
 use Rattle.lasting.specs.Public.{makes, runCall}
 use Rattle.lasting.specs.Runs.{Step, Lent, callOfStep, andThen, callsOf, tablesAfter, tables-hold, tables-asked}

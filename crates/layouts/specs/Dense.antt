@@ -13,6 +13,7 @@ use Rattle.steps.specs.Calls.{Answer, Result, reset}
 use Rattle.steps.specs.Readable.{readable}
 use Rattle.layout.specs.Layout.{Tables, read, write, over, nextIdOf, symbolCount, variableCount, constraintCount, clearFlag, wholeFlag, constraintsAt, numberOf, changedFlag, relationKind}
 use Rattle.layout.specs.Rooms.{lengthsRight}
+use Rattle.cells.specs.Names.{lastPlace}
 use Rattle.lending.specs.Lending.{refused18}
 use Rattle.fetches.specs.Fetch.{numbersOf, valuesOf, places}
 use Rattle.narrow.specs.Numbers.{isU32}
@@ -22,7 +23,7 @@ unfoldable pub codesFit : Tables → Bool
 codesFit t =
     let h : List ℕ = t .head in
     isU32 (nextIdOf h)
-    && leb (symbolCount h) 129
+    && leb (symbolCount h) lastPlace
     && leb (clearFlag h) 1
     && leb (wholeFlag h) 1
     && allIn (λ i. isU32 (numberOf (getD (t .names) i [])) && leb (changedFlag (getD (t .names) i [])) 1) 0 (variableCount h)

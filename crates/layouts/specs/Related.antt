@@ -33,7 +33,9 @@ use Rattle.lending.specs.Reset.{resetOf}
 use Rattle.fetches.specs.Fetch.{Fetch, fetchOf, fetchIn, fetch18, flagsOf, places}
 use Rattle.narrow.specs.Narrow.{Narrow, Typed, made-narrow, fetch-narrow, empty-narrow}
 use Rattle.narrow.specs.Tabled.{narrow-of}
-use Rattle.lasting.specs.Promises.{Holds, made-reads, call-holds, fetch-holds, reset-holds}
+use Rattle.narrow.specs.Holds.{Holds, made-reads}
+use Rattle.solver.specs.Change.{call-holds}
+use Rattle.lasting.specs.Promises.{fetch-holds, reset-holds}
 use Rattle.layouts.specs.Dense as dense
 use Rattle.layouts.specs.Written.{OneGroup, NoneWaits, Sayable, written-reads, written-read, write-wide}
 use Rattle.layouts.specs.Groups.{NamesOne, all-listed, group-stays}

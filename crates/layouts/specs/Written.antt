@@ -22,6 +22,7 @@ use Rattle.layout.specs.Layout.{Tables, read, write, over, writeNames, writeRea
 use Rattle.layout.specs.Rooms.{lengths-right, Lengths, Wide, Named, Fits}
 use Rattle.layout.specs.ReadBack.{noVariable, noConstraint, read-write}
 use Rattle.layout.specs.Copied.{length-listOf, getD-listOf, write-counts, write-coded, write-lengths}
+use Rattle.cells.specs.Names.{lastPlace}
 use Rattle.places.specs.Finding.{at-all}
 use Rattle.zeros.specs.Fitting.{few-symbols}
 use Rattle.narrow.specs.Numbers.{isU32}
@@ -163,7 +164,7 @@ module _ (s : State) (t : Tables) (r : Reads s) (y : Sayable s) (n : Narrow s) (
   codes-fit =
       let c = write-counts s t (fits-of s r y) l w in
       let q = write-coded s t (fits-of s r y) l w in
-      both (both (both (both (both id-u32 (le-leb _ 129 (c .0))) (le-leb _ 1 (q .0))) (le-leb _ 1 (q .1)))
+      both (both (both (both (both id-u32 (le-leb _ lastPlace (c .0))) (le-leb _ 1 (q .0))) (le-leb _ 1 (q .1)))
       (at-all _ 0 (variableCount (u .head)) (λ j a k. both (variable-u32 j k) (le-leb _ 1 (q .2 j k)))))
       (at-all _ 0 (constraintCount (u .head)) (λ j a k. both (constraint-u32 j k) (le-leb _ 2 (q .4 j k))))
 

@@ -5,3 +5,4 @@ pub mod NearAdd
 pub mod Narrow
 pub mod Tabled
 pub mod Written
+pub mod Holds

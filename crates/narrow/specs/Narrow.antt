@@ -25,6 +25,7 @@ use Rattle.keeps.specs.Keys.{keep-all, drop-all, keepConstraint-is, dropConstra
 use Rattle.keeps.specs.Fits.{all-map}
 use Rattle.keeps.specs.Passes.{Ends}
 use Rattle.keeps.specs.Addition.{passed}
+use Rattle.layout.specs.Layout.{termRoom}
 use Rattle.narrow.specs.Numbers.{isU32}
 use Rattle.narrow.specs.Near.{Near, suggest-near, remove-near}
 use Rattle.narrow.specs.NearAdd.{TermNamed, add-near}
@@ -94,7 +95,7 @@ module _ (s : State) (h : Narrow s) where
           let b = passed _ _ (passed _ _ (passed _ _ pass .1) .1) in
           let c = passed _ _ (b .1) in
           let f = passed _ _ (passed _ _ (passed _ _ (passed _ _ (c .1) .1) .1) .1) in
-          omega (arith, not-used (f .0), ltb-false 16 (length ts) (c .0))
+          omega (arith, not-used (f .0), ltb-false termRoom (length ts) (c .0))
 
       go : (o : Option ℕ) → firstRefusal (addTests g n ts k r s) ≡ o → Narrow (add g n ts k r budget s .state)
       go (some z) p = rw (p, add) h

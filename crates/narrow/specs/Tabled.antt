@@ -28,7 +28,7 @@ use Rattle.sparse_test.specs.Meaning.{reads-form, reads-parts}
 use Rattle.narrow.specs.Numbers.{isU32}
 use Rattle.narrow.specs.Narrow.{Narrow}
 
-all-tab : {A : Type 0} (P : A → Type 0) (g : ℕ → A) (i n : ℕ) → ((j : ℕ) → i ≤ j → j < i + n → P (g j)) → All P (tab g i n)
+pub all-tab : {A : Type 0} (P : A → Type 0) (g : ℕ → A) (i n : ℕ) → ((j : ℕ) → i ≤ j → j < i + n → P (g j)) → All P (tab g i n)
 unfolding tab
 all-tab P g i zero h = tt
 all-tab P g i (suc n) h = (h i (omega arith) (omega arith), all-tab P g (suc i) n (λ j a b. h j (omega arith) (omega arith)))

@@ -19,6 +19,7 @@ use Rattle.keeps.specs.Uses.{usesOf}
 use Rattle.keeps.specs.Reads.{Reads, usedBy}
 use Rattle.keeps.specs.Tested.{reads-in}
 use Rattle.keeps.specs.Good.{Good, tagsBy, begin-good}
+use Rattle.layout.specs.Layout.{termRoom}
 use Rattle.cells.specs.Names.{rowSpan, lastPlace}
 use Rattle.cells.specs.Cells.{Present}
 use Rattle.merging.specs.Merge.{Placed}
@@ -37,6 +38,7 @@ use Rattle.sparse_test.specs.Meaning.{reads-form, reads-readable}
 use Rattle.sparse_test.specs.Tested.{kindAt, externalsIn}
 use Rattle.sparse_test.specs.Parts.{Parts, parts}
 use Rattle.sparse_test.specs.Meant.{tested-is, reads-apart, reads-constraints}
+use Rattle.zeros.specs.Fitting.{few-symbols}
 use Rattle.substituting.specs.Held.{Held}
 use Rattle.substituting.specs.Named.{Named}
 use Rattle.rows.specs.declared.number.Wrote.{Wrote}
@@ -53,7 +55,7 @@ use Rattle.refusals.specs.Passed.{Room}
 use Rattle.creation.specs.Going.{newIn}
 use Rattle.creation.specs.Created.{Opening, Spare}
 use Rattle.waist.specs.Tags.{tagAt}
-use Rattle.solver.specs.Few.{few-symbols, uses-spare}
+use Rattle.solver.specs.Few.{uses-spare}
 
 -- the mark that a call's steps begin with is the stored one
 abbrev pub storedMark : List ℕ → Mark
@@ -254,7 +256,7 @@ module _ (t w : Sparse) (en : Entered t w) where
   new-same : (terms : List Term) → newIn terms w ≡ newIn terms t
   new-same terms = rw (cutoff-same, en .changes) refl
 
-  pub opening-at-start : (terms : List Term) (constant : Float) → isFinite constant ≡ true → length terms ≤ 16
+  pub opening-at-start : (terms : List Term) (constant : Float) → isFinite constant ≡ true → length terms ≤ termRoom
       → constraintCount t + editCount t < mostConstraints → variableCount t + newIn terms t ≤ mostVariables → getD (t .words) nextIdAt 0 ≤ 4_294_900_000
       → Opening (storedMark (t .words)) terms constant w
   opening-at-start terms constant finite few room variables numbers =

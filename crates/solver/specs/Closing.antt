@@ -197,6 +197,12 @@ module _ (wrote : Wrote) (u : Sparse) (st : Standing false (markOf wrote) u) whe
         apart = λ i j a b. st .owners .apart i j a (omega (arith, b, k));
       }
 
+  pub closed-word : (m : ℕ) → (m ≡ wholeAt → ⊥) → (m ≡ constraintCountAt → ⊥) → (m ≡ editCountAt → ⊥) → getD (closed wrote u .words) m 0 ≡ getD (u .words) m 0
+  closed-word = other
+
+  pub closed-mark : getD (closed wrote u .words) wholeAt 0 ≡ bitOf (saysYes wrote)
+  closed-mark = flag
+
   pub closed-symbols : symbolCount (closed wrote u) ≡ symbolCount u
   closed-symbols = count-same u w' same symbolCountAt (omega arith)
 

@@ -23,7 +23,7 @@ fn words_part(to: &mut Words, from: &Words, a: usize, n: usize)
     }
 }
 
-fn bytes_part(to: &mut Bytes, from: &Bytes, a: usize, n: usize)
+pub fn bytes_part(to: &mut Bytes, from: &Bytes, a: usize, n: usize)
     requires { ⌜ a + n ≤ bytesSize ⌝ }
     ensures { λ _. ⌜ now (to .exit) ≡ putPart 0 (now (from .entry)) a n (now (to .entry)) ⌝ }
 {
@@ -35,7 +35,7 @@ fn bytes_part(to: &mut Bytes, from: &Bytes, a: usize, n: usize)
     }
 }
 
-fn reals_part(to: &mut Reals, from: &Reals, a: usize, n: usize)
+pub fn reals_part(to: &mut Reals, from: &Reals, a: usize, n: usize)
     requires { ⌜ a + n ≤ realsSize ⌝ }
     ensures { λ _. ⌜ now (to .exit) ≡ putPart nan (now (from .entry)) a n (now (to .entry)) ⌝ }
 {
