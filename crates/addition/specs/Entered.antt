@@ -26,12 +26,12 @@ use Rattle.rows.specs.Marks.{markOf, join, joined-mark}
 use Rattle.rows.specs.Place.{PlaceOf}
 use Rattle.rows.specs.Table.{solveRowIn, solveRowMark}
 use Rattle.rows.specs.Reading as dense
-use Rattle.cells.specs.Names.{rowRoom}
-use Rattle.cells.specs.Cells.{settled}
+use Rattle.layout.specs.cells.Names.{rowRoom}
+use Rattle.layout.specs.cells.Cells.{settled}
 use Rattle.sparse.specs.Places.{mostRows}
 use Rattle.sparse.specs.Sparse.{Sparse, symbolCount, rowCount, symbolAt, symbolsOf, read}
 use Rattle.sparse.specs.Widths.{symbols-read}
-use Rattle.substituting.specs.Loose.{SettledRow}
+use Rattle.waist.specs.substituting.Loose.{SettledRow}
 use Rattle.waist.specs.Working.{workOf, dense-cells, live-place}
 use Rattle.waist.specs.Dropping.{Free}
 use Rattle.waist.specs.LivePlaces.{live-symbol, not-basic}

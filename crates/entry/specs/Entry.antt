@@ -14,11 +14,11 @@ use Rattle.steps.specs.Number.{zero64}
 use Rattle.steps.specs.State.{State}
 use Rattle.steps.specs.Calls.{Answer, Result}
 use Rattle.layout.specs.Rooms.{both}
-use Rattle.cells.specs.Names.{cellRoom}
+use Rattle.layout.specs.cells.Names.{cellRoom}
 use Rattle.sparse.specs.Places.{wordsSize, bytesSize, realsSize}
 use Rattle.sparse.specs.Sparse.{Sparse}
-use Rattle.sparse_copy.specs.Over.{tables}
-use Rattle.lengths.specs.Lengths.{Lists, lists, onceEach}
+use Rattle.lending.specs.sparse_copy.Over.{tables}
+use Rattle.sparse.specs.lengths.Lengths.{Lists, lists, onceEach}
 use Rattle.lending.specs.Lending.{Called, called, refused18, callOf}
 use Rattle.lending.specs.Entered.{zeroRoom}
 use Rattle.lending.specs.Reset.{resetOf}

@@ -4,23 +4,26 @@ ghost use mathlib.Core.Bool.{_&&_, not};
 ghost use Rattle.laws.specs.Given.{Then};
 ghost use Rattle.steps.specs.Number.{zero64};
 ghost use Rattle.steps.specs.Changing.{made};
-ghost use Rattle.cells.specs.Names.{cellRoom};
+ghost use Rattle.layout.specs.cells.Names.{cellRoom};
 ghost use Rattle.sparse.specs.Places.{wordsSize, bytesSize, realsSize};
 ghost use Rattle.waist.specs.Working.{lent};
 ghost use Rattle.lending.specs.Lending.{answerOf, called, callOf};
 ghost use Rattle.lending.specs.Entered.{zeroRoom};
 ghost use Rattle.changes.specs.Change.{changingOf};
-ghost use Rattle.lengths.specs.Lengths.{lists, onceEach};
+ghost use Rattle.sparse.specs.lengths.Lengths.{lists, onceEach};
 ghost use Rattle.entry.specs.Entry.{lentOnce, zeroes, each, zeroed, callOn, resetOn};
+
+pub mod typed;
+
 use changes::Change;
+use changes::terms::Pack;
 use lending::Answer;
-use lengths::once;
 use sparse::Bytes;
 use sparse::Keys;
 use sparse::Reals;
 use sparse::Values;
 use sparse::Words;
-use terms::Pack;
+use sparse::lengths::once;
 
 fn clear_all_words(work: &mut [Words])
     ensures { λ _. ⌜ now (work .exit) ≡ each (zeroes wordsSize 0) (now (work .entry)) ⌝ }
@@ -28,7 +31,7 @@ fn clear_all_words(work: &mut [Words])
     let n = work.len();
     let mut i = 0;
     while i < n {
-        sparse_copy::clear::clear_words(&mut work[i]);
+        lending::sparse_copy::clear::clear_words(&mut work[i]);
         i += 1;
     }
 }
@@ -39,7 +42,7 @@ fn clear_all_keys(work: &mut [Keys])
     let n = work.len();
     let mut i = 0;
     while i < n {
-        sparse_copy::clear::clear_keys(&mut work[i]);
+        lending::sparse_copy::clear::clear_keys(&mut work[i]);
         i += 1;
     }
 }
@@ -50,7 +53,7 @@ fn clear_all_bytes(work: &mut [Bytes])
     let n = work.len();
     let mut i = 0;
     while i < n {
-        sparse_copy::clear::clear_bytes(&mut work[i]);
+        lending::sparse_copy::clear::clear_bytes(&mut work[i]);
         i += 1;
     }
 }
@@ -61,7 +64,7 @@ fn clear_all_reals(work: &mut [Reals])
     let n = work.len();
     let mut i = 0;
     while i < n {
-        sparse_copy::clear::clear_reals(&mut work[i]);
+        lending::sparse_copy::clear::clear_reals(&mut work[i]);
         i += 1;
     }
 }
@@ -72,7 +75,7 @@ fn clear_all_values(work: &mut [Values])
     let n = work.len();
     let mut i = 0;
     while i < n {
-        sparse_copy::clear::clear_values(&mut work[i]);
+        lending::sparse_copy::clear::clear_values(&mut work[i]);
         i += 1;
     }
 }

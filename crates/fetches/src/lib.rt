@@ -21,6 +21,7 @@ use sparse::Values;
 use sparse::Words;
 
 pub mod listing;
+pub mod shown;
 
 // A place for each variable that is live and for each that is gone.
 pub const PLACES: usize = 64;

@@ -12,14 +12,14 @@ use lib.Signed.{ltZ}
 use lib.Ieee.{Float, nan, inf, fin}
 use Rattle.laws.specs.Lists.{tab, listOf, map-tab}
 use Rattle.grammar.specs.Sums.{Relation, atMost, equal, atLeast, Term, most, smallTerms}
-use Rattle.edition.specs.Endings.{Constraint, required, taken}
-use Rattle.edition.specs.Steps.{readSecond}
-use Rattle.plain.specs.Plain.{Written, wrote, writeLine}
-use Rattle.plain.specs.Said.{small-terms}
-use Rattle.plain.specs.Theorems.{Says, Plain, writes-back}
-use Rattle.plain.specs.Unsaid.{read-says}
-use Rattle.exact.specs.Whole.{IsZ, val, int, isz-val, lit-z, z-int, ofInt-z}
-use Rattle.exact.specs.Compare.{lt-z}
+use Rattle.grammar.specs.edition.Endings.{Constraint, required, taken}
+use Rattle.grammar.specs.edition.Steps.{readSecond}
+use Rattle.grammar.specs.plain.Plain.{Written, wrote, writeLine}
+use Rattle.grammar.specs.plain.Said.{small-terms}
+use Rattle.grammar.specs.plain.Theorems.{Says, Plain, writes-back}
+use Rattle.grammar.specs.plain.Unsaid.{read-says}
+use Rattle.laws.specs.exact.Whole.{IsZ, val, int, isz-val, lit-z, z-int, ofInt-z}
+use Rattle.laws.specs.exact.Compare.{lt-z}
 use Rattle.layout.specs.Rooms.{and-left, and-right}
 use Rattle.layout.specs.Copy.{most16}
 use Rattle.steps.specs.Number.{zero64, isFinite, isWhole}
@@ -27,14 +27,14 @@ use Rattle.steps.specs.State as steps
 use Rattle.steps.specs.Tests.{finiteTerms}
 use Rattle.layout.specs.Layout.{termRoom}
 use Rattle.rows.specs.Integral.{small}
-use Rattle.terms.specs.declared.Pack.{Pack}
-use Rattle.terms.specs.Terms.{packOf, termOf, termsIn, termIn, termsOf}
-use Rattle.terms.specs.Packed.{pack-finite, pack-few, pack-terms, most-few}
+use Rattle.changes.specs.declared.terms.Pack.{Pack}
+use Rattle.changes.specs.terms.Terms.{packOf, termOf, termsIn, termIn, termsOf}
+use Rattle.changes.specs.terms.Packed.{pack-finite, pack-few, pack-terms, most-few}
 use Rattle.writing.specs.Figures.{isFigure}
 use Rattle.writing.specs.Given.{termAt, wholeFrom}
 use Rattle.writing.specs.Writes.{relationIn, relatedOf, constraintOf, numbersIn, writes}
-use Rattle.typed.specs.Typed.{wholeOf, whole-exact, typedTerm, typedTerms}
-use Rattle.handed.specs.Handed.{kindOf, Handed, said, handedOf, readBy}
+use Rattle.entry.specs.typed.Typed.{wholeOf, whole-exact, typedTerm, typedTerms}
+use Rattle.knobharbor.specs.handed.Handed.{kindOf, Handed, said, handedOf, readBy}
 use Rattle.knobharbor.specs.HandedOn.{front, length-of, given-terms, kind-fits}
 use Rattle.knobharbor.specs.Written.{relatedBy, writesOf}
 

@@ -14,11 +14,11 @@ use Rattle.sparse.specs.Sparse.{Sparse, read}
 use Rattle.sparse_test.specs.Reads.{reads}
 use Rattle.lending.specs.declared.Answer as code
 use Rattle.lending.specs.Lending.{answerOf}
-use Rattle.tags.specs.declared.Relation.{Relation}
-use Rattle.tags.specs.Tags.{relationOf}
-use Rattle.terms.specs.declared.Term.{Term}
-use Rattle.terms.specs.declared.Pack.{Pack}
-use Rattle.terms.specs.Terms.{packOf, termsIn, listed}
+use Rattle.changes.specs.declared.tags.Relation.{Relation}
+use Rattle.changes.specs.tags.Tags.{relationOf}
+use Rattle.changes.specs.declared.terms.Term.{Term}
+use Rattle.changes.specs.declared.terms.Pack.{Pack}
+use Rattle.changes.specs.terms.Terms.{packOf, termsIn, listed}
 use Rattle.solver.specs.Concluding.{Done}
 use Rattle.solver.specs.Listed.{listed-adds}
 use Rattle.knobharbor.specs.Given.{relationBy}

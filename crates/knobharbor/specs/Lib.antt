@@ -1,4 +1,5 @@
 -- What the C names answer and leave, beside the calls that they make.
+pub mod handed
 pub mod Given
 pub mod Places
 pub mod Adding

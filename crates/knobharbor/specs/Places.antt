@@ -9,7 +9,7 @@ use Rattle.sparse.specs.Sparse.{Sparse}
 use Rattle.lending.specs.Lending.{Called, called}
 use Rattle.fetches.specs.Fetch.{Fetch, fetchBy}
 use Rattle.fetches.specs.declared.Fetched as code
-use Rattle.typed.specs.Adding.{Text, text}
+use Rattle.entry.specs.typed.Adding.{Text, text}
 
 -- an answer's three places: the number, the pivots, the whole mark as 0 or 1
 unfoldable pub inPlaces : Answer → List ℕ

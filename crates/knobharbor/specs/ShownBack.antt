@@ -17,19 +17,19 @@ use Rattle.layout.specs.Copy.{most16}
 use Rattle.sparse.specs.Sparse.{Sparse, read}
 use Rattle.sparse_test.specs.Reads.{reads}
 use Rattle.grammar.specs.Sums as line
-use Rattle.edition.specs.Endings.{Constraint}
-use Rattle.exact.specs.Whole.{val}
-use Rattle.plain.specs.Plain.{Written, wrote}
-use Rattle.tags.specs.declared.Relation as tags
-use Rattle.terms.specs.declared.Term as code
-use Rattle.terms.specs.declared.Pack.{Pack}
-use Rattle.terms.specs.Terms.{packOf, termOf, termsIn, termIn, termsOf, noTerm}
-use Rattle.terms.specs.Packed.{pack-few, pack-terms, most-few}
+use Rattle.grammar.specs.edition.Endings.{Constraint}
+use Rattle.laws.specs.exact.Whole.{val}
+use Rattle.grammar.specs.plain.Plain.{Written, wrote}
+use Rattle.changes.specs.declared.tags.Relation as tags
+use Rattle.changes.specs.declared.terms.Term as code
+use Rattle.changes.specs.declared.terms.Pack.{Pack}
+use Rattle.changes.specs.terms.Terms.{packOf, termOf, termsIn, termIn, termsOf, noTerm}
+use Rattle.changes.specs.terms.Packed.{pack-few, pack-terms, most-few}
 use Rattle.writing.specs.Given.{termAt}
 use Rattle.writing.specs.Writes.{relationIn, relatedOf, constraintOf}
-use Rattle.handed.specs.Handed.{handed, readBy, said as lineSaid}
-use Rattle.shown.specs.Shown.{Line, said, lineOf, showOf}
-use Rattle.shown.specs.Few.{few-shown}
+use Rattle.knobharbor.specs.handed.Handed.{handed, readBy, said as lineSaid}
+use Rattle.fetches.specs.shown.Shown.{Line, said, lineOf, showOf}
+use Rattle.fetches.specs.shown.Few.{few-shown}
 use Rattle.knobharbor.specs.Given.{termAt as givenAt, given}
 use Rattle.knobharbor.specs.Written.{relatedBy, written-reads}
 use Rattle.knobharbor.specs.HandedBack.{writeHanded, worth, worth-from}

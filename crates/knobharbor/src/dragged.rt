@@ -4,7 +4,7 @@ ghost use mathlib.Core.Bool.{true};
 ghost use Rattle.laws.specs.Given.{Then};
 ghost use Rattle.steps.specs.Calls.{suggest};
 ghost use Rattle.sparse_test.specs.Reads.{reads};
-ghost use Rattle.sparse_copy.specs.Over.{cleared};
+ghost use Rattle.lending.specs.sparse_copy.Over.{cleared};
 ghost use Rattle.waist.specs.Working.{lent};
 ghost use Rattle.lending.specs.Lending.{callOf};
 ghost use Rattle.fetches.specs.Fetch.{fetchBy, fetchOf};
@@ -74,7 +74,7 @@ pub extern "C" fn knobharbor_drag(
 {
     lending::room::long(words, keys, bytes, reals, values);
     let c = Change::Suggest(variable, suggestion);
-    let p = terms::none();
+    let p = changes::terms::none();
     let a = solver::change(
         words,
         keys,

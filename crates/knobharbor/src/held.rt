@@ -11,12 +11,12 @@ ghost use Rattle.knobharbor.specs.Held.{HeldBy};
 ghost use Rattle.knobharbor.specs.Places.{inPlaces};
 use crate::places::put;
 use changes::Change;
+use changes::terms::Pack;
 use sparse::Bytes;
 use sparse::Keys;
 use sparse::Reals;
 use sparse::Values;
 use sparse::Words;
-use terms::Pack;
 
 pub fn change(
     words: &Words,
@@ -75,7 +75,7 @@ pub extern "C" fn knobharbor_held_remove(
     ensures { λ _. ⌜ HeldBy (remove number budget) (now (answer .exit)) (lent (words .entry) (keys .entry) (bytes .entry) (reals .entry) (values .entry)) (lent (wwords .exit) (wkeys .exit) (wbytes .exit) (wreals .exit) (wvalues .exit)) ⌝ }
 {
     let c = Change::Remove(number);
-    let p = terms::none();
+    let p = changes::terms::none();
     change(
         words,
         keys,
@@ -114,7 +114,7 @@ pub extern "C" fn knobharbor_held_drop(
     ensures { λ _. ⌜ HeldBy (dropGroup group budget) (now (answer .exit)) (lent (words .entry) (keys .entry) (bytes .entry) (reals .entry) (values .entry)) (lent (wwords .exit) (wkeys .exit) (wbytes .exit) (wreals .exit) (wvalues .exit)) ⌝ }
 {
     let c = Change::Drop(group);
-    let p = terms::none();
+    let p = changes::terms::none();
     change(
         words,
         keys,
@@ -154,7 +154,7 @@ pub extern "C" fn knobharbor_held_add_edit(
     ensures { λ _. ⌜ HeldBy (addEdit variable strength budget) (now (answer .exit)) (lent (words .entry) (keys .entry) (bytes .entry) (reals .entry) (values .entry)) (lent (wwords .exit) (wkeys .exit) (wbytes .exit) (wreals .exit) (wvalues .exit)) ⌝ }
 {
     let c = Change::AddEdit(variable, strength);
-    let p = terms::none();
+    let p = changes::terms::none();
     change(
         words,
         keys,
@@ -193,7 +193,7 @@ pub extern "C" fn knobharbor_held_remove_edit(
     ensures { λ _. ⌜ HeldBy (removeEdit variable budget) (now (answer .exit)) (lent (words .entry) (keys .entry) (bytes .entry) (reals .entry) (values .entry)) (lent (wwords .exit) (wkeys .exit) (wbytes .exit) (wreals .exit) (wvalues .exit)) ⌝ }
 {
     let c = Change::RemoveEdit(variable);
-    let p = terms::none();
+    let p = changes::terms::none();
     change(
         words,
         keys,

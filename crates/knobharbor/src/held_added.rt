@@ -7,13 +7,13 @@ ghost use Rattle.knobharbor.specs.Held.{HeldBy, heldAdd, heldPacked};
 use crate::given::relation;
 use crate::held::change;
 use changes::Change;
+use changes::terms::Pack;
+use changes::terms::Term;
 use sparse::Bytes;
 use sparse::Keys;
 use sparse::Reals;
 use sparse::Values;
 use sparse::Words;
-use terms::Pack;
-use terms::Term;
 
 fn add_packed(
     words: &Words,
@@ -82,7 +82,7 @@ pub extern "C" fn knobharbor_held_add(
     requires { ⌜ reads (lent words keys bytes reals values) ≡ true ⌝ }
     ensures { λ _. ⌜ HeldBy (heldAdd group number (now (terms .entry)) constant kind strength budget) (now (answer .exit)) (lent (words .entry) (keys .entry) (bytes .entry) (reals .entry) (values .entry)) (lent (wwords .exit) (wkeys .exit) (wbytes .exit) (wreals .exit) (wvalues .exit)) ⌝ }
 {
-    let p = terms::collect(terms);
+    let p = changes::terms::collect(terms);
     add_packed(
         words,
         keys,

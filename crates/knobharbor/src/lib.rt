@@ -4,6 +4,7 @@ pub mod asked;
 pub mod changed;
 pub mod dragged;
 pub mod given;
+pub mod handed;
 pub mod held;
 pub mod held_added;
 pub mod held_asked;

@@ -13,8 +13,8 @@ use Rattle.steps.specs.Changing.{Changing, made}
 use Rattle.steps.proofs.Refusals.{refusal-keeps}
 use Rattle.sparse.specs.Sparse.{Sparse, read}
 use Rattle.sparse.specs.Fits.{Lengths}
-use Rattle.narrow.specs.Narrow.{Typed}
-use Rattle.narrow.specs.Holds.{Holds}
+use Rattle.sparse_test.specs.narrow.Narrow.{Typed}
+use Rattle.sparse_test.specs.narrow.Holds.{Holds}
 use Rattle.lending.specs.Lending.{callIn, callOf}
 use Rattle.fetches.specs.Fetch.{fetchOf, fetchIn}
 use Rattle.fetches.specs.Done.{fetch-accepted}

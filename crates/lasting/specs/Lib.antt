@@ -8,3 +8,4 @@ pub mod Public
 pub mod Runs
 pub mod Never
 pub mod Told
+pub mod layouts

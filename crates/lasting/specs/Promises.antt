@@ -14,7 +14,7 @@ use Rattle.steps.proofs.Cutoff.{reset-refused, reset-taken}
 use Rattle.steps.proofs.Refusals.{refusal-keeps}
 use Rattle.steps.proofs.Budgets.{within-budget}
 use Rattle.keeps.specs.Keeps.{empty-reads, fetch-reads}
-use Rattle.zeros.specs.PlainCalls.{empty-plain, fetch-plain}
+use Rattle.sparse_test.specs.zeros.PlainCalls.{empty-plain, fetch-plain}
 use Rattle.sparse.specs.Sparse.{Sparse, read}
 use Rattle.sparse.specs.Fits.{Lengths}
 use Rattle.sparse.specs.Write.{write}
@@ -24,9 +24,9 @@ use Rattle.sparse_test.specs.Meaning.{reads-form, reads-readable}
 use Rattle.lending.specs.Lending.{Called, called, refused18, callIn, callOf}
 use Rattle.lending.specs.Reset.{refused24, resetOf, reset-read}
 use Rattle.fetches.specs.Fetch.{fetchOf, fetchIn}
-use Rattle.narrow.specs.Narrow.{fetch-narrow, empty-narrow}
-use Rattle.narrow.specs.Tabled.{narrow-of, plain-of}
-use Rattle.narrow.specs.Holds.{Holds, written-holds}
+use Rattle.sparse_test.specs.narrow.Narrow.{fetch-narrow, empty-narrow}
+use Rattle.sparse_test.specs.narrow.Tabled.{narrow-of, plain-of}
+use Rattle.sparse_test.specs.narrow.Holds.{Holds, written-holds}
 
 -- two answers that the contract permits are one
 pub one-answer : (f : State → Result) (w t : Sparse) {x y : Called} → x ≡ callOf f w t → y ≡ callOf f w t → x ≡ y

@@ -1,4 +1,5 @@
 // The places of the lent tables. specs/Layout.antt says what stands there; what else this crate says stands in specs/.
+pub mod cells;
 
 // ---- lengths of the tables
 pub const HEAD_SIZE: usize = 196;

@@ -16,8 +16,8 @@ use Rattle.layout.specs.Laying.{laid-nil}
 use Rattle.sparse.specs.Places.{nextIdAt, idsAt, variableNumbersAt, variableUsesAt, constraintNumbersAt, constraintGroupsAt, goneNumbersAt, constraintCountAt, editCountAt, goneCountAt, wordsSize}
 use Rattle.sparse.specs.Sparse.{Sparse, symbolCount, rowCount, cellCount, variableCount, goneCount}
 use Rattle.sparse.specs.Copy.{headingEnd, putOver}
-use Rattle.sparse_copy.specs.Over.{tables, putPart, wordsOver, namesOver, recordsOver, realsOver, all-over}
-use Rattle.sparse_copy.specs.Becomes.{Outside, part-in, part-out, part-length, same-list}
+use Rattle.lending.specs.sparse_copy.Over.{tables, putPart, wordsOver, namesOver, recordsOver, realsOver, all-over}
+use Rattle.lending.specs.sparse_copy.Becomes.{Outside, part-in, part-out, part-length, same-list}
 use Rattle.lending.specs.Entered.{bare, bareWords, bare-constraints, bare-edits, bare-terms, bare-same, count-same, past-same}
 
 -- a place of a part depends on that place alone

@@ -12,7 +12,7 @@ use lib.Seq.{getD-set-same, getD-set-other}
 use Rattle.laws.specs.Lists.{listOf, tab-ext, sumFrom, sumIn}
 use Rattle.steps.specs.Number.{zero64}
 use Rattle.steps.specs.State.{State}
-use Rattle.cells.specs.Names.{cellRoom}
+use Rattle.layout.specs.cells.Names.{cellRoom}
 use Rattle.sparse.specs.Places.{nextIdAt, symbolCountAt, rowCountAt, cellCountAt, variableCountAt, constraintCountAt, editCountAt, shouldClearAt, wholeAt, goneCountAt, goneNumbersAt, idsAt, variableNumbersAt, variableUsesAt, rowPlacesAt, variablePlacesAt, termCountsAt, wordsSize, bytesSize, realsSize}
 use Rattle.sparse.specs.Sparse.{Sparse, symbolCount, rowCount, cellCount, variableCount, constraintCount, editCount, goneCount, goneOf, symbolAt, variableOf, termsFrom, basicOf, symbolsOf, basicsOf, objectiveOf, read}
 use Rattle.sparse.specs.Fits.{Lengths}
@@ -20,7 +20,7 @@ use Rattle.sparse.specs.Form.{indexAt, Form}
 use Rattle.sparse.specs.Copy.{putOver}
 use Rattle.sparse.specs.Agree.{Agree}
 use Rattle.sparse.specs.Copied.{copy-agrees, copy-reads, copy-form, copy-lengths}
-use Rattle.sparse_copy.specs.Over.{cleared}
+use Rattle.lending.specs.sparse_copy.Over.{cleared}
 use Rattle.sparse_test.specs.Reads.{reads}
 use Rattle.sparse_test.specs.Meaning.{reads-form}
 

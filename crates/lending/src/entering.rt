@@ -2,18 +2,18 @@
 ghost use mathlib.Core.Path.{_≡_};
 ghost use Prim.Native.Nat.{_≤_};
 ghost use lib.ListN.{length};
-ghost use Rattle.cells.specs.Names.{lastPlace};
+ghost use Rattle.layout.specs.cells.Names.{lastPlace};
 ghost use Rattle.sparse.specs.Places.{mostVariables, mostGone, wordsSize};
 ghost use Rattle.sparse.specs.Form.{Counts};
 ghost use Rattle.sparse.specs.Copy.{putOver};
-ghost use Rattle.sparse_copy.specs.Over.{tables, wordsOver};
+ghost use Rattle.lending.specs.sparse_copy.Over.{tables, wordsOver};
 ghost use Rattle.lending.specs.Entered.{bareWords, bare};
+use crate::sparse_copy::put;
 use sparse::Bytes;
 use sparse::Keys;
 use sparse::Reals;
 use sparse::Values;
 use sparse::Words;
-use sparse_copy::put;
 
 // The words with no record counted. The counts are written after the rest, so that nothing is copied twice.
 fn put_bare_words(to: &mut Words, from: &Words, k: usize, v: usize, g: usize)

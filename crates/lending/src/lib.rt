@@ -6,7 +6,7 @@ ghost use Rattle.sparse.specs.Form.{Counts};
 ghost use Rattle.sparse.specs.Fits.{Lengths};
 ghost use Rattle.sparse.specs.Copy.{putOver};
 ghost use Rattle.sparse_test.specs.Reads.{reads};
-ghost use Rattle.sparse_copy.specs.Over.{tables};
+ghost use Rattle.lending.specs.sparse_copy.Over.{tables};
 ghost use Rattle.lending.specs.Lending.{answerOf, called, refused18};
 ghost use Rattle.lending.specs.Entered.{zeroRoom, Entered};
 ghost use Rattle.lending.specs.Reset.{refused24, resetOf, resetWords};
@@ -14,6 +14,7 @@ ghost use Rattle.lending.specs.Reset.{refused24, resetOf, resetWords};
 pub mod clearing;
 pub mod entering;
 pub mod room;
+pub mod sparse_copy;
 
 use sparse::Bytes;
 use sparse::Keys;
@@ -126,7 +127,7 @@ fn put_back_if(
     if on {
         let c = wwords[sparse::CONSTRAINT_COUNT] as usize;
         let m = room::all_terms(wbytes, c);
-        sparse_copy::put_over(
+        crate::sparse_copy::put_over(
             words,
             keys,
             bytes,

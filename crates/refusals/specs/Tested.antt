@@ -23,11 +23,11 @@ use Rattle.sparse_test.specs.Reads.{reads}
 use Rattle.sparse_test.specs.Meaning.{reads-form}
 use Rattle.sparse_test.specs.Meant.{reads-apart}
 use Rattle.sparse_test.specs.Asked.{has-constraint, has-edit}
-use Rattle.terms.specs.declared.Term.{Term}
-use Rattle.terms.specs.declared.Pack.{Pack}
-use Rattle.terms.specs.Terms.{packOf, keptOf, termOf, termsIn, termsOf}
-use Rattle.terms.specs.Packed.{pack-finite, pack-many, pack-terms, length-terms}
-use Rattle.terms.specs.Kept.{kept-terms}
+use Rattle.changes.specs.declared.terms.Term.{Term}
+use Rattle.changes.specs.declared.terms.Pack.{Pack}
+use Rattle.changes.specs.terms.Terms.{packOf, keptOf, termOf, termsIn, termsOf}
+use Rattle.changes.specs.terms.Packed.{pack-finite, pack-many, pack-terms, length-terms}
+use Rattle.changes.specs.terms.Kept.{kept-terms}
 use Rattle.refusals.specs.Refusals.{liveIn, editedIn, newIn, constraintsFullIn, variablesFullIn, idsUsedIn, cutoffIn, roomRefusal, inputRefusal, addRefusal, editPack, addEditRefusal}
 use Rattle.refusals.specs.New.{variablesOf, new-is}
 

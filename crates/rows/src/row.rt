@@ -4,7 +4,7 @@ ghost use Prim.Native.Nat.{_<_};
 ghost use lib.ListN.{length, getD, set};
 ghost use lib.Ieee.{nan, ne};
 ghost use Rattle.steps.specs.Number.{zero64};
-ghost use Rattle.cells.specs.Names.{rowRoom};
+ghost use Rattle.layout.specs.cells.Names.{rowRoom};
 ghost use Rattle.rows.specs.Marks.{markOf};
 ghost use Rattle.rows.specs.Table.{insertedValue, insertedMark, scaledValue, scaledMark, insertSymbolAt, insertSymbolMark, insertCellsIn, insertCellsMark, insertRowIn, insertRowMark, insertRowChanged, scaleCellsIn, scaleCellsMark, solveRowIn, solveRowMark, solveForSymbolsIn, solveForSymbolsMark, reverseSignIn, substituteRowIn, substituteRowMark, substituteRowChanged, substituteCellsIn, substituteCellsMark, shiftConstantIn, shiftConstantMark};
 use crate::cell::cell_mark;
@@ -20,7 +20,7 @@ use crate::number::Wrote;
 use crate::number::joined;
 use crate::number::mark_write;
 use crate::number::nothing;
-use cells::ROW_ROOM;
+use layout::cells::ROW_ROOM;
 
 // An array by value tells its length, and one behind a reference does not: these two hand it over, at no cost.
 fn told(row: [f64; ROW_ROOM])

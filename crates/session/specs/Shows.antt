@@ -13,15 +13,15 @@ use Rattle.steps.specs.Shown.{Given, shown}
 use Rattle.layout.specs.Layout.{termRoom}
 use Rattle.sparse.specs.Sparse.{Sparse, read}
 use Rattle.sparse_test.specs.Reads.{reads}
-use Rattle.shown.specs.Shown.{Line, line, without, lineOf, showOf}
-use Rattle.shown.specs.Few.{FewOf, few-shown, show-few}
+use Rattle.fetches.specs.shown.Shown.{Line, line, without, lineOf, showOf}
+use Rattle.fetches.specs.shown.Few.{FewOf, few-shown, show-few}
 use Rattle.text.specs.declared.floats.Id.{Id}
 use Rattle.text.specs.declared.floats.Id.the-variants.{Is32, No32}
 use Rattle.text.specs.Words.{wordsOf}
 use Rattle.text.specs.Stream.{heldOf}
 use Rattle.text.specs.Answers.{Wrote}
-use Rattle.show_text.specs.Puts.{Puts, wrote-put, put-as}
-use Rattle.show_text.specs.Show.{asksFor, givenText, noText, shownText, given-shown, given-short, no-short}
+use Rattle.text.specs.show_text.Puts.{Puts, wrote-put, put-as}
+use Rattle.text.specs.show_text.Show.{asksFor, givenText, noText, shownText, given-shown, given-short, no-short}
 use Rattle.session.specs.Said.{Said, said, Spoken}
 use Rattle.session.specs.Calls.{lineReply, heldReply}
 

@@ -19,9 +19,9 @@ use Rattle.sparse.specs.Form.{Form}
 use Rattle.sparse.specs.Agree.{Agree}
 use Rattle.sparse_test.specs.Reads.{reads}
 use Rattle.sparse_test.specs.Meaning.{reads-form, reads-readable}
-use Rattle.narrow.specs.Narrow.{Typed}
-use Rattle.narrow.specs.Tabled.{narrow-of}
-use Rattle.narrow.specs.Holds.{left-reads, made-left}
+use Rattle.sparse_test.specs.narrow.Narrow.{Typed}
+use Rattle.sparse_test.specs.narrow.Tabled.{narrow-of}
+use Rattle.sparse_test.specs.narrow.Holds.{left-reads, made-left}
 use Rattle.stored.specs.Parts.{allOf}
 use Rattle.stored.specs.Maps.{Stores}
 use Rattle.stored.specs.Moved.{Moved}

@@ -14,10 +14,10 @@ use Rattle.layout.specs.Copied.{length-listOf, getD-listOf}
 use Rattle.steps.specs.State.{Variable}
 use Rattle.steps.specs.Changes.{withFlag, clearChanged}
 use Rattle.keeps.specs.Good.{clear-length}
-use Rattle.cells.specs.Names.{rowSpan}
-use Rattle.cells.specs.Cells.{cellAt, rowOf, Ascending}
-use Rattle.cells.specs.Seek.{first-within}
-use Rattle.cells.specs.Reads.{cell-within}
+use Rattle.layout.specs.cells.Names.{rowSpan}
+use Rattle.layout.specs.cells.Cells.{cellAt, rowOf, Ascending}
+use Rattle.layout.specs.cells.Seek.{first-within}
+use Rattle.layout.specs.cells.Reads.{cell-within}
 use Rattle.sparse.specs.Places.{nextIdAt, symbolCountAt, rowCountAt, cellCountAt, variableCountAt, constraintCountAt, editCountAt, shouldClearAt, wholeAt, goneCountAt, idsAt, variableNumbersAt, variableUsesAt, constraintNumbersAt, constraintGroupsAt, goneNumbersAt, kindsAt, rowPlacesAt, variablePlacesAt, changedAt, constraintMarkersAt, constraintOthersAt, termCountsAt, editVariablesAt, editMarkersAt, editOthersAt, termsAt, relationsAt, constantsAt, oldValuesAt, objectiveAt, cutoffAt, constraintStrengthsAt, editStrengthsAt, suggestionsAt, coefficientsAt, constraintConstantsAt}
 use Rattle.sparse.specs.Sparse.{Sparse, symbolCount, rowCount, cellCount, variableCount, constraintCount, editCount, goneCount, symbolAt, otherAt, numberAt, variableOf, termsFrom, termOf, constraintOf, editOf, basicOf, symbolsOf, basicsOf, objectiveOf, goneOf, read}
 use Rattle.sparse.specs.Write.{noVariable, noSymbol}
@@ -28,7 +28,7 @@ use Rattle.sparse.specs.Repack.{Held}
 use Rattle.stored.specs.Maps.{Apart}
 use Rattle.stored.specs.Ended.{Kept}
 use Rattle.solver.specs.Begin.{symbols-count, rows-count, variables-count}
-use Rattle.sparse_copy.specs.Becomes.{Outside}
+use Rattle.lending.specs.sparse_copy.Becomes.{Outside}
 
 -- what a suggestion's steps leave as it was: t is lent, u the room
 pub record Stays (t u : Sparse) : Type 0 where

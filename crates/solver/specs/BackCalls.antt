@@ -17,16 +17,16 @@ use Rattle.steps.specs.Changing.{Changing, made, suggests}
 use Rattle.keeps.specs.Passes as passes
 use Rattle.keeps.specs.Good.{begin-good}
 use Rattle.keeps.specs.Suggest.{suggest-ends}
-use Rattle.cells.specs.Names.{cellRoom}
+use Rattle.layout.specs.cells.Names.{cellRoom}
 use Rattle.sparse.specs.Places.{cellCountAt, shouldClearAt, suggestionsAt}
 use Rattle.sparse.specs.Sparse.{Sparse, cellCount, constraintCount, editCount, termsFrom, editOf, read}
 use Rattle.sparse.specs.Fits.{Lengths}
 use Rattle.sparse.specs.Form.{Form}
 use Rattle.sparse.specs.Copy.{putOver}
-use Rattle.sparse_copy.specs.Over.{cleared}
+use Rattle.lending.specs.sparse_copy.Over.{cleared}
 use Rattle.sparse_test.specs.Reads.{reads}
 use Rattle.sparse_test.specs.Meaning.{reads-form}
-use Rattle.narrow.specs.Holds.{made-written}
+use Rattle.sparse_test.specs.narrow.Holds.{made-written}
 use Rattle.rows.specs.Marks.{markOf}
 use Rattle.waist.specs.declared.ending.Ended.{Ended}
 use Rattle.waist.specs.Working.{workOf}

@@ -8,17 +8,17 @@ use lib.Ieee.{Float, nan}
 use lib.ListN.{getD, set, length-set}
 use lib.Seq.{getD-set-same, getD-set-other}
 use Rattle.layout.specs.Layout.{bitOf}
-use Rattle.cells.specs.Names.{cellRoom}
+use Rattle.layout.specs.cells.Names.{cellRoom}
 use Rattle.sparse.specs.Places.{cellCountAt, shouldClearAt, wholeAt, rowPlacesAt, changedAt, constantsAt, objectiveAt, suggestionsAt}
 use Rattle.sparse.specs.Sparse.{Sparse, symbolCount, rowCount, cellCount, variableCount, editCount}
 use Rattle.sparse.specs.Fits.{Lengths}
 use Rattle.sparse.specs.Form.{Counts}
 use Rattle.sparse.specs.Copy.{putOver}
-use Rattle.sparse_copy.specs.Over.{tables, putPart}
+use Rattle.lending.specs.sparse_copy.Over.{tables, putPart}
 use Rattle.stored.specs.Suggested.{withReal}
 use Rattle.rows.specs.declared.number.Wrote.{Wrote}
 use Rattle.solver.specs.Closing.{saysYes}
-use Rattle.sparse_copy.specs.Becomes.{Outside, part-in, part-out, part-length, put-becomes}
+use Rattle.lending.specs.sparse_copy.Becomes.{Outside, part-in, part-out, part-length, put-becomes}
 use Rattle.solver.specs.Back.{Back}
 
 -- the count of cells, the flag of the changed set, the mark

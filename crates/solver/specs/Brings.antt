@@ -38,8 +38,8 @@ use Rattle.stored.specs.Ended.{Ready, roomOf, Kept}
 use Rattle.stored.specs.Ends.{records-kept, constraint-dropped, edit-dropped}
 use Rattle.stored.specs.Came.{tagIn, newConstraint, constraint-kept, edit-kept}
 use Rattle.stored.specs.Suggested.{withReal, suggestion-kept}
-use Rattle.terms.specs.declared.Pack.{Pack}
-use Rattle.terms.specs.Terms.{termsOf}
+use Rattle.changes.specs.declared.terms.Pack.{Pack}
+use Rattle.changes.specs.terms.Terms.{termsOf}
 use Rattle.waist.specs.Tags.{tagAt}
 use Rattle.solver.specs.Bringing.{brought, Comes, Ends}
 use Rattle.solver.specs.Begin.{edits-count}

@@ -13,14 +13,14 @@ use Rattle.steps.proofs.Refusals.{refusal-keeps}
 use Rattle.sparse.specs.Sparse.{Sparse, read}
 use Rattle.sparse.specs.Fits.{Lengths}
 use Rattle.sparse.specs.Copy.{putOver}
-use Rattle.sparse_copy.specs.Over.{cleared}
+use Rattle.lending.specs.sparse_copy.Over.{cleared}
 use Rattle.sparse_test.specs.Reads.{reads}
-use Rattle.narrow.specs.Narrow.{Typed}
-use Rattle.narrow.specs.Holds.{Holds, made-written}
+use Rattle.sparse_test.specs.narrow.Narrow.{Typed}
+use Rattle.sparse_test.specs.narrow.Holds.{Holds, made-written}
 use Rattle.lending.specs.declared.Answer as code
 use Rattle.lending.specs.Lending.{Called, answerOf, called, refused18, callIn, callOf, whole-call}
 use Rattle.lending.specs.Entered.{zeroRoom, cleared-is}
-use Rattle.terms.specs.declared.Pack.{Pack}
+use Rattle.changes.specs.declared.terms.Pack.{Pack}
 use Rattle.changes.specs.declared.Change.{Change}
 use Rattle.changes.specs.Change.{changingOf}
 use Rattle.solver.specs.Concluding.{Done, DoneIf}

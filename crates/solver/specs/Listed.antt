@@ -20,11 +20,11 @@ use Rattle.sparse.specs.Sparse.{Sparse, read}
 use Rattle.sparse.specs.Write.{write}
 use Rattle.sparse_test.specs.Reads.{reads}
 use Rattle.lending.specs.Lending.{called, refused18, callIn, callOf}
-use Rattle.terms.specs.declared.Term.{Term}
-use Rattle.terms.specs.declared.Pack.{Pack}
-use Rattle.terms.specs.Terms.{packOf, termsIn, listed}
-use Rattle.terms.specs.Packed.{length-terms}
-use Rattle.terms.specs.Listed.{listed-finite, listed-few, listed-many}
+use Rattle.changes.specs.declared.terms.Term.{Term}
+use Rattle.changes.specs.declared.terms.Pack.{Pack}
+use Rattle.changes.specs.terms.Terms.{packOf, termsIn, listed}
+use Rattle.changes.specs.terms.Packed.{length-terms}
+use Rattle.changes.specs.terms.Listed.{listed-finite, listed-few, listed-many}
 use Rattle.solver.specs.Adding.{refused-by}
 
 -- the number of the first of three tests that fails, the third failing where the first passes

@@ -11,12 +11,12 @@ use Rattle.layout.specs.Copy.{most16}
 use Rattle.keeps.specs.Lists.{All, all-append}
 use Rattle.keeps.specs.Fits.{all-map}
 use Rattle.layout.specs.Layout.{termRoom}
-use Rattle.narrow.specs.Numbers.{isU32}
-use Rattle.narrow.specs.NearAdd.{TermNamed}
-use Rattle.narrow.specs.Tabled.{all-tab}
-use Rattle.terms.specs.declared.Term.{Term}
-use Rattle.terms.specs.declared.Pack.{Pack}
-use Rattle.terms.specs.Terms.{noTerm, termOf, termsIn, termIn, zeroTerm, shownIn, pastIn, listed}
+use Rattle.sparse_test.specs.narrow.Numbers.{isU32}
+use Rattle.sparse_test.specs.narrow.NearAdd.{TermNamed}
+use Rattle.sparse_test.specs.narrow.Tabled.{all-tab}
+use Rattle.changes.specs.declared.terms.Term.{Term}
+use Rattle.changes.specs.declared.terms.Pack.{Pack}
+use Rattle.changes.specs.terms.Terms.{noTerm, termOf, termsIn, termIn, zeroTerm, shownIn, pastIn, listed}
 
 pub of-u32 : (n : ℕ) → n ≤ 4294967295 → isU32 n ≡ true
 unfolding isU32

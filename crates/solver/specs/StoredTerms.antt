@@ -15,8 +15,8 @@ use Rattle.steps.specs.State as steps
 use Rattle.layout.specs.Copy.{most16}
 use Rattle.layout.specs.Copied.{length-listOf}
 use Rattle.layout.specs.Layout.{termRoom}
-use Rattle.places.specs.Listed.{map-list}
-use Rattle.places.specs.Finding.{placeIn}
+use Rattle.rows.specs.places.Listed.{map-list}
+use Rattle.rows.specs.places.Finding.{placeIn}
 use Rattle.sparse.specs.Places.{mostVariables, mostTerms, variableNumbersAt, variablePlacesAt, termCountsAt, termsAt, coefficientsAt}
 use Rattle.sparse.specs.Lookup.{placeFrom}
 use Rattle.sparse.specs.Sparse.{Sparse, variableCount, constraintCount, numberAt, termsFrom, termOf, constraintOf}
@@ -28,13 +28,13 @@ use Rattle.sparse_test.specs.Meaning.{reads-form}
 use Rattle.sparse_test.specs.Parts.{parts}
 use Rattle.sparse_test.specs.Meant.{tested-is}
 use Rattle.lending.specs.Entered.{termsIn}
-use Rattle.terms.specs.declared.Term.{Term}
-use Rattle.terms.specs.declared.Pack.{Pack}
-use Rattle.terms.specs.Terms as terms
-use Rattle.terms.specs.Terms.{noPack, pushed, packFrom, packOf, termIn, termsOf, pushedKept, keptOf}
-use Rattle.terms.specs.Packed.{pushed-room, few-none, pack-terms}
-use Rattle.terms.specs.Kept.{most-le}
-use Rattle.terms.specs.Listed.{gathered}
+use Rattle.changes.specs.declared.terms.Term.{Term}
+use Rattle.changes.specs.declared.terms.Pack.{Pack}
+use Rattle.changes.specs.terms.Terms as terms
+use Rattle.changes.specs.terms.Terms.{noPack, pushed, packFrom, packOf, termIn, termsOf, pushedKept, keptOf}
+use Rattle.changes.specs.terms.Packed.{pushed-room, few-none, pack-terms}
+use Rattle.changes.specs.terms.Kept.{most-le}
+use Rattle.changes.specs.terms.Listed.{gathered}
 use Rattle.refusals.specs.Refusals.{variablesIn}
 
 -- the number of the variable whose symbol's place stands at byte q

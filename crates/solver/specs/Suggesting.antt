@@ -23,7 +23,7 @@ use Rattle.rows.specs.Marks.{markOf}
 use Rattle.waist.specs.declared.ending.Ended.{Ended}
 use Rattle.waist.specs.Working.{workOf}
 use Rattle.waist.specs.Ending.{outcomeOf, Goes}
-use Rattle.suggestion.specs.Suggested.{editBy, suggest-by}
+use Rattle.optimising.specs.suggestion.Suggested.{editBy, suggest-by}
 use Rattle.lending.specs.declared.Answer as code
 use Rattle.lending.specs.Lending.{answerOf}
 use Rattle.lending.specs.Entered.{Entered}

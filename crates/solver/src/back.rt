@@ -6,12 +6,12 @@ ghost use lib.ListN.{set};
 ghost use Rattle.laws.specs.Given.{Then};
 ghost use Rattle.steps.specs.Number.{isFinite};
 ghost use Rattle.steps.specs.Calls.{suggest};
-ghost use Rattle.cells.specs.Names.{lastPlace, cellRoom};
+ghost use Rattle.layout.specs.cells.Names.{lastPlace, cellRoom};
 ghost use Rattle.sparse.specs.Places.{mostRows, mostVariables, mostConstraints, suggestionsAt};
 ghost use Rattle.sparse.specs.Sparse.{cellCount};
 ghost use Rattle.sparse.specs.Form.{Counts};
 ghost use Rattle.sparse_test.specs.Reads.{reads};
-ghost use Rattle.sparse_copy.specs.Over.{cleared};
+ghost use Rattle.lending.specs.sparse_copy.Over.{cleared};
 ghost use Rattle.stored.specs.Suggested.{withReal};
 ghost use Rattle.refusals.specs.Refusals.{editedIn};
 ghost use Rattle.waist.specs.Working.{lent};
@@ -23,13 +23,13 @@ use crate::begin::by_test;
 use crate::begin::mark_bit;
 use crate::suggest::drag;
 use lending::Answer;
+use lending::sparse_copy::put;
 use rows::number::Wrote;
 use sparse::Bytes;
 use sparse::Keys;
 use sparse::Reals;
 use sparse::Values;
 use sparse::Words;
-use sparse_copy::put;
 
 fn put_words(words: &mut Words, wwords: &Words, wrote: Wrote)
     ensures { λ _. ⌜ now (words .exit) ≡ backWords wrote (now (wwords .entry)) (now (words .entry)) ⌝ }

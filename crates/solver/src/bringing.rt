@@ -7,14 +7,16 @@ ghost use Rattle.steps.specs.State.{comparisonOf};
 ghost use Rattle.steps.specs.Tests.{keepConstraint, keepEdit, dropEdit};
 ghost use Rattle.steps.specs.Readable.{readable};
 ghost use Rattle.layout.specs.Layout.{comparisonCode, termRoom};
-ghost use Rattle.tags.specs.Tags.{relationOf};
+ghost use Rattle.changes.specs.tags.Tags.{relationOf};
 ghost use Rattle.sparse.specs.Places.{mostConstraints};
 ghost use Rattle.sparse.specs.Sparse.{symbolCount, constraintCount, editCount, editOf, read};
 ghost use Rattle.waist.specs.Working.{lent};
-ghost use Rattle.terms.specs.Terms.{termsOf};
+ghost use Rattle.changes.specs.terms.Terms.{termsOf};
 ghost use Rattle.waist.specs.Tags.{tagAt};
 ghost use Rattle.solver.specs.Bringing.{brought, Comes, Ends};
 ghost use Rattle.solver.specs.Suggesting.{suggested};
+use changes::tags::Relation;
+use changes::terms::Pack;
 use sparse::Bytes;
 use sparse::Keys;
 use sparse::Reals;
@@ -22,8 +24,6 @@ use sparse::Values;
 use sparse::Words;
 use stored::new;
 use stored::records;
-use tags::Relation;
-use terms::Pack;
 
 // The j-th edit stays behind.
 pub fn without_edit(

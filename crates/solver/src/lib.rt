@@ -18,20 +18,20 @@ ghost use lib.Dec.{eqb};
 ghost use Rattle.laws.specs.Given.{Then};
 ghost use Rattle.steps.specs.Changing.{made};
 ghost use Rattle.sparse_test.specs.Reads.{reads};
-ghost use Rattle.sparse_copy.specs.Over.{cleared};
+ghost use Rattle.lending.specs.sparse_copy.Over.{cleared};
 ghost use Rattle.waist.specs.Working.{lent};
 ghost use Rattle.lending.specs.Lending.{answerOf, called, callOf};
 ghost use Rattle.lending.specs.Entered.{Entered};
 ghost use Rattle.changes.specs.Change.{changingOf};
 ghost use Rattle.solver.specs.Concluding.{Done, DoneIf};
 use changes::Change;
+use changes::terms::Pack;
 use lending::Answer;
 use sparse::Bytes;
 use sparse::Keys;
 use sparse::Reals;
 use sparse::Values;
 use sparse::Words;
-use terms::Pack;
 
 // The call of the steps, in the working room alone.
 fn change_in(

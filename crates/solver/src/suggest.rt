@@ -16,12 +16,12 @@ use crate::begin::by_test;
 use crate::begin::close;
 use crate::begin::stored_mark;
 use lending::Answer;
+use optimising::suggestion::suggest::suggest_steps;
 use sparse::Bytes;
 use sparse::Keys;
 use sparse::Reals;
 use sparse::Values;
 use sparse::Words;
-use suggestion::suggest::suggest_steps;
 use waist::ending::Ended;
 
 // The steps, with the j-th edit.

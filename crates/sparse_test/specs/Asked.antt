@@ -21,8 +21,8 @@ use Rattle.steps.specs.State.{Basic, Variable, Constraint, Edit, State}
 use Rattle.steps.specs.Work.{findRow}
 use Rattle.steps.specs.Changes.{findVariable, valueOf, value}
 use Rattle.steps.specs.Tests.{findConstraint, findEdit, hasConstraint, hasEdit}
-use Rattle.places.specs.Finding.{placeIn, place-is, place-live, Apart}
-use Rattle.places.specs.Listed.{same}
+use Rattle.rows.specs.places.Finding.{placeIn, place-is, place-live, Apart}
+use Rattle.rows.specs.places.Listed.{same}
 use Rattle.sparse.specs.Places.{idsAt, variableNumbersAt, constraintNumbersAt, rowPlacesAt, variablePlacesAt, editVariablesAt, constantsAt}
 use Rattle.sparse.specs.Lookup.{placeFrom}
 use Rattle.sparse.specs.Sparse.{Sparse, rowCount, variableCount, constraintCount, editCount, symbolAt, numberAt, variableOf, constraintOf, editOf, basicOf, basicsOf, read}

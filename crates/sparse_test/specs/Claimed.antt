@@ -14,9 +14,9 @@ use Rattle.layout.specs.Laying.{list-ext}
 use Rattle.layout.specs.Copied.{length-listOf, getD-listOf}
 use Rattle.steps.specs.Readable as steps
 use Rattle.keeps.specs.Lists.{All, all-to}
-use Rattle.cells.specs.Names.{lastPlace, placeRoom}
-use Rattle.places.specs.Listed.{map-list}
-use Rattle.places.specs.Shares.{Shares, shares}
+use Rattle.layout.specs.cells.Names.{lastPlace, placeRoom}
+use Rattle.rows.specs.places.Listed.{map-list}
+use Rattle.rows.specs.places.Shares.{Shares, shares}
 use Rattle.sparse.specs.Places.{variablePlacesAt, constraintMarkersAt, constraintOthersAt, editMarkersAt, editOthersAt, relationsAt}
 use Rattle.sparse.specs.Sparse.{Sparse, symbolCount, variableCount, constraintCount, editCount}
 use Rattle.sparse.specs.Form.{At}

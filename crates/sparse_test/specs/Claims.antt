@@ -15,7 +15,7 @@ use Rattle.laws.specs.Lists.{tab, listOf}
 use Rattle.steps.specs.Tests.{member}
 use Rattle.steps.specs.Readable as steps
 use Rattle.keeps.specs.Lists.{All}
-use Rattle.places.specs.Shares.{Shares, shares}
+use Rattle.rows.specs.places.Shares.{Shares, shares}
 use Rattle.sparse_test.specs.Tested.{claim}
 
 -- a place, and the code that is expected there

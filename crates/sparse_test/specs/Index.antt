@@ -10,9 +10,9 @@ use lib.ListN.{length, getD, set, replicate, length-set}
 use lib.Seq.{getD-set-same, getD-set-other}
 use borrow.Author.Tests.{eqb-true, eqb-false, eq-eqb, ne-eqb, ltb-true, ltb-false, lt-ltb, le-ltb}
 use Rattle.laws.specs.Loops.{seek, first}
-use Rattle.cells.specs.Seek.{first-none}
-use Rattle.cells.specs.Names.{placeRoom}
-use Rattle.places.specs.Finding.{placeIn}
+use Rattle.layout.specs.cells.Seek.{first-none}
+use Rattle.layout.specs.cells.Names.{placeRoom}
+use Rattle.rows.specs.places.Finding.{placeIn}
 use Rattle.sparse.specs.Places.{variablePlacesAt, mostVariables}
 use Rattle.sparse_test.specs.Tested.{indexIn, numberIn}
 

@@ -17,10 +17,10 @@ use Rattle.steps.specs.Strength.{required}
 use Rattle.steps.specs.Tests.{member}
 use Rattle.steps.specs.Readable as steps
 use Rattle.keeps.specs.Lists.{All, all-in, all-out}
-use Rattle.cells.specs.Names.{lastPlace, placeRoom}
-use Rattle.places.specs.Finding.{all-at, at-all}
-use Rattle.places.specs.Listed.{join, at-listed, listed-at}
-use Rattle.places.specs.Shares.{Shares, shares}
+use Rattle.layout.specs.cells.Names.{lastPlace, placeRoom}
+use Rattle.rows.specs.places.Finding.{all-at, at-all}
+use Rattle.rows.specs.places.Listed.{join, at-listed, listed-at}
+use Rattle.rows.specs.places.Shares.{Shares, shares}
 use Rattle.sparse.specs.Places.{kindsAt, variablePlacesAt, changedAt, constraintMarkersAt, constraintOthersAt, editMarkersAt, editOthersAt, relationsAt, constraintStrengthsAt, editStrengthsAt}
 use Rattle.sparse.specs.Sparse.{Sparse, symbolCount, variableCount, constraintCount, editCount}
 use Rattle.sparse.specs.Form.{At}

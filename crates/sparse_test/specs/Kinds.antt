@@ -14,7 +14,7 @@ use Rattle.steps.specs.State.{Tag, noMore, exactly, noLess}
 use Rattle.steps.specs.Symbol.{Error, Slack, Dummy, External, isError}
 use Rattle.steps.specs.Strength.{required}
 use Rattle.steps.specs.Readable.{isEquality, tagKinds, markerFits}
-use Rattle.places.specs.Listed.{join}
+use Rattle.rows.specs.places.Listed.{join}
 use Rattle.sparse_test.specs.Tested.{kindSymbol, tagOfKinds, markerCode, softly}
 
 equality-is : (r : ℕ) → isEquality (comparisonIn r) ≡ eqb r 1

@@ -21,3 +21,5 @@ pub mod Meant
 pub mod Whole
 pub mod Asked
 pub mod WrittenReads
+pub mod zeros
+pub mod narrow

@@ -17,11 +17,11 @@ use Rattle.steps.specs.State.{Constraint, Edit}
 use Rattle.steps.specs.Readable as steps
 use Rattle.keeps.specs.Clauses.{and3, Clauses, clauses-in}
 use Rattle.layout.specs.Layout.{termRoom}
-use Rattle.cells.specs.Names.{rowSpan, lastPlace, cellRoom}
-use Rattle.cells.specs.Cells.{ascendsOf, presentOf}
-use Rattle.cells.specs.Load.{ascends-true}
-use Rattle.places.specs.Finding.{all-at, at-all}
-use Rattle.places.specs.Listed.{join, listed-at, at-listed, ascend-list, from-list}
+use Rattle.layout.specs.cells.Names.{rowSpan, lastPlace, cellRoom}
+use Rattle.layout.specs.cells.Cells.{ascendsOf, presentOf}
+use Rattle.layout.specs.cells.Load.{ascends-true}
+use Rattle.rows.specs.places.Finding.{all-at, at-all}
+use Rattle.rows.specs.places.Listed.{join, listed-at, at-listed, ascend-list, from-list}
 use Rattle.sparse.specs.Places.{mostVariables, mostConstraints, mostTerms, mostGone, nextIdAt, shouldClearAt, wholeAt, idsAt, variableNumbersAt, constraintNumbersAt, goneNumbersAt, kindsAt, rowPlacesAt, variablePlacesAt, changedAt, constraintMarkersAt, constraintOthersAt, termCountsAt, editVariablesAt, editMarkersAt, editOthersAt, termsAt, relationsAt}
 use Rattle.sparse.specs.Sparse.{Sparse, symbolCount, rowCount, cellCount, variableCount, constraintCount, editCount, goneCount, termsFrom, termOf, constraintOf, read}
 use Rattle.sparse.specs.Concat.{sum-most}

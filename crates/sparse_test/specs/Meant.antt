@@ -19,8 +19,8 @@ use Rattle.steps.specs.Readable as steps
 use Rattle.keeps.specs.Lists.{All}
 use Rattle.keeps.specs.Clauses.{and3, and4, Clauses, clauses-in, clauses-out}
 use Rattle.layout.specs.Layout.{termRoom}
-use Rattle.places.specs.Finding.{at-all, Apart}
-use Rattle.places.specs.Listed.{join, same, ascend-list}
+use Rattle.rows.specs.places.Finding.{at-all, Apart}
+use Rattle.rows.specs.places.Listed.{join, same, ascend-list}
 use Rattle.sparse.specs.Places.{nextIdAt, idsAt, variableNumbersAt, constraintNumbersAt, goneNumbersAt, rowPlacesAt, variablePlacesAt, constraintMarkersAt, constraintOthersAt, termCountsAt, editVariablesAt, editMarkersAt, editOthersAt, termsAt, cutoffAt, mostConstraints, mostVariables, mostGone}
 use Rattle.sparse.specs.Lookup.{Ascends}
 use Rattle.sparse.specs.Sparse.{Sparse, symbolCount, rowCount, variableCount, constraintCount, editCount, goneCount, goneOf, numberAt, termsFrom, basicOf, basicsOf, variableOf, read}

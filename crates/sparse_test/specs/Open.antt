@@ -13,8 +13,8 @@ use borrow.Author.Tests.{eqb-true, eqb-false, eq-eqb, ne-eqb, leb-true, le-leb}
 use Rattle.laws.specs.Lists.{tab, listOf, allIn}
 use Rattle.layout.specs.Copied.{length-listOf, getD-listOf}
 use Rattle.steps.specs.Tests.{member}
-use Rattle.cells.specs.Names.{rowSpan, lastPlace, placeRoom}
-use Rattle.places.specs.Listed.{same}
+use Rattle.layout.specs.cells.Names.{rowSpan, lastPlace, placeRoom}
+use Rattle.rows.specs.places.Listed.{same}
 use Rattle.sparse.specs.Places.{rowPlacesAt}
 use Rattle.sparse.specs.Sparse.{Sparse, symbolCount, variableCount, constraintCount, editCount}
 use Rattle.sparse_test.specs.Tested.{kindAt, codeOf, codeAt, codes, claimed, ownedFit, openAt, openIn}

@@ -13,7 +13,7 @@ use Rattle.steps.specs.Symbol.{Symbol}
 use Rattle.steps.specs.Readable as steps
 use Rattle.keeps.specs.Lists.{All}
 use Rattle.keeps.specs.Codes.{code-injective}
-use Rattle.places.specs.Listed.{map-list}
+use Rattle.rows.specs.places.Listed.{map-list}
 use Rattle.sparse.specs.Places.{idsAt, variablePlacesAt, constraintMarkersAt, constraintOthersAt, editMarkersAt, editOthersAt}
 use Rattle.sparse.specs.Sparse.{Sparse, symbolCount, variableCount, constraintCount, editCount, symbolAt, read}
 use Rattle.sparse.specs.Form.{At}

@@ -8,8 +8,8 @@ use lib.ListN.{getD}
 use Rattle.layout.specs.Rooms.{both}
 use Rattle.steps.specs.Number.{cutoffFits}
 use Rattle.layout.specs.Layout.{termRoom}
-use Rattle.places.specs.Listed.{join}
-use Rattle.places.specs.Shares.{finiteIn}
+use Rattle.rows.specs.places.Listed.{join}
+use Rattle.rows.specs.places.Shares.{finiteIn}
 use Rattle.sparse.specs.Places.{nextIdAt, idsAt, variableNumbersAt, constraintNumbersAt, constraintGroupsAt, goneNumbersAt, kindsAt, rowPlacesAt, changedAt, constraintMarkersAt, constraintOthersAt, termCountsAt, editMarkersAt, editOthersAt, relationsAt, constantsAt, objectiveAt, cutoffAt, constraintStrengthsAt, editStrengthsAt, suggestionsAt, coefficientsAt, constraintConstantsAt}
 use Rattle.sparse.specs.Sparse.{Sparse, symbolCount, rowCount, cellCount, variableCount, constraintCount, editCount, goneCount, termsFrom}
 use Rattle.sparse_test.specs.Stretch.{ascendIn, betweenIn, upIn, mostIn, aboveZeroIn, between-most, most-between}

@@ -11,8 +11,8 @@ use lib.ListN.{getD}
 use borrow.Author.Tests.{eqb-true, eqb-false, ne-eqb, leb-true, le-leb, ltb-true, ltb-false, lt-ltb}
 use Rattle.laws.specs.Lists.{allFrom, allIn, sumFrom, sumIn, sumOn, sum-last}
 use Rattle.layout.specs.Rooms.{both}
-use Rattle.places.specs.Finding.{all-at, at-all, rising-lt, tested-rising}
-use Rattle.places.specs.Listed.{join, same}
+use Rattle.rows.specs.places.Finding.{all-at, at-all, rising-lt, tested-rising}
+use Rattle.rows.specs.places.Listed.{join, same}
 
 -- ---- a test that counts what fails it: such a loop is run over several places at once
 

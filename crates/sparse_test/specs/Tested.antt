@@ -15,10 +15,10 @@ use Rattle.steps.specs.State.{Tag}
 use Rattle.steps.specs.Tests.{member}
 use Rattle.steps.specs.Strength.{required}
 use Rattle.steps.specs.Readable.{tagKinds, markerFits}
-use Rattle.cells.specs.Names.{rowSpan, placeRoom}
-use Rattle.cells.specs.Cells.{ascendsOf}
-use Rattle.places.specs.Finding.{placeIn}
-use Rattle.places.specs.Shares.{Shares, shares, take, noneLeft, stock, finiteIn}
+use Rattle.layout.specs.cells.Names.{rowSpan, placeRoom}
+use Rattle.layout.specs.cells.Cells.{ascendsOf}
+use Rattle.rows.specs.places.Finding.{placeIn}
+use Rattle.rows.specs.places.Shares.{Shares, shares, take, noneLeft, stock, finiteIn}
 use Rattle.sparse.specs.Places.{nextIdAt, idsAt, variableNumbersAt, variableUsesAt, constraintNumbersAt, constraintGroupsAt, goneNumbersAt, kindsAt, rowPlacesAt, variablePlacesAt, changedAt, constraintMarkersAt, constraintOthersAt, termCountsAt, editVariablesAt, editMarkersAt, editOthersAt, termsAt, relationsAt, constantsAt, oldValuesAt, objectiveAt, cutoffAt, constraintStrengthsAt, editStrengthsAt, suggestionsAt, coefficientsAt, constraintConstantsAt}
 use Rattle.sparse.specs.Lookup.{placeFrom}
 use Rattle.sparse.specs.Sparse.{Sparse, symbolCount, rowCount, cellCount, variableCount, constraintCount, editCount, goneCount}

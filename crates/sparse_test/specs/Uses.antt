@@ -14,12 +14,12 @@ use Rattle.steps.specs.State.{Term, Variable}
 use Rattle.steps.specs.Tests.{member}
 use Rattle.steps.specs.Readable as steps
 use Rattle.keeps.specs.Lists.{All, all-in, all-out, all-to}
-use Rattle.cells.specs.Seek.{first-elim, first-at}
-use Rattle.places.specs.Finding.{placeIn, place-live, place-at, Apart}
-use Rattle.places.specs.Listed.{join, map-list, member-list, at-listed, listed-at}
-use Rattle.places.specs.Shares.{Shares, shares, stock}
-use Rattle.places.specs.Spent.{countOf, takeEach, each-append, run-each}
-use Rattle.places.specs.Owned.{shared-counts, counts-shared}
+use Rattle.layout.specs.cells.Seek.{first-elim, first-at}
+use Rattle.rows.specs.places.Finding.{placeIn, place-live, place-at, Apart}
+use Rattle.rows.specs.places.Listed.{join, map-list, member-list, at-listed, listed-at}
+use Rattle.rows.specs.places.Shares.{Shares, shares, stock}
+use Rattle.rows.specs.places.Spent.{countOf, takeEach, each-append, run-each}
+use Rattle.rows.specs.places.Owned.{shared-counts, counts-shared}
 use Rattle.sparse.specs.Places.{variableNumbersAt, variableUsesAt, variablePlacesAt, editVariablesAt, termsAt, mostVariables}
 use Rattle.sparse.specs.Sparse.{Sparse, variableCount, constraintCount, editCount, numberAt, variableOf, termsFrom, read}
 use Rattle.sparse.specs.Form.{indexAt, index-named}

@@ -16,7 +16,7 @@ use Rattle.steps.specs.Symbol.{Symbol}
 use Rattle.steps.specs.State.{Term, Tag, Basic, Variable, Constraint, Edit}
 use Rattle.steps.specs.Edit.{editTerms}
 use Rattle.steps.specs.Readable as steps
-use Rattle.places.specs.Listed.{map-list}
+use Rattle.rows.specs.places.Listed.{map-list}
 use Rattle.sparse.specs.Places.{idsAt, variableNumbersAt, constraintNumbersAt, rowPlacesAt, variablePlacesAt, constraintMarkersAt, constraintOthersAt, editVariablesAt, editMarkersAt, editOthersAt, termsAt}
 use Rattle.sparse.specs.Sparse.{Sparse, symbolCount, rowCount, variableCount, constraintCount, editCount, symbolAt, otherAt, numberAt, variableOf, termsFrom, constraintOf, editOf, basicOf, symbolsOf, basicsOf, read}
 use Rattle.sparse.specs.Written.{part-is, termAt, terms-are}

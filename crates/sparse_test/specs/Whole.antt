@@ -10,7 +10,7 @@ use lib.Ieee.{Float}
 use lib.ListN.{getD}
 use Rattle.layout.specs.Rooms.{both}
 use Rattle.layout.specs.Layout.{termRoom}
-use Rattle.cells.specs.Names.{lastPlace, cellRoom}
+use Rattle.layout.specs.cells.Names.{lastPlace, cellRoom}
 use Rattle.sparse.specs.Places.{mostRows, mostVariables, mostConstraints, mostGone, nextIdAt, symbolCountAt, rowCountAt, cellCountAt, variableCountAt, constraintCountAt, editCountAt, shouldClearAt, wholeAt, goneCountAt, idsAt, variableNumbersAt, constraintNumbersAt, constraintGroupsAt, goneNumbersAt, rowPlacesAt, termCountsAt}
 use Rattle.sparse.specs.Lookup.{Ascends}
 use Rattle.sparse.specs.Sparse.{Sparse, symbolCount, rowCount, variableCount, constraintCount, goneCount}

@@ -4,7 +4,7 @@ ghost use mathlib.Core.Bool.{true};
 ghost use Prim.Native.Nat.{_≤_};
 ghost use lib.ListN.{getD};
 ghost use Rattle.layout.specs.Layout.{termRoom};
-ghost use Rattle.cells.specs.Names.{lastPlace, cellRoom};
+ghost use Rattle.layout.specs.cells.Names.{lastPlace, cellRoom};
 ghost use Rattle.sparse.specs.Places.{mostRows, mostVariables, mostConstraints, mostTerms, mostGone, symbolCountAt, rowCountAt, cellCountAt, variableCountAt, constraintCountAt, editCountAt, goneCountAt, goneNumbersAt, termCountsAt};
 ghost use Rattle.sparse.specs.Lookup.{Ascends};
 ghost use Rattle.sparse_test.specs.Stretch.{mostIn};
@@ -19,8 +19,8 @@ pub mod stretch;
 pub mod tableau;
 pub mod uses;
 
-use cells::LAST_PLACE;
 use layout::TERM_ROOM;
+use layout::cells::LAST_PLACE;
 use sparse::Bytes;
 use sparse::Keys;
 use sparse::MOST_CONSTRAINTS;
@@ -54,7 +54,7 @@ fn counts_fit(words: &Words) -> bool
     (0 < words[sparse::NEXT_ID])
         & (words[sparse::NEXT_ID] <= GREATEST_U32)
         & (words[sparse::SYMBOL_COUNT] <= LAST_PLACE as u64)
-        & (words[sparse::CELL_COUNT] <= cells::CELL_ROOM as u64)
+        & (words[sparse::CELL_COUNT] <= layout::cells::CELL_ROOM as u64)
         & (words[sparse::VARIABLE_COUNT] <= MOST_VARIABLES as u64)
         & (words[sparse::SHOULD_CLEAR] <= 1)
         & (words[sparse::WHOLE] <= 1)

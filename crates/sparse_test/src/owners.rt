@@ -5,13 +5,13 @@ ghost use Prim.Native.Nat.{_+_, _≤_};
 ghost use lib.Dec.{eqb};
 ghost use lib.ListN.{getD, replicate};
 ghost use Rattle.laws.specs.Lists.{allIn};
-ghost use Rattle.cells.specs.Names.{lastPlace, placeRoom};
+ghost use Rattle.layout.specs.cells.Names.{lastPlace, placeRoom};
 ghost use Rattle.sparse.specs.Places.{mostVariables, mostConstraints, changedAt};
-ghost use Rattle.places.specs.Shares.{shares};
+ghost use Rattle.rows.specs.places.Shares.{shares};
 ghost use Rattle.sparse_test.specs.Stretch.{mostIn};
 ghost use Rattle.sparse_test.specs.Tested.{codeOf, codes, claim, claimOther, markerCode, softly, claimVariables, claimConstraints, claimEdits, constraintFits, editFits, claimed, ownedFit};
 use crate::stretch::wide;
-use cells::PLACE_ROOM;
+use layout::cells::PLACE_ROOM;
 use sparse::Bytes;
 use sparse::Reals;
 

@@ -2,13 +2,13 @@
 ghost use mathlib.Core.Path.{_≡_};
 ghost use Prim.Native.Nat.{_+_, _≤_};
 ghost use Rattle.steps.specs.Number.{cutoffFits};
-ghost use Rattle.cells.specs.Names.{lastPlace};
+ghost use Rattle.layout.specs.cells.Names.{lastPlace};
 ghost use Rattle.sparse.specs.Places.{mostRows, mostVariables, mostConstraints, mostTerms, mostGone, goneNumbersAt};
 ghost use Rattle.sparse.specs.Lookup.{Ascends};
 ghost use Rattle.sparse_test.specs.Tested.{oldsFit, returnedFit, realsFit};
 use crate::stretch::one_unless;
 use crate::stretch::reals_finite;
-use places::old_fits;
+use rows::places::old_fits;
 use sparse::Reals;
 use sparse::Words;
 use sparse::lookup::look_up;

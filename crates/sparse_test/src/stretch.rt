@@ -2,9 +2,9 @@
 ghost use mathlib.Core.Path.{_≡_};
 ghost use Prim.Native.Nat.{_+_, _≤_};
 ghost use Rattle.sparse.specs.Places.{wordsSize, bytesSize, realsSize};
-ghost use Rattle.places.specs.Shares.{finiteIn};
+ghost use Rattle.rows.specs.places.Shares.{finiteIn};
 ghost use Rattle.sparse_test.specs.Stretch.{missed, ascendIn, upIn, mostIn, aboveZeroIn};
-use places::is_finite;
+use rows::places::is_finite;
 use sparse::Bytes;
 use sparse::Reals;
 use sparse::Words;

@@ -2,15 +2,15 @@
 ghost use mathlib.Core.Path.{_≡_};
 ghost use Prim.Native.Nat.{_+_, _≤_};
 ghost use mathlib.Core.Bool.{true};
-ghost use Rattle.cells.specs.Names.{cellRoom};
-ghost use Rattle.cells.specs.Cells.{ascendsOf};
+ghost use Rattle.layout.specs.cells.Names.{cellRoom};
+ghost use Rattle.layout.specs.cells.Cells.{ascendsOf};
 ghost use Rattle.sparse.specs.Places.{mostRows};
 ghost use Rattle.sparse_test.specs.Tested.{costsFit, rowsIn, keysFit, valuesFit};
 ghost use Rattle.sparse_test.specs.Open.{Opened, openBy};
 use crate::stretch::one_unless;
 use crate::stretch::wide;
-use cells::PLACE_ROOM;
-use places::is_finite;
+use layout::cells::PLACE_ROOM;
+use rows::places::is_finite;
 use sparse::Bytes;
 use sparse::Keys;
 use sparse::Reals;
@@ -48,7 +48,7 @@ fn open_in(keys: &Keys, table: &[u8; PLACE_ROOM], n: usize) -> bool
     let mut sum = 0;
     let mut j = 0;
     while j < n {
-        let p = keys[j] % cells::ROW_SPAN;
+        let p = keys[j] % layout::cells::ROW_SPAN;
         sum += wide(table[p as usize]);
         j += 1;
     }
@@ -64,7 +64,7 @@ fn rows_in(keys: &Keys, n: usize, r: u16) -> bool
     if n == 0 {
         return true;
     }
-    (1 <= keys[0] / cells::ROW_SPAN) & (keys[n - 1] / cells::ROW_SPAN <= r)
+    (1 <= keys[0] / layout::cells::ROW_SPAN) & (keys[n - 1] / layout::cells::ROW_SPAN <= r)
 }
 
 pub fn keys_fit(
@@ -80,7 +80,7 @@ pub fn keys_fit(
     requires { ⌜ Opened (now table) (now bytes) k r ⌝ }
     ensures { λ b. ⌜ b ≡ keysFit (now (keys .entry)) (now (bytes .entry)) n k r ⌝ }
 {
-    if !cells::search::ascends(keys, n) {
+    if !layout::cells::search::ascends(keys, n) {
         return false;
     }
     rows_in(keys, n, r as u16) & open_in(keys, table, n)

@@ -2,13 +2,13 @@
 ghost use mathlib.Core.Path.{_≡_};
 ghost use Prim.Native.Nat.{_+_, _-_, _<_, _≤_};
 ghost use lib.ListN.{getD, replicate};
-ghost use Rattle.cells.specs.Names.{placeRoom};
+ghost use Rattle.layout.specs.cells.Names.{placeRoom};
 ghost use Rattle.sparse.specs.Places.{mostVariables, mostConstraints, mostTerms, bytesSize, variableUsesAt};
-ghost use Rattle.places.specs.Shares.{shares, take, noneLeft, stock};
+ghost use Rattle.rows.specs.places.Shares.{shares, take, noneLeft, stock};
 ghost use Rattle.sparse_test.specs.Tested.{indexIn, numberIn, editsUp, takeUses, noUses, usesFit};
 ghost use Rattle.sparse_test.specs.Index.{near, Indexed};
 use crate::stretch::wide;
-use cells::PLACE_ROOM;
+use layout::cells::PLACE_ROOM;
 use sparse::Bytes;
 use sparse::Words;
 

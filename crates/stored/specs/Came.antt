@@ -19,8 +19,8 @@ use Rattle.steps.specs.Number.{zero64}
 use Rattle.steps.specs.State.{Tag, Constraint, Edit}
 use Rattle.steps.specs.Tests.{keepConstraint, keepEdit}
 use Rattle.keeps.specs.Lists.{All}
-use Rattle.terms.specs.declared.Pack.{Pack}
-use Rattle.terms.specs.Terms as terms
+use Rattle.changes.specs.declared.terms.Pack.{Pack}
+use Rattle.changes.specs.terms.Terms as terms
 use Rattle.sparse.specs.Places.{mostConstraints, mostTerms, constraintNumbersAt, constraintGroupsAt, constraintMarkersAt, constraintOthersAt, termCountsAt, editVariablesAt, editMarkersAt, editOthersAt, termsAt, relationsAt, constraintStrengthsAt, editStrengthsAt, suggestionsAt, coefficientsAt, constraintConstantsAt}
 use Rattle.sparse.specs.Sparse.{Sparse, symbolCount, variableCount, constraintCount, editCount, symbolAt, otherAt, numberAt, termsFrom, termOf, constraintOf, editOf, read}
 use Rattle.sparse.specs.Write.{noTerm}

@@ -10,7 +10,7 @@ use lib.ListN.{length, getD, set, length-set}
 use lib.Seq.{getD-set-same, getD-set-other}
 use borrow.Author.Tests.{ltb-true, ltb-false}
 use Rattle.laws.specs.Lists.{sumIn}
-use Rattle.cells.specs.Names.{lastPlace, placeRoom}
+use Rattle.layout.specs.cells.Names.{lastPlace, placeRoom}
 use Rattle.sparse.specs.Places.{mostVariables, mostConstraints, mostTerms, symbolCountAt, variableCountAt, constraintCountAt, editCountAt, idsAt, variableNumbersAt, constraintNumbersAt, variablePlacesAt, constraintMarkersAt, termCountsAt}
 use Rattle.sparse.specs.Lookup.{Ascends, placeFrom, place-here}
 use Rattle.sparse.specs.Sparse.{Sparse, variableCount, termsFrom}

@@ -12,7 +12,7 @@ use crate::parts::split_reals;
 use crate::parts::split_words;
 use crate::places::tag_places;
 use crate::places::variable_places;
-use cells::PLACE_ROOM;
+use layout::cells::PLACE_ROOM;
 use sparse::Bytes;
 use sparse::MOST_CONSTRAINTS;
 use sparse::MOST_TERMS;

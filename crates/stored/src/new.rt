@@ -16,10 +16,10 @@ use crate::parts::long_reals;
 use crate::parts::long_words;
 use crate::places::number_place;
 use crate::places::seek;
+use changes::terms::Pack;
 use sparse::Bytes;
 use sparse::Reals;
 use sparse::Words;
-use terms::Pack;
 
 // ---- a constraint
 

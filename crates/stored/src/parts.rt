@@ -5,7 +5,7 @@ ghost use lib.ListN.{length, getD};
 ghost use lib.Ieee.{nan};
 ghost use Rattle.sparse.specs.Places.{wordsSize, bytesSize, realsSize};
 ghost use Rattle.stored.specs.Parts.{Part, Region, Rest, sourceSize, targetSize};
-use cells::PLACE_ROOM;
+use layout::cells::PLACE_ROOM;
 use sparse::Bytes;
 use sparse::Reals;
 use sparse::Words;

@@ -1,10 +1,10 @@
 // Places of one set of tables named by the places of another: ids and numbers ascend in both, and one walk goes along both.
 ghost use Prim.Native.Nat.{_+_, _≤_};
-ghost use Rattle.cells.specs.Names.{lastPlace};
+ghost use Rattle.layout.specs.cells.Names.{lastPlace};
 ghost use Rattle.sparse.specs.Places.{mostVariables, wordsSize};
 ghost use Rattle.stored.specs.Maps.{Names, Sought, TagHere, VariableHere, NumberPlace, TagPlaces, VariablePlaces};
 use crate::parts::wide;
-use cells::PLACE_ROOM;
+use layout::cells::PLACE_ROOM;
 use sparse::Bytes;
 use sparse::Words;
 use sparse::lookup::look_up;

@@ -2,7 +2,7 @@
 ghost use mathlib.Core.Path.{_≡_};
 ghost use Prim.Native.Nat.{_≤_, _<_};
 ghost use lib.ListN.{length, getD};
-ghost use Rattle.moves.specs.Close.{opened};
+ghost use Rattle.rows.specs.moves.Close.{opened};
 ghost use Rattle.sparse.specs.Places.{mostVariables, variableCountAt, wordsSize};
 ghost use Rattle.variables.specs.Variables.{spotIn, keptWords, keptBytes, keptReals};
 use sparse::Bytes;

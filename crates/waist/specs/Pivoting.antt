@@ -27,13 +27,13 @@ use Rattle.rows.specs.Reading as dense
 use Rattle.sparse.specs.Places.{mostRows, rowPlacesAt, constantsAt}
 use Rattle.sparse.specs.Sparse.{Sparse, symbolCount, rowCount, cellCount, symbolAt, basicOf, symbolsOf, basicsOf, read}
 use Rattle.sparse.specs.Widths.{symbols-read}
-use Rattle.cells.specs.Names.{rowSpan, rowRoom, lastPlace}
-use Rattle.cells.specs.Cells.{Narrow, cellAt, rowOf, loaded, settled}
-use Rattle.cells.specs.Column.{zero-absent}
-use Rattle.cells.specs.Load.{loaded-reads}
-use Rattle.merging.specs.Merge.{Placed}
-use Rattle.merging.specs.Substituted.{settled-absent, settled-stored, settled-insert, cell-settled}
-use Rattle.substituting.specs.Loose.{SettledRow}
+use Rattle.layout.specs.cells.Names.{rowSpan, rowRoom, lastPlace}
+use Rattle.layout.specs.cells.Cells.{Narrow, cellAt, rowOf, loaded, settled}
+use Rattle.layout.specs.cells.Column.{zero-absent}
+use Rattle.layout.specs.cells.Load.{loaded-reads}
+use Rattle.waist.specs.merging.Merge.{Placed}
+use Rattle.waist.specs.merging.Substituted.{settled-absent, settled-stored, settled-insert, cell-settled}
+use Rattle.waist.specs.substituting.Loose.{SettledRow}
 use Rattle.waist.specs.Working.{workOf, cutoffOf, dense-cells, Sound, live-place, id-at, basic-symbol}
 use Rattle.waist.specs.Owning.{Kept, kept-then}
 use Rattle.waist.specs.Dropping.{Free, Drops}

@@ -1,5 +1,5 @@
 -- `lending::enter_held` meets its contract. Assumes nothing.
-use Rattle.sparse_copy.specs.Over.{tables}
+use Rattle.lending.specs.sparse_copy.Over.{tables}
 use Rattle.sparse_test.specs.Meaning.{reads-form}
 use Rattle.lending.specs.Entered.{entered}
 use borrow.Author.Needs.{needs}

@@ -1,5 +1,5 @@
 -- `solver::change` meets its contract. Assumes nothing.
-use Rattle.sparse_copy.specs.Over.{tables}
+use Rattle.lending.specs.sparse_copy.Over.{tables}
 use Rattle.lending.specs.Lending.{answerOf}
 use Rattle.solver.specs.Change.{known-called}
 use borrow.Author.Needs.{needs}

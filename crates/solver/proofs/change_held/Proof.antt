@@ -1,5 +1,5 @@
 -- `solver::change_held` meets its contract. Assumes nothing.
-use Rattle.sparse_copy.specs.Over.{tables}
+use Rattle.lending.specs.sparse_copy.Over.{tables}
 use Rattle.changes.specs.Change.{changingOf}
 use Rattle.solver.specs.Again.{made-again}
 use borrow.Author.Needs.{needs}

@@ -1,7 +1,7 @@
 -- `solver::change_whole` meets its contract. Assumes nothing.
 use mathlib.Core.Bool.{_&&_}
 use lib.Dec.{eqb}
-use Rattle.sparse_copy.specs.Over.{tables}
+use Rattle.lending.specs.sparse_copy.Over.{tables}
 use Rattle.lending.specs.Lending.{left-counts}
 use Rattle.changes.specs.Change.{changingOf}
 use Rattle.solver.specs.Change.{call-done}

@@ -2,7 +2,7 @@
 use mathlib.Core.Path.{refl, sym, _∙_}
 use borrow.Author.Tests.{not-false}
 use Rattle.laws.specs.Given.{then-given}
-use Rattle.sparse_copy.specs.Over.{tables}
+use Rattle.lending.specs.sparse_copy.Over.{tables}
 use Rattle.fetches.specs.Done.{fetch-accepted}
 use Rattle.knobharbor.proofs.dragged.fetch_after.Statement.{statement}
 use Rattle.knobharbor.proofs.dragged.fetch_after.Tie as tie

@@ -1,5 +1,5 @@
 -- `knobharbor::dragged::knobharbor_drag` meets its contract. Assumes nothing.
-use Rattle.sparse_copy.specs.Over.{tables}
+use Rattle.lending.specs.sparse_copy.Over.{tables}
 use Rattle.knobharbor.specs.Dragged.{known-reads, drag-answers, drag-fetches}
 use borrow.Author.Needs.{needs}
 use Rattle.knobharbor.proofs.dragged.knobharbor_drag.Statement.{statement}

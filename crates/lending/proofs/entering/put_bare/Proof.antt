@@ -1,5 +1,5 @@
 -- `lending::entering::put_bare` meets its contract. Assumes nothing.
-use Rattle.sparse_copy.specs.Over.{tables}
+use Rattle.lending.specs.sparse_copy.Over.{tables}
 use Rattle.lending.specs.Bare.{bare-over}
 use borrow.Author.Needs.{needs}
 use Rattle.lending.proofs.entering.put_bare.Statement.{statement}

@@ -7,7 +7,7 @@ use lib.Ieee.{nan}
 use lib.ListN.{length, length-set}
 use borrow.Author.Needs.{needs}
 use Rattle.laws.specs.Loops.{fold2-last, fold2-next-set, fold2In, zip-last, zip-next, zipIn}
-use Rattle.cells.specs.Names.{rowRoom}
+use Rattle.layout.specs.cells.Names.{rowRoom}
 use Rattle.rows.specs.Marks.{mark-clean, markOf}
 use Rattle.rows.specs.Table.{insertCellsIn, insertCellsMark, insertedMark, insertedValue}
 use Rattle.rows.proofs.row.insert_cells.Statement.{statement}

@@ -7,7 +7,7 @@ use lib.Ieee.{nan}
 use lib.ListN.{length, length-set}
 use borrow.Author.Needs.{needs}
 use Rattle.laws.specs.Loops.{fold-last, fold-next-set, foldIn, map-last, map-next, mapIn}
-use Rattle.cells.specs.Names.{rowRoom}
+use Rattle.layout.specs.cells.Names.{rowRoom}
 use Rattle.rows.specs.Marks.{mark-clean, markOf}
 use Rattle.rows.specs.Table.{scaleCellsIn, scaleCellsMark, scaledMark, scaledValue}
 use Rattle.rows.proofs.row.scale_cells.Statement.{statement}

@@ -1,6 +1,6 @@
 -- `solver::again::remove_again` meets its contract. Assumes nothing.
 use Rattle.steps.specs.Changing.{removes}
-use Rattle.sparse_copy.specs.Over.{tables}
+use Rattle.lending.specs.sparse_copy.Over.{tables}
 use Rattle.solver.specs.Again.{entered-bare, made-again}
 use borrow.Author.Needs.{needs}
 use Rattle.solver.proofs.again.remove_again.Statement.{statement}

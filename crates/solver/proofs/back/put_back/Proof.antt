@@ -1,5 +1,5 @@
 -- `solver::back::put_back` meets its contract. Assumes nothing.
-use Rattle.sparse_copy.specs.Over.{tables}
+use Rattle.lending.specs.sparse_copy.Over.{tables}
 use Rattle.solver.specs.Backed.{tables-back}
 use borrow.Author.Needs.{needs}
 use Rattle.solver.proofs.back.put_back.Statement.{statement}

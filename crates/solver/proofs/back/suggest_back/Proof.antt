@@ -1,6 +1,6 @@
 -- `solver::back::suggest_back` meets its contract. Assumes nothing.
 use mathlib.Core.Path.{sym, ap, _∙_}
-use Rattle.sparse_copy.specs.Over.{tables}
+use Rattle.lending.specs.sparse_copy.Over.{tables}
 use Rattle.steps.specs.Calls.{Answer}
 use Rattle.refusals.specs.Known.{suggest-passed}
 use Rattle.refusals.specs.Numbers.{suggest-low}

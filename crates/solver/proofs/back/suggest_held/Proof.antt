@@ -1,5 +1,5 @@
 -- `solver::back::suggest_held` meets its contract. Assumes nothing.
-use Rattle.sparse_copy.specs.Over.{tables}
+use Rattle.lending.specs.sparse_copy.Over.{tables}
 use Rattle.solver.specs.BackCalls.{in-reads}
 use borrow.Author.Needs.{needs}
 use Rattle.solver.proofs.back.suggest_held.Statement.{statement}

@@ -1,6 +1,6 @@
 -- `solver::back::suggest_if` meets its contract. Assumes nothing.
 use borrow.Author.Tests.{not-true, not-false}
-use Rattle.sparse_copy.specs.Over.{tables}
+use Rattle.lending.specs.sparse_copy.Over.{tables}
 use Rattle.steps.specs.Calls.{suggest}
 use Rattle.lending.specs.Lending.{answerOf}
 use Rattle.solver.specs.Concluding.{entered-if}

@@ -1,7 +1,7 @@
 -- `solver::back::suggest_known` meets its contract. Assumes nothing.
 use mathlib.Core.Path.{sym, ap, _∙_}
 use native.Mathlib.Omega.{arith}
-use Rattle.sparse_copy.specs.Over.{tables}
+use Rattle.lending.specs.sparse_copy.Over.{tables}
 use Rattle.steps.specs.Calls.{Answer}
 use Rattle.solver.specs.Begin.{counts-at-start, numbers-at-start}
 use Rattle.solver.specs.Placed.{variable-known}

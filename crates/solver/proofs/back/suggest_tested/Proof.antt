@@ -1,5 +1,5 @@
 -- `solver::back::suggest_tested` meets its contract. Assumes nothing.
-use Rattle.sparse_copy.specs.Over.{tables}
+use Rattle.lending.specs.sparse_copy.Over.{tables}
 use Rattle.steps.specs.Calls.{suggest}
 use Rattle.lending.specs.Lending.{answerOf}
 use Rattle.solver.specs.BackCalls.{tested-in}

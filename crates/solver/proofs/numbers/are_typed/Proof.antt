@@ -12,9 +12,9 @@ use denote.Array.{each}
 use denote.Enum.Declared.{row}
 use borrow.Kind.Array.{eInt}
 use Rattle.keeps.specs.Lists.{All}
-use Rattle.narrow.specs.Numbers.{isU32}
-use Rattle.narrow.specs.Narrow.{Typed}
-use Rattle.terms.specs.declared.Pack.{Pack}
+use Rattle.sparse_test.specs.narrow.Numbers.{isU32}
+use Rattle.sparse_test.specs.narrow.Narrow.{Typed}
+use Rattle.changes.specs.declared.terms.Pack.{Pack}
 use Rattle.changes.specs.declared.Change.{Change}
 use Rattle.changes.specs.declared.Change.the-variants.{Add, Remove, Drop, AddEdit, RemoveEdit, Suggest}
 use Rattle.changes.specs.Change.{changingOf}

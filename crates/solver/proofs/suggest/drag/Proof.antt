@@ -1,6 +1,6 @@
 -- `solver::suggest::drag` meets its contract. Assumes nothing.
 use native.Mathlib.Omega.{arith}
-use Rattle.sparse_copy.specs.Over.{tables}
+use Rattle.lending.specs.sparse_copy.Over.{tables}
 use Rattle.solver.specs.Begin.{counts-at-start, standing-at-start}
 use Rattle.solver.specs.Suggesting.{drag-live, drag-ends}
 use borrow.Author.Needs.{needs}

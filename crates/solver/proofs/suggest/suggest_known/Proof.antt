@@ -1,5 +1,5 @@
 -- `solver::suggest::suggest_known` meets its contract. Assumes nothing.
-use Rattle.sparse_copy.specs.Over.{tables}
+use Rattle.lending.specs.sparse_copy.Over.{tables}
 use Rattle.solver.specs.Begin.{counts-at-start, numbers-at-start}
 use Rattle.solver.specs.Placed.{variable-known}
 use Rattle.solver.specs.Suggesting.{in-range, drag-comes, drag-refused, drag-accepted}

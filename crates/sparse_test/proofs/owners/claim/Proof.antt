@@ -6,7 +6,7 @@ use mathlib.Core.Bool.{Bool, _&&_}
 use mathlib.Core.List.{List}
 use lib.Dec.{eqb}
 use lib.ListN.{getD, set}
-use Rattle.places.specs.Shares.{shares}
+use Rattle.rows.specs.places.Shares.{shares}
 use Rattle.sparse_test.specs.Tested.{claim}
 use borrow.Author.Needs.{needs}
 use Rattle.sparse_test.proofs.owners.claim.Statement.{statement}

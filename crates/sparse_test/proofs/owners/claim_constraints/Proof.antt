@@ -10,7 +10,7 @@ use lib.Ieee.{nan}
 use lib.ListN.{getD}
 use Rattle.laws.specs.Loops.{run, run-next, run-last}
 use Rattle.laws.specs.Lists.{allOn, all-next, all-last}
-use Rattle.places.specs.Shares.{Shares, shares}
+use Rattle.rows.specs.places.Shares.{Shares, shares}
 use Rattle.sparse.specs.Places.{constraintMarkersAt, constraintOthersAt, relationsAt, constraintStrengthsAt}
 use Rattle.sparse_test.specs.Tested.{claim, claimOther, markerCode, claimConstraints, softly, constraintFits}
 use borrow.Author.Needs.{needs}

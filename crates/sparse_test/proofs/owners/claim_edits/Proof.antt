@@ -11,7 +11,7 @@ use lib.ListN.{getD}
 use Rattle.steps.specs.Strength.{required}
 use Rattle.laws.specs.Loops.{run, run-next, run-last}
 use Rattle.laws.specs.Lists.{allOn, all-next, all-last}
-use Rattle.places.specs.Shares.{Shares, shares}
+use Rattle.rows.specs.places.Shares.{Shares, shares}
 use Rattle.sparse.specs.Places.{editMarkersAt, editOthersAt, editStrengthsAt}
 use Rattle.sparse_test.specs.Tested.{claim, claimOther, claimEdits, editFits}
 use borrow.Author.Needs.{needs}

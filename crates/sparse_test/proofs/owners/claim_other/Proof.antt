@@ -5,7 +5,7 @@ use mathlib.Core.Path.{_≡_, refl, _∙_}
 use mathlib.Core.Bool.{true, false}
 use lib.Dec.{eqb}
 use borrow.Author.Tests.{eq-eqb, ne-eqb}
-use Rattle.places.specs.Shares.{Shares}
+use Rattle.rows.specs.places.Shares.{Shares}
 use Rattle.sparse_test.specs.Tested.{claim, claimOther}
 use borrow.Author.Needs.{needs}
 use Rattle.sparse_test.proofs.owners.claim_other.Statement.{statement}

@@ -2,7 +2,7 @@
 -- Assumes nothing.
 use Prim.Native.Nat.{ℕ}
 use mathlib.Core.Path.{_≡_, ap, _∙_}
-use Rattle.places.specs.Shares.{Shares}
+use Rattle.rows.specs.places.Shares.{Shares}
 use Rattle.sparse_test.specs.Tested.{claim, claimOther}
 use borrow.Author.Needs.{needs}
 use Rattle.sparse_test.proofs.owners.claim_tag.Statement.{statement}

@@ -9,7 +9,7 @@ use lib.Dec.{leb}
 use lib.ListN.{getD}
 use Rattle.laws.specs.Loops.{run, run-next, run-last}
 use Rattle.laws.specs.Lists.{allOn, all-next, all-last}
-use Rattle.places.specs.Shares.{Shares, shares}
+use Rattle.rows.specs.places.Shares.{Shares, shares}
 use Rattle.sparse.specs.Places.{variablePlacesAt, changedAt}
 use Rattle.sparse_test.specs.Stretch.{mostIn}
 use Rattle.sparse_test.specs.Tested.{claim, claimVariables}

@@ -8,7 +8,7 @@ use lib.Dec.{eqb}
 use lib.Ieee.{Float}
 use lib.ListN.{getD}
 use Rattle.laws.specs.Lists.{allIn}
-use Rattle.places.specs.Shares.{shares}
+use Rattle.rows.specs.places.Shares.{shares}
 use Rattle.sparse.specs.Places.{changedAt}
 use Rattle.sparse_test.specs.Stretch.{mostIn}
 use Rattle.sparse_test.specs.Tested.{codes, claimVariables, claimConstraints, claimEdits, constraintFits, editFits, claimed, ownedFit}

@@ -7,7 +7,7 @@ use lib.Ieee.{nan}
 use lib.ListN.{getD}
 use Rattle.steps.specs.Number.{isFinite}
 use Rattle.laws.specs.Lists.{sumIn, sumOn, sum-start, sum-next}
-use Rattle.places.specs.Shares.{finiteIn}
+use Rattle.rows.specs.places.Shares.{finiteIn}
 use Rattle.sparse_test.specs.Stretch.{missed, none-missed}
 use borrow.Author.Needs.{needs}
 use Rattle.sparse_test.proofs.stretch.reals_finite.Statement.{statement}

@@ -5,7 +5,7 @@ use mathlib.Core.Path.{_≡_, refl, sym, _∙_}
 use mathlib.Core.Bool.{Bool, true, _&&_}
 use mathlib.Core.List.{List}
 use borrow.Author.Tests.{not-true, not-false}
-use Rattle.cells.specs.Cells.{ascendsOf}
+use Rattle.layout.specs.cells.Cells.{ascendsOf}
 use Rattle.sparse_test.specs.Tested.{rowsIn, keysFit}
 use Rattle.sparse_test.specs.Open.{Opened, openBy, open-by}
 use borrow.Author.Needs.{needs}

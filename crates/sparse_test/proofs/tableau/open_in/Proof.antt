@@ -5,7 +5,7 @@ use mathlib.Core.Path.{_≡_, ap}
 use native.Mathlib.Omega.{arith}
 use lib.ListN.{getD}
 use Rattle.laws.specs.Lists.{sumIn, sumOn, sum-start, sum-next}
-use Rattle.cells.specs.Names.{rowSpan}
+use Rattle.layout.specs.cells.Names.{rowSpan}
 use Rattle.sparse_test.specs.Stretch.{zero-sum}
 use Rattle.sparse_test.specs.Open.{openBy}
 use borrow.Author.Needs.{needs}
