@@ -29,7 +29,7 @@ def main():
         text = f.read()
     head, rest = text.split(BEGIN)
     tail = rest.split(END)[1]
-    facts = f"{datetime.date.today()}: {platform.machine()}, {processor()}, {os.cpu_count()} cores; {said(['rustc', '--version'])}; {said(['rt', 'version'])}; {rounds} rounds; medians, and the least in the second and third table:"
+    facts = f"{datetime.date.today()}: {platform.machine()}, {processor()}, {os.cpu_count()} cores; {said(['rustc', '--version'])}; {said(['rt', 'version'])}; {rounds} rounds; the load was {os.getloadavg()[1]:.0f}; medians, and the least in the second and third table:"
     with open(path, "w") as f:
         f.write(f"{head}{BEGIN}\n{facts}\n\n{tables}\n{END}{tail}")
 

@@ -31,9 +31,9 @@ extern "C" {
 
 /* of this header and the archive that was built with it; a state kept by one version is not promised to read in another */
 #define KNOBHARBOR_VERSION_MAJOR 0
-#define KNOBHARBOR_VERSION_MINOR 6
+#define KNOBHARBOR_VERSION_MINOR 7
 #define KNOBHARBOR_VERSION_PATCH 0
-#define KNOBHARBOR_VERSION "0.6.0"
+#define KNOBHARBOR_VERSION "0.7.0"
 
 /* ---- sizes */
 
@@ -270,6 +270,18 @@ void knobharbor_fetch(
     double reals[KNOBHARBOR_REALS], double values[KNOBHARBOR_CELLS], uint32_t answer[KNOBHARBOR_FETCHED],
     uint64_t numbers[KNOBHARBOR_CHANGES], double moved[KNOBHARBOR_CHANGES], uint8_t gone[KNOBHARBOR_CHANGES]);
 
+/* Drags the variable and lists what has changed: knobharbor_suggest and then knobharbor_fetch, with one test of the tables in place of two.
+   `answer` is what the suggestion answers, `fetched` and the three lists are the fetch's. The fetch is made also where the suggestion is
+   refused: it lists what waited. On 18 both answer 18, the lists are all zero and no table changes. The working room is all zero after the
+   call. */
+void knobharbor_drag(
+    uint64_t words[KNOBHARBOR_WORDS], uint16_t keys[KNOBHARBOR_CELLS], uint8_t bytes[KNOBHARBOR_BYTES],
+    double reals[KNOBHARBOR_REALS], double values[KNOBHARBOR_CELLS],
+    uint64_t wwords[KNOBHARBOR_WORDS], uint16_t wkeys[KNOBHARBOR_CELLS], uint8_t wbytes[KNOBHARBOR_BYTES],
+    double wreals[KNOBHARBOR_REALS], double wvalues[KNOBHARBOR_CELLS], uint32_t answer[KNOBHARBOR_ANSWER],
+    uint32_t fetched[KNOBHARBOR_FETCHED], uint64_t numbers[KNOBHARBOR_CHANGES], double moved[KNOBHARBOR_CHANGES],
+    uint8_t gone[KNOBHARBOR_CHANGES], uint32_t variable, double suggestion, uint16_t budget);
+
 /* ---- queries
 
    False or 0.0 for an unknown number, and where the tables do not read as a state. They write nothing. */
@@ -463,6 +475,18 @@ static inline knobharbor_fetched kh_fetch(knobharbor_tables *t, knobharbor_chang
     return f;
 }
 
+/* a suggestion and then a fetch: what the suggestion answers; what the fetch answers goes to `fetched` */
+static inline knobharbor_answer kh_drag(knobharbor_tables *t, knobharbor_tables *room, uint32_t variable, double suggestion,
+                                        uint16_t budget, knobharbor_fetched *fetched, knobharbor_changes *changes)
+{
+    uint32_t answer[KNOBHARBOR_ANSWER], listed[KNOBHARBOR_FETCHED];
+    knobharbor_drag(KNOBHARBOR_LEND(t), KNOBHARBOR_LEND(room), answer, listed, changes->numbers, changes->values, changes->gone, variable,
+                    suggestion, budget);
+    fetched->number = listed[0];
+    fetched->count = listed[1];
+    return kh_answered(answer);
+}
+
 static inline double kh_value(const knobharbor_tables *t, uint32_t variable)
 {
     return knobharbor_value(KNOBHARBOR_LEND(t), variable);
@@ -608,6 +632,13 @@ static inline const char *kh_words(uint32_t number)
         return "no line can say the constraint";
     return number < sizeof words / sizeof words[0] ? words[number] : "no number of the document's";
 }
+
+/* ---- what is not declared here
+
+   The archive has more names, knobharbor_held_add, _remove, _drop, _add_edit, _remove_edit, _suggest, _fetch, _value, _has_constraint and
+   _has_edit: the same calls behind the test that the tables read as a state. They are the Rust crate's, whose solver keeps its tables to
+   itself, so that they always do. They are no public calls: of tables that do not read as a state they promise nothing, not even to stay
+   within them, and in C nothing keeps the tables from being written by others. */
 
 #ifdef __cplusplus
 }

@@ -2,11 +2,11 @@
 //! and a length of 64 bits, an answer in a place of its own.
 use crate::layout::{BYTES, CELLS, CHANGES, LINE_REALS, LINE_TERMS, LINE_WORDS, REALS, WORDS};
 
-type Words = [u64; WORDS];
-type Keys = [u16; CELLS];
-type Bytes = [u8; BYTES];
-type Reals = [f64; REALS];
-type Values = [f64; CELLS];
+pub type Words = [u64; WORDS];
+pub type Keys = [u16; CELLS];
+pub type Bytes = [u8; BYTES];
+pub type Reals = [f64; REALS];
+pub type Values = [f64; CELLS];
 /// The places of a changing call's answer, and of a fetch's.
 pub const ANSWER: usize = 3;
 pub const FETCHED: usize = 2;
@@ -57,6 +57,10 @@ extern "C" {
     fn knobharbor_reset(words: &mut Words, keys: &mut Keys, bytes: &mut Bytes, reals: &mut Reals, values: &mut Values, cutoff: f64, answer: &mut [u32; ANSWER]);
     fn knobharbor_fetch(words: &mut Words, keys: &Keys, bytes: &mut Bytes, reals: &mut Reals, values: &Values, answer: &mut [u32; FETCHED],
         numbers: &mut [u64; CHANGES], moved: &mut [f64; CHANGES], gone: &mut [u8; CHANGES]);
+    #[allow(dead_code)]
+    fn knobharbor_drag(words: &mut Words, keys: &mut Keys, bytes: &mut Bytes, reals: &mut Reals, values: &mut Values, wwords: &mut Words,
+        wkeys: &mut Keys, wbytes: &mut Bytes, wreals: &mut Reals, wvalues: &mut Values, answer: &mut [u32; ANSWER], fetched: &mut [u32; FETCHED],
+        numbers: &mut [u64; CHANGES], moved: &mut [f64; CHANGES], gone: &mut [u8; CHANGES], variable: u32, suggestion: f64, budget: u16);
     fn knobharbor_value(words: &Words, keys: &Keys, bytes: &Bytes, reals: &Reals, values: &Values, variable: u32) -> f64;
     fn knobharbor_has_constraint(words: &Words, keys: &Keys, bytes: &Bytes, reals: &Reals, values: &Values, number: u32) -> bool;
     fn knobharbor_has_edit(words: &Words, keys: &Keys, bytes: &Bytes, reals: &Reals, values: &Values, variable: u32) -> bool;
@@ -135,6 +139,20 @@ pub fn fetch(t: Lent, answer: &mut [u32; FETCHED], lists: Changes) -> Fetched {
     unsafe { knobharbor_fetch(t.words, t.keys, t.bytes, t.reals, t.values, answer, lists.numbers, lists.moved, lists.gone) }
     let [number, count] = *answer;
     Fetched { number, count }
+}
+
+/// A suggestion and then a fetch.
+#[allow(dead_code)] // lines.rs has the two one after the other
+pub fn drag(t: Lent, w: Lent, lists: Changes, (variable, suggestion, budget): (u32, f64, u16)) -> (Answer, Fetched) {
+    let (mut answer, mut fetched) = ([7; ANSWER], [7; FETCHED]);
+    unsafe {
+        knobharbor_drag(
+            t.words, t.keys, t.bytes, t.reals, t.values, w.words, w.keys, w.bytes, w.reals, w.values, &mut answer, &mut fetched, lists.numbers,
+            lists.moved, lists.gone, variable, suggestion, budget,
+        )
+    }
+    let ([number, pivots, whole], [fetch, count]) = (answer, fetched);
+    (Answer { number, pivots, whole }, Fetched { number: fetch, count })
 }
 
 /// The places in which a constraint is shown.

@@ -1,6 +1,7 @@
 //! One call of the archive on lent tables, held against the oracle: whether the tables read (`reading.rs`), and what the patched
 //! crate's model comes to where they do (`model.rs`).
 use crate::archive::{self, Answer, Call, Fetched, Shown, Term, ANSWER, FETCHED};
+use crate::held;
 use crate::layout::{Held, Tables, CHANGES};
 use crate::memory::{Content, Fetches, Lists, Set, Shows};
 use crate::model;
@@ -87,7 +88,58 @@ impl Checker {
             return differ("the room is not all zero, or was not lent and changed", call);
         }
         self.judge(call, t, answer, &after)?;
+        if reading::reads(&Held::of(t), None) {
+            self.call_behind(call, t, room, last, answer, &after)?;
+        }
+        if let Call::Suggest { variable, suggestion, budget } = *call {
+            self.drag(t, room, last, (variable, suggestion, budget), answer, &after)?;
+        }
         Ok((answer, after))
+    }
+
+    /// The same call behind the test, of tables that read: the same answer; the tables stay, and the state of an accepted one is in the room;
+    /// of a suggestion the tables are those that the tested one leaves.
+    fn call_behind(&mut self, call: &Call, t: &Tables, room: &Tables, last: bool, answer: Answer, after: &Tables) -> Result<(), Difference> {
+        let records = call.records();
+        let lent_records = &*self.records.lend(records.as_deref().unwrap_or(&[]), &[], last).0;
+        let (lent, lent_room) = (self.tables.lend(t, last), self.room.lend(room, last));
+        let Some(got) = held::make(call, lent, lent_room, records.as_ref().map(|_| lent_records)) else { return Ok(()) };
+        let (Some(kept), Some(room_after), Some(_)) = (self.tables.back(), self.room.back(), self.records.back()) else {
+            return differ("behind the test: what is not lent changed", call);
+        };
+        let in_place = held::in_place(call);
+        if got != answer || !kept.same(if in_place { after } else { t }, false) {
+            return differ("behind the test: another answer, or the tables changed", &(call, got, answer));
+        }
+        if in_place {
+            return Ok(());
+        }
+        let mut swapped = t.clone();
+        Held::of(&room_after).lay(&mut swapped);
+        if answer.number == 0 && !swapped.same(after, has_negative_zero(&Held::of(t))) {
+            return differ("behind the test: the room has another state", &(call, answer));
+        }
+        Ok(())
+    }
+
+    /// A drag is the suggestion, whose answer and tables are given, and a fetch of what it leaves.
+    fn drag(&mut self, t: &Tables, room: &Tables, last: bool, asked: (u32, f64, u16), answer: Answer, after: &Tables) -> Result<(), Difference> {
+        let none = ([7; CHANGES], [7.0; CHANGES], [7; CHANGES]);
+        let lists = self.changes.lend(&none, last);
+        let place = self.answers.lend_arrays(&[7; ANSWER], &[7; FETCHED], last).1;
+        let fetched = archive::fetch(self.tables.lend(after, last), place, lists);
+        let (Some(end), Some(list)) = (self.tables.back(), self.changes.back()) else { return differ("what is not lent changed", &asked) };
+        let (lent, lent_room, lists) = (self.tables.lend(t, last), self.room.lend(room, last), self.changes.lend(&none, last));
+        let got = archive::drag(lent, lent_room, lists, asked);
+        let (Some(dragged), Some(room_after), Some(dragged_list)) = (self.tables.back(), self.room.back(), self.changes.back()) else {
+            return differ("drag: what is not lent changed", &asked);
+        };
+        let bits = |x: &[f64]| -> Vec<u64> { x.iter().map(|x| x.to_bits()).collect() };
+        let lists_same = list.0 == dragged_list.0 && bits(&list.1) == bits(&dragged_list.1) && list.2 == dragged_list.2;
+        if got != (answer, fetched) || !lists_same || !dragged.same(&end, false) || room_after.bits().any(|b| b != 0) {
+            return differ("drag, and a suggestion and a fetch", &(asked, got, (answer, fetched)));
+        }
+        Ok(())
     }
 
     fn judge(&self, call: &Call, t: &Tables, answer: Answer, after: &Tables) -> Result<(), Difference> {
@@ -148,7 +200,25 @@ impl Checker {
         if !after.same(&tables, taken && has_negative_zero(&h)) {
             return differ("fetch: the tables are not the model's", &answer);
         }
+        if reading::reads(&h, None) {
+            self.fetch_behind(t, content, last, answer, &got, &after)?;
+        }
         Ok((answer, after))
+    }
+
+    /// The same fetch behind the test, of tables that read.
+    fn fetch_behind(&mut self, t: &Tables, content: &Content, last: bool, answer: Fetched, list: &Content, after: &Tables) -> Result<(), Difference> {
+        let (lists, lent) = (self.changes.lend(content, last), self.tables.lend(t, last));
+        let place = self.answers.lend_arrays(&[7; ANSWER], &[7; FETCHED], last).1;
+        let behind = held::fetch(lent, place, lists);
+        let (Some(end), Some(got), Some(_)) = (self.tables.back(), self.changes.back(), self.answers.back()) else {
+            return differ("fetch behind the test: what is not lent changed", &behind);
+        };
+        let entry = |c: &Content, i: usize| (c.0[i], c.1[i].to_bits(), c.2[i]);
+        if behind != answer || !end.same(after, false) || (0..CHANGES).any(|i| entry(&got, i) != entry(list, i)) {
+            return differ("fetch behind the test, and the public one", &(behind, answer));
+        }
+        Ok(())
     }
 
     pub fn ask(&mut self, t: &Tables, n: u32, last: bool) -> Result<(), Difference> {
@@ -161,6 +231,12 @@ impl Checker {
         let expected = if really { model::ask(&Words::of(&h), n) } else { (0.0, false, false) };
         if (value.to_bits(), constraint, edit) != (expected.0.to_bits(), expected.1, expected.2) || !after.same(t, false) {
             return differ("queries, and what the model says", &(n, value, constraint, edit, expected));
+        }
+        if really {
+            let behind = held::ask(self.tables.lend(t, last), n);
+            if (behind.0.to_bits(), behind.1, behind.2) != (value.to_bits(), constraint, edit) {
+                return differ("queries behind the test, and the public ones", &(n, behind, expected));
+            }
         }
         Ok(())
     }

@@ -1,9 +1,10 @@
 //! The archive as a program of the text format, through its C names, with the bench's own words: a dump and a check are of the state
-//! that the tables hold.
+//! that the tables hold. With the word `held` the calls are those behind the test, but for tables that the bench's words have made unreadable.
 #[path = "../format.rs"]
 mod format;
 
 mod archive;
+mod held;
 #[allow(dead_code)]
 mod layout;
 #[allow(dead_code)]
@@ -47,6 +48,7 @@ fn given(s: &Shown) -> Result<Given, u32> {
 }
 
 struct Program {
+    held: bool,
     tables: Tables,
     lent: Set,
     room: Set,
@@ -55,7 +57,29 @@ struct Program {
 }
 
 impl Program {
+    /// Whether the call may be made behind the test.
+    fn behind(&self) -> bool {
+        self.held && reading::reads(&Held::of(&self.tables), None)
+    }
+
+    /// By the call behind the test, if there is one: where it is accepted, tables and room change places, but for a suggestion.
+    fn make_behind(&mut self, call: &Call) -> Option<String> {
+        let room = Tables::filled(|| 7, || 7.0);
+        let a = held::make(call, self.lent.lend(&self.tables, true), self.room.lend(&room, true), call.records().as_deref())?;
+        let kept = self.lent.back().expect("what is not lent stays");
+        let room = self.room.back().expect("what is not lent stays");
+        let in_place = held::in_place(call);
+        assert!(in_place && a.number == 0 || kept.same(&self.tables, false), "tables that are only read stay, and those of a refused suggestion");
+        if a.number == 0 {
+            self.tables = if in_place { kept } else { room };
+        }
+        Some(format!("{} {} {}", a.number, a.pivots, a.whole))
+    }
+
     fn make(&mut self, call: Call) -> String {
+        if let Some(answer) = self.behind().then(|| self.make_behind(&call)).flatten() {
+            return answer;
+        }
         let nothing: (&[u32], &[f64]) = (&[], &[]);
         let (vars, coefs) = if let Call::Add { vars, coefs, .. } = &call { (&vars[..], &coefs[..]) } else { nothing };
         let room = Tables::filled(|| 7, || 7.0);
@@ -66,14 +90,16 @@ impl Program {
 
     fn fetch(&mut self) -> String {
         let lists = self.changes.lend(&([7; CHANGES], [7.0; CHANGES], [7; CHANGES]), true);
-        let f = fetch(self.lent.lend(&self.tables, true), &mut [7; FETCHED], lists);
+        let call = if self.behind() { held::fetch } else { fetch };
+        let f = call(self.lent.lend(&self.tables, true), &mut [7; FETCHED], lists);
         self.tables = self.lent.back().expect("what is not lent stays");
         let (numbers, values, gone) = self.changes.back().expect("what is not lent stays");
         fetched((0..f.count as usize).map(|i| (numbers[i] as u32, Some(values[i]).filter(|_| gone[i] == 0))))
     }
 
     fn ask(&mut self, n: u32) -> (f64, bool, bool) {
-        ask(self.lent.lend(&self.tables, true), n)
+        let call = if self.behind() { held::ask } else { ask };
+        call(self.lent.lend(&self.tables, true), n)
     }
 
     fn show(&mut self, n: u32) -> String {
@@ -130,7 +156,8 @@ impl Program {
 
 fn main() {
     let tables = Tables::filled(|| 7, || 7.0);
-    let mut program = Program { tables, lent: Set::new(), room: Set::new(), changes: Fetches::new(), shows: Shows::new() };
+    let held = std::env::args().any(|a| a == "held");
+    let mut program = Program { held, tables, lent: Set::new(), room: Set::new(), changes: Fetches::new(), shows: Shows::new() };
     program.make(Call::Reset { cutoff: format::USUAL_CUTOFF });
     format::serve(|call| program.answer(call));
 }

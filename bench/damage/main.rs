@@ -4,6 +4,7 @@ mod archive;
 mod breaks;
 mod check;
 mod craft;
+mod held;
 mod layout;
 mod memory;
 mod model;

@@ -11,10 +11,10 @@ use Rattle.steps.specs.Row.{Row}
 use Rattle.steps.specs.CreateRow.{Created}
 use Rattle.keeps.specs.Creating.{Tagged}
 use Rattle.rows.specs.Reading as dense
-use Rattle.cells.specs.Names.{lastPlace}
+use Rattle.layout.specs.cells.Names.{lastPlace}
 use Rattle.sparse.specs.Places.{mostRows}
 use Rattle.sparse.specs.Sparse.{Sparse, symbolCount, rowCount, symbolAt}
-use Rattle.substituting.specs.Loose.{SettledRow}
+use Rattle.waist.specs.substituting.Loose.{SettledRow}
 use Rattle.waist.specs.Working.{workOf}
 use Rattle.waist.specs.Dropping.{Free}
 use Rattle.waist.specs.Standing.{Standing}

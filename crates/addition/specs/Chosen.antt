@@ -18,10 +18,10 @@ use Rattle.keeps.specs.Creating.{subject-free}
 use Rattle.rows.specs.declared.number.Wrote.{Wrote}
 use Rattle.rows.specs.Marks.{markOf}
 use Rattle.rows.specs.Reading as dense
-use Rattle.choose.specs.declared.Found.{Found}
-use Rattle.choose.specs.declared.Found.the-variants.{At, Nothing}
-use Rattle.choose.specs.Better.{within}
-use Rattle.choose.specs.Choose.{Within, onFound}
+use Rattle.rows.specs.declared.choose.Found.{Found}
+use Rattle.rows.specs.declared.choose.Found.the-variants.{At, Nothing}
+use Rattle.rows.specs.choose.Better.{within}
+use Rattle.rows.specs.choose.Choose.{Within, onFound}
 use Rattle.sparse.specs.Sparse.{Sparse, symbolCount, symbolAt, read}
 use Rattle.waist.specs.Working.{workOf, cutoffOf}
 use Rattle.waist.specs.declared.ending.Ended.{Ended}

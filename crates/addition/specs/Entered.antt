@@ -1,9 +1,9 @@
 -- A row solved for its subject enters: the tables read as the steps' addWithSubject, and stand.
 -- Assumes nothing.
-use Prim.Native.Nat.{ℕ, _+_, _-_, _≤_, _<_}
-use mathlib.Core.Path.{_≡_, refl, sym, ap, _∙_, subst}
-use mathlib.Core.Bool.{Bool, true, false}
-use mathlib.Core.List.{List, [], _∷_}
+use Prim.Native.Nat.{ℕ, _+_, _-_, _<_}
+use mathlib.Core.Path.{_≡_, sym, ap, _∙_, subst}
+use mathlib.Core.Bool.{false}
+use mathlib.Core.List.{List}
 use native.Mathlib.Omega.{arith}
 use lib.Dec.{eqb}
 use lib.ListN.{length, getD}
@@ -11,9 +11,9 @@ use lib.Ieee.{Float, nan}
 use Rattle.laws.specs.Given.{then-of}
 use Rattle.laws.specs.Lists.{tab, length-tab, getD-tab}
 use Rattle.laws.specs.Places.{Every, every-at, at-every}
-use Rattle.steps.specs.Number.{zero64, _*₆₄_, Mark, worse}
-use Rattle.steps.specs.Symbol.{Symbol, isSymbol, absent, clearCell}
-use Rattle.steps.specs.Row.{Row, kept, wrote, cellValue, cellValues, scaleCell, scaleCells, Written, solveForSymbol}
+use Rattle.steps.specs.Number.{Mark, worse}
+use Rattle.steps.specs.Symbol.{Symbol}
+use Rattle.steps.specs.Row.{Row, Written, solveForSymbol}
 use Rattle.steps.specs.Work.{Work, checkFinite, marking}
 use Rattle.steps.specs.Substitute.{enterBasis}
 use Rattle.steps.specs.Add.{addWithSubject}
@@ -26,50 +26,23 @@ use Rattle.rows.specs.Marks.{markOf, join, joined-mark}
 use Rattle.rows.specs.Place.{PlaceOf}
 use Rattle.rows.specs.Table.{solveRowIn, solveRowMark}
 use Rattle.rows.specs.Reading as dense
-use Rattle.cells.specs.Names.{rowRoom}
-use Rattle.cells.specs.Cells.{settled}
-use Rattle.cells.specs.Column.{zero-absent}
-use Rattle.merging.specs.Substituted.{settled-absent, settled-stored}
+use Rattle.layout.specs.cells.Names.{rowRoom}
+use Rattle.layout.specs.cells.Cells.{settled}
 use Rattle.sparse.specs.Places.{mostRows}
 use Rattle.sparse.specs.Sparse.{Sparse, symbolCount, rowCount, symbolAt, symbolsOf, read}
 use Rattle.sparse.specs.Widths.{symbols-read}
-use Rattle.substituting.specs.Loose.{SettledRow}
+use Rattle.waist.specs.substituting.Loose.{SettledRow}
 use Rattle.waist.specs.Working.{workOf, dense-cells, live-place}
 use Rattle.waist.specs.Dropping.{Free}
 use Rattle.waist.specs.LivePlaces.{live-symbol, not-basic}
 use Rattle.waist.specs.Standing.{Standing, Makes}
 use Rattle.waist.specs.Holding.{standing-worse}
+use Rattle.waist.specs.Pivoting.{Fine, scale-fine, clear-fine}
 use Rattle.waist.specs.declared.ending.Ended.{Ended}
 use Rattle.waist.specs.Ending.{outcomeOf, Goes, checkedOf, checked-is}
 use Rattle.addition.specs.Adding.{rowIn, createdBy, Fitting, Open}
 
 -- ---- no cell of a solved row is -0.0
-
-abbrev Fine : Float → Type 0
-Fine c = settled c ≡ c
-
-scale-one : (f c : Float) → Fine c → Fine (cellValue (scaleCell f c))
-unfolding scaleCell cellValue
-scale-one f c h = go (absent c)
-  where
-    go : (b : Bool) → Fine (cellValue (elim b [ true ↦ kept c | false ↦ wrote (c *₆₄ f) ]))
-    go true = h
-    go false = settled-stored (c *₆₄ f)
-
-scale-fine : (f : Float) (cs : List Float) → Every Fine cs → Every Fine (cellValues (scaleCells f cs))
-unfolding Every scaleCells cellValues
-scale-fine f [] h = tt
-scale-fine f (c ∷ cs) h = (scale-one f c (h .0), scale-fine f cs (h .1))
-
-clear-fine : (s : ℕ) (xs : List Symbol) (cs : List Float) → Every Fine cs → Every Fine (clearCell s xs cs)
-unfolding Every clearCell
-clear-fine s [] cs h = tt
-clear-fine s (x ∷ xs) [] h = tt
-clear-fine s (x ∷ xs) (c ∷ cs) h = go (isSymbol s x) (clear-fine s xs cs (h .1))
-  where
-    go : (b : Bool) → Every Fine (clearCell s xs cs) → Every Fine (elim b [ true ↦ zero64 ∷ cs | false ↦ c ∷ clearCell s xs cs ])
-    go true r = (settled-absent zero64 zero-absent, h .1)
-    go false r = (h .0, r)
 
 solved-fine : (s : ℕ) (symbols : List Symbol) (r : Row) → Every Fine (r .cells) → Every Fine (solveForSymbol s symbols r .row .cells)
 unfolding solveForSymbol

@@ -13,8 +13,8 @@ use Rattle.steps.specs.Add.{wholeWithin, wholeTerms}
 use Rattle.layout.specs.Copy.{most16}
 use Rattle.rows.specs.declared.number.Wrote.{Wrote}
 use Rattle.rows.specs.Marks.{markOf, join, mark-join}
-use Rattle.terms.specs.declared.Pack.{Pack}
-use Rattle.terms.specs.Terms.{termOf, termIn, termsOf}
+use Rattle.changes.specs.declared.terms.Pack.{Pack}
+use Rattle.changes.specs.terms.Terms.{termOf, termIn, termsOf}
 
 abbrev pub wholeAt : List Float → ℕ → Bool
 wholeAt coefs i = wholeWithin cellBound (getD coefs i nan)

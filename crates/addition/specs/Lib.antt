@@ -1,4 +1,5 @@
 -- Add's steps over the sparse tables: a row with or without a subject, the temporary slack, and the whole.
+pub mod creation
 pub mod Adding
 pub mod Symbols
 pub mod Kept

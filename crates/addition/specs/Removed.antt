@@ -15,9 +15,9 @@ use Rattle.steps.specs.Substitute.{pivot}
 use Rattle.steps.specs.Artificial.{anyPivotableSymbol, isEmptyRow, removeTemporary, artificialConstantNearZero}
 use Rattle.rows.specs.declared.number.Wrote.{Wrote}
 use Rattle.rows.specs.Marks.{markOf}
-use Rattle.choose.specs.declared.Found.{Found}
-use Rattle.choose.specs.declared.Found.the-variants.{At, Nothing}
-use Rattle.choose.specs.Choose.{onFound}
+use Rattle.rows.specs.declared.choose.Found.{Found}
+use Rattle.rows.specs.declared.choose.Found.the-variants.{At, Nothing}
+use Rattle.rows.specs.choose.Choose.{onFound}
 use Rattle.sparse.specs.Places.{rowPlacesAt, constantsAt}
 use Rattle.sparse.specs.Sparse.{Sparse, symbolCount, rowCount, symbolAt, basicOf, basicsOf, read}
 use Rattle.waist.specs.Working.{workOf, cutoffOf, artificialOf, Sound, basic-symbol}

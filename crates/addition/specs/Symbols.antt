@@ -19,7 +19,7 @@ use Rattle.steps.specs.Work.{Work, withTableau, withRows, withArtificial, newSy
 use Rattle.steps.specs.CreateRow.{Building, appendTo}
 use Rattle.steps.specs.Artificial.{standTemporary}
 use Rattle.layout.specs.Layout.{kindOf}
-use Rattle.cells.specs.Names.{lastPlace}
+use Rattle.layout.specs.cells.Names.{lastPlace}
 use Rattle.sparse.specs.Places.{kindsAt}
 use Rattle.sparse.specs.Sparse.{Sparse, symbolCount, symbolAt, otherAt, symbolsOf, basicsOf, read}
 use Rattle.sparse.specs.Widths.{symbols-read}

@@ -23,7 +23,7 @@ use Rattle.keeps.specs.Good.{Good, good-frame}
 use Rattle.keeps.specs.Creating.{Tagged, createRow-tagged}
 use Rattle.rows.specs.declared.number.Wrote.{Wrote}
 use Rattle.rows.specs.Marks.{markOf}
-use Rattle.cells.specs.Names.{lastPlace}
+use Rattle.layout.specs.cells.Names.{lastPlace}
 use Rattle.sparse.specs.Places.{mostRows}
 use Rattle.sparse.specs.Sparse.{Sparse, symbolCount, rowCount, symbolsOf}
 use Rattle.waist.specs.Working.{workOf, artificialOf}
@@ -31,9 +31,9 @@ use Rattle.waist.specs.Holding.{standing-worse}
 use Rattle.waist.specs.Tags.{tagAt}
 use Rattle.waist.specs.declared.ending.Ended.{Ended}
 use Rattle.waist.specs.Ending.{outcomeOf}
-use Rattle.creation.specs.declared.tag.Tagged.{Tagged as Tags}
-use Rattle.creation.specs.Tags.{createdOf}
-use Rattle.creation.specs.Created.{Opening, Creates}
+use Rattle.addition.specs.declared.creation.tag.Tagged.{Tagged as Tags}
+use Rattle.addition.specs.creation.Tags.{createdOf}
+use Rattle.addition.specs.creation.Created.{Opening, Creates}
 use Rattle.addition.specs.declared.add.Added.{Added}
 use Rattle.addition.specs.Adding.{createdBy, Made}
 use Rattle.addition.specs.Symbols.{Alike, symbols-are, alike-by, tag-alike}

@@ -4,17 +4,17 @@ ghost use Rattle.steps.specs.Number.{worse, wholeIf};
 ghost use Rattle.steps.specs.State.{strengthOf};
 ghost use Rattle.steps.specs.Add.{wholeTerms, wholeInputs};
 ghost use Rattle.rows.specs.Marks.{markOf};
-ghost use Rattle.tags.specs.Tags.{relationOf};
-ghost use Rattle.terms.specs.Terms.{termsOf};
+ghost use Rattle.changes.specs.tags.Tags.{relationOf};
+ghost use Rattle.changes.specs.terms.Terms.{termsOf};
+use changes::tags::Relation;
+use changes::terms::Pack;
+use changes::terms::shown;
 use rows::number::CELL_BOUND;
 use rows::number::CONSTANT_BOUND;
 use rows::number::Wrote;
 use rows::number::is_whole;
 use rows::number::joined;
 use rows::number::whole_within;
-use tags::Relation;
-use terms::Pack;
-use terms::shown;
 
 // "skipped coefficients too"
 fn whole_terms(p: Pack) -> bool

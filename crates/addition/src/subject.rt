@@ -8,7 +8,7 @@ ghost use Rattle.sparse.specs.Sparse.{symbolAt};
 ghost use Rattle.waist.specs.Working.{lent};
 ghost use Rattle.waist.specs.Ending.{outcomeOf, Goes};
 ghost use Rattle.addition.specs.Adding.{createdBy, Fitting, Open};
-use cells::ROW_ROOM;
+use layout::cells::ROW_ROOM;
 use rows::number::Wrote;
 use rows::number::joined;
 use rows::row::solve_for;

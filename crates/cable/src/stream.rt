@@ -5,8 +5,8 @@ ghost use Prim.Native.Nat.{_+_, _≤_, _<_};
 ghost use lib.ListN.{length};
 use cable_lines::Taken;
 use cable_lines::state::State;
-use replies::Out;
-use replies::put_second;
+use text::replies::Out;
+use text::replies::put_second;
 
 // How many bytes of the buffer wait to be written, and whether every write went through.
 pub struct Place {

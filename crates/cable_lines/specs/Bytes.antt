@@ -12,7 +12,7 @@ use lib.Dec.{eqb, leb, ltb}
 use lib.ListN.{length, take, drop, getD, set, replicate, length-set, length-append, length-take}
 use lib.Seq.{getD-set-same, drop-cons, drop-length, length-take-le}
 use Rattle.laws.specs.Loops.{mapIn}
-use Rattle.streams.specs.Lines.{grown}
+use Rattle.laws.specs.streams.Lines.{grown}
 use Rattle.cable_lines.specs.Cable.{limit, new, answerOf, Step, further, takes}
 use Rattle.cable_lines.specs.State.{heldBy}
 

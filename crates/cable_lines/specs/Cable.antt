@@ -6,9 +6,9 @@ use mathlib.Core.List.{List, [], _∷_, _++_}
 use mathlib.Core.Option.{Option, none, some}
 use lib.Dec.{eqb}
 use lib.ListN.{length, drop}
-use Rattle.streams.specs.Lines.{grown}
-use Rattle.edition.specs.Endings.{Reply as Answer, denied}
-use Rattle.edition.specs.Steps.{readSecond}
+use Rattle.laws.specs.streams.Lines.{grown}
+use Rattle.grammar.specs.edition.Endings.{Reply as Answer, denied}
+use Rattle.grammar.specs.edition.Steps.{readSecond}
 
 -- "A line holds 200 bytes at most, newline apart."
 abbrev pub limit : ℕ

@@ -7,8 +7,8 @@ use mathlib.Core.Option.{Option, none, some}
 use native.Mathlib.Omega.{arith}
 use lib.Dec.{eqb}
 use lib.ListN.{length, drop, length-drop}
-use Rattle.streams.specs.Lines.{Cut, before, grown, cutFrom, pieces}
-use Rattle.edition.specs.Endings.{Reply as Answer}
+use Rattle.laws.specs.streams.Lines.{Cut, before, grown, cutFrom, pieces}
+use Rattle.grammar.specs.edition.Endings.{Reply as Answer}
 use Rattle.cable_lines.specs.Cable.{limit, new, answerOf, Step, further, takes, Fed, answered, steps, feed, feedAll, joined}
 
 abbrev cut : Option (List ℕ) → List ℕ → Cut

@@ -7,10 +7,10 @@ use mathlib.Core.List.{List, [], _∷_, _++_}
 use mathlib.Core.Option.{Option, some}
 use lib.ListN.{replicate}
 use lib.IntN.{pos}
-use Rattle.streams.specs.Lines.{grown}
+use Rattle.laws.specs.streams.Lines.{grown}
 use Rattle.grammar.specs.Sums.{Relation, atMost, equal}
-use Rattle.edition.specs.Endings.{Reply as Answer, taken, astray, denied, required}
-use Rattle.edition.specs.Steps.{readSecond}
+use Rattle.grammar.specs.edition.Endings.{Reply as Answer, taken, astray, denied, required}
+use Rattle.grammar.specs.edition.Steps.{readSecond}
 use Rattle.cable_lines.specs.Cable.{new, Step, takes, closes, Fed, steps, feed, feedAll}
 
 abbrev bytes : String → List ℕ

@@ -7,10 +7,10 @@ use mathlib.Core.Option.{Option, none, some}
 use native.Mathlib.Omega.{arith}
 use lib.Dec.{eqb}
 use lib.ListN.{length}
-use Rattle.streams.specs.Lines.{grown}
-use Rattle.edition.specs.Endings.{Reply as Answer}
+use Rattle.laws.specs.streams.Lines.{grown}
+use Rattle.grammar.specs.edition.Endings.{Reply as Answer}
 use Rattle.reader.specs.Answers.{refusal}
-use Rattle.second.specs.Replies.{unread, asReply}
+use Rattle.reader.specs.second.Replies.{unread, asReply}
 use Rattle.cable_lines.specs.declared.Taken.{Taken}
 use Rattle.cable_lines.specs.Cable.{limit, new, answerOf, Step, further, takes}
 use Rattle.cable_lines.specs.Bytes.{bytesOf}

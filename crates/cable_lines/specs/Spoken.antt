@@ -8,9 +8,9 @@ use native.Mathlib.Omega.{arith}
 use borrow.Author.Tests.{lt-leb}
 use lib.Dec.{leb}
 use lib.ListN.{length}
-use Rattle.streams.specs.Lines.{Cut, before, cutFrom, pieces, Unbroken, within, begun}
-use Rattle.edition.specs.Endings.{Reply as Answer, denied}
-use Rattle.edition.specs.Steps.{readSecond}
+use Rattle.laws.specs.streams.Lines.{Cut, before, cutFrom, pieces, Unbroken, within, begun}
+use Rattle.grammar.specs.edition.Endings.{Reply as Answer, denied}
+use Rattle.grammar.specs.edition.Steps.{readSecond}
 use Rattle.cable_lines.specs.Cable.{limit, new, answerOf, Step, Fed, feed, closes}
 use Rattle.cable_lines.specs.Cuts.{answersOf, feed-cut}
 

@@ -11,11 +11,11 @@ use borrow.Author.Tests.{ne-eqb, eq-eqb, le-leb, lt-leb}
 use lib.Dec.{eqb, leb}
 use lib.ListN.{length, take, drop, getD, set, length-set}
 use lib.Seq.{getD-set-same, take-set-le, drop-cons, drop-length}
-use Rattle.streams.specs.Lines.{grown}
-use Rattle.streams.specs.Held.{heldOf, held-more, held-over}
+use Rattle.laws.specs.streams.Lines.{grown}
+use Rattle.laws.specs.streams.Held.{heldOf, held-more, held-over}
 use Rattle.cable_lines.specs.Cable.{limit, new, answerOf, unended, Step, takes, further}
-use Rattle.edition.specs.Endings.{denied}
-use Rattle.edition.specs.Steps.{readSecond}
+use Rattle.grammar.specs.edition.Endings.{denied}
+use Rattle.grammar.specs.edition.Steps.{readSecond}
 
 abbrev pub heldBy : List ℕ → Option (List ℕ)
 heldBy s = heldOf limit s (getD s 200 0)

@@ -2,8 +2,8 @@
 ghost use mathlib.Core.Path.{_≡_};
 ghost use Prim.Native.Nat.{_≤_};
 ghost use lib.ListN.{length, take as front};
-ghost use Rattle.edition.specs.Steps.{readSecond};
-ghost use Rattle.second.specs.Replies.{asReply};
+ghost use Rattle.grammar.specs.edition.Steps.{readSecond};
+ghost use Rattle.reader.specs.second.Replies.{asReply};
 ghost use Rattle.cable_lines.specs.Cable.{answerOf, takes, closes};
 ghost use Rattle.cable_lines.specs.State.{heldBy};
 ghost use Rattle.cable_lines.specs.Given.{given, asGiven, begun, asBegun};
@@ -13,9 +13,9 @@ use crate::state::keep_line;
 use crate::state::long;
 use crate::state::renew;
 use crate::tidy::tidy;
-use second::Reply;
-use second::read_second;
-use second::refuse;
+use reader::second::Reply;
+use reader::second::read_second;
+use reader::second::refuse;
 
 pub mod state;
 mod tidy;

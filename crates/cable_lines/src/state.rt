@@ -3,7 +3,7 @@
 ghost use mathlib.Core.Path.{_≡_};
 ghost use Prim.Native.Nat.{_≤_, _<_};
 ghost use lib.ListN.{length, getD};
-ghost use Rattle.streams.specs.Lines.{grown};
+ghost use Rattle.laws.specs.streams.Lines.{grown};
 ghost use Rattle.cable_lines.specs.Cable.{limit, new};
 ghost use Rattle.cable_lines.specs.State.{heldBy, Kept};
 

@@ -1,9 +1,9 @@
 -- A change as the steps' changing call. Assumes nothing.
 use Prim.Native.Nat.{ℕ}
 use Rattle.steps.specs.Changing.{Changing, adds, removes, drops, addsEdit, removesEdit, suggests}
-use Rattle.tags.specs.Tags.{relationOf}
-use Rattle.terms.specs.declared.Pack.{Pack}
-use Rattle.terms.specs.Terms.{termsIn, listed}
+use Rattle.changes.specs.tags.Tags.{relationOf}
+use Rattle.changes.specs.declared.terms.Pack.{Pack}
+use Rattle.changes.specs.terms.Terms.{termsIn, listed}
 use Rattle.changes.specs.declared.Change.{Change}
 use Rattle.changes.specs.declared.Change.the-variants.{Add, Remove, Drop, AddEdit, RemoveEdit, Suggest}
 

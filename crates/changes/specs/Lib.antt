@@ -1,2 +1,4 @@
 -- A changing call by value.
+pub mod tags
+pub mod terms
 pub mod Change

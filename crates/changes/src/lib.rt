@@ -1,5 +1,8 @@
 // A changing call with its inputs but the budget, by value.
-use tags::Relation;
+pub mod tags;
+pub mod terms;
+
+use crate::tags::Relation;
 
 // A number first: the constraint's, or of an edit its variable's; an add's group before it. An add's terms come beside it.
 pub enum Change {

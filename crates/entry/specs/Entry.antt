@@ -14,26 +14,14 @@ use Rattle.steps.specs.Number.{zero64}
 use Rattle.steps.specs.State.{State}
 use Rattle.steps.specs.Calls.{Answer, Result}
 use Rattle.layout.specs.Rooms.{both}
-use Rattle.cells.specs.Names.{cellRoom}
+use Rattle.layout.specs.cells.Names.{cellRoom}
 use Rattle.sparse.specs.Places.{wordsSize, bytesSize, realsSize}
 use Rattle.sparse.specs.Sparse.{Sparse}
-use Rattle.sparse_copy.specs.Over.{tables}
+use Rattle.lending.specs.sparse_copy.Over.{tables}
+use Rattle.sparse.specs.lengths.Lengths.{Lists, lists, onceEach}
 use Rattle.lending.specs.Lending.{Called, called, refused18, callOf}
 use Rattle.lending.specs.Entered.{zeroRoom}
 use Rattle.lending.specs.Reset.{resetOf}
-
-pub record Lists : Type 0 where
-  pub words : List (List ℕ)
-  pub keys : List (List ℕ)
-  pub bytes : List (List ℕ)
-  pub reals : List (List Float)
-  pub values : List (List Float)
-
-abbrev pub lists : List (List ℕ) → List (List ℕ) → List (List ℕ) → List (List Float) → List (List Float) → Lists
-lists w k b r v = record { words = w; keys = k; bytes = b; reals = r; values = v }
-
-abbrev pub onceEach : Lists → Bool
-onceEach l = eqb (length (l .words)) 1 && eqb (length (l .keys)) 1 && eqb (length (l .bytes)) 1 && eqb (length (l .reals)) 1 && eqb (length (l .values)) 1
 
 -- the one that is lent; a table that is lent other than once counts as empty
 abbrev pub only : {A : Type 0} → List (List A) → List A

@@ -1,2 +1,3 @@
 -- The calls over slices of arrays.
 pub mod Entry
+pub mod typed

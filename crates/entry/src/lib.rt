@@ -4,21 +4,26 @@ ghost use mathlib.Core.Bool.{_&&_, not};
 ghost use Rattle.laws.specs.Given.{Then};
 ghost use Rattle.steps.specs.Number.{zero64};
 ghost use Rattle.steps.specs.Changing.{made};
-ghost use Rattle.cells.specs.Names.{cellRoom};
+ghost use Rattle.layout.specs.cells.Names.{cellRoom};
 ghost use Rattle.sparse.specs.Places.{wordsSize, bytesSize, realsSize};
 ghost use Rattle.waist.specs.Working.{lent};
 ghost use Rattle.lending.specs.Lending.{answerOf, called, callOf};
 ghost use Rattle.lending.specs.Entered.{zeroRoom};
 ghost use Rattle.changes.specs.Change.{changingOf};
-ghost use Rattle.entry.specs.Entry.{lists, onceEach, lentOnce, zeroes, each, zeroed, callOn, resetOn};
+ghost use Rattle.sparse.specs.lengths.Lengths.{lists, onceEach};
+ghost use Rattle.entry.specs.Entry.{lentOnce, zeroes, each, zeroed, callOn, resetOn};
+
+pub mod typed;
+
 use changes::Change;
+use changes::terms::Pack;
 use lending::Answer;
 use sparse::Bytes;
 use sparse::Keys;
 use sparse::Reals;
 use sparse::Values;
 use sparse::Words;
-use terms::Pack;
+use sparse::lengths::once;
 
 fn clear_all_words(work: &mut [Words])
     ensures { λ _. ⌜ now (work .exit) ≡ each (zeroes wordsSize 0) (now (work .entry)) ⌝ }
@@ -26,7 +31,7 @@ fn clear_all_words(work: &mut [Words])
     let n = work.len();
     let mut i = 0;
     while i < n {
-        sparse_copy::clear::clear_words(&mut work[i]);
+        lending::sparse_copy::clear::clear_words(&mut work[i]);
         i += 1;
     }
 }
@@ -37,7 +42,7 @@ fn clear_all_keys(work: &mut [Keys])
     let n = work.len();
     let mut i = 0;
     while i < n {
-        sparse_copy::clear::clear_keys(&mut work[i]);
+        lending::sparse_copy::clear::clear_keys(&mut work[i]);
         i += 1;
     }
 }
@@ -48,7 +53,7 @@ fn clear_all_bytes(work: &mut [Bytes])
     let n = work.len();
     let mut i = 0;
     while i < n {
-        sparse_copy::clear::clear_bytes(&mut work[i]);
+        lending::sparse_copy::clear::clear_bytes(&mut work[i]);
         i += 1;
     }
 }
@@ -59,7 +64,7 @@ fn clear_all_reals(work: &mut [Reals])
     let n = work.len();
     let mut i = 0;
     while i < n {
-        sparse_copy::clear::clear_reals(&mut work[i]);
+        lending::sparse_copy::clear::clear_reals(&mut work[i]);
         i += 1;
     }
 }
@@ -70,7 +75,7 @@ fn clear_all_values(work: &mut [Values])
     let n = work.len();
     let mut i = 0;
     while i < n {
-        sparse_copy::clear::clear_values(&mut work[i]);
+        lending::sparse_copy::clear::clear_values(&mut work[i]);
         i += 1;
     }
 }
@@ -89,16 +94,6 @@ fn clear(
     clear_all_bytes(wbytes);
     clear_all_reals(wreals);
     clear_all_values(wvalues);
-}
-
-fn once(words: &[Words], keys: &[Keys], bytes: &[Bytes], reals: &[Reals], values: &[Values]) -> bool
-    ensures { λ r. ⌜ r ≡ onceEach (lists (now (words .entry)) (now (keys .entry)) (now (bytes .entry)) (now (reals .entry)) (now (values .entry))) ⌝ }
-{
-    (words.len() == 1)
-        & (keys.len() == 1)
-        & (bytes.len() == 1)
-        & (reals.len() == 1)
-        & (values.len() == 1)
 }
 
 // Each lent once: the call over arrays. The room is told its lengths, so that what is cleared is all of it.

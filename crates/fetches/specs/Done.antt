@@ -17,7 +17,7 @@ use Rattle.steps.specs.Readable.{ascend, all, goneFits}
 use Rattle.keeps.specs.Clauses.{and3, clauses-in}
 use Rattle.layout.specs.Layout.{bitOf, over}
 use Rattle.layout.specs.Copied.{length-listOf}
-use Rattle.sparse.specs.Places.{shouldClearAt, goneCountAt, goneNumbersAt, changedAt, oldValuesAt}
+use Rattle.sparse.specs.Places.{shouldClearAt, goneCountAt, goneNumbersAt, changedAt, oldValuesAt, mostGone}
 use Rattle.sparse.specs.Lookup.{Ascends}
 use Rattle.sparse.specs.Sparse.{Sparse, variableCount, goneCount, variableOf, goneOf, read}
 use Rattle.sparse.specs.Write.{write}
@@ -59,7 +59,7 @@ module _ (t : Sparse) (ok : reads t ≡ true) where
   pub gone-ascends : Ascends (t .words) goneNumbersAt (goneCount t)
   unfolding goneFits
   gone-ascends =
-      let c = and3 (leb (length (read t .changes .gone)) 32) (ascend (read t .changes .gone)) (all (notTold t) (read t .changes .variables)) (clauses-in (read t) (reads-readable t ok) .gone) in
+      let c = and3 (leb (length (read t .changes .gone)) mostGone) (ascend (read t .changes .gone)) (all (notTold t) (read t .changes .variables)) (clauses-in (read t) (reads-readable t ok) .gone) in
       ascends (t .words) goneNumbersAt (goneCount t) (sym (gone-ascend t) ∙ c .1)
 
   abbrev s : State

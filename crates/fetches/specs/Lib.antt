@@ -9,3 +9,4 @@ pub mod Others
 pub mod Seen
 pub mod Listing
 pub mod Done
+pub mod shown

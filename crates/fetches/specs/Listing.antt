@@ -18,7 +18,7 @@ use Rattle.steps.specs.State.{Basic, Variable}
 use Rattle.steps.specs.Changes.{Change, member, valueOf, isNews, isListed, newsOf, merged, reported}
 use Rattle.layout.specs.Layout.{bitOf, over}
 use Rattle.layout.specs.Laying.{laid-nil, laid-cons, set-same}
-use Rattle.places.specs.Listed.{member-list}
+use Rattle.rows.specs.places.Listed.{member-list}
 use Rattle.sparse.specs.Places.{mostRows, rowCountAt, variableNumbersAt, goneNumbersAt, rowPlacesAt, variablePlacesAt, changedAt, constantsAt, oldValuesAt}
 use Rattle.sparse.specs.Lookup.{placeFrom}
 use Rattle.sparse.specs.Sparse.{Sparse, rowCount, variableCount, goneCount, symbolAt, variableOf, goneOf}

@@ -16,8 +16,8 @@ use Rattle.layout.specs.Layout.{bitOf, comparisonCode, over}
 use Rattle.layout.specs.Laying.{laid-nil}
 use Rattle.layout.specs.Relaid.{put-set}
 use Rattle.layout.specs.Copied.{length-listOf}
-use Rattle.cells.specs.Names.{lastPlace}
-use Rattle.cells.specs.Seek.{first-within}
+use Rattle.layout.specs.cells.Names.{lastPlace}
+use Rattle.layout.specs.cells.Seek.{first-within}
 use Rattle.sparse.specs.Places.{mostVariables, mostConstraints, nextIdAt, shouldClearAt, goneCountAt, idsAt, variableNumbersAt, variableUsesAt, constraintNumbersAt, constraintGroupsAt, goneNumbersAt, kindsAt, rowPlacesAt, variablePlacesAt, changedAt, constraintMarkersAt, constraintOthersAt, termCountsAt, editVariablesAt, editMarkersAt, editOthersAt, termsAt, relationsAt, constantsAt, oldValuesAt, objectiveAt, cutoffAt, constraintStrengthsAt, editStrengthsAt, suggestionsAt, coefficientsAt, constraintConstantsAt}
 use Rattle.sparse.specs.Sparse.{Sparse, symbolsOf, read}
 use Rattle.sparse.specs.Stretches.{Stretch, from, lay}

@@ -16,9 +16,9 @@ use Rattle.layout.specs.Laying.{list-ext}
 use Rattle.steps.specs.Number.{zero64}
 use Rattle.steps.specs.State.{Variable}
 use Rattle.steps.specs.Changes.{withFlag, clearChanged, valueOf}
-use Rattle.places.specs.Finding.{placeIn}
-use Rattle.places.specs.Listed.{map-list}
-use Rattle.cells.specs.Seek.{first-within}
+use Rattle.rows.specs.places.Finding.{placeIn}
+use Rattle.rows.specs.places.Listed.{map-list}
+use Rattle.layout.specs.cells.Seek.{first-within}
 use Rattle.sparse.specs.Places.{shouldClearAt, variableCountAt, kindsAt, rowPlacesAt, variablePlacesAt, changedAt, constantsAt}
 use Rattle.sparse.specs.Lookup.{placeFrom}
 use Rattle.sparse.specs.Sparse.{Sparse, rowCount, variableCount, symbolAt, variableOf, basicsOf}

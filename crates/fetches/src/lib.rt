@@ -21,6 +21,7 @@ use sparse::Values;
 use sparse::Words;
 
 pub mod listing;
+pub mod shown;
 
 // A place for each variable that is live and for each that is gone.
 pub const PLACES: usize = 64;
@@ -84,6 +85,26 @@ fn fetch_in(
     count
 }
 
+// On tables that are known to read as a state, and any lists.
+pub fn fetch_held(
+    words: &mut Words,
+    keys: &Keys,
+    bytes: &mut Bytes,
+    reals: &mut Reals,
+    values: &Values,
+    numbers: &mut Numbers,
+    moved: &mut Moved,
+    gone: &mut Flags,
+) -> u32
+    requires { ⌜ reads (lent words keys bytes reals values) ≡ true ⌝ }
+    ensures { λ r. ⌜ fetch 0 r (now (numbers .exit)) (now (moved .exit)) (now (gone .exit)) (lent (words .exit) (keys .entry) (bytes .exit) (reals .exit) (values .entry)) ≡ fetchIn (lent (words .entry) (keys .entry) (bytes .entry) (reals .entry) (values .entry)) ⌝ }
+{
+    *numbers = [0; PLACES];
+    *moved = [0.0; PLACES];
+    *gone = [0; PLACES];
+    fetch_in(words, keys, bytes, reals, values, numbers, moved, gone)
+}
+
 // "Fetch fills lists of 64 places, zero past its count, all zero on 18." Three wrong answers that this shuts out: the same list once more from a second fetch straight after, a gone variable told twice or not at all, and numbers that the lender had in the lists left there past the count or beside 18.
 pub fn fetch_changes(
     words: &mut Words,
@@ -97,16 +118,16 @@ pub fn fetch_changes(
 ) -> Fetched
     ensures { λ r. ⌜ fetchBy r (now (numbers .exit)) (now (moved .exit)) (now (gone .exit)) (lent (words .exit) (keys .entry) (bytes .exit) (reals .exit) (values .entry)) ≡ fetchOf (lent (words .entry) (keys .entry) (bytes .entry) (reals .entry) (values .entry)) ⌝ }
 {
-    *numbers = [0; PLACES];
-    *moved = [0.0; PLACES];
-    *gone = [0; PLACES];
     if !sparse_test::reads_as_state(words, keys, bytes, reals, values) {
+        *numbers = [0; PLACES];
+        *moved = [0.0; PLACES];
+        *gone = [0; PLACES];
         return Fetched {
             number: 18,
             count: 0,
         };
     }
-    let count = fetch_in(words, keys, bytes, reals, values, numbers, moved, gone);
+    let count = fetch_held(words, keys, bytes, reals, values, numbers, moved, gone);
     Fetched {
         number: 0,
         count: count,

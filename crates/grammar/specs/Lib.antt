@@ -26,3 +26,5 @@ pub mod OneTree
 pub mod Theorems
 -- A line that reads names variables that fit.
 pub mod Names
+pub mod edition
+pub mod plain

@@ -32,3 +32,4 @@ pub mod Keeps
 pub mod Never
 pub mod Listed
 pub mod Needed
+pub mod suffices

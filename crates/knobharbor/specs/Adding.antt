@@ -9,11 +9,11 @@ use lib.Ieee.{Float}
 use Rattle.steps.specs.Calls.{Answer, add}
 use Rattle.sparse.specs.Sparse.{Sparse}
 use Rattle.lending.specs.Lending.{Called, called, refused18, callOf}
-use Rattle.tags.specs.declared.Relation.{Relation}
-use Rattle.tags.specs.Tags.{relationOf}
-use Rattle.terms.specs.declared.Term.{Term}
-use Rattle.terms.specs.declared.Pack.{Pack}
-use Rattle.terms.specs.Terms.{packOf, termsIn, listed}
+use Rattle.changes.specs.declared.tags.Relation.{Relation}
+use Rattle.changes.specs.tags.Tags.{relationOf}
+use Rattle.changes.specs.declared.terms.Term.{Term}
+use Rattle.changes.specs.declared.terms.Pack.{Pack}
+use Rattle.changes.specs.terms.Terms.{packOf, termsIn, listed}
 use Rattle.solver.specs.Listed.{listed-call}
 use Rattle.knobharbor.specs.Given.{given, relationBy}
 use Rattle.knobharbor.specs.Places.{Placed, placedBy}

@@ -11,12 +11,12 @@ use borrow.Author.Tests.{ne-eqb}
 use Rattle.laws.specs.Loops.{run}
 use Rattle.laws.specs.Lists.{listOf}
 use Rattle.steps.specs.State as steps
-use Rattle.tags.specs.declared.Relation.the-variants.{AtMost, Equal, AtLeast}
-use Rattle.tags.specs.Tags.{relationOf}
-use Rattle.terms.specs.declared.Term.{Term}
-use Rattle.terms.specs.declared.Pack.{Pack}
-use Rattle.terms.specs.Terms.{noPack, pushed, packOf}
-use Rattle.terms.specs.Listed.{gathered}
+use Rattle.changes.specs.declared.tags.Relation.the-variants.{AtMost, Equal, AtLeast}
+use Rattle.changes.specs.tags.Tags.{relationOf}
+use Rattle.changes.specs.declared.terms.Term.{Term}
+use Rattle.changes.specs.declared.terms.Pack.{Pack}
+use Rattle.changes.specs.terms.Terms.{noPack, pushed, packOf}
+use Rattle.changes.specs.terms.Listed.{gathered}
 
 -- the i-th term is the i-th variable times the i-th coefficient
 unfoldable pub termAt : List ℕ → List Float → ℕ → Term

@@ -12,28 +12,29 @@ use lib.Signed.{ltZ}
 use lib.Ieee.{Float, nan, inf, fin}
 use Rattle.laws.specs.Lists.{tab, listOf, map-tab}
 use Rattle.grammar.specs.Sums.{Relation, atMost, equal, atLeast, Term, most, smallTerms}
-use Rattle.edition.specs.Endings.{Constraint, required, taken}
-use Rattle.edition.specs.Steps.{readSecond}
-use Rattle.plain.specs.Plain.{Written, wrote, writeLine}
-use Rattle.plain.specs.Said.{small-terms}
-use Rattle.plain.specs.Theorems.{Says, Plain, writes-back}
-use Rattle.plain.specs.Unsaid.{read-says}
-use Rattle.exact.specs.Whole.{IsZ, val, int, isz-val, lit-z, z-int, ofInt-z}
-use Rattle.exact.specs.Compare.{lt-z}
+use Rattle.grammar.specs.edition.Endings.{Constraint, required, taken}
+use Rattle.grammar.specs.edition.Steps.{readSecond}
+use Rattle.grammar.specs.plain.Plain.{Written, wrote, writeLine}
+use Rattle.grammar.specs.plain.Said.{small-terms}
+use Rattle.grammar.specs.plain.Theorems.{Says, Plain, writes-back}
+use Rattle.grammar.specs.plain.Unsaid.{read-says}
+use Rattle.laws.specs.exact.Whole.{IsZ, val, int, isz-val, lit-z, z-int, ofInt-z}
+use Rattle.laws.specs.exact.Compare.{lt-z}
 use Rattle.layout.specs.Rooms.{and-left, and-right}
 use Rattle.layout.specs.Copy.{most16}
 use Rattle.steps.specs.Number.{zero64, isFinite, isWhole}
 use Rattle.steps.specs.State as steps
 use Rattle.steps.specs.Tests.{finiteTerms}
+use Rattle.layout.specs.Layout.{termRoom}
 use Rattle.rows.specs.Integral.{small}
-use Rattle.terms.specs.declared.Pack.{Pack}
-use Rattle.terms.specs.Terms.{packOf, termOf, termsIn, termIn, termsOf}
-use Rattle.terms.specs.Packed.{pack-finite, pack-few, pack-terms, most-few}
+use Rattle.changes.specs.declared.terms.Pack.{Pack}
+use Rattle.changes.specs.terms.Terms.{packOf, termOf, termsIn, termIn, termsOf}
+use Rattle.changes.specs.terms.Packed.{pack-finite, pack-few, pack-terms, most-few}
 use Rattle.writing.specs.Figures.{isFigure}
 use Rattle.writing.specs.Given.{termAt, wholeFrom}
 use Rattle.writing.specs.Writes.{relationIn, relatedOf, constraintOf, numbersIn, writes}
-use Rattle.typed.specs.Typed.{wholeOf, whole-exact, typedTerm, typedTerms}
-use Rattle.handed.specs.Handed.{kindOf, Handed, said, handedOf, readBy}
+use Rattle.entry.specs.typed.Typed.{wholeOf, whole-exact, typedTerm, typedTerms}
+use Rattle.knobharbor.specs.handed.Handed.{kindOf, Handed, said, handedOf, readBy}
 use Rattle.knobharbor.specs.HandedOn.{front, length-of, given-terms, kind-fits}
 use Rattle.knobharbor.specs.Written.{relatedBy, writesOf}
 
@@ -130,11 +131,11 @@ length-typed : (ts : List Term) → length (typedTerms ts) ≡ length ts
 length-typed [] = refl
 length-typed (t ∷ ts) = ap suc (length-typed ts)
 
-module _ (ts : List Term) (few : length ts ≤ 16) (h : smallTerms ts ≡ true) where
+module _ (ts : List Term) (few : length ts ≤ termRoom) (h : smallTerms ts ≡ true) where
   abbrev pack : Pack
   pack = packOf (typedTerms ts)
 
-  held : length (typedTerms ts) ≤ 16
+  held : length (typedTerms ts) ≤ termRoom
   held = rw (length-typed ts) few
 
   counted : pack .count ≡ length ts
@@ -150,8 +151,8 @@ module _ (ts : List Term) (few : length ts ≤ 16) (h : smallTerms ts ≡ true) 
   all-terms : tab (termAt (pack .vars) (pack .coefs)) 0 (pack .count) ≡ ts
   all-terms = ap (tab (termAt (pack .vars) (pack .coefs)) 0) counted ∙ (sym (worth-from pack (length ts)) ∙ (ap (map worth) tabbed ∙ terms-worth ts h))
 
-  all-few : pack .finite && leb (pack .count) 16 ≡ true
-  all-few = rw (pack-finite (typedTerms ts), terms-finite ts h, counted, le-leb (length ts) 16 few)
+  all-few : pack .finite && leb (pack .count) termRoom ≡ true
+  all-few = rw (pack-finite (typedTerms ts), terms-finite ts h, counted, le-leb (length ts) termRoom few)
 
 -- ---- the constraint
 
@@ -180,8 +181,8 @@ module _ (x : Constraint) (s : Says x) where
   abbrev constant : Float
   constant = wholeOf (x .reading .constant)
 
-  few : length ts ≤ 16
-  few = leb→le (length ts) 16 (s .few)
+  few : length ts ≤ termRoom
+  few = leb→le (length ts) termRoom (s .few)
 
   small-ones : smallTerms ts ≡ true
   small-ones = to-true (smallTerms ts) (small-terms ts (s .terms))

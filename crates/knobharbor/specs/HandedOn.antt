@@ -14,12 +14,12 @@ use Rattle.laws.specs.Lists.{listOf, listOf-is}
 use Rattle.grammar.specs.Sums.{Relation, atMost, equal, atLeast, Term, Reading, reads}
 use Rattle.grammar.specs.Reader.{readLine}
 use Rattle.grammar.specs.Theorems.{accepts}
-use Rattle.edition.specs.Endings as edition
-use Rattle.edition.specs.Endings.{Constraint, taken}
-use Rattle.edition.specs.Steps.{readSecond}
-use Rattle.edition.specs.Follow.{free}
-use Rattle.edition.specs.Free.{free-line}
-use Rattle.edition.specs.OldReaders.{renewed, as-old}
+use Rattle.grammar.specs.edition.Endings as edition
+use Rattle.grammar.specs.edition.Endings.{Constraint, taken}
+use Rattle.grammar.specs.edition.Steps.{readSecond}
+use Rattle.grammar.specs.edition.Follow.{free}
+use Rattle.grammar.specs.edition.Free.{free-line}
+use Rattle.grammar.specs.edition.OldReaders.{renewed, as-old}
 use Rattle.sparse.specs.Sparse.{Sparse}
 use Rattle.layout.specs.Laying.{getD-map}
 use Rattle.steps.specs.Number.{zero64}
@@ -27,12 +27,12 @@ use Rattle.steps.specs.Strength.{required}
 use Rattle.steps.specs.State as steps
 use Rattle.steps.specs.Calls.{add}
 use Rattle.lending.specs.Lending.{Called, callOf}
-use Rattle.terms.specs.Terms.{noTerm, termsIn}
+use Rattle.changes.specs.terms.Terms.{noTerm, termsIn}
 use Rattle.knobharbor.specs.Given.{termAt, given, relationBy}
 use Rattle.knobharbor.specs.Adding.{addOf, addListsOf}
-use Rattle.typed.specs.Typed.{wholeOf, typedTerm, typedTerms, requiredBy}
-use Rattle.typed.specs.Adding.{text, addRead, textOf}
-use Rattle.handed.specs.Handed.{kindOf, Handed, said, handedOf, placed}
+use Rattle.entry.specs.typed.Typed.{wholeOf, typedTerm, typedTerms, requiredBy}
+use Rattle.entry.specs.typed.Adding.{text, addRead, textOf}
+use Rattle.knobharbor.specs.handed.Handed.{kindOf, Handed, said, handedOf, placed}
 
 -- the lists up to the count, the constant, the kind and the strength, as `knobharbor_add_lists` takes them, in group 1
 abbrev pub addHanded : ℕ → Handed → ℕ → Sparse → Sparse → Called

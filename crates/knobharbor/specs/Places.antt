@@ -7,9 +7,9 @@ use Rattle.steps.specs.Calls.{Answer}
 use Rattle.layout.specs.Layout.{bitOf}
 use Rattle.sparse.specs.Sparse.{Sparse}
 use Rattle.lending.specs.Lending.{Called, called}
-use Rattle.fetches.specs.Fetch.{Fetch, fetchBy, fetchOf}
+use Rattle.fetches.specs.Fetch.{Fetch, fetchBy}
 use Rattle.fetches.specs.declared.Fetched as code
-use Rattle.typed.specs.Adding.{Text, text}
+use Rattle.entry.specs.typed.Adding.{Text, text}
 
 -- an answer's three places: the number, the pivots, the whole mark as 0 or 1
 unfoldable pub inPlaces : Answer → List ℕ
@@ -60,5 +60,5 @@ call-placed {u = u} e f = ap (λ (l : List ℕ). placed l u) e ∙ ap placedBy f
 pub text-placed : {a : Answer} {at k : ℕ} {w : List ℕ} {u : Sparse} {x : Text} → k ≡ at → w ≡ inPlaces a → text at (called a u) ≡ x → placedText k (placed w u) ≡ placedLine x
 text-placed {a} {k = k} {u = u} d e f = ap (λ (l : List ℕ). placedText k (placed l u)) e ∙ ap (λ (y : ℕ). placedText y (placed (inPlaces a) u)) d ∙ ap placedLine f
 
-pub fetch-placed : {f : code.Fetched} {w ns gs : List ℕ} {vs : List Float} {u : Sparse} (t : Sparse) → w ≡ f .number ∷ f .count ∷ [] → fetchBy f ns vs gs u ≡ fetchOf t → placedList w ns vs gs u ≡ placedFetch (fetchOf t)
-fetch-placed {ns = ns} {gs} {vs} {u} t e g = ap (λ (l : List ℕ). placedList l ns vs gs u) e ∙ ap placedFetch g
+pub fetch-placed : {f : code.Fetched} {w ns gs : List ℕ} {vs : List Float} {u : Sparse} {x : Fetch} → w ≡ f .number ∷ f .count ∷ [] → fetchBy f ns vs gs u ≡ x → placedList w ns vs gs u ≡ placedFetch x
+fetch-placed {ns = ns} {gs} {vs} {u} e g = ap (λ (l : List ℕ). placedList l ns vs gs u) e ∙ ap placedFetch g

@@ -11,25 +11,25 @@ use lib.Dec.{ltb}
 use Rattle.laws.specs.Lists.{tab, listOf, listOf-is}
 use Rattle.steps.specs.State.{Term, Relation, atMost, equal, atLeast, strengthOf, comparisonOf}
 use Rattle.steps.specs.Shown.{Given, shown}
-use Rattle.layout.specs.Layout.{comparisonCode}
+use Rattle.layout.specs.Layout.{comparisonCode, termRoom}
 use Rattle.layout.specs.Laying.{getD-map}
 use Rattle.layout.specs.Copy.{most16}
 use Rattle.sparse.specs.Sparse.{Sparse, read}
 use Rattle.sparse_test.specs.Reads.{reads}
 use Rattle.grammar.specs.Sums as line
-use Rattle.edition.specs.Endings.{Constraint}
-use Rattle.exact.specs.Whole.{val}
-use Rattle.plain.specs.Plain.{Written, wrote}
-use Rattle.tags.specs.declared.Relation as tags
-use Rattle.terms.specs.declared.Term as code
-use Rattle.terms.specs.declared.Pack.{Pack}
-use Rattle.terms.specs.Terms.{packOf, termOf, termsIn, termIn, termsOf, noTerm}
-use Rattle.terms.specs.Packed.{pack-few, pack-terms, most-few}
+use Rattle.grammar.specs.edition.Endings.{Constraint}
+use Rattle.laws.specs.exact.Whole.{val}
+use Rattle.grammar.specs.plain.Plain.{Written, wrote}
+use Rattle.changes.specs.declared.tags.Relation as tags
+use Rattle.changes.specs.declared.terms.Term as code
+use Rattle.changes.specs.declared.terms.Pack.{Pack}
+use Rattle.changes.specs.terms.Terms.{packOf, termOf, termsIn, termIn, termsOf, noTerm}
+use Rattle.changes.specs.terms.Packed.{pack-few, pack-terms, most-few}
 use Rattle.writing.specs.Given.{termAt}
 use Rattle.writing.specs.Writes.{relationIn, relatedOf, constraintOf}
-use Rattle.handed.specs.Handed.{handed, readBy, said as lineSaid}
-use Rattle.shown.specs.Shown.{Line, said, lineOf, showOf}
-use Rattle.shown.specs.Few.{few-shown}
+use Rattle.knobharbor.specs.handed.Handed.{handed, readBy, said as lineSaid}
+use Rattle.fetches.specs.shown.Shown.{Line, said, lineOf, showOf}
+use Rattle.fetches.specs.shown.Few.{few-shown}
 use Rattle.knobharbor.specs.Given.{termAt as givenAt, given}
 use Rattle.knobharbor.specs.Written.{relatedBy, written-reads}
 use Rattle.knobharbor.specs.HandedBack.{writeHanded, worth, worth-from}
@@ -89,11 +89,11 @@ given-coded : (ts : List Term) → given (variables ts) (coefficients ts) ≡ co
 unfolding given
 given-coded ts = ap (λ (n : ℕ). listOf n (givenAt (variables ts) (coefficients ts))) (length-map ts (λ (t : Term). t .variable) ∙ sym (length-map ts asCoded)) ∙ listOf-is (givenAt (variables ts) (coefficients ts)) (coded ts) noTerm (coded-at ts)
 
-module _ (ts : List Term) (few : length ts ≤ 16) where
+module _ (ts : List Term) (few : length ts ≤ termRoom) where
   abbrev pack : Pack
   pack = packOf (coded ts)
 
-  held : length (coded ts) ≤ 16
+  held : length (coded ts) ≤ termRoom
   held = rw (length-map ts asCoded) few
 
   counted : pack .count ≡ length ts
@@ -129,7 +129,7 @@ strength-as (atMost s) = refl
 strength-as (equal s) = refl
 strength-as (atLeast s) = refl
 
-module _ (g : Given) (few : length (g .terms) ≤ 16) where
+module _ (g : Given) (few : length (g .terms) ≤ termRoom) where
   numbers-are : constraintOf (relatedAs (g .relation)) (g .group) (g .constant) (packOf (given (variables (g .terms)) (coefficients (g .terms)))) ≡ numbersOf g
   unfolding constraintOf
   numbers-are = rw (given-coded (g .terms), all-terms (g .terms) few, relation-as (g .relation), strength-as (g .relation)) refl

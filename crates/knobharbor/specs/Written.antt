@@ -10,16 +10,16 @@ use lib.Ieee.{Float}
 use borrow.Author.Tests.{eq-eqb, ne-eqb}
 use Rattle.grammar.specs.Facts.{never}
 use Rattle.steps.specs.State as steps
-use Rattle.edition.specs.Endings.{Constraint, Reply}
-use Rattle.plain.specs.Plain.{Written, wrote, refused, room, writeLine}
-use Rattle.plain.specs.Theorems.{reads-back}
-use Rattle.tags.specs.declared.Relation.{Relation}
-use Rattle.tags.specs.declared.Relation.the-variants.{AtMost, Equal, AtLeast}
-use Rattle.tags.specs.Tags.{relationOf}
-use Rattle.terms.specs.declared.Pack.{Pack}
-use Rattle.terms.specs.Terms.{packOf}
+use Rattle.grammar.specs.edition.Endings.{Constraint, Reply}
+use Rattle.grammar.specs.plain.Plain.{Written, wrote, refused, room, writeLine}
+use Rattle.grammar.specs.plain.Theorems.{reads-back}
+use Rattle.changes.specs.declared.tags.Relation.{Relation}
+use Rattle.changes.specs.declared.tags.Relation.the-variants.{AtMost, Equal, AtLeast}
+use Rattle.changes.specs.tags.Tags.{relationOf}
+use Rattle.changes.specs.declared.terms.Pack.{Pack}
+use Rattle.changes.specs.terms.Terms.{packOf}
 use Rattle.writing.specs.Writes.{constraintOf, numbersIn, writes, Called, calledIs, called}
-use Rattle.handed.specs.Handed.{said, handedOf, readBy}
+use Rattle.knobharbor.specs.handed.Handed.{said, handedOf, readBy}
 use Rattle.knobharbor.specs.Given.{given, relationBy}
 
 -- 0 is at most, 1 equal, 2 at least

@@ -1,7 +1,7 @@
 // Add. The terms come as a lent list of records; or as two lists, the i-th term the i-th variable times the i-th coefficient. The kind is 0 for at most, 1 for equal, 2 for at least.
 ghost use mathlib.Core.Path.{_≡_};
 ghost use Rattle.waist.specs.Working.{lent};
-ghost use Rattle.sparse_copy.specs.Over.{cleared};
+ghost use Rattle.lending.specs.sparse_copy.Over.{cleared};
 ghost use Rattle.lending.specs.Lending.{answerOf, called, refused18};
 ghost use Rattle.knobharbor.specs.Adding.{addOf, addListsOf, packedOf};
 ghost use Rattle.knobharbor.specs.Places.{placed, placedBy};
@@ -10,14 +10,14 @@ use crate::given::gather;
 use crate::given::relation;
 use crate::places::put;
 use changes::Change;
+use changes::terms::Pack;
+use changes::terms::Term;
 use lending::Answer;
 use sparse::Bytes;
 use sparse::Keys;
 use sparse::Reals;
 use sparse::Values;
 use sparse::Words;
-use terms::Pack;
-use terms::Term;
 
 // What no call can be made of: 18, and the room is cleared.
 fn refuse(
@@ -108,7 +108,7 @@ pub extern "C" fn knobharbor_add(
     ensures { λ _. ⌜ placed (now (answer .exit)) (lent (words .exit) (keys .exit) (bytes .exit) (reals .exit) (values .exit)) ≡ placedBy (addOf group number (now (terms .entry)) constant kind strength budget (lent (wwords .entry) (wkeys .entry) (wbytes .entry) (wreals .entry) (wvalues .entry)) (lent (words .entry) (keys .entry) (bytes .entry) (reals .entry) (values .entry))) ⌝ }
     ensures { λ _. ⌜ lent (wwords .exit) (wkeys .exit) (wbytes .exit) (wreals .exit) (wvalues .exit) ≡ cleared (lent (wwords .entry) (wkeys .entry) (wbytes .entry) (wreals .entry) (wvalues .entry)) ⌝ }
 {
-    let p = terms::collect(terms);
+    let p = changes::terms::collect(terms);
     add_packed(
         words,
         keys,

@@ -3,18 +3,18 @@ ghost use mathlib.Core.Path.{_≡_};
 ghost use Rattle.steps.specs.Calls.{remove, dropGroup, addEdit, removeEdit, suggest};
 ghost use Rattle.steps.specs.Changing.{made};
 ghost use Rattle.waist.specs.Working.{lent};
-ghost use Rattle.sparse_copy.specs.Over.{cleared};
+ghost use Rattle.lending.specs.sparse_copy.Over.{cleared};
 ghost use Rattle.lending.specs.Lending.{callOf};
 ghost use Rattle.changes.specs.Change.{changingOf};
 ghost use Rattle.knobharbor.specs.Places.{placed, placedBy};
 use crate::places::put;
 use changes::Change;
+use changes::terms::Pack;
 use sparse::Bytes;
 use sparse::Keys;
 use sparse::Reals;
 use sparse::Values;
 use sparse::Words;
-use terms::Pack;
 
 // The one changing call, and its answer in its place. p is read by an add alone.
 pub fn change(
@@ -74,7 +74,7 @@ pub extern "C" fn knobharbor_remove(
     ensures { λ _. ⌜ lent (wwords .exit) (wkeys .exit) (wbytes .exit) (wreals .exit) (wvalues .exit) ≡ cleared (lent (wwords .entry) (wkeys .entry) (wbytes .entry) (wreals .entry) (wvalues .entry)) ⌝ }
 {
     let c = Change::Remove(number);
-    let p = terms::none();
+    let p = changes::terms::none();
     change(
         words,
         keys,
@@ -114,7 +114,7 @@ pub extern "C" fn knobharbor_drop(
     ensures { λ _. ⌜ lent (wwords .exit) (wkeys .exit) (wbytes .exit) (wreals .exit) (wvalues .exit) ≡ cleared (lent (wwords .entry) (wkeys .entry) (wbytes .entry) (wreals .entry) (wvalues .entry)) ⌝ }
 {
     let c = Change::Drop(group);
-    let p = terms::none();
+    let p = changes::terms::none();
     change(
         words,
         keys,
@@ -154,7 +154,7 @@ pub extern "C" fn knobharbor_add_edit(
     ensures { λ _. ⌜ lent (wwords .exit) (wkeys .exit) (wbytes .exit) (wreals .exit) (wvalues .exit) ≡ cleared (lent (wwords .entry) (wkeys .entry) (wbytes .entry) (wreals .entry) (wvalues .entry)) ⌝ }
 {
     let c = Change::AddEdit(variable, strength);
-    let p = terms::none();
+    let p = changes::terms::none();
     change(
         words,
         keys,
@@ -193,7 +193,7 @@ pub extern "C" fn knobharbor_remove_edit(
     ensures { λ _. ⌜ lent (wwords .exit) (wkeys .exit) (wbytes .exit) (wreals .exit) (wvalues .exit) ≡ cleared (lent (wwords .entry) (wkeys .entry) (wbytes .entry) (wreals .entry) (wvalues .entry)) ⌝ }
 {
     let c = Change::RemoveEdit(variable);
-    let p = terms::none();
+    let p = changes::terms::none();
     change(
         words,
         keys,
@@ -233,7 +233,7 @@ pub extern "C" fn knobharbor_suggest(
     ensures { λ _. ⌜ lent (wwords .exit) (wkeys .exit) (wbytes .exit) (wreals .exit) (wvalues .exit) ≡ cleared (lent (wwords .entry) (wkeys .entry) (wbytes .entry) (wreals .entry) (wvalues .entry)) ⌝ }
 {
     let c = Change::Suggest(variable, suggestion);
-    let p = terms::none();
+    let p = changes::terms::none();
     change(
         words,
         keys,

@@ -2,26 +2,26 @@
 ghost use mathlib.Core.Path.{_≡_};
 ghost use Prim.Native.Nat.{_≤_};
 ghost use lib.ListN.{length};
-ghost use Rattle.terms.specs.Terms.{packOf};
-ghost use Rattle.tags.specs.Tags.{relationOf};
+ghost use Rattle.changes.specs.terms.Terms.{packOf};
+ghost use Rattle.changes.specs.tags.Tags.{relationOf};
 ghost use Rattle.knobharbor.specs.Given.{given, relationBy};
-use tags::Relation;
-use terms::Pack;
-use terms::Term;
+use changes::tags::Relation;
+use changes::terms::Pack;
+use changes::terms::Term;
 
 pub fn gather(vars: &[u32], coefs: &[f64]) -> Pack
     requires { ⌜ length (now vars) ≤ length (now coefs) ⌝ }
     ensures { λ r. ⌜ r ≡ packOf (given (now (vars .entry)) (now (coefs .entry))) ⌝ }
 {
     let n = vars.len();
-    let mut p = terms::none();
+    let mut p = changes::terms::none();
     let mut i = 0;
     while i < n {
         let t = Term {
             variable: vars[i],
             coefficient: coefs[i],
         };
-        p = terms::push(p, t);
+        p = changes::terms::push(p, t);
         i += 1;
     }
     p

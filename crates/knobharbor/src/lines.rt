@@ -1,8 +1,8 @@
 // Add a line of text, under its C name. The offset goes into a place of its own.
 ghost use mathlib.Core.Path.{_≡_};
 ghost use Rattle.waist.specs.Working.{lent};
-ghost use Rattle.sparse_copy.specs.Over.{cleared};
-ghost use Rattle.typed.specs.Adding.{textOf};
+ghost use Rattle.lending.specs.sparse_copy.Over.{cleared};
+ghost use Rattle.entry.specs.typed.Adding.{textOf};
 ghost use Rattle.knobharbor.specs.Places.{placed, placedText, placedLine};
 use crate::places::put;
 use lending::Answer;
@@ -33,7 +33,7 @@ pub extern "C" fn knobharbor_add_text(
     ensures { λ _. ⌜ placedText (now (offset .exit)) (placed (now (answer .exit)) (lent (words .exit) (keys .exit) (bytes .exit) (reals .exit) (values .exit))) ≡ placedLine (textOf number (now (line .entry)) budget (lent (wwords .entry) (wkeys .entry) (wbytes .entry) (wreals .entry) (wvalues .entry)) (lent (words .entry) (keys .entry) (bytes .entry) (reals .entry) (values .entry))) ⌝ }
     ensures { λ _. ⌜ lent (wwords .exit) (wkeys .exit) (wbytes .exit) (wreals .exit) (wvalues .exit) ≡ cleared (lent (wwords .entry) (wkeys .entry) (wbytes .entry) (wreals .entry) (wvalues .entry)) ⌝ }
 {
-    let r = typed::add::add_text(
+    let r = entry::typed::add::add_text(
         words,
         keys,
         bytes,

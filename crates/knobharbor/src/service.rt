@@ -5,12 +5,12 @@ ghost use mathlib.Core.Bool.{true};
 ghost use mathlib.Core.List.{[]};
 ghost use Rattle.cable_lines.specs.Cable.{takes, closes};
 ghost use Rattle.cable_lines.specs.State.{heldBy};
-ghost use Rattle.handed.specs.Handed.{handed, handedBy, readBy};
+ghost use Rattle.knobharbor.specs.handed.Handed.{handed, handedBy, readBy};
+use crate::handed::Coefficients;
+use crate::handed::Reals;
+use crate::handed::Variables;
+use crate::handed::Words;
 use cable_lines::state::State;
-use handed::Coefficients;
-use handed::Reals;
-use handed::Variables;
-use handed::Words;
 
 #[no_mangle]
 pub extern "C" fn knobharbor_read_line(
@@ -22,7 +22,7 @@ pub extern "C" fn knobharbor_read_line(
 )
     ensures { λ _. ⌜ handed true (now (words .exit)) (now (reals .exit)) (now (variables .exit)) (now (coefficients .exit)) [] ≡ readBy (now (line .entry)) ⌝ }
 {
-    handed::read(line, words, reals, variables, coefficients)
+    crate::handed::read(line, words, reals, variables, coefficients)
 }
 
 #[no_mangle]
@@ -36,7 +36,7 @@ pub extern "C" fn knobharbor_cable_take(
 ) -> bool
     ensures { λ r. ⌜ handed r (now (words .exit)) (now (reals .exit)) (now (variables .exit)) (now (coefficients .exit)) (now (cable .exit)) ≡ handedBy (takes (heldBy (now (cable .entry))) (now (piece .entry))) ⌝ }
 {
-    handed::take(cable, piece, words, reals, variables, coefficients)
+    crate::handed::take(cable, piece, words, reals, variables, coefficients)
 }
 
 #[no_mangle]
@@ -49,5 +49,5 @@ pub extern "C" fn knobharbor_cable_close(
 ) -> bool
     ensures { λ r. ⌜ handed r (now (words .exit)) (now (reals .exit)) (now (variables .exit)) (now (coefficients .exit)) (now (cable .exit)) ≡ handedBy (closes (heldBy (now (cable .entry)))) ⌝ }
 {
-    handed::close(cable, words, reals, variables, coefficients)
+    crate::handed::close(cable, words, reals, variables, coefficients)
 }

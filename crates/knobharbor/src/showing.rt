@@ -1,7 +1,7 @@
 // A live constraint as it was added, under its C name: in the places in which a line's reader hands one over.
 ghost use mathlib.Core.Path.{_≡_};
 ghost use Rattle.waist.specs.Working.{lent};
-ghost use Rattle.shown.specs.Shown.{line, showOf};
+ghost use Rattle.fetches.specs.shown.Shown.{line, showOf};
 use sparse::Bytes;
 use sparse::Keys;
 use sparse::Reals;
@@ -16,14 +16,14 @@ pub extern "C" fn knobharbor_show(
     reals: &Reals,
     values: &Values,
     number: u32,
-    lwords: &mut handed::Words,
-    lreals: &mut handed::Reals,
-    variables: &mut handed::Variables,
-    coefficients: &mut handed::Coefficients,
+    lwords: &mut crate::handed::Words,
+    lreals: &mut crate::handed::Reals,
+    variables: &mut crate::handed::Variables,
+    coefficients: &mut crate::handed::Coefficients,
 )
     ensures { λ _. ⌜ line (now (lwords .exit)) (now (lreals .exit)) (now (variables .exit)) (now (coefficients .exit)) ≡ showOf number (lent (words .entry) (keys .entry) (bytes .entry) (reals .entry) (values .entry)) ⌝ }
 {
-    shown::show(
+    fetches::shown::show(
         words,
         keys,
         bytes,

@@ -1,6 +1,6 @@
 // The service line's writer under its C name: the terms come as two lists, as an add takes them.
 ghost use mathlib.Core.Path.{_≡_};
-ghost use Rattle.plain.specs.Plain.{refused};
+ghost use Rattle.grammar.specs.plain.Plain.{refused};
 ghost use Rattle.writing.specs.Writes.{called, calledIs};
 ghost use Rattle.knobharbor.specs.Written.{writesOf};
 use crate::given::gather;

@@ -15,7 +15,8 @@ use Rattle.sparse.specs.Sparse.{Sparse, read}
 use Rattle.sparse.specs.Fits.{Lengths}
 use Rattle.sparse_test.specs.Reads.{reads}
 use Rattle.fetches.specs.Fetch.{places, numbersOf, valuesOf, flagsOf, fetchIn, fetchOf}
-use Rattle.lasting.specs.Promises.{Holds, fetch-holds}
+use Rattle.sparse_test.specs.narrow.Holds.{Holds}
+use Rattle.lasting.specs.Promises.{fetch-holds}
 
 -- accepted, and three lists of zeros
 abbrev Nothing : Sparse → Type 0

@@ -17,7 +17,7 @@ use Rattle.sparse.specs.Sparse.{Sparse, read}
 use Rattle.sparse_test.specs.Meaning.{reads-readable}
 use Rattle.fetches.specs.Fetch.{numbersOf, valuesOf, flagsOf, Fetch, fetchOf, fetchIn, places}
 use Rattle.fetches.specs.Few.{fetch-room}
-use Rattle.lasting.specs.Promises.{Holds}
+use Rattle.sparse_test.specs.narrow.Holds.{Holds}
 
 -- what a fetch answers with this list: 0, how many are listed, and the three lists, "zero past its count"
 pub record Lists (l : List Change) (f : Fetch) : Type 0 where

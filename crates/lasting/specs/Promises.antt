@@ -1,4 +1,4 @@
--- What the contracts of the public calls give, over any tables and any working room. Assumes nothing.
+-- What the contracts of the public calls give, over any tables and any working room; that a changing call leaves tables that read as a state is the crate `solver`'s. Assumes nothing.
 use Prim.Native.Nat.{ℕ, _≤_}
 use mathlib.Core.Path.{_≡_, refl, sym, ap, _∙_}
 use mathlib.Core.Logic.{_≢_}
@@ -9,13 +9,12 @@ use Rattle.steps.specs.Number.{cutoffFits}
 use Rattle.steps.specs.State.{State}
 use Rattle.steps.specs.Changes.{fetchChanges}
 use Rattle.steps.specs.Calls.{Result, empty, reset, refusedBy}
-use Rattle.steps.specs.Changing.{Changing, adds, removes, drops, addsEdit, removesEdit, suggests, made, budgetOf}
-use Rattle.steps.specs.Readable.{readable}
+use Rattle.steps.specs.Changing.{Changing, made, budgetOf}
 use Rattle.steps.proofs.Cutoff.{reset-refused, reset-taken}
 use Rattle.steps.proofs.Refusals.{refusal-keeps}
 use Rattle.steps.proofs.Budgets.{within-budget}
-use Rattle.keeps.specs.Keeps.{empty-reads, add-reads, remove-reads, drop-reads, addEdit-reads, removeEdit-reads, suggest-reads, fetch-reads}
-use Rattle.zeros.specs.PlainCalls.{PlainState, empty-plain, add-plain, remove-plain, dropGroup-plain, addEdit-plain, removeEdit-plain, suggest-plain, fetch-plain}
+use Rattle.keeps.specs.Keeps.{empty-reads, fetch-reads}
+use Rattle.sparse_test.specs.zeros.PlainCalls.{empty-plain, fetch-plain}
 use Rattle.sparse.specs.Sparse.{Sparse, read}
 use Rattle.sparse.specs.Fits.{Lengths}
 use Rattle.sparse.specs.Write.{write}
@@ -25,9 +24,9 @@ use Rattle.sparse_test.specs.Meaning.{reads-form, reads-readable}
 use Rattle.lending.specs.Lending.{Called, called, refused18, callIn, callOf}
 use Rattle.lending.specs.Reset.{refused24, resetOf, reset-read}
 use Rattle.fetches.specs.Fetch.{fetchOf, fetchIn}
-use Rattle.narrow.specs.Narrow.{Narrow, Typed, made-narrow, fetch-narrow, empty-narrow}
-use Rattle.narrow.specs.Tabled.{narrow-of, plain-of}
-use Rattle.narrow.specs.Written.{written-read, written-state, written-lengths}
+use Rattle.sparse_test.specs.narrow.Narrow.{fetch-narrow, empty-narrow}
+use Rattle.sparse_test.specs.narrow.Tabled.{narrow-of, plain-of}
+use Rattle.sparse_test.specs.narrow.Holds.{Holds, written-holds}
 
 -- two answers that the contract permits are one
 pub one-answer : (f : State → Result) (w t : Sparse) {x y : Called} → x ≡ callOf f w t → y ≡ callOf f w t → x ≡ y
@@ -53,39 +52,6 @@ pivots-within c w t = go (reads t)
     go false = omega arith
 
 -- ---- tables that read as a state still do
-
-pub made-reads : (c : Changing) (s : State) → readable s ≡ true → readable (made c s .state) ≡ true
-made-reads (adds g n ts k r b) s h = add-reads g n ts k r b s h
-made-reads (removes n b) s h = remove-reads n b s h
-made-reads (drops g b) s h = drop-reads g b s h
-made-reads (addsEdit v k b) s h = addEdit-reads v k b s h
-made-reads (removesEdit v b) s h = removeEdit-reads v b s h
-made-reads (suggests v x b) s h = suggest-reads v x b s h
-
-pub made-plain : (c : Changing) (s : State) → PlainState s → PlainState (made c s .state)
-made-plain (adds g n ts k r b) s h = add-plain g n ts k r b s h
-made-plain (removes n b) s h = remove-plain n b s h
-made-plain (drops g b) s h = dropGroup-plain g b s h
-made-plain (addsEdit v k b) s h = addEdit-plain v k b s h
-made-plain (removesEdit v b) s h = removeEdit-plain v b s h
-made-plain (suggests v x b) s h = suggest-plain v x b s h
-
--- tables as an array's type has them, that read as the state s
-pub record Holds (s : State) (t : Sparse) : Type 0 where
-  pub lengths : Lengths t
-  pub reads : reads t ≡ true
-  pub state : read t ≡ s
-
-pub written-holds : (s : State) (t : Sparse) → readable s ≡ true → Narrow s → PlainState s → Lengths t → Holds s (write s t)
-written-holds s t r n p l = record { lengths = written-lengths s t r n p l; reads = written-read s t r n p l; state = written-state s t r n p l }
-
--- a changing call with numbers of its types, with any working room: the steps' answer, and tables that hold the steps' state
-pub call-holds : (c : Changing) (s : State) (w t : Sparse) → Typed c → Holds s t → (callOf (made c) w t .answer ≡ made c s .answer) × Holds (made c s .state) (callOf (made c) w t .tables)
-unfolding callOf callIn
-call-holds c s w t typed h =
-    let e : read t ≡ s = h .state in
-    rw (h .reads, ← e)
-    (refl, written-holds (made c (read t) .state) t (made-reads c (read t) (reads-readable t (h .reads))) (made-narrow (read t) (narrow-of t (h .reads)) c typed) (made-plain c (read t) (plain-of t (h .reads))) (h .lengths))
 
 pub fetch-holds : (s : State) (t : Sparse) → Holds s t → Holds (fetchChanges s .state) (fetchOf t .tables)
 unfolding fetchOf fetchIn

@@ -17,21 +17,23 @@ use Rattle.sparse_test.specs.Reads.{greatestU32}
 use Rattle.lending.specs.Lending.{Called, called, callOf}
 use Rattle.lending.specs.Reset.{resetOf}
 use Rattle.fetches.specs.Fetch.{fetchOf}
-use Rattle.terms.specs.declared.Term.{Term}
-use Rattle.terms.specs.Terms.{termOf, termsIn}
+use Rattle.changes.specs.declared.terms.Term.{Term}
+use Rattle.changes.specs.terms.Terms.{termOf, termsIn}
 use Rattle.knobharbor.specs.Given.{given, relationBy}
 use Rattle.knobharbor.specs.Adding.{addOf, addListsOf}
 use Rattle.grammar.specs.Sums as grammar
 use Rattle.grammar.specs.Reader.{readLine}
 use Rattle.grammar.specs.Names.{Named, line-named}
 use Rattle.keeps.specs.Lists.{All}
-use Rattle.typed.specs.Typed.{typedTerm, typedTerms, wholeOf, requiredBy}
-use Rattle.typed.specs.Adding.{markIn, addRead, textOf}
+use Rattle.entry.specs.typed.Typed.{typedTerm, typedTerms, wholeOf, requiredBy}
+use Rattle.entry.specs.typed.Adding.{markIn, addRead, textOf}
 use Rattle.run.specs.Demand.{Call, resets, fetches, adds, removes, drops, addsEdit, removesEdit, suggests, make}
-use Rattle.narrow.specs.Numbers.{isU32}
-use Rattle.narrow.specs.Narrow.{Typed}
-use Rattle.narrow.specs.NearAdd.{TermNamed}
-use Rattle.lasting.specs.Promises.{Holds, call-holds, fetch-holds, reset-made}
+use Rattle.sparse_test.specs.narrow.Numbers.{isU32}
+use Rattle.sparse_test.specs.narrow.Narrow.{Typed}
+use Rattle.sparse_test.specs.narrow.NearAdd.{TermNamed}
+use Rattle.sparse_test.specs.narrow.Holds.{Holds}
+use Rattle.solver.specs.Change.{call-holds}
+use Rattle.lasting.specs.Promises.{fetch-holds, reset-made}
 
 -- a call of a run over tables, with its working room: what its contract says that it answers and leaves. A fetch is no changing call: it leaves what its contract
 -- says, and counts as accepted here, with the stored mark, as in `make`; what it lists is `tables-fetch`.

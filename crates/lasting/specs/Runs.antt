@@ -21,10 +21,11 @@ use Rattle.lending.specs.Reset.{resetOf}
 use Rattle.fetches.specs.Fetch.{fetchOf}
 use Rattle.run.specs.Demand.{Call, drops, make, accepted, next, start, after, Best, None}
 use Rattle.run.specs.Run.{yes-stored, marked-best, marked-12}
-use Rattle.stall.specs.Stall.{allWays, passesOf, budgetOf, Demand3, NoSetTwice}
-use Rattle.stall.proofs.Whole.{marked-never-stalls}
-use Rattle.stall.proofs.DropSets.{marked-never-returns}
-use Rattle.lasting.specs.Promises.{Holds, reset-holds}
+use Rattle.run.specs.stall.Stall.{allWays, passesOf, budgetOf, Demand3, NoSetTwice}
+use Rattle.run.proofs.stall.Whole.{marked-never-stalls}
+use Rattle.run.proofs.stall.DropSets.{marked-never-returns}
+use Rattle.sparse_test.specs.narrow.Holds.{Holds}
+use Rattle.lasting.specs.Promises.{reset-holds}
 use Rattle.lasting.specs.Fetched.{Lists, fetch-lists}
 use Rattle.lasting.specs.Public.{Public, publicOn, runCall, unfitNumber, TypedPublic, Steps, public-step}
 

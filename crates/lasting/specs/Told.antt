@@ -14,9 +14,9 @@ use Rattle.steps.specs.Changes.{Change, findVariable, value, fetchChanges}
 use Rattle.steps.specs.Changing as changing
 use Rattle.steps.proofs.Cutoff.{reset-taken}
 use Rattle.keeps.specs.Lists.{All}
-use Rattle.suffices.specs.Reader as reader
-use Rattle.suffices.specs.Reader.{Reader, nothing, takesAll, holds, Follows}
-use Rattle.suffices.specs.Suffice.{changes-suffice}
+use Rattle.keeps.specs.suffices.Reader as reader
+use Rattle.keeps.specs.suffices.Reader.{Reader, nothing, takesAll, holds, Follows}
+use Rattle.keeps.specs.suffices.Suffice.{changes-suffice}
 use Rattle.sparse.specs.Sparse.{Sparse, read}
 use Rattle.sparse.specs.Fits.{Lengths}
 use Rattle.sparse_test.specs.Asked.{asked}
@@ -24,7 +24,8 @@ use Rattle.lending.specs.Lending.{callIn}
 use Rattle.lending.specs.Reset.{refused24, resetOf}
 use Rattle.fetches.specs.Fetch.{fetchOf}
 use Rattle.run.specs.Demand.{Call, resets, fetches, adds, removes, drops, addsEdit, removesEdit, suggests, make, next, start, after}
-use Rattle.lasting.specs.Promises.{Holds, reset-leaves}
+use Rattle.sparse_test.specs.narrow.Holds.{Holds}
+use Rattle.lasting.specs.Promises.{reset-leaves}
 use Rattle.lasting.specs.Fetched.{entriesOf, fetch-lists, entries-are}
 use Rattle.lasting.specs.Public.{makes, runCall}
 use Rattle.lasting.specs.Runs.{Step, Lent, callOfStep, andThen, callsOf, tablesAfter, tables-hold, tables-asked}

@@ -5,3 +5,5 @@ pub mod Loops
 pub mod Lists
 pub mod Places
 pub mod Given
+pub mod exact
+pub mod streams

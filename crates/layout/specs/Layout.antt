@@ -33,6 +33,10 @@ tables h n r w = record { head = h; names = n; reals = r; rows = w }
 abbrev pub headSize : ℕ
 headSize = 196
 
+-- "16 terms in a constraint"
+abbrev pub termRoom : ℕ
+termRoom = 16
+
 abbrev pub itemsSize : ℕ
 itemsSize = 128
 

@@ -8,3 +8,4 @@ pub mod Written
 pub mod Back
 pub mod ReadBack
 pub mod Copied
+pub mod cells

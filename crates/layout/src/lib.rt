@@ -1,7 +1,11 @@
 // The places of the lent tables. specs/Layout.antt says what stands there; what else this crate says stands in specs/.
+pub mod cells;
 
 // ---- lengths of the tables
 pub const HEAD_SIZE: usize = 196;
+
+// "16 terms in a constraint"
+pub const TERM_ROOM: usize = 16;
 
 pub const ITEMS_SIZE: usize = 128;
 

@@ -1,26 +1,26 @@
 -- The room entered: it holds the tableau and the variables of the lent tables, and no stored record.
 -- Assumes nothing.
-use Prim.Native.Nat.{ℕ, _+_, _≤_, _<_}
-use mathlib.Core.Path.{_≡_, refl, sym, ap, _∙_}
-use mathlib.Core.Bool.{Bool, true}
+use Prim.Native.Nat.{ℕ, _+_, _<_}
+use mathlib.Core.Path.{_≡_, refl, ap, _∙_}
+use mathlib.Core.Bool.{true}
 use mathlib.Core.List.{List}
 use native.Mathlib.Omega.{arith}
 use lib.Dec.{eqb}
 use lib.Ieee.{Float}
 use lib.ListN.{length, getD, set, replicate, length-set}
 use lib.Seq.{getD-set-same, getD-set-other}
-use Rattle.laws.specs.Lists.{tab, listOf, tab-ext, sumFrom, sumIn}
+use Rattle.laws.specs.Lists.{listOf, tab-ext, sumFrom, sumIn}
 use Rattle.steps.specs.Number.{zero64}
 use Rattle.steps.specs.State.{State}
-use Rattle.cells.specs.Names.{cellRoom}
+use Rattle.layout.specs.cells.Names.{cellRoom}
 use Rattle.sparse.specs.Places.{nextIdAt, symbolCountAt, rowCountAt, cellCountAt, variableCountAt, constraintCountAt, editCountAt, shouldClearAt, wholeAt, goneCountAt, goneNumbersAt, idsAt, variableNumbersAt, variableUsesAt, rowPlacesAt, variablePlacesAt, termCountsAt, wordsSize, bytesSize, realsSize}
 use Rattle.sparse.specs.Sparse.{Sparse, symbolCount, rowCount, cellCount, variableCount, constraintCount, editCount, goneCount, goneOf, symbolAt, variableOf, termsFrom, basicOf, symbolsOf, basicsOf, objectiveOf, read}
 use Rattle.sparse.specs.Fits.{Lengths}
-use Rattle.sparse.specs.Form.{indexAt, Counts, Form}
+use Rattle.sparse.specs.Form.{indexAt, Form}
 use Rattle.sparse.specs.Copy.{putOver}
 use Rattle.sparse.specs.Agree.{Agree}
 use Rattle.sparse.specs.Copied.{copy-agrees, copy-reads, copy-form, copy-lengths}
-use Rattle.sparse_copy.specs.Over.{cleared}
+use Rattle.lending.specs.sparse_copy.Over.{cleared}
 use Rattle.sparse_test.specs.Reads.{reads}
 use Rattle.sparse_test.specs.Meaning.{reads-form}
 
@@ -197,19 +197,12 @@ module _ (t : Sparse) (len : length (t .words) ≡ wordsSize) where
 
 -- ---- entering
 
-pub bare-counts : (t : Sparse) → length (t .words) ≡ wordsSize → {r : Bool} → r ≡ reads t → r ≡ true → {h : List ℕ} → h ≡ bareWords (t .words)
-    → (Counts (record { words = h; keys = t .keys; bytes = t .bytes; reals = t .reals; values = t .values }))
-    × (0 ≡ termsFrom (record { words = h; keys = t .keys; bytes = t .bytes; reals = t .reals; values = t .values }) (constraintCount (record { words = h; keys = t .keys; bytes = t .bytes; reals = t .reals; values = t .values })))
-bare-counts t len a b e = rw e (bare-form t len (reads-form t (sym a ∙ b)) .counts, sym (bare-terms t len))
-
-pub entered : (t w : Sparse) {w₁ : Sparse} {r : Bool} {h : List ℕ} → length (t .words) ≡ wordsSize → Lengths w → r ≡ reads t → r ≡ true → h ≡ bareWords (t .words)
-    → w₁ ≡ putOver (record { words = h; keys = t .keys; bytes = t .bytes; reals = t .reals; values = t .values }) w → Entered t w₁
-entered t w len l a b q e =
-    let h : reads t ≡ true = sym a ∙ b in
-    let f = bare-form t len (reads-form t h) in
+pub entered : (t w : Sparse) {w₁ : Sparse} → length (t .words) ≡ wordsSize → Lengths w → reads t ≡ true → w₁ ≡ putOver (bare t) w → Entered t w₁
+entered t w len l good e =
+    let f = bare-form t len (reads-form t good) in
     let s = copy-reads (bare t) w f l in
-    rw (e, q) (record {
-      reads = h;
+    rw e (record {
+      reads = good;
       long = len;
       form = copy-form (bare t) w f l;
       lengths = copy-lengths (bare t) w (f .counts) l;

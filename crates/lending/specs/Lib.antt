@@ -1,4 +1,6 @@
 -- What a changing call over sparse tables answers and leaves, for any call of the steps.
+pub mod sparse_copy
 pub mod Lending
 pub mod Entered
+pub mod Bare
 pub mod Reset

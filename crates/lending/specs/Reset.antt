@@ -14,7 +14,7 @@ use Rattle.steps.specs.State.{State}
 use Rattle.steps.specs.Calls.{Answer, empty, reset, refusedBy}
 use Rattle.steps.specs.Readable.{concat}
 use Rattle.steps.proofs.Cutoff.{reset-refused, reset-taken}
-use Rattle.cells.specs.Cells.{cells}
+use Rattle.layout.specs.cells.Cells.{cells}
 use Rattle.sparse.specs.Places.{wholeAt, idsAt, variableNumbersAt, variableUsesAt, constraintNumbersAt, constraintGroupsAt, goneNumbersAt, kindsAt, rowPlacesAt, variablePlacesAt, changedAt, constraintMarkersAt, constraintOthersAt, termCountsAt, editVariablesAt, editMarkersAt, editOthersAt, termsAt, relationsAt, constantsAt, oldValuesAt, objectiveAt, cutoffAt, constraintStrengthsAt, editStrengthsAt, suggestionsAt, coefficientsAt, constraintConstantsAt}
 use Rattle.sparse.specs.Sparse.{Sparse, read}
 use Rattle.sparse.specs.Stretches.{lay}

@@ -1,6 +1,6 @@
 // The room of a call that takes no steps.
 ghost use mathlib.Core.Path.{_≡_};
-ghost use Rattle.sparse_copy.specs.Over.{cleared, tables};
+ghost use Rattle.lending.specs.sparse_copy.Over.{cleared, tables};
 use crate::room;
 use sparse::Bytes;
 use sparse::Keys;

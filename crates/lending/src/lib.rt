@@ -1,18 +1,20 @@
 // The shell of every changing call over sparse tables: the lent tables are tested, their tableau and variables copied into the working room, the steps run there, an accepted call's state goes back, the room is cleared. And reset.
 ghost use mathlib.Core.Path.{_≡_};
-ghost use mathlib.Core.Bool.{cond};
+ghost use mathlib.Core.Bool.{true, cond};
 ghost use Rattle.laws.specs.Given.{Then};
 ghost use Rattle.sparse.specs.Form.{Counts};
 ghost use Rattle.sparse.specs.Fits.{Lengths};
 ghost use Rattle.sparse.specs.Copy.{putOver};
 ghost use Rattle.sparse_test.specs.Reads.{reads};
-ghost use Rattle.sparse_copy.specs.Over.{tables};
+ghost use Rattle.lending.specs.sparse_copy.Over.{tables};
 ghost use Rattle.lending.specs.Lending.{answerOf, called, refused18};
-ghost use Rattle.lending.specs.Entered.{bareWords, zeroRoom, Entered};
+ghost use Rattle.lending.specs.Entered.{zeroRoom, Entered};
 ghost use Rattle.lending.specs.Reset.{refused24, resetOf, resetWords};
 
 pub mod clearing;
+pub mod entering;
 pub mod room;
+pub mod sparse_copy;
 
 use sparse::Bytes;
 use sparse::Keys;
@@ -38,14 +40,36 @@ pub fn refuse18() -> Answer
     }
 }
 
-// The words with no record counted: what is copied into the room.
-fn bare_words(words: &Words) -> Words
-    ensures { λ r. ⌜ r ≡ bareWords (now (words .entry)) ⌝ }
+// The tables are known to read as a state: the room, whatever it held, holds their tableau and variables.
+pub fn enter_held(
+    words: &Words,
+    keys: &Keys,
+    bytes: &Bytes,
+    reals: &Reals,
+    values: &Values,
+    wwords: &mut Words,
+    wkeys: &mut Keys,
+    wbytes: &mut Bytes,
+    wreals: &mut Reals,
+    wvalues: &mut Values,
+)
+    requires { ⌜ reads (tables (now words) (now keys) (now bytes) (now reals) (now values)) ≡ true ⌝ }
+    ensures { λ _. ⌜ Entered (tables (now (words .entry)) (now (keys .entry)) (now (bytes .entry)) (now (reals .entry)) (now (values .entry))) (tables (now (wwords .exit)) (now (wkeys .exit)) (now (wbytes .exit)) (now (wreals .exit)) (now (wvalues .exit))) ⌝ }
 {
-    let mut bare = *words;
-    bare[sparse::CONSTRAINT_COUNT] = 0;
-    bare[sparse::EDIT_COUNT] = 0;
-    bare
+    room::long(words, keys, bytes, reals, values);
+    room::long(wwords, wkeys, wbytes, wreals, wvalues);
+    entering::put_bare(
+        wwords,
+        wkeys,
+        wbytes,
+        wreals,
+        wvalues,
+        words,
+        keys,
+        bytes,
+        reals,
+        values,
+    );
 }
 
 // The tables read as a state: then the room holds their tableau and variables.
@@ -65,24 +89,21 @@ pub fn enter(
     ensures { λ r. ⌜ Then r (Entered (tables (now (words .entry)) (now (keys .entry)) (now (bytes .entry)) (now (reals .entry)) (now (values .entry))) (tables (now (wwords .exit)) (now (wkeys .exit)) (now (wbytes .exit)) (now (wreals .exit)) (now (wvalues .exit)))) ⌝ }
     ensures { λ _. ⌜ Lengths (tables (now (wwords .entry)) (now (wkeys .entry)) (now (wbytes .entry)) (now (wreals .entry)) (now (wvalues .entry))) ⌝ }
 {
-    room::long(words, keys, bytes, reals, values);
     room::long(wwords, wkeys, wbytes, wreals, wvalues);
     if !sparse_test::reads_as_state(words, keys, bytes, reals, values) {
         return false;
     }
-    let bare = bare_words(words);
-    sparse_copy::put_over(
+    enter_held(
+        words,
+        keys,
+        bytes,
+        reals,
+        values,
         wwords,
         wkeys,
         wbytes,
         wreals,
         wvalues,
-        &bare,
-        keys,
-        bytes,
-        reals,
-        values,
-        0,
     );
     true
 }
@@ -106,7 +127,7 @@ fn put_back_if(
     if on {
         let c = wwords[sparse::CONSTRAINT_COUNT] as usize;
         let m = room::all_terms(wbytes, c);
-        sparse_copy::put_over(
+        crate::sparse_copy::put_over(
             words,
             keys,
             bytes,

@@ -2,10 +2,10 @@
 ghost use mathlib.Core.Path.{_≡_};
 ghost use Prim.Native.Nat.{_≤_};
 ghost use lib.ListN.{length};
-ghost use Rattle.cells.specs.Names.{cellRoom};
+ghost use Rattle.layout.specs.cells.Names.{cellRoom};
 ghost use Rattle.sparse.specs.Places.{mostConstraints, wordsSize, bytesSize, realsSize};
 ghost use Rattle.sparse.specs.Fits.{Lengths};
-ghost use Rattle.sparse_copy.specs.Over.{tables};
+ghost use Rattle.lending.specs.sparse_copy.Over.{tables};
 ghost use Rattle.lending.specs.Entered.{zeroRoom, termsIn};
 use sparse::Bytes;
 use sparse::Keys;
@@ -53,9 +53,9 @@ pub fn clear(
 )
     ensures { λ _. ⌜ tables (now (words .exit)) (now (keys .exit)) (now (bytes .exit)) (now (reals .exit)) (now (values .exit)) ≡ zeroRoom ⌝ }
 {
-    sparse_copy::clear::clear_words(words);
-    sparse_copy::clear::clear_keys(keys);
-    sparse_copy::clear::clear_bytes(bytes);
-    sparse_copy::clear::clear_reals(reals);
-    sparse_copy::clear::clear_values(values);
+    crate::sparse_copy::clear::clear_words(words);
+    crate::sparse_copy::clear::clear_keys(keys);
+    crate::sparse_copy::clear::clear_bytes(bytes);
+    crate::sparse_copy::clear::clear_reals(reals);
+    crate::sparse_copy::clear::clear_values(values);
 }

@@ -6,8 +6,8 @@ ghost use Prim.Native.Nat.{_≤_};
 ghost use lib.ListN.{length};
 use reader::answers::read_line;
 use reader::answers::refuse;
-use replies::Out;
-use replies::put_line;
+use text::replies::Out;
+use text::replies::put_line;
 use text::stream::keep_byte;
 
 // How many bytes of the line that has begun are held, how many of the buffer wait to be written, and whether every write went through.

@@ -14,10 +14,10 @@ use Rattle.steps.specs.Substitute.{pivot}
 use Rattle.steps.specs.Optimise.{Choice, ended, stuck, pivotOn, countedPivot, getEnteringSymbol, getLeavingRow, choosePivot, optimise, getDualLeavingRow, getDualEnteringSymbol, chooseDualPivot, dualOptimise}
 use Rattle.rows.specs.declared.number.Wrote.{Wrote}
 use Rattle.rows.specs.Marks.{markOf}
-use Rattle.choose.specs.declared.Found.{Found}
-use Rattle.choose.specs.declared.Found.the-variants.{At, Nothing}
-use Rattle.choose.specs.Choose.{onFound}
-use Rattle.choose.specs.Steps.{picked}
+use Rattle.rows.specs.declared.choose.Found.{Found}
+use Rattle.rows.specs.declared.choose.Found.the-variants.{At, Nothing}
+use Rattle.rows.specs.choose.Choose.{onFound}
+use Rattle.rows.specs.choose.Steps.{picked}
 use Rattle.sparse.specs.Sparse.{Sparse, symbolCount, rowCount, symbolAt, basicOf}
 use Rattle.waist.specs.Working.{workOf}
 use Rattle.waist.specs.Standing.{Standing, Makes, rowSymbol, Chooses}

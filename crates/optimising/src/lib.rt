@@ -1,4 +1,5 @@
 // The two passes over the sparse tables, with a budget of pivots.
+pub mod suggestion;
 pub mod turn;
 
 ghost use mathlib.Core.Path.{_≡_};
@@ -18,7 +19,7 @@ ghost use Rattle.optimising.specs.Chosen.{TurnedOn, optimiseOn};
 use crate::turn::Turn;
 use crate::turn::counted;
 use crate::turn::stopped;
-use choose::Found;
+use rows::choose::Found;
 use rows::number::Wrote;
 use sparse::Bytes;
 use sparse::Keys;

@@ -10,7 +10,7 @@ use borrow.Author.Tests.{lt-leb, le-leb}
 use lib.Dec.{leb, eqb}
 use lib.ListN.{length, getD, drop, drop-of-length-le}
 use lib.IntN.{natAbs}
-use Rattle.sums.specs.Held.{zeroAt, termOf, valueOf, held}
+use Rattle.reader.specs.sums.Held.{zeroAt, termOf, valueOf, held}
 use Rattle.grammar.specs.Sums.{Term, Sums, Answer, most, kept, smallTerms, judged, summed}
 use Rattle.grammar.specs.Sums.{nothing}
 use Rattle.grammar.specs.Reader.{first, left, runFrom, readLine, answered, refuses}

@@ -12,7 +12,7 @@ use lib.ListN.{length, getD, set, drop, replicate}
 use lib.Seq.{drop-cons}
 use lib.IntN.{ℤ, pos, negsuc, subℕ, natAbs}
 use Rattle.laws.specs.Z.{P, N, PN-sub, eqZb, ext}
-use Rattle.sums.specs.Held.{zeroAt, valueOf, termOf, held}
+use Rattle.reader.specs.sums.Held.{zeroAt, valueOf, termOf, held}
 use Rattle.grammar.specs.Sums.{Relation, atMost, equal, atLeast, Term, Sums, Reading as Constraint, Answer, reads, outside, refused, most, kept, smallTerms, judged, summed}
 use Rattle.reader.specs.Sides.{relationOf}
 use Rattle.reader.specs.Parts.{sumsOf}

@@ -9,7 +9,7 @@ use Rattle.grammar.specs.Bytes.{Kind as Byte, kindOf}
 use Rattle.grammar.specs.Sums.{Relation, Sums, one, turned, nothing}
 use Rattle.grammar.specs.Reader.{Mode, first, wanted, closed, apart, Around, left, right, stop, step, follow, Outcome, read, halted, whole, runFrom, readSum}
 use Rattle.grammar.specs.Descent.{no-byte, rested, resumed, left-sum, right-sum}
-use Rattle.sums.specs.Held.{held, Bounded, zeroAt}
+use Rattle.reader.specs.sums.Held.{held, Bounded, zeroAt}
 use Rattle.reader.specs.Run.{by-kind, at-either, at-place, Follows, run-follows}
 use Rattle.reader.specs.Heads.{factor}
 use Rattle.reader.specs.Parts.{sumsOf, outcomeOf, Small, Ready, Rests, Sound, Unjoined, Ended}

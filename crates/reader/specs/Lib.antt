@@ -1,3 +1,4 @@
+pub mod sums
 pub mod Scan
 pub mod Run
 pub mod Heads
@@ -10,3 +11,4 @@ pub mod Sides
 pub mod Ends
 pub mod Answers
 pub mod AnswerLaws
+pub mod second

@@ -10,7 +10,7 @@ use lib.Dec.{eqb}
 use lib.ListN.{length, getD}
 use lib.IntN.{ℤ, natAbs, _+ℤ_}
 use Rattle.laws.specs.Z.{abs-add}
-use Rattle.sums.specs.Held.{held, valueOf, Bounded, moved, moved-is, within, size-signed, bounded-more, bounded-add}
+use Rattle.reader.specs.sums.Held.{held, valueOf, Bounded, moved, moved-is, within, size-signed, bounded-more, bounded-add}
 use Rattle.grammar.specs.Bytes.{Kind as Byte, plus, minus, closing, space, kindOf}
 use Rattle.grammar.specs.Sums.{Sums, Term, Factor, addTo, signed, withNumber, withVariable}
 use Rattle.grammar.specs.Reader.{Around, wanted, closed, part, sum, inside, go, ends, stop, step, follow, Outcome, read, halted, runFrom}

@@ -6,7 +6,7 @@ use mathlib.Core.List.{List, [], _∷_}
 use native.Mathlib.Omega.{arith}
 use lib.ListN.{length, getD}
 use lib.IntN.{natAbs}
-use Rattle.sums.specs.Held.{held, valueOf, Bounded}
+use Rattle.reader.specs.sums.Held.{held, valueOf, Bounded}
 use Rattle.grammar.specs.Sums.{Sums, Factor}
 use Rattle.grammar.specs.Reader.{wanted, part, sum, inside, Outcome, read, halted, runFrom}
 use Rattle.grammar.specs.Descent.{rested, resumed}

@@ -6,7 +6,7 @@ use mathlib.Core.List.{List}
 use native.Mathlib.Omega.{arith}
 use lib.ListN.{length, getD}
 use lib.IntN.{ℤ}
-use Rattle.sums.specs.Held.{held, valueOf, Bounded, moved, moved-is, bounded-more}
+use Rattle.reader.specs.sums.Held.{held, valueOf, Bounded, moved, moved-is, bounded-more}
 use Rattle.grammar.specs.Sums.{Sums, Term, addTo, signed}
 use Rattle.grammar.specs.Reader.{Outcome, read, halted}
 use Rattle.reader.specs.Scan.{Skips}

@@ -5,7 +5,7 @@ use mathlib.Core.Bool.{Bool, true}
 use mathlib.Core.List.{List}
 use native.Mathlib.Omega.{arith}
 use lib.ListN.{length, getD}
-use Rattle.sums.specs.Held.{held, Bounded, bounded-more}
+use Rattle.reader.specs.sums.Held.{held, Bounded, bounded-more}
 use Rattle.grammar.specs.Sums.{Sums, Factor}
 use Rattle.grammar.specs.Reader.{part, sum, inside, wanted, roomOf, Outcome, read, halted, runFrom, readPart, readSum}
 use Rattle.grammar.specs.Descent.{rested, resumed, sum-of-parts, sum-in-brackets}

@@ -4,7 +4,7 @@
 // "then, first met from the left: 20 not in the grammar, with the offset"
 ghost use mathlib.Core.Path.{_≡_};
 ghost use Prim.Native.Nat.{_≤_, _<_};
-ghost use Rattle.sums.specs.Held.{held};
+ghost use Rattle.reader.specs.sums.Held.{held};
 ghost use Rattle.grammar.specs.Sums.{judged, summed};
 ghost use Rattle.grammar.specs.Reader.{readLine, refuses};
 ghost use Rattle.reader.specs.Sides.{relationOf};
@@ -14,11 +14,11 @@ use crate::parts::Place;
 use crate::sides::Line;
 use crate::sides::Mark;
 use crate::sides::whole_line;
-use sums::Numbers;
-use sums::Sums;
-use sums::ZERO;
-use sums::long_numbers;
-use sums::long_sums;
+use crate::sums::Numbers;
+use crate::sums::Sums;
+use crate::sums::ZERO;
+use crate::sums::long_numbers;
+use crate::sums::long_sums;
 
 // number is 0 for a line that reads, else the refusal's, with the offset of 20. The constant and the coefficients stand as what they
 // are above ZERO, as in the tables; past the count the variables are 0 and the coefficients 0, that is ZERO.

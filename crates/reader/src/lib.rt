@@ -3,4 +3,6 @@ pub mod answers;
 pub mod heads;
 pub mod parts;
 pub mod scan;
+pub mod second;
 pub mod sides;
+pub mod sums;

@@ -12,10 +12,10 @@ use crate::heads::Kind;
 use crate::heads::head_at;
 use crate::scan::byte_at;
 use crate::scan::skip;
-use sums::Numbers;
-use sums::Sums;
-use sums::add_term;
-use sums::with;
+use crate::sums::Numbers;
+use crate::sums::Sums;
+use crate::sums::add_term;
+use crate::sums::with;
 
 // How far the line is read, whether it may end there (no space behind a digit), the places in use of the tables, and the constant so far.
 pub struct Place {

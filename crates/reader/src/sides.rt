@@ -14,9 +14,9 @@ use crate::parts::Step;
 use crate::parts::sum;
 use crate::scan::byte_at;
 use crate::scan::skip;
-use sums::Numbers;
-use sums::Sums;
-use sums::ZERO;
+use crate::sums::Numbers;
+use crate::sums::Sums;
+use crate::sums::ZERO;
 
 pub enum Mark {
     AtMost,

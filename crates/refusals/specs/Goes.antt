@@ -19,8 +19,8 @@ use Rattle.steps.specs.Changes.{neverReported}
 use Rattle.steps.specs.Edit.{editTerms}
 use Rattle.steps.specs.Tests.{member, findConstraint, groupOf, usesIn, termsOf, goesWith, makesEntry, entriesMade, goneFull}
 use Rattle.keeps.specs.Uses.{uses-append}
-use Rattle.places.specs.Finding.{placeIn}
-use Rattle.places.specs.Listed.{same, member-list}
+use Rattle.rows.specs.places.Finding.{placeIn}
+use Rattle.rows.specs.places.Listed.{same, member-list}
 use Rattle.sparse.specs.Places.{mostGone, variableNumbersAt, variableUsesAt, constraintNumbersAt, constraintGroupsAt, goneNumbersAt, variablePlacesAt, termCountsAt, termsAt, oldValuesAt}
 use Rattle.sparse.specs.Lookup.{placeFrom}
 use Rattle.sparse.specs.Sparse.{Sparse, variableCount, constraintCount, goneCount, goneOf, numberAt, variableOf, termsFrom, termOf, constraintOf, read}

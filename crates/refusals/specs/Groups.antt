@@ -12,7 +12,7 @@ use lib.ListN.{length}
 use borrow.Author.Tests.{lt-ltb, le-ltb}
 use Rattle.laws.specs.Loops.{seek, first}
 use Rattle.laws.specs.Lists.{tab, listOf}
-use Rattle.places.specs.Finding.{placeIn}
+use Rattle.rows.specs.places.Finding.{placeIn}
 use Rattle.steps.specs.State.{Constraint}
 use Rattle.steps.specs.Tests.{firstRefusal, groupOf, dropTests}
 use Rattle.steps.specs.Calls.{refusedBy, dropGroup}

@@ -17,13 +17,13 @@ use Rattle.steps.specs.Tests.{member, newVariables}
 use Rattle.laws.specs.Lists.{tab, listOf, allFrom, allIn, sumFrom, sumIn}
 use Rattle.layout.specs.Layout.{bitOf}
 use Rattle.layout.specs.Copy.{most16}
-use Rattle.places.specs.Finding.{placeIn}
-use Rattle.places.specs.Listed.{map-list, member-list}
+use Rattle.rows.specs.places.Finding.{placeIn}
+use Rattle.rows.specs.places.Listed.{map-list, member-list}
 use Rattle.sparse.specs.Places.{variableNumbersAt}
 use Rattle.sparse.specs.Lookup.{placeFrom}
 use Rattle.sparse.specs.Sparse.{Sparse, variableCount, variableOf, read}
-use Rattle.terms.specs.declared.Pack.{Pack}
-use Rattle.terms.specs.Terms.{termOf, termIn, termsOf}
+use Rattle.changes.specs.declared.terms.Pack.{Pack}
+use Rattle.changes.specs.terms.Terms.{termOf, termIn, termsOf}
 use Rattle.refusals.specs.Refusals.{liveIn, firstOf, newAt, newIn}
 
 -- ---- live

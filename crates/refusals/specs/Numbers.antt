@@ -9,7 +9,7 @@ use lib.Ieee.{Float, eq}
 use Rattle.steps.specs.Number.{belowZero, isFinite}
 use Rattle.steps.specs.Strength.{required}
 use Rattle.sparse.specs.Places.{constraintNumbersAt}
-use Rattle.terms.specs.declared.Pack.{Pack}
+use Rattle.changes.specs.declared.terms.Pack.{Pack}
 use Rattle.refusals.specs.declared.gone.Taken.{Taken}
 use Rattle.refusals.specs.Refusals.{constraintsIn, liveIn, editedIn, groupIn, goneFullIn, constraintsFullIn, variablesFullIn, idsUsedIn, roomRefusal, inputRefusal, addRefusal, editPack, addEditRefusal, suggestRefusal, removeRefusal, removeEditRefusal, dropRefusal}
 

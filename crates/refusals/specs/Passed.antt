@@ -17,9 +17,9 @@ use Rattle.sparse.specs.Places.{mostVariables, mostConstraints, constraintNumbe
 use Rattle.sparse.specs.Sparse.{Sparse, read}
 use Rattle.sparse_test.specs.Reads.{reads}
 use Rattle.layout.specs.Rooms.{and-left, and-right}
-use Rattle.terms.specs.declared.Term.{Term}
-use Rattle.terms.specs.declared.Pack.{Pack}
-use Rattle.terms.specs.Terms.{packOf, keptOf, termsIn}
+use Rattle.changes.specs.declared.terms.Term.{Term}
+use Rattle.changes.specs.declared.terms.Pack.{Pack}
+use Rattle.changes.specs.terms.Terms.{packOf, keptOf, termsIn}
 use Rattle.refusals.specs.Refusals.{nextIn, variablesIn, constraintsIn, editsIn, liveIn, editedIn, newIn, constraintsFullIn, variablesFullIn, idsUsedIn, cutoffIn, roomRefusal, inputRefusal, addRefusal, editPack, addEditRefusal}
 use Rattle.refusals.specs.Tested.{numberOr0, add-refusal, add-edit-refusal}
 

@@ -14,8 +14,8 @@ use Rattle.sparse.specs.Places.{mostVariables, mostConstraints, mostTerms, most
 use Rattle.sparse.specs.Lookup.{placeFrom, Ascends}
 use Rattle.sparse_test.specs.Tested.{termCount}
 use Rattle.sparse_test.specs.Asked.{editIn}
-use Rattle.terms.specs.declared.Pack.{Pack}
-use Rattle.terms.specs.Terms.{packOf, keptOf}
+use Rattle.changes.specs.declared.terms.Pack.{Pack}
+use Rattle.changes.specs.terms.Terms.{packOf, keptOf}
 use Rattle.refusals.specs.declared.gone.Taken.{Taken}
 use Rattle.refusals.specs.declared.gone.Taken.the-variants.{Constraint, Edit, Group}
 

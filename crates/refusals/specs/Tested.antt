@@ -16,17 +16,18 @@ use Rattle.steps.specs.State as steps
 use Rattle.steps.specs.Edit.{editTerms}
 use Rattle.steps.specs.Tests.{Test, _if_, firstRefusal, newVariables, hasConstraint, hasEdit, constraintsFull, variablesFull, idsUsed, keptTerms, addTests, addEditTests}
 use Rattle.laws.specs.Lists.{listOf, length-tab}
+use Rattle.layout.specs.Layout.{termRoom}
 use Rattle.sparse.specs.Places.{mostVariables, mostConstraints, constraintNumbersAt}
 use Rattle.sparse.specs.Sparse.{Sparse, variableCount, constraintCount, editCount, read}
 use Rattle.sparse_test.specs.Reads.{reads}
 use Rattle.sparse_test.specs.Meaning.{reads-form}
 use Rattle.sparse_test.specs.Meant.{reads-apart}
 use Rattle.sparse_test.specs.Asked.{has-constraint, has-edit}
-use Rattle.terms.specs.declared.Term.{Term}
-use Rattle.terms.specs.declared.Pack.{Pack}
-use Rattle.terms.specs.Terms.{packOf, keptOf, termOf, termsIn, termsOf}
-use Rattle.terms.specs.Packed.{pack-finite, pack-many, pack-terms, length-terms}
-use Rattle.terms.specs.Kept.{kept-terms}
+use Rattle.changes.specs.declared.terms.Term.{Term}
+use Rattle.changes.specs.declared.terms.Pack.{Pack}
+use Rattle.changes.specs.terms.Terms.{packOf, keptOf, termOf, termsIn, termsOf}
+use Rattle.changes.specs.terms.Packed.{pack-finite, pack-many, pack-terms, length-terms}
+use Rattle.changes.specs.terms.Kept.{kept-terms}
 use Rattle.refusals.specs.Refusals.{liveIn, editedIn, newIn, constraintsFullIn, variablesFullIn, idsUsedIn, cutoffIn, roomRefusal, inputRefusal, addRefusal, editPack, addEditRefusal}
 use Rattle.refusals.specs.New.{variablesOf, new-is}
 
@@ -46,8 +47,8 @@ unfolding firstRefusal numberOr0
 none-left = refl
 
 -- the lent list had at most 16 terms, so that its pack reads as it
-pub few-terms : (ts : List Term) → eqb (packOf ts .count) 17 ≡ false → length ts ≤ 16
-few-terms ts e = let k = ltb-false 16 (length (termsIn ts)) (pack-many ts ∙ e) in rw (length-terms ts) at k
+pub few-terms : (ts : List Term) → eqb (packOf ts .count) 17 ≡ false → length ts ≤ termRoom
+few-terms ts e = let k = ltb-false termRoom (length (termsIn ts)) (pack-many ts ∙ e) in rw (length-terms ts) at k
 
 one-term : (x : ℕ) → termsIn (record { variable = x; coefficient = one64 } ∷ []) ≡ record { variable = x; coefficient = one64 } ∷ []
 unfolding termsIn termOf

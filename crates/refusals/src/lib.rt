@@ -4,18 +4,17 @@ pub mod gone;
 ghost use mathlib.Core.Path.{_≡_};
 ghost use mathlib.Core.Bool.{cond};
 ghost use Prim.Native.Nat.{_+_, _<_, _≤_};
+ghost use Rattle.layout.specs.Layout.{termRoom};
 ghost use Rattle.sparse.specs.Places.{mostVariables, mostConstraints, variableNumbersAt, constraintNumbersAt, wordsSize};
 ghost use Rattle.sparse.specs.Lookup.{Ascends};
 ghost use Rattle.refusals.specs.Refusals.{variablesIn, constraintsIn, editsIn, liveIn, editedIn, Tabled, groupPlace, groupIn, firstOf, newAt, newIn, constraintsFullIn, variablesFullIn, idsUsedIn, roomRefusal, inputRefusal, addRefusal, editPack, addEditRefusal, suggestRefusal, removeRefusal, removeEditRefusal, dropRefusal};
 use gone::Taken;
 use gone::gone_full;
 use sparse::Bytes;
+use sparse::MOST_CONSTRAINTS;
 use sparse::Reals;
 use sparse::Words;
 use sparse::lookup::look_up;
-
-// As many as the words have numbers for.
-const MOST_CONSTRAINTS: usize = sparse::CONSTRAINT_GROUPS - sparse::CONSTRAINT_NUMBERS;
 
 // A test that fails gives its number, one that passes what the tests after it give.
 fn refusal(fails: bool, number: u64, rest: u64) -> u64
@@ -68,8 +67,8 @@ pub fn group_lives(words: &Words, g: u16) -> bool
 
 // ---- new variables
 
-fn first_of(p: terms::Pack, i: usize) -> bool
-    requires { ⌜ i < 16 ⌝ }
+fn first_of(p: changes::terms::Pack, i: usize) -> bool
+    requires { ⌜ i < termRoom ⌝ }
     ensures { λ r. ⌜ r ≡ firstOf p i ⌝ }
 {
     let vars = p.vars;
@@ -83,9 +82,9 @@ fn first_of(p: terms::Pack, i: usize) -> bool
     ok
 }
 
-fn new_at(words: &Words, v: usize, p: terms::Pack, i: usize) -> u64
+fn new_at(words: &Words, v: usize, p: changes::terms::Pack, i: usize) -> u64
     requires { ⌜ v ≤ mostVariables ⌝ }
-    requires { ⌜ i < 16 ⌝ }
+    requires { ⌜ i < termRoom ⌝ }
     requires { ⌜ Ascends (now words) variableNumbersAt v ⌝ }
     ensures { λ r. ⌜ r ≡ newAt (now (words .entry)) v p i ⌝ }
     ensures { λ r. ⌜ r ≤ 1 ⌝ }
@@ -99,13 +98,13 @@ fn new_at(words: &Words, v: usize, p: terms::Pack, i: usize) -> u64
     }
 }
 
-fn new_variables(words: &Words, v: usize, p: terms::Pack) -> u64
+fn new_variables(words: &Words, v: usize, p: changes::terms::Pack) -> u64
     requires { ⌜ v ≤ mostVariables ⌝ }
     requires { ⌜ Ascends (now words) variableNumbersAt v ⌝ }
     ensures { λ r. ⌜ r ≡ newIn (now (words .entry)) v p ⌝ }
-    ensures { λ r. ⌜ r ≤ 16 ⌝ }
+    ensures { λ r. ⌜ r ≤ termRoom ⌝ }
 {
-    let e = terms::shown(p);
+    let e = changes::terms::shown(p);
     let mut s = 0;
     let mut i = 0;
     while i < e {
@@ -125,13 +124,13 @@ fn constraints_full(words: &Words) -> bool
     MOST_CONSTRAINTS as u64 <= words[sparse::CONSTRAINT_COUNT] + words[sparse::EDIT_COUNT]
 }
 
-fn variables_full(words: &Words, cutoff: f64, p: terms::Pack) -> bool
+fn variables_full(words: &Words, cutoff: f64, p: changes::terms::Pack) -> bool
     requires { ⌜ variablesIn (now words) ≤ mostVariables ⌝ }
     requires { ⌜ Ascends (now words) variableNumbersAt (variablesIn (now words)) ⌝ }
     ensures { λ r. ⌜ r ≡ variablesFullIn cutoff (now (words .entry)) p ⌝ }
 {
     let v = words[sparse::VARIABLE_COUNT];
-    let kept = terms::kept(cutoff, p);
+    let kept = changes::terms::kept(cutoff, p);
     (sparse::MOST_VARIABLES as u64) < v + new_variables(words, v as usize, kept)
 }
 
@@ -142,7 +141,7 @@ fn ids_used(words: &Words) -> bool
 }
 
 // "10, 9, 11"
-fn room_tests(words: &Words, cutoff: f64, p: terms::Pack) -> u64
+fn room_tests(words: &Words, cutoff: f64, p: changes::terms::Pack) -> u64
     requires { ⌜ variablesIn (now words) ≤ mostVariables ⌝ }
     requires { ⌜ constraintsIn (now words) ≤ mostConstraints ⌝ }
     requires { ⌜ editsIn (now words) ≤ mostConstraints ⌝ }
@@ -157,7 +156,7 @@ fn room_tests(words: &Words, cutoff: f64, p: terms::Pack) -> u64
 // ---- the tests of a call
 
 // "1, 2, 3": what a caller hands in, before the tables are looked at.
-fn input_tests(p: terms::Pack, constant: f64, strength: f64, rest: u64) -> u64
+fn input_tests(p: changes::terms::Pack, constant: f64, strength: f64, rest: u64) -> u64
     ensures { λ r. ⌜ r ≡ inputRefusal p constant strength rest ⌝ }
 {
     let finite = p.finite & rows::number::is_finite(constant) & rows::number::is_finite(strength);
@@ -172,7 +171,7 @@ pub fn add_tests(
     cutoff: f64,
     g: u16,
     n: u32,
-    p: terms::Pack,
+    p: changes::terms::Pack,
     constant: f64,
     strength: f64,
 ) -> u64
@@ -195,12 +194,12 @@ pub fn add_tests(
 }
 
 // The variable times 1, as a pack.
-pub fn edit_pack(n: u32) -> terms::Pack
+pub fn edit_pack(n: u32) -> changes::terms::Pack
     ensures { λ r. ⌜ r ≡ editPack n ⌝ }
 {
-    terms::push(
-        terms::none(),
-        terms::Term {
+    changes::terms::push(
+        changes::terms::none(),
+        changes::terms::Term {
             variable: n,
             coefficient: 1.0,
         },

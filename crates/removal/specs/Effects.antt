@@ -14,9 +14,9 @@ use Rattle.steps.specs.Work.{Work, findRow}
 use Rattle.steps.specs.CreateRow.{insertInObjective}
 use Rattle.steps.specs.Remove.{insertRowInObjective, removeMarkerEffects, removeConstraintEffects}
 use Rattle.layout.specs.Layout.{kindOf}
-use Rattle.choose.specs.declared.Found.{Found}
-use Rattle.choose.specs.declared.Found.the-variants.{At, Nothing}
-use Rattle.choose.specs.Choose.{onFound}
+use Rattle.rows.specs.declared.choose.Found.{Found}
+use Rattle.rows.specs.declared.choose.Found.the-variants.{At, Nothing}
+use Rattle.rows.specs.choose.Choose.{onFound}
 use Rattle.sparse.specs.Places.{kindsAt}
 use Rattle.sparse.specs.Sparse.{Sparse, symbolAt, otherAt, basicOf, basicsOf}
 use Rattle.waist.specs.Working.{workOf}

@@ -23,15 +23,15 @@ use Rattle.keeps.specs.Keys.{rowId, Row?, no-row, a-row, row?, find-none}
 use Rattle.keeps.specs.Fits.{bids}
 use Rattle.keeps.specs.Frame.{pivot-frame}
 use Rattle.keeps.specs.Passes.{Ends, ends-bind, check-ends}
-use Rattle.choose.specs.declared.Found.{Found}
-use Rattle.choose.specs.declared.Found.the-variants.{At, Nothing}
-use Rattle.choose.specs.Choose.{onFound}
-use Rattle.choose.specs.Own.{first-is}
+use Rattle.rows.specs.declared.choose.Found.{Found}
+use Rattle.rows.specs.declared.choose.Found.the-variants.{At, Nothing}
+use Rattle.rows.specs.choose.Choose.{onFound}
+use Rattle.rows.specs.choose.Own.{first-is}
 use Rattle.rows.specs.declared.number.Wrote.{Wrote}
 use Rattle.rows.specs.Marks.{markOf}
 use Rattle.sparse.specs.Places.{kindsAt, rowPlacesAt, constantsAt}
 use Rattle.sparse.specs.Sparse.{Sparse, symbolCount, rowCount, symbolAt, basicOf, symbolsOf, basicsOf}
-use Rattle.substituting.specs.Notes.{isExternalKind}
+use Rattle.waist.specs.substituting.Notes.{isExternalKind}
 use Rattle.waist.specs.declared.ending.Ended.{Ended}
 use Rattle.waist.specs.Working.{workOf, Sound, basic-symbol}
 use Rattle.waist.specs.Dropping.{Free}

@@ -33,7 +33,7 @@ use Rattle.removal.specs.Alike.{Alike}
 -- the gone numbers ascend, and the fall of these terms' uses makes no more entries than wait at most
 pub record Room (terms : List Term) (c : Changes) : Type 0 where
   pub up : Up 0 (c .gone)
-  pub few : entriesBy terms c ≤ 32
+  pub few : entriesBy terms c ≤ mostGone
 
 pub work-changes : (art : Bool) (a : Mark) (v : ℕ) (t : Sparse) → workOf art a v t .changes ≡ read t .changes
 unfolding workOf

@@ -16,8 +16,8 @@ use Rattle.keeps.specs.Fits.{FitsW}
 use Rattle.layout.specs.Copy.{most16}
 use Rattle.rows.specs.Marks.{markOf}
 use Rattle.sparse.specs.Sparse.{Sparse, symbolAt, symbolsOf, read}
-use Rattle.terms.specs.declared.Pack.{Pack}
-use Rattle.terms.specs.Terms.{termOf, termIn, termsOf}
+use Rattle.changes.specs.declared.terms.Pack.{Pack}
+use Rattle.changes.specs.terms.Terms.{termOf, termIn, termsOf}
 use Rattle.waist.specs.declared.ending.Ended.{Ended}
 use Rattle.waist.specs.Working.{workOf}
 use Rattle.waist.specs.Standing.{Standing, Makes}

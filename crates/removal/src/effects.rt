@@ -9,17 +9,17 @@ ghost use Rattle.sparse.specs.Sparse.{symbolAt};
 ghost use Rattle.waist.specs.Working.{lent};
 ghost use Rattle.waist.specs.Standing.{Standing, Makes};
 ghost use Rattle.waist.specs.Tags.{tagAt};
-use choose::Found;
+use rows::choose::Found;
 use rows::number::Wrote;
 use sparse::Bytes;
 use sparse::Keys;
 use sparse::Reals;
 use sparse::Values;
 use sparse::Words;
-use substituting::notes::kind_at;
 use waist::choices::row_of;
 use waist::objective::insert_in_objective;
 use waist::objective::insert_row_in_objective;
+use waist::substituting::notes::kind_at;
 
 // One symbol's strength out of the objective, by its row if it is basic; a symbol that is no Error has none there.
 fn remove_marker_effects(

@@ -9,9 +9,10 @@ ghost use Prim.Native.Nat.{_≤_};
 ghost use Rattle.steps.specs.Number.{Mark};
 ghost use Rattle.steps.specs.Work.{checkFinite};
 ghost use Rattle.steps.specs.Remove.{removeConstraintEffects, purgeTag, removeSteps};
+ghost use Rattle.layout.specs.Layout.{termRoom};
 ghost use Rattle.rows.specs.Marks.{markOf};
 ghost use Rattle.sparse.specs.Sparse.{read};
-ghost use Rattle.terms.specs.Terms.{termsOf};
+ghost use Rattle.changes.specs.terms.Terms.{termsOf};
 ghost use Rattle.waist.specs.Working.{lent, workOf};
 ghost use Rattle.waist.specs.Standing.{Standing, Makes};
 ghost use Rattle.waist.specs.Ending.{outcomeOf, Goes};
@@ -24,6 +25,9 @@ ghost use Rattle.removal.specs.Steps.{Removes};
 use crate::effects::remove_constraint_effects;
 use crate::marker::drop_marker;
 use crate::uses::drop_uses;
+use changes::terms::Pack;
+use changes::terms::shown;
+use layout::TERM_ROOM;
 use optimising::optimise;
 use rows::number::Wrote;
 use sparse::Bytes;
@@ -31,8 +35,6 @@ use sparse::Keys;
 use sparse::Reals;
 use sparse::Values;
 use sparse::Words;
-use terms::Pack;
-use terms::shown;
 use waist::ending::Ended;
 use waist::ending::check_finite;
 use waist::symbols::purge;
@@ -108,14 +110,14 @@ fn remove_by(
     marker: u8,
     other: u8,
     strength: f64,
-    numbers: &[u32; 16],
+    numbers: &[u32; TERM_ROOM],
     count: usize,
     budget: u32,
     before: Wrote,
 ) -> Ended
     requires { ⌜ Standing false (markOf before) (lent words keys bytes reals values) ⌝ }
     requires { ⌜ TagLives marker other (lent words keys bytes reals values) ⌝ }
-    requires { ⌜ count ≤ 16 ⌝ }
+    requires { ⌜ count ≤ termRoom ⌝ }
     requires { ⌜ Room (usesFrom (now numbers) count 0) (read (lent words keys bytes reals values) .changes) ⌝ }
     ensures { λ r. ⌜ Removes budget (tagAt (lent (words .entry) (keys .entry) (bytes .entry) (reals .entry) (values .entry)) marker other) strength (now (numbers .entry)) count (workOf false (markOf before) 0 (lent (words .entry) (keys .entry) (bytes .entry) (reals .entry) (values .entry))) r (lent (words .exit) (keys .exit) (bytes .exit) (reals .exit) (values .exit)) ⌝ }
 {

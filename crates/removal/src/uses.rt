@@ -5,12 +5,14 @@ ghost use mathlib.Core.List.{[], _∷_};
 ghost use Prim.Native.Nat.{_≤_};
 ghost use Rattle.steps.specs.Number.{Mark};
 ghost use Rattle.steps.specs.Remove.{dropUse, dropUses};
+ghost use Rattle.layout.specs.Layout.{termRoom};
 ghost use Rattle.sparse.specs.Sparse.{read};
 ghost use Rattle.waist.specs.Working.{lent};
 ghost use Rattle.waist.specs.Standing.{Standing, Makes};
 ghost use Rattle.removal.specs.Tag.{Stands};
 ghost use Rattle.removal.specs.Room.{Room};
 ghost use Rattle.removal.specs.Uses.{useOf, usesFrom};
+use layout::TERM_ROOM;
 use sparse::Bytes;
 use sparse::Keys;
 use sparse::Reals;
@@ -55,11 +57,11 @@ pub fn drop_uses(
     bytes: &mut Bytes,
     reals: &mut Reals,
     values: &mut Values,
-    numbers: &[u32; 16],
+    numbers: &[u32; TERM_ROOM],
     count: usize,
 )
     requires { ⌜ Stands (lent words keys bytes reals values) ⌝ }
-    requires { ⌜ count ≤ 16 ⌝ }
+    requires { ⌜ count ≤ termRoom ⌝ }
     requires { ⌜ Room (usesFrom (now numbers) count 0) (read (lent words keys bytes reals values) .changes) ⌝ }
     ensures { λ _. ⌜ ((a : Mark) → Standing false a (lent (words .entry) (keys .entry) (bytes .entry) (reals .entry) (values .entry)) → Makes false false a a (dropUses (usesFrom (now (numbers .entry)) count 0)) (lent (words .entry) (keys .entry) (bytes .entry) (reals .entry) (values .entry)) (lent (words .exit) (keys .exit) (bytes .exit) (reals .exit) (values .exit))) ⌝ }
 {

@@ -10,8 +10,8 @@ use lib.Ieee.{Float, nan, inf, fin, binary64, up, down, lt, le, eq, ofInt, toSig
 use lib.Ieee.Fits.{down-pos, and-i, and-l, and-r, eq→eqb}
 use Rattle.steps.specs.Number.{isFinite, isWhole}
 use Rattle.laws.specs.Z.{≡→eqZb}
-use Rattle.exact.specs.Whole.{IsZ, val, int, int-z, ofInt-z}
-use Rattle.exact.specs.Compare.{eq-z, bool-ext}
+use Rattle.laws.specs.exact.Whole.{IsZ, val, int, int-z, ofInt-z}
+use Rattle.laws.specs.exact.Compare.{eq-z, bool-ext}
 
 -- between -2^53 and 2^53
 unfoldable pub small : Float → Bool

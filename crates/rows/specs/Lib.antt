@@ -7,3 +7,6 @@ pub mod Place
 pub mod Cells
 pub mod Stays
 pub mod Reading
+pub mod choose
+pub mod moves
+pub mod places

@@ -4,6 +4,7 @@ ghost use Prim.Native.Nat.{_<_};
 ghost use lib.ListN.{length, getD, set};
 ghost use lib.Ieee.{nan, ne};
 ghost use Rattle.steps.specs.Number.{zero64};
+ghost use Rattle.layout.specs.cells.Names.{rowRoom};
 ghost use Rattle.rows.specs.Marks.{markOf};
 ghost use Rattle.rows.specs.Table.{insertedValue, insertedMark, scaledValue, scaledMark, insertSymbolAt, insertSymbolMark, insertCellsIn, insertCellsMark, insertRowIn, insertRowMark, insertRowChanged, scaleCellsIn, scaleCellsMark, solveRowIn, solveRowMark, solveForSymbolsIn, solveForSymbolsMark, reverseSignIn, substituteRowIn, substituteRowMark, substituteRowChanged, substituteCellsIn, substituteCellsMark, shiftConstantIn, shiftConstantMark};
 use crate::cell::cell_mark;
@@ -19,14 +20,15 @@ use crate::number::Wrote;
 use crate::number::joined;
 use crate::number::mark_write;
 use crate::number::nothing;
+use layout::cells::ROW_ROOM;
 
 // An array by value tells its length, and one behind a reference does not: these two hand it over, at no cost.
-fn told(row: [f64; 130])
-    ensures { λ _. ⌜ length row ≡ 130 ⌝ }
+fn told(row: [f64; ROW_ROOM])
+    ensures { λ _. ⌜ length row ≡ rowRoom ⌝ }
 {}
 
-pub fn wide(row: &[f64; 130])
-    ensures { λ _. ⌜ length (now (row .entry)) ≡ 130 ⌝ }
+pub fn wide(row: &[f64; ROW_ROOM])
+    ensures { λ _. ⌜ length (now (row .entry)) ≡ rowRoom ⌝ }
 {
     told(*row);
 }
@@ -37,8 +39,8 @@ pub struct Inserted {
     pub wrote: Wrote,
 }
 
-pub fn insert_symbol(cutoff: f64, row: &mut [f64; 130], at: usize, k: f64, bound: f64) -> Wrote
-    requires { ⌜ at < 130 ⌝ }
+pub fn insert_symbol(cutoff: f64, row: &mut [f64; ROW_ROOM], at: usize, k: f64, bound: f64) -> Wrote
+    requires { ⌜ at < rowRoom ⌝ }
     ensures { λ r. ⌜ markOf r ≡ insertSymbolMark cutoff at k bound (now (row .entry)) ⌝ }
     ensures { λ _. ⌜ now (row .exit) ≡ insertSymbolAt cutoff at k (now (row .entry)) ⌝ }
 {
@@ -50,14 +52,14 @@ pub fn insert_symbol(cutoff: f64, row: &mut [f64; 130], at: usize, k: f64, bound
 // The cell at place i gets o times k. An absent o is passed over before anything is computed: most cells of a layout are.
 fn insert_at(
     cutoff: f64,
-    row: &mut [f64; 130],
+    row: &mut [f64; ROW_ROOM],
     i: usize,
     o: f64,
     k: f64,
     bound: f64,
     before: Wrote,
 ) -> Wrote
-    requires { ⌜ i < 130 ⌝ }
+    requires { ⌜ i < rowRoom ⌝ }
     ensures { λ r. ⌜ markOf r ≡ insertedMark cutoff bound k (markOf before) (getD (now (row .entry)) i nan) o ⌝ }
     ensures { λ _. ⌜ now (row .exit) ≡ set (now (row .entry)) i (insertedValue cutoff k (getD (now (row .entry)) i nan) o) ⌝ }
 {
@@ -71,13 +73,13 @@ fn insert_at(
 
 pub fn insert_cells(
     cutoff: f64,
-    row: &mut [f64; 130],
-    other: &[f64; 130],
+    row: &mut [f64; ROW_ROOM],
+    other: &[f64; ROW_ROOM],
     k: f64,
     width: usize,
     bound: f64,
 ) -> Wrote
-    requires { ⌜ width < 130 ⌝ }
+    requires { ⌜ width < rowRoom ⌝ }
     ensures { λ r. ⌜ markOf r ≡ insertCellsMark cutoff bound k width (now (other .entry)) (now (row .entry)) ⌝ }
     ensures { λ _. ⌜ now (row .exit) ≡ insertCellsIn cutoff k width (now (other .entry)) (now (row .entry)) ⌝ }
 {
@@ -94,12 +96,12 @@ pub fn insert_cells(
 
 pub fn insert_row(
     cutoff: f64,
-    row: &mut [f64; 130],
-    other: &[f64; 130],
+    row: &mut [f64; ROW_ROOM],
+    other: &[f64; ROW_ROOM],
     k: f64,
     width: usize,
 ) -> Inserted
-    requires { ⌜ width < 130 ⌝ }
+    requires { ⌜ width < rowRoom ⌝ }
     ensures { λ r. ⌜ r .changed ≡ insertRowChanged k (now (other .entry)) ⌝ }
     ensures { λ r. ⌜ markOf (r .wrote) ≡ insertRowMark cutoff k width (now (other .entry)) (now (row .entry)) ⌝ }
     ensures { λ _. ⌜ now (row .exit) ≡ insertRowIn cutoff k width (now (other .entry)) (now (row .entry)) ⌝ }
@@ -114,8 +116,8 @@ pub fn insert_row(
     }
 }
 
-fn scale_at(row: &mut [f64; 130], i: usize, factor: f64, before: Wrote) -> Wrote
-    requires { ⌜ i < 130 ⌝ }
+fn scale_at(row: &mut [f64; ROW_ROOM], i: usize, factor: f64, before: Wrote) -> Wrote
+    requires { ⌜ i < rowRoom ⌝ }
     ensures { λ r. ⌜ markOf r ≡ scaledMark factor (markOf before) (getD (now (row .entry)) i nan) ⌝ }
     ensures { λ _. ⌜ now (row .exit) ≡ set (now (row .entry)) i (scaledValue factor (getD (now (row .entry)) i nan)) ⌝ }
 {
@@ -127,8 +129,8 @@ fn scale_at(row: &mut [f64; 130], i: usize, factor: f64, before: Wrote) -> Wrote
     mark_cell(CELL_BOUND, before, c)
 }
 
-fn scale_cells(row: &mut [f64; 130], factor: f64, width: usize) -> Wrote
-    requires { ⌜ width < 130 ⌝ }
+fn scale_cells(row: &mut [f64; ROW_ROOM], factor: f64, width: usize) -> Wrote
+    requires { ⌜ width < rowRoom ⌝ }
     ensures { λ r. ⌜ markOf r ≡ scaleCellsMark factor width (now (row .entry)) ⌝ }
     ensures { λ _. ⌜ now (row .exit) ≡ scaleCellsIn factor width (now (row .entry)) ⌝ }
 {
@@ -142,9 +144,9 @@ fn scale_cells(row: &mut [f64; 130], factor: f64, width: usize) -> Wrote
     w
 }
 
-pub fn solve_for(row: &mut [f64; 130], at: usize, width: usize) -> Wrote
-    requires { ⌜ at < 130 ⌝ }
-    requires { ⌜ width < 130 ⌝ }
+pub fn solve_for(row: &mut [f64; ROW_ROOM], at: usize, width: usize) -> Wrote
+    requires { ⌜ at < rowRoom ⌝ }
+    requires { ⌜ width < rowRoom ⌝ }
     ensures { λ r. ⌜ markOf r ≡ solveRowMark at width (now (row .entry)) ⌝ }
     ensures { λ _. ⌜ now (row .exit) ≡ solveRowIn at width (now (row .entry)) ⌝ }
 {
@@ -162,14 +164,14 @@ pub fn solve_for(row: &mut [f64; 130], at: usize, width: usize) -> Wrote
 
 pub fn solve_for_symbols(
     cutoff: f64,
-    row: &mut [f64; 130],
+    row: &mut [f64; ROW_ROOM],
     leaving: usize,
     entering: usize,
     width: usize,
 ) -> Wrote
-    requires { ⌜ leaving < 130 ⌝ }
-    requires { ⌜ entering < 130 ⌝ }
-    requires { ⌜ width < 130 ⌝ }
+    requires { ⌜ leaving < rowRoom ⌝ }
+    requires { ⌜ entering < rowRoom ⌝ }
+    requires { ⌜ width < rowRoom ⌝ }
     ensures { λ r. ⌜ markOf r ≡ solveForSymbolsMark cutoff leaving entering width (now (row .entry)) ⌝ }
     ensures { λ _. ⌜ now (row .exit) ≡ solveForSymbolsIn cutoff leaving entering width (now (row .entry)) ⌝ }
 {
@@ -178,8 +180,8 @@ pub fn solve_for_symbols(
     joined(v, w)
 }
 
-pub fn reverse_sign(row: &mut [f64; 130], width: usize)
-    requires { ⌜ width < 130 ⌝ }
+pub fn reverse_sign(row: &mut [f64; ROW_ROOM], width: usize)
+    requires { ⌜ width < rowRoom ⌝ }
     ensures { λ _. ⌜ now (row .exit) ≡ reverseSignIn width (now (row .entry)) ⌝ }
 {
     row[0] = -row[0];
@@ -192,13 +194,13 @@ pub fn reverse_sign(row: &mut [f64; 130], width: usize)
 
 pub fn substitute_row(
     cutoff: f64,
-    row: &mut [f64; 130],
+    row: &mut [f64; ROW_ROOM],
     at: usize,
-    other: &[f64; 130],
+    other: &[f64; ROW_ROOM],
     width: usize,
 ) -> Inserted
-    requires { ⌜ at < 130 ⌝ }
-    requires { ⌜ width < 130 ⌝ }
+    requires { ⌜ at < rowRoom ⌝ }
+    requires { ⌜ width < rowRoom ⌝ }
     ensures { λ r. ⌜ r .changed ≡ substituteRowChanged at (now (other .entry)) (now (row .entry)) ⌝ }
     ensures { λ r. ⌜ markOf (r .wrote) ≡ substituteRowMark cutoff at width (now (other .entry)) (now (row .entry)) ⌝ }
     ensures { λ _. ⌜ now (row .exit) ≡ substituteRowIn cutoff at width (now (other .entry)) (now (row .entry)) ⌝ }
@@ -218,14 +220,14 @@ pub fn substitute_row(
 // In an objective, which has no constant.
 pub fn substitute_cells(
     cutoff: f64,
-    row: &mut [f64; 130],
+    row: &mut [f64; ROW_ROOM],
     at: usize,
-    other: &[f64; 130],
+    other: &[f64; ROW_ROOM],
     width: usize,
     bound: f64,
 ) -> Wrote
-    requires { ⌜ at < 130 ⌝ }
-    requires { ⌜ width < 130 ⌝ }
+    requires { ⌜ at < rowRoom ⌝ }
+    requires { ⌜ width < rowRoom ⌝ }
     ensures { λ r. ⌜ markOf r ≡ substituteCellsMark cutoff bound at width (now (other .entry)) (now (row .entry)) ⌝ }
     ensures { λ _. ⌜ now (row .exit) ≡ substituteCellsIn cutoff at width (now (other .entry)) (now (row .entry)) ⌝ }
 {
@@ -237,7 +239,7 @@ pub fn substitute_cells(
     insert_cells(cutoff, row, other, k, width, bound)
 }
 
-pub fn shift_constant(row: &mut [f64; 130], d: f64) -> Inserted
+pub fn shift_constant(row: &mut [f64; ROW_ROOM], d: f64) -> Inserted
     ensures { λ r. ⌜ r .changed ≡ ne d zero64 ⌝ }
     ensures { λ r. ⌜ markOf (r .wrote) ≡ shiftConstantMark d (now (row .entry)) ⌝ }
     ensures { λ _. ⌜ now (row .exit) ≡ shiftConstantIn d (now (row .entry)) ⌝ }

@@ -14,7 +14,7 @@ use Rattle.steps.specs.Number.{wholeIf, belowZero, allWhole, saysWhole, isWhole
 use Rattle.steps.specs.State.{Term, Relation, strengthOf, comparisonOf, Constraint, State}
 use Rattle.steps.specs.CreateRow.{Created}
 use Rattle.steps.specs.Work.{marking, Work, Outcome, refused, going, _>>=_}
-use Rattle.bridge.specs.Runs.{markOf}
+use Rattle.simplex.specs.bridge.Runs.{markOf}
 use Rattle.run.specs.Words.{kept-whole, and-left}
 use Rattle.run.specs.Build.{newHeld}
 use Rattle.steps.specs.Add.{wholeInputs, Added, addSteps, wholeTerms, wholeWithin}
@@ -48,11 +48,11 @@ passed t ts = go (t .fails)
 -- a refusal by a test has the number of one
 pub refused-by : (Q : ℕ → Type 0) (ts : List Test) → All (λ (t : Test). Q (t .number)) ts → (k : ℕ) → firstRefusal ts ≡ some k → Q k
 unfolding firstRefusal
-refused-by Q [] a k e = absurd (Rattle.bridge.specs.Finds.none≢some e)
+refused-by Q [] a k e = absurd (Rattle.simplex.specs.bridge.Finds.none≢some e)
 refused-by Q (t ∷ ts) a k e = go (t .fails) e (refused-by Q ts (a .1) k)
   where
     go : (b : Bool) → _≡_ {A = Option ℕ} (elim b [ true ↦ some (t .number) | false ↦ firstRefusal ts ]) (some k) → (firstRefusal ts ≡ some k → Q k) → Q k
-    go true e ih = subst Q (Rattle.bridge.specs.Finds.some-injective e) (a .0)
+    go true e ih = subst Q (Rattle.simplex.specs.bridge.Finds.some-injective e) (a .0)
     go false e ih = ih e
 
 pub not-above : (a b : ℕ) → ltb a b ≡ false → b ≤ a

@@ -10,8 +10,8 @@ use lib.Dec.{T, eqb, eqb→eq, eqb-refl}
 use lib.ListN.{length}
 use lib.Signed.{ltZ, ltZ-yes}
 use lib.Ieee.{Float, neg, lt, le, eq}
-use Rattle.exact.specs.Whole.{IsZ, val, isz-val, neg-z}
-use Rattle.exact.specs.Compare.{le-z}
+use Rattle.laws.specs.exact.Whole.{IsZ, val, isz-val, neg-z}
+use Rattle.laws.specs.exact.Compare.{le-z}
 use Rattle.simplex.specs.Ord.{0ℤ, ≺→≼}
 use Rattle.simplex.specs.Choose.{All}
 use Rattle.simplex.specs.Look.{both}
@@ -24,7 +24,7 @@ use Rattle.steps.specs.Tests.{findConstraint, findEdit, keepEdit, hasEdit, Test
 use Rattle.steps.specs.Calls.{Result, begin, finish, refusedBy, concludeAdd, addEdit}
 use Rattle.keeps.specs.Keys.{findBy, keepBy, findEdit-is, keepEdit-is}
 use Rattle.keeps.specs.Addition.{clip-below}
-use Rattle.bridge.specs.Nums.{zero64-z, constantBound-z, belowZero-z, magnitude-z}
+use Rattle.simplex.specs.bridge.Nums.{zero64-z, constantBound-z, belowZero-z, magnitude-z}
 use Rattle.run.specs.Demand.{ofConstraint, ofEdit, sameKey, Demand, aim, addsEdit, make, accepted, Moment, next, None}
 use Rattle.run.specs.Inv.{Held, findHeld, ConstraintAt, EditAt, Inv}
 use Rattle.run.specs.Words.{whole-z}

@@ -19,8 +19,8 @@ use Rattle.steps.specs.Work.{Work, Outcome, refused, going, newSymbol}
 use Rattle.steps.specs.Changes.{clearChanged}
 use Rattle.steps.specs.CreateRow.{Created, chooseSubject, allDummies}
 use Rattle.steps.specs.Artificial.{addWithArtificialVariable}
-use Rattle.bridge.specs.Table.{ReadsWork}
-use Rattle.bridge.specs.Runs.{markOf}
+use Rattle.simplex.specs.bridge.Table.{ReadsWork}
+use Rattle.simplex.specs.bridge.Runs.{markOf}
 use Rattle.run.specs.Demand.{Demand}
 use Rattle.run.specs.Inv.{Held, conOf}
 use Rattle.run.specs.Passes.{waysOf}

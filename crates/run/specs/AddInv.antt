@@ -11,7 +11,7 @@ use lib.ListN.{length}
 use lib.IntN.{ℤ}
 use lib.Ieee.{Float}
 use Rattle.laws.specs.Z.{_≺_}
-use Rattle.exact.specs.Whole.{val}
+use Rattle.laws.specs.exact.Whole.{val}
 use Rattle.simplex.specs.Ord.{0ℤ}
 use Rattle.simplex.specs.Lin.{Vec}
 use Rattle.simplex.specs.At.{at, at-here, at-there}
@@ -27,7 +27,7 @@ use Rattle.steps.specs.CreateRow.{Created}
 use Rattle.steps.specs.Add.{wholeInputs, addSteps}
 use Rattle.steps.specs.Tests.{findConstraint, findEdit}
 use Rattle.steps.specs.Calls.{begin, finish}
-use Rattle.bridge.specs.Rows.{In}
+use Rattle.simplex.specs.bridge.Rows.{In}
 use Rattle.run.specs.Demand.{Key, ofConstraint, ofEdit, sameKey, Demand, Moment, Meets, None}
 use Rattle.run.specs.Inv.{nonZeroTerms, columns, Held, exprOf, otherId, conOf, formOf, findHeld, ConstraintAt, EditAt, VarAt, Inv}
 use Rattle.run.specs.Words.{Agrees, meets-from}

@@ -16,9 +16,9 @@ use Rattle.steps.specs.Optimise.{theObjective, theArtificial, optimise}
 use Rattle.steps.specs.CreateRow.{Building, Created, appendTo, insertTerms, addTag, createRow, chooseSubject, allDummies}
 use Rattle.steps.specs.Artificial.{standTemporary, removeTemporary, isEmptyRow, anyPivotableSymbol, artificialConstantNearZero, addWithArtificialVariable}
 use Rattle.steps.specs.Add.{wholeInputs, addWithSubject, addCreated, Added, addSteps}
-use Rattle.bridge.specs.Nums.{finite≢, worse-l, worse-r, whole-if}
-use Rattle.bridge.specs.Table.{enter-parts}
-use Rattle.bridge.specs.Runs.{markOf, pivot-mark, optimise-mark}
+use Rattle.simplex.specs.bridge.Nums.{finite≢, worse-l, worse-r, whole-if}
+use Rattle.simplex.specs.bridge.Table.{enter-parts}
+use Rattle.simplex.specs.bridge.Runs.{markOf, pivot-mark, optimise-mark}
 use Rattle.run.specs.BuildSum.{terms-mark}
 use Rattle.run.specs.BuildTags.{tag-mark}
 

@@ -17,8 +17,8 @@ use Rattle.steps.specs.Optimise.{theObjective, optimise}
 use Rattle.steps.specs.CreateRow.{Created, chooseSubject, allDummies}
 use Rattle.steps.specs.Artificial.{addWithArtificialVariable}
 use Rattle.steps.specs.Add.{addWithSubject, addCreated}
-use Rattle.bridge.specs.Rows.{In}
-use Rattle.bridge.specs.Runs.{markOf}
+use Rattle.simplex.specs.bridge.Rows.{In}
+use Rattle.simplex.specs.bridge.Runs.{markOf}
 use Rattle.run.specs.Demand.{Demand}
 use Rattle.run.specs.Inv.{Held, conOf}
 use Rattle.run.specs.Passes.{waysOf, Rested, Optimised, optimised}

@@ -21,9 +21,9 @@ use Rattle.steps.specs.CreateRow.{Created, appendTo, chooseSubject, allDummies}
 use Rattle.steps.specs.Substitute.{pivot}
 use Rattle.steps.specs.Optimise.{optimise, theArtificial}
 use Rattle.steps.specs.Artificial.{anyPivotableSymbol, isEmptyRow, standTemporary, removeTemporary, artificialConstantNearZero, addWithArtificialVariable}
-use Rattle.bridge.specs.Nums.{nearZero-z}
-use Rattle.bridge.specs.Table.{ArtAt}
-use Rattle.bridge.specs.Runs.{markOf, pivot-mark, Standing}
+use Rattle.simplex.specs.bridge.Nums.{nearZero-z}
+use Rattle.simplex.specs.bridge.Table.{ArtAt}
+use Rattle.simplex.specs.bridge.Runs.{markOf, pivot-mark, Standing}
 use Rattle.run.specs.Demand.{Demand}
 use Rattle.run.specs.Inv.{Held, conOf}
 use Rattle.run.specs.Passes.{waysOf}

@@ -8,7 +8,7 @@ use Prim.Native.Nat.{ℕ, _<_}
 use native.Mathlib.Omega.{arith}
 use lib.IntN.{ℤ, pos, _*ℤ_}
 use Rattle.laws.specs.Z.{_≼_, _≺_}
-use Rattle.exact.specs.Whole.{IsZ, isz-val}
+use Rattle.laws.specs.exact.Whole.{IsZ, isz-val}
 use Rattle.simplex.specs.Ord.{0ℤ, 1ℤ}
 use Rattle.simplex.specs.Lin.{Vec, δ-same}
 use Rattle.simplex.specs.At.{at, at-here, at-there}
@@ -21,8 +21,8 @@ use Rattle.steps.specs.State.{Term, Variable}
 use Rattle.steps.specs.Changes.{findVariable, valueOf, value}
 use Rattle.steps.specs.Add.{wholeTerms, wholeInputs}
 use Rattle.steps.specs.Calls.{begin}
-use Rattle.bridge.specs.Nums.{zero64-z}
-use Rattle.bridge.specs.Ends.{valueAt, value-z}
+use Rattle.simplex.specs.bridge.Nums.{zero64-z}
+use Rattle.simplex.specs.bridge.Ends.{valueAt, value-z}
 use Rattle.run.specs.Demand.{Demand, Moment, Meets, weighted, values, Best}
 use Rattle.run.specs.Inv.{nonZeroTerms, columns, Held, conOf, VarAt, WholeDemand, Inv}
 use Rattle.run.specs.Words.{Agrees, WholeTerms, meets-to, meets-from, error-to}
@@ -66,7 +66,7 @@ module _ (m : Moment) (I : Inv m) where
       )
         where
           nope : some r ≡ none → ⊥
-          nope p = Rattle.bridge.specs.Finds.none≢some (sym p)
+          nope p = Rattle.simplex.specs.bridge.Finds.none≢some (sym p)
 
   -- ---- the demands, read by columns
 

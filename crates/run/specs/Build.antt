@@ -23,8 +23,8 @@ use Rattle.steps.specs.State.{Term}
 use Rattle.steps.specs.Work.{Work}
 use Rattle.steps.specs.Changes.{findVariable}
 use Rattle.steps.specs.CreateRow.{Created}
-use Rattle.bridge.specs.Rows.{In, ReadsRow}
-use Rattle.bridge.specs.Table.{Live, ReadsWork}
+use Rattle.simplex.specs.bridge.Rows.{In, ReadsRow}
+use Rattle.simplex.specs.bridge.Table.{Live, ReadsWork}
 use Rattle.run.specs.Demand.{Demand}
 use Rattle.run.specs.Inv.{nonZeroTerms, Held, conOf, formOf, Shaped, VarAt}
 

@@ -8,7 +8,7 @@ use mathlib.Core.Option.{some}
 use mathlib.Core.Bool.{true, true≢false}
 use lib.IntN.{ℤ, negsuc, negℤ, _+ℤ_, _*ℤ_}
 use Rattle.laws.specs.Ring.{ring, v as ν, k as lit, _⊞_, _⊠_, ⊟_}
-use Rattle.exact.specs.Whole.{val}
+use Rattle.laws.specs.exact.Whole.{val}
 use Rattle.simplex.specs.Ord.{0ℤ}
 use Rattle.simplex.specs.Lin.{Vec, δ, δ-other, dot, plus, dot-plus, dot-cong, dot-δ}
 use Rattle.simplex.specs.Choose.{All}
@@ -18,7 +18,7 @@ use Rattle.simplex.specs.Problem.{Con, Sound, Sounds, Tag as TagZ, Apart, marke
 use Rattle.simplex.specs.Steps.{dot-nil}
 use Rattle.steps.specs.Symbol.{Symbol}
 use Rattle.steps.specs.State.{Term, Tag, strengthOf}
-use Rattle.bridge.specs.Table.{kindOf}
+use Rattle.simplex.specs.bridge.Table.{kindOf}
 use Rattle.run.specs.Demand.{sumOf}
 use Rattle.run.specs.Inv.{nonZeroTerms, Held, exprOf, otherId, conOf, formOf, Shaped}
 

@@ -10,7 +10,7 @@ use lib.ListN.{length}
 use lib.IntN.{ℤ, negsuc, negℤ, _+ℤ_, _*ℤ_}
 use Rattle.laws.specs.Z.{_≼_}
 use Rattle.laws.specs.Ring.{ring, v as ν, k as lit, _⊞_, _⊠_, ⊟_}
-use Rattle.exact.specs.Whole.{val}
+use Rattle.laws.specs.exact.Whole.{val}
 use Rattle.simplex.specs.Ord.{0ℤ, 1ℤ, ≺→≼, neg-nonneg}
 use Rattle.simplex.specs.Lin.{Vec, δ, δ-same, δ-other, dot, plus}
 use Rattle.simplex.specs.Tab.{Solves}
@@ -27,10 +27,10 @@ use Rattle.steps.specs.State.{Term, strengthOf, Variable}
 use Rattle.steps.specs.Work.{Work}
 use Rattle.steps.specs.Changes.{findVariable}
 use Rattle.steps.specs.CreateRow.{Building, Created, insertTerms, addTag, createRow}
-use Rattle.bridge.specs.Nums.{zero64-z}
-use Rattle.bridge.specs.Rows.{Reads, In, ReadsRow, zb-to}
-use Rattle.bridge.specs.Table.{ReadsWork, in-nonzero}
-use Rattle.bridge.specs.Enter.{reverse-z}
+use Rattle.simplex.specs.bridge.Nums.{zero64-z}
+use Rattle.simplex.specs.bridge.Rows.{Reads, In, ReadsRow, zb-to}
+use Rattle.simplex.specs.bridge.Table.{ReadsWork, in-nonzero}
+use Rattle.simplex.specs.bridge.Enter.{reverse-z}
 use Rattle.run.specs.Demand.{Demand, sumOf}
 use Rattle.run.specs.Inv.{nonZeroTerms, Held, exprOf, otherId, conOf, formOf, VarAt}
 use Rattle.run.specs.Inputs.{Inputs, nonneg-z, below-z}

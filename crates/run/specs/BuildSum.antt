@@ -10,7 +10,7 @@ use lib.ListN.{length}
 use lib.IntN.{ℤ, _+ℤ_, _*ℤ_}
 use lib.Ieee.{Float}
 use Rattle.laws.specs.Ring.{ring, v as ν, k as lit, _⊞_}
-use Rattle.exact.specs.Whole.{Zb, val}
+use Rattle.laws.specs.exact.Whole.{Zb, val}
 use Rattle.simplex.specs.Ord.{0ℤ}
 use Rattle.simplex.specs.Lin.{Vec, dot, plus}
 use Rattle.simplex.specs.At.{at}
@@ -26,7 +26,7 @@ use Rattle.steps.specs.State.{Term, Variable}
 use Rattle.steps.specs.Work.{Work, withTableau, withChanges, marking, findRow, appendSymbol}
 use Rattle.steps.specs.Changes.{findVariable}
 use Rattle.steps.specs.CreateRow.{Building, written, appendTo, insertInto, withVariables, addVariable, countUse, insertVariable, insertTerm, insertTerms}
-use Rattle.bridge.specs.Nums.{worse-l, nearZero-absent}
+use Rattle.simplex.specs.bridge.Nums.{worse-l, nearZero-absent}
 use Rattle.run.specs.Demand.{sumOf}
 use Rattle.run.specs.Inv.{nonZeroTerms}
 use Rattle.run.specs.BuildVars.{stays-known, LiveAt, AgreesAt, Agrees, agrees-back}

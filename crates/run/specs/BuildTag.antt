@@ -9,7 +9,7 @@ use mathlib.Core.Bool.{true, false, true≢false}
 use lib.IntN.{ℤ, natAbs, _+ℤ_, _*ℤ_}
 use lib.Ieee.{Float}
 use Rattle.laws.specs.Ring.{ring, v as ν, k as lit, _⊞_, _⊠_}
-use Rattle.exact.specs.Whole.{IsZ}
+use Rattle.laws.specs.exact.Whole.{IsZ}
 use Rattle.simplex.specs.Ord.{0ℤ, 1ℤ}
 use Rattle.simplex.specs.Lin.{Vec, δ, δ-same, δ-other, dot, plus, dot-plus, dot-δ}
 use Rattle.simplex.specs.At.{at}
@@ -22,11 +22,11 @@ use Rattle.steps.specs.Symbol.{Kind, Symbol}
 use Rattle.steps.specs.Row.{Row, insertSymbolInRow}
 use Rattle.steps.specs.Work.{Work, withTableau, withObjective, marking, newSymbol, appendSymbol}
 use Rattle.steps.specs.CreateRow.{Building, Created, written, appendTo, insertInto, addSymbol, insertInObjective}
-use Rattle.bridge.specs.Nums.{worse-l}
-use Rattle.bridge.specs.Rows.{In, insertSymbolInRow-z}
-use Rattle.bridge.specs.Table.{kindOf}
-use Rattle.bridge.specs.Enter.{append-new, append-in}
-use Rattle.bridge.specs.Columns.{objective-z}
+use Rattle.simplex.specs.bridge.Nums.{worse-l}
+use Rattle.simplex.specs.bridge.Rows.{In, insertSymbolInRow-z}
+use Rattle.simplex.specs.bridge.Table.{kindOf}
+use Rattle.simplex.specs.bridge.Enter.{append-new, append-in}
+use Rattle.simplex.specs.bridge.Columns.{objective-z}
 use Rattle.run.specs.Inv.{otherId, Shaped}
 use Rattle.run.specs.Build.{NewTag}
 use Rattle.run.specs.BuildVars.{stays-refl}

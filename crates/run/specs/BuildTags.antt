@@ -10,7 +10,7 @@ use lib.Dec.{lit≤}
 use lib.IntN.{ℤ, negsuc, natAbs, _+ℤ_, _*ℤ_}
 use lib.Ieee.{Float, neg, lt}
 use Rattle.laws.specs.Ring.{ring, v as ν, k as lit, _⊞_, _⊠_, _⊟⊟_}
-use Rattle.exact.specs.Whole.{IsZ, neg-z}
+use Rattle.laws.specs.exact.Whole.{IsZ, neg-z}
 use Rattle.simplex.specs.Ord.{0ℤ, 1ℤ}
 use Rattle.simplex.specs.Lin.{Vec, δ, dot, plus, dot-plus, dot-δ}
 use Rattle.simplex.specs.At.{at, at-here, at-there}
@@ -25,10 +25,10 @@ use Rattle.steps.specs.State.{Relation, atMost, equal, atLeast, strengthOf}
 use Rattle.steps.specs.Row.{insertSymbolInRow}
 use Rattle.steps.specs.Work.{Work, newSymbol, appendSymbol, withTableau}
 use Rattle.steps.specs.CreateRow.{Building, Created, insertInto, appendTo, addSymbol, insertInObjective, addError, tagged, inequality, softEquality, requiredEquality, addTag}
-use Rattle.bridge.specs.Nums.{one64-z, minusOne64-z}
-use Rattle.bridge.specs.Rows.{In}
-use Rattle.bridge.specs.Finds.{none≢some, some-injective}
-use Rattle.bridge.specs.Table.{kindOf}
+use Rattle.simplex.specs.bridge.Nums.{one64-z, minusOne64-z}
+use Rattle.simplex.specs.bridge.Rows.{In}
+use Rattle.simplex.specs.bridge.Finds.{none≢some, some-injective}
+use Rattle.simplex.specs.bridge.Table.{kindOf}
 use Rattle.run.specs.Inv.{otherId, formOf, Shaped}
 use Rattle.run.specs.Inputs.{soft-small}
 use Rattle.run.specs.Build.{NewTag}

@@ -9,7 +9,7 @@ use mathlib.Core.Bool.{Bool, true, false, true≢false}
 use lib.IntN.{ℤ, _+ℤ_, _*ℤ_}
 use lib.Ieee.{Float, nan}
 use Rattle.laws.specs.Ring.{ring, v as ν, k as lit, _⊞_, _⊠_}
-use Rattle.exact.specs.Whole.{Zb}
+use Rattle.laws.specs.exact.Whole.{Zb}
 use Rattle.simplex.specs.Ord.{0ℤ}
 use Rattle.simplex.specs.Lin.{Vec, δ-other, plus}
 use Rattle.simplex.specs.At.{at, At, here, there, at?, at-here, at-there}
@@ -24,12 +24,12 @@ use Rattle.steps.specs.State.{Basic, Variable}
 use Rattle.steps.specs.Work.{Work, withTableau, withChanges, marking, findRow, newSymbol, appendSymbol}
 use Rattle.steps.specs.Changes.{findVariable}
 use Rattle.steps.specs.CreateRow.{Building, written, appendTo, insertInto, keepVariable, withVariables, addVariable, useOnce, countUse, insertVariable}
-use Rattle.bridge.specs.Nums.{worse-l, worse-r}
-use Rattle.bridge.specs.Rows.{In, NotIn, ReadsRow, Whole}
-use Rattle.bridge.specs.Finds.{none≢some}
-use Rattle.bridge.specs.Table.{kindOf, RowAt, ReadsWork, found-in}
-use Rattle.bridge.specs.Enter.{append-z, append-row, append-in, append-new, term-z}
-use Rattle.bridge.specs.Looks.{in-or-not}
+use Rattle.simplex.specs.bridge.Nums.{worse-l, worse-r}
+use Rattle.simplex.specs.bridge.Rows.{In, NotIn, ReadsRow, Whole}
+use Rattle.simplex.specs.bridge.Finds.{none≢some}
+use Rattle.simplex.specs.bridge.Table.{kindOf, RowAt, ReadsWork, found-in}
+use Rattle.simplex.specs.bridge.Enter.{append-z, append-row, append-in, append-new, term-z}
+use Rattle.simplex.specs.bridge.Looks.{in-or-not}
 use Rattle.simplex.specs.Choose.{all-map}
 use Rattle.run.specs.BuildVars.{find-kept, find-kept-other, usedAt, find-used, StaysAll, stays-refl, stays-trans, stays-used, stays-kept, LiveAt}
 

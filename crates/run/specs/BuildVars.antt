@@ -12,7 +12,7 @@ use Rattle.steps.specs.State.{Variable}
 use Rattle.steps.specs.Changes.{findVariable}
 use Rattle.steps.specs.CreateRow.{keepVariable, useOnce}
 use Rattle.keeps.specs.Keys.{findBy, keepBy, findVariable-is, keepVariable-is}
-use Rattle.bridge.specs.Rows.{In}
+use Rattle.simplex.specs.bridge.Rows.{In}
 use Rattle.keeps.specs.Lookup.{find-keep-same, find-keep-other}
 
 -- ---- lookups

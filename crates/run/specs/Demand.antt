@@ -11,7 +11,7 @@ use lib.Dec.{eqb}
 use lib.IntN.{ℤ, pos, negsuc, negℤ, natAbs, _+ℤ_, _*ℤ_}
 use lib.Ieee.{Float, neg, lt}
 use Rattle.laws.specs.Z.{_≼_, _≺_}
-use Rattle.exact.specs.Whole.{val}
+use Rattle.laws.specs.exact.Whole.{val}
 use Rattle.steps.specs.Number.{zero64, isWhole}
 use Rattle.steps.specs.Strength.{required, clip}
 use Rattle.steps.specs.State.{Term, Relation, atMost, equal, atLeast, strengthOf, State}

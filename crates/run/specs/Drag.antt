@@ -7,7 +7,7 @@ use Prim.Native.Nat.{ℕ, _^_, _<_}
 use lib.IntN.{ℤ, negℤ}
 use lib.Ieee.{Float}
 use Rattle.laws.specs.Z.{_≼_}
-use Rattle.exact.specs.Whole.{Zb}
+use Rattle.laws.specs.exact.Whole.{Zb}
 use Rattle.simplex.specs.Ord.{0ℤ}
 use Rattle.simplex.specs.Lin.{Vec, δ, plus}
 use Rattle.simplex.specs.Basis.{Mask}
@@ -23,10 +23,10 @@ use Rattle.steps.specs.Work.{Work, withTableau, withRows, withChanges, marking}
 use Rattle.steps.specs.Substitute.{rowsOf, marksOf, notedOf}
 use Rattle.steps.specs.Edit.{shiftOf, shiftRows, shiftConstants}
 use Rattle.keeps.specs.Frame.{clear-all}
-use Rattle.bridge.specs.Nums.{worse-l, worse-r}
-use Rattle.bridge.specs.Rows.{reads-to}
-use Rattle.bridge.specs.Table.{ReadsTable, ReadsWork, in-nonzero}
-use Rattle.bridge.specs.Drags.{Drag as Dragging}
+use Rattle.simplex.specs.bridge.Nums.{worse-l, worse-r}
+use Rattle.simplex.specs.bridge.Rows.{reads-to}
+use Rattle.simplex.specs.bridge.Table.{ReadsTable, ReadsWork, in-nonzero}
+use Rattle.simplex.specs.bridge.Drags.{Drag as Dragging}
 use Rattle.run.specs.Shift.{shift-table}
 use Rattle.run.specs.Steady.{Kept}
 use Rattle.run.specs.Aims.{aimed-good, aimed-no-var}

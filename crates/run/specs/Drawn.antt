@@ -11,7 +11,7 @@ use lib.IntN.{ℤ, pos, negℤ, _*ℤ_}
 use lib.Ieee.{Float, neg}
 use Rattle.laws.specs.Z.{eqZb→}
 use Rattle.laws.specs.Ring.{ring, v, k as κ, _⊠_, ⊟_}
-use Rattle.exact.specs.Whole.{Zb, neg-b, mul-b, within}
+use Rattle.laws.specs.exact.Whole.{Zb, neg-b, mul-b, within}
 use Rattle.simplex.specs.Ord.{0ℤ}
 use Rattle.simplex.specs.Lin.{Vec, δ}
 use Rattle.simplex.specs.At.{at, at-here, at-there}
@@ -28,9 +28,9 @@ use Rattle.steps.specs.Row.{Row}
 use Rattle.steps.specs.State.{Basic, Tag}
 use Rattle.steps.specs.Work.{Work, findRow}
 use Rattle.steps.specs.Edit.{isBasicRow, ownShift, cellShift, shiftOf}
-use Rattle.bridge.specs.Nums.{absent-z}
-use Rattle.bridge.specs.Rows.{Sym?, is, isnt, sym?, zb-to, ReadsRow, row-cell}
-use Rattle.bridge.specs.Table.{RowAt, ReadsWork}
+use Rattle.simplex.specs.bridge.Nums.{absent-z}
+use Rattle.simplex.specs.bridge.Rows.{Sym?, is, isnt, sym?, zb-to, ReadsRow, row-cell}
+use Rattle.simplex.specs.bridge.Table.{RowAt, ReadsWork}
 use Rattle.run.specs.Shift.{Amount}
 use Rattle.run.specs.Aims.{Aimed, by-marker, by-other, by-cells}
 

@@ -9,7 +9,7 @@ use mathlib.Core.Bool.{Bool, true, false, true≢false}
 use lib.Dec.{lit≤}
 use lib.IntN.{ℤ, negℤ, _+ℤ_, _*ℤ_}
 use lib.Ieee.{Float, neg}
-use Rattle.exact.specs.Whole.{Zb, neg-b}
+use Rattle.laws.specs.exact.Whole.{Zb, neg-b}
 use Rattle.laws.specs.Ring.{ring, v, k as κ, _⊞_, _⊠_, ⊟_}
 use Rattle.simplex.specs.Ord.{0ℤ}
 use Rattle.simplex.specs.Lin.{Vec, δ, dot, plus}
@@ -28,10 +28,10 @@ use Rattle.steps.specs.State.{Tag}
 use Rattle.steps.specs.Work.{Work, marking, withObjective, withTableau, findRow}
 use Rattle.steps.specs.CreateRow.{insertInObjective}
 use Rattle.steps.specs.Remove.{insertRowInObjective, removeMarkerEffects, removeConstraintEffects}
-use Rattle.bridge.specs.Nums.{worse-l, worse-r, objectiveBound-z}
-use Rattle.bridge.specs.Rows.{In, ReadsRow, reads-to, written, insertCells-z}
-use Rattle.bridge.specs.Table.{RowAt, ReadsWork}
-use Rattle.bridge.specs.Columns.{objective-z}
+use Rattle.simplex.specs.bridge.Nums.{worse-l, worse-r, objectiveBound-z}
+use Rattle.simplex.specs.bridge.Rows.{In, ReadsRow, reads-to, written, insertCells-z}
+use Rattle.simplex.specs.bridge.Table.{RowAt, ReadsWork}
+use Rattle.simplex.specs.bridge.Columns.{objective-z}
 use Rattle.run.specs.Inv.{otherId, Shaped}
 use Rattle.run.specs.Steady.{Kept, kept-refl, kept-trans}
 use Rattle.run.specs.RemoveFrame.{kept-marking, kept-objective}

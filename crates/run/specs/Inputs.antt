@@ -9,8 +9,8 @@ use lib.IntN.{ℤ, pos, negsuc, natAbs}
 use lib.Signed.{ltZ-yes, ltZ-no}
 use lib.Ieee.{Float, nan, inf, fin, le, lt, ofBits}
 use Rattle.laws.specs.Z.{_≼_, _≺_, lt→N}
-use Rattle.exact.specs.Whole.{IsZ, Zb, val, int, lit-z}
-use Rattle.exact.specs.Compare.{le-z, lt-z}
+use Rattle.laws.specs.exact.Whole.{IsZ, Zb, val, int, lit-z}
+use Rattle.laws.specs.exact.Compare.{le-z, lt-z}
 use Rattle.simplex.specs.Ord.{0ℤ}
 use Rattle.simplex.specs.Choose.{All}
 use Rattle.simplex.specs.Look.{both}
@@ -18,7 +18,7 @@ use Rattle.steps.specs.Number.{cellBound, constantBound, isWhole, within, below
 use Rattle.steps.specs.Strength.{required}
 use Rattle.steps.specs.State.{Term, Relation, strengthOf}
 use Rattle.steps.specs.Add.{wholeWithin, wholeTerms, wholeInputs}
-use Rattle.bridge.specs.Nums.{cellBound-z, constantBound-z, belowZero-z, magnitude-z}
+use Rattle.simplex.specs.bridge.Nums.{cellBound-z, constantBound-z, belowZero-z, magnitude-z}
 use Rattle.run.specs.Words.{whole-z}
 
 -- ---- one input
@@ -29,7 +29,7 @@ is-int (inf s) = refl
 is-int (fin s m e) = refl
 
 pub z-whole : {x : Float} {z : ℤ} → IsZ x z → isWhole x ≡ true
-z-whole {x} h = go (int x) (is-int x) (Rattle.exact.specs.Whole.z-int h)
+z-whole {x} h = go (int x) (is-int x) (Rattle.laws.specs.exact.Whole.z-int h)
   where
     go : (b : Bool) → isWhole x ≡ b → T b → isWhole x ≡ true
     go true e t = e

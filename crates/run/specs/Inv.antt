@@ -9,7 +9,7 @@ use mathlib.Core.Option.{Option, none, some}
 use lib.IntN.{ℤ}
 use lib.Ieee.{neg, lt}
 use Rattle.laws.specs.Z.{_≼_}
-use Rattle.exact.specs.Whole.{val}
+use Rattle.laws.specs.exact.Whole.{val}
 use Rattle.simplex.specs.Ord.{0ℤ}
 use Rattle.simplex.specs.Lin.{Vec, δ, plus}
 use Rattle.simplex.specs.Choose.{All}
@@ -25,8 +25,8 @@ use Rattle.steps.specs.Changes.{findVariable}
 use Rattle.steps.specs.Add.{wholeInputs}
 use Rattle.steps.specs.Tests.{findConstraint, findEdit}
 use Rattle.steps.specs.Calls.{begin}
-use Rattle.bridge.specs.Rows.{In}
-use Rattle.bridge.specs.Table.{ReadsWork}
+use Rattle.simplex.specs.bridge.Rows.{In}
+use Rattle.simplex.specs.bridge.Table.{ReadsWork}
 use Rattle.run.specs.Demand.{Key, ofConstraint, ofEdit, sameKey, Demand, Moment}
 
 -- more columns than ids: 11 is refused long before

@@ -62,3 +62,4 @@ pub mod RecutCalls
 pub mod RecutDrop
 pub mod DropRows
 pub mod Unseen
+pub mod stall

@@ -28,11 +28,11 @@ use Rattle.steps.specs.Row.{Row}
 use Rattle.steps.specs.State.{Basic}
 use Rattle.steps.specs.Work.{Work, Outcome, refused, going}
 use Rattle.steps.specs.Optimise.{theObjective, optimise}
-use Rattle.bridge.specs.Rows.{In, Up}
-use Rattle.bridge.specs.Table.{kindOf, ArtAt, ReadsWork, of-basic}
-use Rattle.bridge.specs.Looks.{slack-in}
-use Rattle.bridge.specs.Runs.{markOf, carried, Ran, rests, run}
-use Rattle.bridge.specs.Ends.{Verdict, optimise-whole}
+use Rattle.simplex.specs.bridge.Rows.{In, Up}
+use Rattle.simplex.specs.bridge.Table.{kindOf, ArtAt, ReadsWork, of-basic}
+use Rattle.simplex.specs.bridge.Looks.{slack-in}
+use Rattle.simplex.specs.bridge.Runs.{markOf, carried, Ran, rests, run}
+use Rattle.simplex.specs.bridge.Ends.{Verdict, optimise-whole}
 use Rattle.run.specs.Steady.{Kinded, Kept, IfGoing, optimise-kept}
 
 -- ---- the ids of the live symbols, and of the restricted ones: demand 3's n is how many these are

@@ -13,7 +13,7 @@ use Rattle.simplex.specs.Choose.{All}
 use Rattle.simplex.specs.Opt.{Kind as KindZ}
 use Rattle.simplex.specs.Form.{cost}
 use Rattle.simplex.specs.Problem.{Con, Equation, total, Apart, Sounds, Models}
-use Rattle.bridge.specs.Finds.{none≢some, some-injective}
+use Rattle.simplex.specs.bridge.Finds.{none≢some, some-injective}
 use Rattle.run.specs.Demand.{Key, ofConstraint, ofEdit, sameKey, Demand, without}
 use Rattle.run.specs.Inv.{Held, findHeld, Once}
 

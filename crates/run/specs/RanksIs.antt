@@ -21,14 +21,14 @@ use Rattle.steps.specs.Row.{Row}
 use Rattle.steps.specs.Work.{Work, findRow}
 use Rattle.steps.specs.Optimise.{smallestRatio, negativeRatios}
 use Rattle.steps.specs.Remove.{cellIn, firstDummyRow, positiveRatios, lastExternalRow, getMarkerLeavingRow}
-use Rattle.bridge.specs.Nums.{absent-yes}
-use Rattle.bridge.specs.Finds.{none≢some}
-use Rattle.bridge.specs.Rows.{ReadsRow, row-cell}
-use Rattle.bridge.specs.Table.{kindOf, RowAt, Live, ReadsWork, found-in}
-use Rattle.bridge.specs.Chosen.{restricted-is, known, Leaves, Leaving, leaving-is}
-use Rattle.bridge.specs.Looks.{minus-one}
-use Rattle.bridge.specs.Ranks.{Leaves as LeavesUp, Leaving as LeavingUp, positive-is}
-use Rattle.bridge.specs.Duals.{one-of}
+use Rattle.simplex.specs.bridge.Nums.{absent-yes}
+use Rattle.simplex.specs.bridge.Finds.{none≢some}
+use Rattle.simplex.specs.bridge.Rows.{ReadsRow, row-cell}
+use Rattle.simplex.specs.bridge.Table.{kindOf, RowAt, Live, ReadsWork, found-in}
+use Rattle.simplex.specs.bridge.Chosen.{restricted-is, known, Leaves, Leaving, leaving-is}
+use Rattle.simplex.specs.bridge.Looks.{minus-one}
+use Rattle.simplex.specs.bridge.Ranks.{Leaves as LeavesUp, Leaving as LeavingUp, positive-is}
+use Rattle.simplex.specs.bridge.Duals.{one-of}
 
 -- ---- numbers and kinds
 is-dummy : (x : Symbol) → kindOf (x .kind) ≡ dummy → isDummy x ≡ true

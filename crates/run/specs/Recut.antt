@@ -8,7 +8,7 @@ use Prim.Native.Nat.{ℕ, zero, suc}
 use lib.Dec.{ltb}
 use lib.Ieee.{Float, ne}
 use Rattle.simplex.specs.Choose.{All}
-use Rattle.exact.specs.Unbroken.{Unbroken}
+use Rattle.laws.specs.exact.Unbroken.{Unbroken}
 use Rattle.steps.specs.Number.{zero64, objectiveBound, cutoffFits, Mark, allWhole, notWhole, notFinite, worse}
 use Rattle.steps.specs.Symbol.{Symbol, isSymbol, isExternal}
 use Rattle.steps.specs.Row.{Row, Cell, cellValues, cellMarks, Written, solveForSymbols}
@@ -18,8 +18,8 @@ use Rattle.steps.specs.Changes.{allChanged, note}
 use Rattle.steps.specs.Substitute.{substituteInRow, substituteInCells, Substituted, substituteInRows, rowsOf, marksOf, notedOf, substitute, enterBasis, pivot}
 use Rattle.steps.specs.Optimise.{Goal, theObjective, theArtificial, goalCells, getEnteringSymbol, getLeavingRow, Choice, ended, stuck, pivotOn, choosePivot, countedPivot, optimise, getDualEnteringSymbol, chooseDualPivot, dualOptimise}
 use Rattle.steps.proofs.After.{enter-after}
-use Rattle.bridge.specs.Nums.{worse-r}
-use Rattle.bridge.specs.Runs.{markOf, optimise-mark, dual-mark}
+use Rattle.simplex.specs.bridge.Nums.{worse-r}
+use Rattle.simplex.specs.bridge.Runs.{markOf, optimise-mark, dual-mark}
 use Rattle.run.specs.AddMarks.{finite-mark, bound-mark}
 use Rattle.run.specs.RecutRows.{RowU, values-u, solves-u, subRow-u, subCells-u, subRows-u, solves-same, subRow-same, subCells-same, subRows-same}
 

@@ -6,7 +6,7 @@ use mathlib.Core.Bool.{Bool, true, false}
 use Prim.Native.Nat.{ℕ, _-_}
 use lib.Ieee.{Float, lt, neg}
 use Rattle.simplex.specs.Choose.{All}
-use Rattle.exact.specs.Unbroken.{Unbroken, neg-unbroken}
+use Rattle.laws.specs.exact.Unbroken.{Unbroken, neg-unbroken}
 use Rattle.steps.specs.Number.{zero64, one64, minusOne64, objectiveBound, nearZero, cutoffFits, belowZero, Mark}
 use Rattle.steps.specs.Strength.{required}
 use Rattle.steps.specs.Symbol.{Slack, Error, Symbol}

@@ -8,7 +8,7 @@ use Prim.Native.Nat.{ℕ}
 use lib.Dec.{eqb, ltb}
 use lib.Ieee.{Float}
 use Rattle.simplex.specs.Choose.{All}
-use Rattle.exact.specs.Unbroken.{Unbroken}
+use Rattle.laws.specs.exact.Unbroken.{Unbroken}
 use Rattle.steps.specs.Number.{zero64, constantBound, cutoffFits, isFinite, isWhole, within, allWhole, wholeIf, saysWhole}
 use Rattle.steps.specs.Strength.{clip}
 use Rattle.steps.specs.State.{Term, Relation, equal, strengthOf, comparisonOf, Tag, Constraint, Edit, State}
@@ -20,8 +20,8 @@ use Rattle.steps.specs.Tests.{goneFull, Test, firstRefusal, addTests, addEditTe
 use Rattle.steps.specs.Calls.{Result, begin, finish, refusedBy, acceptedAs, conclude, concludeAdd, add, unlessFull, remove, addEdit, removeEditStored, removeEdit, suggest, removeStored}
 use Rattle.steps.proofs.After.{says-whole}
 use Rattle.steps.proofs.AfterRemove.{shift-after}
-use Rattle.bridge.specs.Nums.{whole-if}
-use Rattle.bridge.specs.Runs.{markOf, dual-mark}
+use Rattle.simplex.specs.bridge.Nums.{whole-if}
+use Rattle.simplex.specs.bridge.Runs.{markOf, dual-mark}
 use Rattle.run.specs.Words.{and-left, and-right}
 use Rattle.run.specs.AddMarks.{marked, finite-mark, bound-mark, markAdded, whole-steps}
 use Rattle.run.specs.RecutRows.{whole-unbroken, zero-unbroken, one-unbroken, near-same}

@@ -7,7 +7,7 @@ use Prim.Native.Nat.{ℕ, zero, suc, _+_, _-_}
 use lib.Dec.{T, eqb}
 use lib.Ieee.{Float}
 use Rattle.simplex.specs.Choose.{All}
-use Rattle.exact.specs.Unbroken.{Unbroken}
+use Rattle.laws.specs.exact.Unbroken.{Unbroken}
 use Rattle.steps.specs.Number.{cutoffFits, Mark, saysWhole}
 use Rattle.steps.specs.State.{Constraint, State}
 use Rattle.steps.specs.Work.{Work, Outcome}

@@ -5,7 +5,7 @@ use mathlib.Core.Option.{Option, none, some}
 use mathlib.Core.Bool.{Bool, true, false}
 use Prim.Native.Nat.{ℕ, _-_}
 use lib.Ieee.{Float}
-use Rattle.exact.specs.Unbroken.{Unbroken}
+use Rattle.laws.specs.exact.Unbroken.{Unbroken}
 use Rattle.steps.specs.Number.{nearZero, cutoffFits, Mark, allWhole, notWhole, notFinite, wholeIf}
 use Rattle.steps.specs.Symbol.{Slack, Symbol}
 use Rattle.steps.specs.Row.{Row, Written, solveForSymbol, appendCell}
@@ -17,7 +17,7 @@ use Rattle.steps.specs.Optimise.{theObjective, theArtificial, optimise}
 use Rattle.steps.specs.Artificial.{anyPivotableSymbol, isEmptyRow, standTemporary, removeTemporary, artificialConstantNearZero, addWithArtificialVariable}
 use Rattle.steps.specs.Add.{wholeInputs, addWithSubject, addCreated, Added, addSteps}
 use Rattle.steps.proofs.After.{enter-after}
-use Rattle.bridge.specs.Runs.{markOf, optimise-mark}
+use Rattle.simplex.specs.bridge.Runs.{markOf, optimise-mark}
 use Rattle.run.specs.AddMarks.{marked, finite-mark, temporary-mark, none-mark, createdOf, placedAndRested, addedBy, markAdded, WholeSteps, whole-steps, steps-are, afterwards, goes-on}
 use Rattle.run.specs.RecutRows.{RowU, append-u, solve-u, near-same}
 use Rattle.run.specs.Recut.{recut, ArtU, Plain, Same, keep-u, plain-enter, enter-same, check-same, refuse-same, bind-same, pivoted-same, optimise-same}

@@ -5,7 +5,7 @@ use mathlib.Core.Option.{Option, none, some}
 use mathlib.Core.Bool.{Bool, true, false, _&&_, cond}
 use Prim.Native.Nat.{ℕ, _-_}
 use lib.Ieee.{Float, ne, neg}
-use Rattle.exact.specs.Unbroken.{Unbroken, neg-unbroken, add-unbroken, sub-unbroken, mul-unbroken}
+use Rattle.laws.specs.exact.Unbroken.{Unbroken, neg-unbroken, add-unbroken, sub-unbroken, mul-unbroken}
 use Rattle.steps.specs.Number.{zero64, objectiveBound, constantBound, _-₆₄_, _*₆₄_, cutoffFits, allWhole, wholeIf}
 use Rattle.steps.specs.Symbol.{Symbol, isExternal, isError, isSymbol, absent, coefficientFor}
 use Rattle.steps.specs.Row.{Row, Cell, cellValues, cellMarks, insertCells, untouched}
@@ -18,7 +18,7 @@ use Rattle.steps.specs.Optimise.{theObjective, optimise, dualOptimise}
 use Rattle.steps.specs.Add.{wholeWithin}
 use Rattle.steps.specs.Remove.{insertRowInObjective, removeMarkerEffects, removeConstraintEffects, getMarkerLeavingRow, noteLeaving, dropMarker, purgeTag, useLess, lose, dropUse, dropUses, removeSteps}
 use Rattle.steps.specs.Edit.{isBasicRow, ownShift, cellShift, shiftOf, shiftRow, shiftRows, shiftConstants, suggestSteps}
-use Rattle.bridge.specs.Runs.{markOf, optimise-mark, dual-mark}
+use Rattle.simplex.specs.bridge.Runs.{markOf, optimise-mark, dual-mark}
 use Rattle.run.specs.RemoveMarks.{drop-mark, purge-mark, uses-mark}
 use Rattle.run.specs.RecutRows.{RowU, values-u, coefficient-u, insertCells-u, insertCells-same}
 use Rattle.run.specs.Recut.{recut, ArtU, RowsU, Plain, Same, drop-u, find-u, check-same, refuse-same, bind-same, pivoted-same, optimise-same, dual-same}

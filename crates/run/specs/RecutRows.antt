@@ -8,15 +8,15 @@ use lib.Dec.{T}
 use lib.IntN.{ℤ}
 use lib.Ieee.{Float, nan, inf, fin, neg, div, lt, eq, ofBits}
 use Rattle.simplex.specs.Choose.{All}
-use Rattle.exact.specs.Whole.{IsZ, val, int, int-z, z-int}
-use Rattle.exact.specs.Unbroken.{Unbroken, neg-unbroken, add-unbroken, mul-unbroken}
+use Rattle.laws.specs.exact.Whole.{IsZ, val, int, int-z, z-int}
+use Rattle.laws.specs.exact.Unbroken.{Unbroken, neg-unbroken, add-unbroken, mul-unbroken}
 use Rattle.steps.specs.Number.{zero64, one64, minusOne64, cellBound, _+₆₄_, _*₆₄_, _/₆₄_, magnitude, nearZero, cutoffFits, isFinite, isWhole, allWhole, notFinite, wholeIf}
 use Rattle.steps.specs.Symbol.{Symbol, isSymbol, absent, coefficientFor, clearCell, deleteCell}
 use Rattle.steps.specs.Row.{Row, Cell, kept, wrote, stored, cellValue, cellValues, cellMarks, goesIfNearZero, insertCell, insertSymbol, insertTimes, insertCells, Written, untouched, insertSymbolInRow, insertRow, scaleCell, scaleCells, factorMark, solveForSymbol, solveForSymbols, reverseSign}
 use Rattle.steps.specs.State.{Basic}
 use Rattle.steps.specs.Substitute.{substituteInRow, substituteInCells, Substituted, substituteInRows, rowsOf}
 use Rattle.steps.proofs.Cutoff.{Between, cutoff-between}
-use Rattle.bridge.specs.Nums.{nearZero-z, whole-if, finite≢, worse-l, worse-r, unit-cell, factor-z}
+use Rattle.simplex.specs.bridge.Nums.{nearZero-z, whole-if, finite≢, worse-l, worse-r, unit-cell, factor-z}
 
 -- ---- numbers
 

@@ -7,7 +7,7 @@ use Prim.Native.Nat.{ℕ}
 use lib.IntN.{ℤ, negℤ, _+ℤ_, _-ℤ_, _*ℤ_}
 use lib.Ieee.{Float, neg}
 use Rattle.laws.specs.Ring.{ring, v, k as κ, _⊞_, _⊠_, ⊟_, _⊟⊟_}
-use Rattle.exact.specs.Whole.{val}
+use Rattle.laws.specs.exact.Whole.{val}
 use Rattle.simplex.specs.Ord.{0ℤ}
 use Rattle.simplex.specs.Lin.{Vec, δ, dot, dot-cong, plus}
 use Rattle.simplex.specs.Choose.{All}
@@ -16,7 +16,7 @@ use Rattle.simplex.specs.Opt.{Kind as KindZ}
 use Rattle.simplex.specs.Form.{resid}
 use Rattle.simplex.specs.Problem.{Con, Equation, Sound, Sounds, Apart, Models}
 use Rattle.steps.specs.State.{Term}
-use Rattle.bridge.specs.Finds.{none≢some}
+use Rattle.simplex.specs.bridge.Finds.{none≢some}
 use Rattle.run.specs.Demand.{Key, ofEdit, sameKey, Demand, moved}
 use Rattle.run.specs.Inv.{Held, exprOf, findHeld, Once}
 use Rattle.run.specs.Perm.{Key?, is, isnt, key?, withoutHeld, found-hit, found-miss, found-none, Step, hit, miss, step?, all-first, all-back, total-first}

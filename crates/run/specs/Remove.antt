@@ -20,7 +20,7 @@ use Rattle.keeps.specs.Lists.{Up}
 use Rattle.keeps.specs.Uses.{varNumber, usesOf}
 use Rattle.keeps.specs.Reads.{Reads, usedBy}
 use Rattle.keeps.specs.Tested.{reads-in}
-use Rattle.bridge.specs.Runs.{markOf}
+use Rattle.simplex.specs.bridge.Runs.{markOf}
 use Rattle.run.specs.Demand.{Key, ofConstraint, ofEdit, Demand, Call, removes, removesEdit, make, accepted, without, Moment, next}
 use Rattle.run.specs.Inv.{nonZeroTerms, Held, formOf, Shaped, findHeld, ConstraintAt, EditAt, WholeDemand, Inv}
 use Rattle.run.specs.Suggest.{unchanged, changed}

@@ -25,10 +25,10 @@ use Rattle.steps.specs.State.{Tableau}
 use Rattle.steps.specs.Work.{Work, refused, going, _>>=_, refuse, checkFinite, withRows, withTableau, findRow, dropRow}
 use Rattle.steps.specs.Substitute.{pivot}
 use Rattle.steps.specs.Remove.{getMarkerLeavingRow, noteLeaving, dropMarker}
-use Rattle.bridge.specs.Nums.{finite≢}
-use Rattle.bridge.specs.Table.{RowAt, Live, ReadsTable, ReadsWork, in-nonzero, pivot-z}
-use Rattle.bridge.specs.Runs.{markOf, pivot-pivots}
-use Rattle.bridge.specs.Ranks.{drop-z, Goes}
+use Rattle.simplex.specs.bridge.Nums.{finite≢}
+use Rattle.simplex.specs.bridge.Table.{RowAt, Live, ReadsTable, ReadsWork, in-nonzero, pivot-z}
+use Rattle.simplex.specs.bridge.Runs.{markOf, pivot-pivots}
+use Rattle.simplex.specs.bridge.Ranks.{drop-z, Goes}
 use Rattle.run.specs.Steady.{Kept, kept-trans, pivot-kept}
 use Rattle.run.specs.Passes.{other-artificial}
 use Rattle.run.specs.RemoveFrame.{kept-rows, Noted, noted}

@@ -20,10 +20,10 @@ use Rattle.steps.specs.Calls.{begin}
 use Rattle.steps.specs.Readable.{usesIn}
 use Rattle.keeps.specs.Lists.{Up}
 use Rattle.keeps.specs.Uses.{varNumber, usesOf}
-use Rattle.bridge.specs.Nums.{finite≢}
-use Rattle.bridge.specs.Rows.{In}
-use Rattle.bridge.specs.Runs.{markOf, optimise-mark}
-use Rattle.bridge.specs.Ranks.{Goes}
+use Rattle.simplex.specs.bridge.Nums.{finite≢}
+use Rattle.simplex.specs.bridge.Rows.{In}
+use Rattle.simplex.specs.bridge.Runs.{markOf, optimise-mark}
+use Rattle.simplex.specs.bridge.Ranks.{Goes}
 use Rattle.run.specs.Demand.{Key, Moment}
 use Rattle.run.specs.Inv.{nonZeroTerms, columns, Held, conOf, findHeld, VarAt, Inv}
 use Rattle.run.specs.Vars.{AlikeAt, Same, same-kept, at-same, known-same, known-back}

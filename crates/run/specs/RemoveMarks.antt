@@ -10,8 +10,8 @@ use lib.IntN.{ℤ, pos, negsuc, natAbs}
 use lib.Signed.{ltZ-yes}
 use lib.Ieee.{Float, lt}
 use Rattle.laws.specs.Z.{_≼_, _≺_, lt→N}
-use Rattle.exact.specs.Whole.{IsZ, Zb, val}
-use Rattle.exact.specs.Compare.{lt-z}
+use Rattle.laws.specs.exact.Whole.{IsZ, Zb, val}
+use Rattle.laws.specs.exact.Compare.{lt-z}
 use Rattle.simplex.specs.Ord.{0ℤ}
 use Rattle.simplex.specs.Form.{Form, le!, eq!, ge!, le, eq, ge, soft}
 use Rattle.steps.specs.Number.{Mark, allWhole, notWhole, notFinite, belowZero}
@@ -24,8 +24,8 @@ use Rattle.steps.specs.CreateRow.{withVariables}
 use Rattle.steps.specs.Substitute.{pivot}
 use Rattle.steps.specs.Changes.{tellGone}
 use Rattle.steps.specs.Remove.{getMarkerLeavingRow, noteLeaving, dropMarker, purgeTag, useLess, lose, dropUse, dropUses}
-use Rattle.bridge.specs.Finds.{none≢some}
-use Rattle.bridge.specs.Runs.{markOf, pivot-mark}
+use Rattle.simplex.specs.bridge.Finds.{none≢some}
+use Rattle.simplex.specs.bridge.Runs.{markOf, pivot-mark}
 use Rattle.run.specs.Inv.{formOf, Shaped}
 use Rattle.run.specs.Inputs.{required-z, nonneg-z}
 use Rattle.run.specs.RemoveFrame.{noted}

@@ -23,9 +23,9 @@ use Rattle.steps.specs.Row.{Row}
 use Rattle.steps.specs.State.{Tag}
 use Rattle.steps.specs.Work.{Work, withTableau, findRow, purge}
 use Rattle.steps.specs.Remove.{purgeTag}
-use Rattle.bridge.specs.Rows.{In, reads-to, row-to}
-use Rattle.bridge.specs.Table.{RowAt, ReadsWork}
-use Rattle.bridge.specs.Columns.{purge-z, delete-in}
+use Rattle.simplex.specs.bridge.Rows.{In, reads-to, row-to}
+use Rattle.simplex.specs.bridge.Table.{RowAt, ReadsWork}
+use Rattle.simplex.specs.bridge.Columns.{purge-z, delete-in}
 
 -- ---- the symbols that stay
 delete-sub : (s j : ℕ) (xs : List Symbol) → In j (deleteSymbol s xs) → In j xs

@@ -7,7 +7,7 @@ use Prim.Native.Nat.{ℕ, _^_, _<_}
 use native.Mathlib.Omega.{arith}
 use mathlib.Core.Bool.{true}
 use lib.Ieee.{Float}
-use Rattle.exact.specs.Whole.{Zb, val}
+use Rattle.laws.specs.exact.Whole.{Zb, val}
 use Rattle.simplex.specs.Ord.{0ℤ}
 use Rattle.simplex.specs.Opt.{Kind as KindZ, const, slack, dummy}
 use Rattle.simplex.specs.Form.{Form, le!, eq!, ge!, le, eq, ge, soft}
@@ -22,11 +22,11 @@ use Rattle.steps.specs.Optimise.{theObjective, optimise}
 use Rattle.steps.specs.Remove.{removeConstraintEffects, dropMarker, purgeTag}
 use Rattle.steps.specs.Calls.{begin}
 use Rattle.steps.proofs.AfterRemove.{removeEffects-after}
-use Rattle.bridge.specs.Rows.{In, NotIn}
-use Rattle.bridge.specs.Table.{kindOf, Live}
-use Rattle.bridge.specs.Looks.{in-or-not}
-use Rattle.bridge.specs.Runs.{markOf}
-use Rattle.bridge.specs.Ranks.{Goes}
+use Rattle.simplex.specs.bridge.Rows.{In, NotIn}
+use Rattle.simplex.specs.bridge.Table.{kindOf, Live}
+use Rattle.simplex.specs.bridge.Looks.{in-or-not}
+use Rattle.simplex.specs.bridge.Runs.{markOf}
+use Rattle.simplex.specs.bridge.Ranks.{Goes}
 use Rattle.run.specs.Demand.{Key, Moment}
 use Rattle.run.specs.Inv.{columns, Held, formOf, otherId, conOf, findHeld, Shaped, WholeDemand, Inv}
 use Rattle.run.specs.Inputs.{inputs-z}

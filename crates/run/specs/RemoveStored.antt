@@ -16,7 +16,7 @@ use Rattle.steps.specs.Readable.{usesIn}
 use Rattle.keeps.specs.Lists.{Up, total}
 use Rattle.keeps.specs.Keys.{findBy, dropBy, find-some, drop-total, findConstraint-is, dropConstraint-is, findEdit-is, dropEdit-is}
 use Rattle.keeps.specs.Reads.{conNumber, editNumber, usedBy}
-use Rattle.bridge.specs.Nums.{one64-z, absent-z}
+use Rattle.simplex.specs.bridge.Nums.{one64-z, absent-z}
 use Rattle.run.specs.Demand.{Key, ofConstraint, ofEdit, sameKey}
 use Rattle.run.specs.Inv.{nonZeroTerms, Held, findHeld, Once, ConstraintAt, EditAt}
 use Rattle.keeps.specs.Lookup.{find-drop-same, find-drop-other, eq-no}

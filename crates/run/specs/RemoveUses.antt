@@ -8,7 +8,7 @@ use native.Mathlib.Omega.{arith}
 use mathlib.Core.Bool.{Bool, true, false, cond}
 use lib.Dec.{T, eqb, eqb→eq, eqb-refl}
 use lib.IntN.{ℤ, _+ℤ_, _*ℤ_}
-use Rattle.exact.specs.Whole.{val}
+use Rattle.laws.specs.exact.Whole.{val}
 use Rattle.laws.specs.Z.{_≼_}
 use Rattle.laws.specs.Ring.{ring, v, k as κ, _⊞_, _⊠_}
 use Rattle.simplex.specs.Ord.{0ℤ}
@@ -27,9 +27,9 @@ use Rattle.steps.specs.Changes.{findVariable, tellGone}
 use Rattle.steps.specs.CreateRow.{withVariables}
 use Rattle.steps.specs.Remove.{Fallen, useLess, lose, dropUse, dropUses}
 use Rattle.steps.specs.Readable.{usesIn}
-use Rattle.bridge.specs.Rows.{In}
-use Rattle.bridge.specs.Finds.{none≢some}
-use Rattle.bridge.specs.Table.{in-nonzero}
+use Rattle.simplex.specs.bridge.Rows.{In}
+use Rattle.simplex.specs.bridge.Finds.{none≢some}
+use Rattle.simplex.specs.bridge.Table.{in-nonzero}
 use Rattle.run.specs.Inv.{nonZeroTerms, columns, Held, exprOf, conOf, VarAt}
 use Rattle.run.specs.RemovePurge.{Cut, cut, Read, purged, was-slack}
 use Rattle.run.specs.Uses.{by-number, Single, lessUse, Looks, Fell, absent, last, fewer, use-less}

@@ -10,7 +10,7 @@ use lib.IntN.{ℤ, _+ℤ_, _*ℤ_}
 use lib.Ieee.{Float}
 use Rattle.laws.specs.Z.{abs-add}
 use Rattle.laws.specs.Ring.{ring, v, k as κ, _⊞_, _⊠_}
-use Rattle.exact.specs.Whole.{IsZ, Zb, isz-to, add-z}
+use Rattle.laws.specs.exact.Whole.{IsZ, Zb, isz-to, add-z}
 use Rattle.simplex.specs.Ord.{0ℤ, 1ℤ}
 use Rattle.simplex.specs.Lin.{Vec, δ, δ-same, δ-other, plus}
 use Rattle.simplex.specs.Choose.{All}
@@ -23,10 +23,10 @@ use Rattle.steps.specs.State.{Basic}
 use Rattle.steps.specs.Work.{findRow}
 use Rattle.steps.specs.Substitute.{rowsOf, marksOf}
 use Rattle.steps.specs.Edit.{shiftRow, shiftRows}
-use Rattle.bridge.specs.Nums.{constantBound-z, worse-l, worse-r, write-small}
-use Rattle.bridge.specs.Rows.{Up, Sym?, is, isnt, sym?, ReadsRow, row-to, reads-to}
-use Rattle.bridge.specs.Finds.{UpRows, find-hit, find-miss, find-none}
-use Rattle.bridge.specs.Table.{RowAt, Live, ReadsTable, in-nonzero}
+use Rattle.simplex.specs.bridge.Nums.{constantBound-z, worse-l, worse-r, write-small}
+use Rattle.simplex.specs.bridge.Rows.{Up, Sym?, is, isnt, sym?, ReadsRow, row-to, reads-to}
+use Rattle.simplex.specs.bridge.Finds.{UpRows, find-hit, find-miss, find-none}
+use Rattle.simplex.specs.bridge.Table.{RowAt, Live, ReadsTable, in-nonzero}
 
 -- ---- along the rows
 

@@ -21,7 +21,7 @@ use Rattle.steps.specs.Changes.{findVariable, clearChanged, fetchChanges}
 use Rattle.steps.specs.Tests.{findConstraint, findEdit}
 use Rattle.steps.specs.Calls.{empty, begin}
 use Rattle.steps.proofs.Cutoff.{reset-taken}
-use Rattle.bridge.specs.Columns.{reset-z}
+use Rattle.simplex.specs.bridge.Columns.{reset-z}
 use Rattle.run.specs.Demand.{Moment, start, next, make, liveAfter, accepted, resets, fetches}
 use Rattle.run.specs.Inv.{nonZeroTerms, columns, Held, findHeld, Inv}
 use Rattle.run.specs.Vars.{Same, same-refl, same-trans, same-cond, same-clear, same-reported, at-same, known-same, known-back}

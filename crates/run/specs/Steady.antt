@@ -14,9 +14,9 @@ use Rattle.steps.specs.Changes.{clearChanged, allChanged, note}
 use Rattle.steps.specs.Substitute.{substituteInRows, notedOf, substitute, enterBasis, pivot}
 use Rattle.steps.specs.Optimise.{Goal, optimise, dualOptimise}
 use Rattle.keeps.specs.Frame.{clear-changed, clear-all}
-use Rattle.bridge.specs.Finds.{none≢some, after-sub}
-use Rattle.bridge.specs.Table.{kindOf, enter-parts}
-use Rattle.bridge.specs.Runs.{pivot-cases, optimise-all, dual-all}
+use Rattle.simplex.specs.bridge.Finds.{none≢some, after-sub}
+use Rattle.simplex.specs.bridge.Table.{kindOf, enter-parts}
+use Rattle.simplex.specs.bridge.Runs.{pivot-cases, optimise-all, dual-all}
 
 -- each symbol is of the theory's kind
 abbrev pub Kinded : (ℕ → KindZ) → Symbol → Type 0

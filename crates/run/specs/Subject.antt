@@ -9,7 +9,7 @@ use mathlib.Core.Option.{Option, none, some}
 use lib.IntN.{ℤ}
 use lib.Ieee.{Float}
 use Rattle.laws.specs.Z.{_≺_, ≡→eqZb}
-use Rattle.exact.specs.Whole.{IsZ}
+use Rattle.laws.specs.exact.Whole.{IsZ}
 use Rattle.simplex.specs.Ord.{0ℤ}
 use Rattle.simplex.specs.Lin.{Vec}
 use Rattle.simplex.specs.Choose.{All}
@@ -20,12 +20,12 @@ use Rattle.steps.specs.Number.{belowZero}
 use Rattle.steps.specs.Symbol.{Kind, External, Slack, Error, Dummy, Symbol, isExternal, isDummy, isPivotable, absent, holds, coefficientFor, firstSymbol}
 use Rattle.steps.specs.Work.{Work}
 use Rattle.steps.specs.CreateRow.{Created, negativeTag, chooseSubject, allDummies}
-use Rattle.bridge.specs.Nums.{absent-z, absent-yes}
-use Rattle.bridge.specs.Rows.{Reads, NotIn, In, row-cell}
-use Rattle.bridge.specs.Finds.{none≢some}
-use Rattle.bridge.specs.Table.{kindOf, Live, in-nonzero}
-use Rattle.bridge.specs.Chosen.{MemS}
-use Rattle.bridge.specs.Looks.{in-or-not, is-live}
+use Rattle.simplex.specs.bridge.Nums.{absent-z, absent-yes}
+use Rattle.simplex.specs.bridge.Rows.{Reads, NotIn, In, row-cell}
+use Rattle.simplex.specs.bridge.Finds.{none≢some}
+use Rattle.simplex.specs.bridge.Table.{kindOf, Live, in-nonzero}
+use Rattle.simplex.specs.bridge.Chosen.{MemS}
+use Rattle.simplex.specs.bridge.Looks.{in-or-not, is-live}
 use Rattle.run.specs.Demand.{Demand}
 use Rattle.run.specs.Inv.{Held}
 use Rattle.run.specs.Steady.{Kinded}

@@ -28,17 +28,17 @@ use Rattle.steps.specs.CreateRow.{Created}
 use Rattle.steps.specs.Add.{addWithSubject}
 use lib.Dec.{T}
 use Rattle.simplex.specs.Gone.{dummy≢external}
-use Rattle.bridge.specs.Nums.{finite≢, nearZero-yes, nearZero-z}
-use Rattle.bridge.specs.Table.{Live, in-nonzero}
-use Rattle.bridge.specs.Looks.{minus-one}
-use Rattle.bridge.specs.Runs.{markOf}
-use Rattle.bridge.specs.Ranks.{Entered, Goes, subject-z}
+use Rattle.simplex.specs.bridge.Nums.{finite≢, nearZero-yes, nearZero-z}
+use Rattle.simplex.specs.bridge.Table.{Live, in-nonzero}
+use Rattle.simplex.specs.bridge.Looks.{minus-one}
+use Rattle.simplex.specs.bridge.Runs.{markOf}
+use Rattle.simplex.specs.bridge.Ranks.{Entered, Goes, subject-z}
 use Rattle.run.specs.Demand.{Demand}
 use Rattle.run.specs.Inv.{Held, conOf}
 use Rattle.run.specs.Steady.{Kept, enter-kept}
 use Rattle.run.specs.Passes.{other-artificial}
 use Rattle.run.specs.Build.{NewTag, Built, newHeld}
-use Rattle.bridge.specs.Finds.{none≢some, some-injective}
+use Rattle.simplex.specs.bridge.Finds.{none≢some, some-injective}
 use Rattle.run.specs.Subject.{NoExternal, external≢0, slack≢0, Subjected, variable, marker, other, nothing, Dummies, all-dummies, one-not}
 use Rattle.run.specs.AddEnds.{Placed, Unmet, Ends}
 

@@ -10,7 +10,7 @@ use lib.IntN.{ℤ, negℤ, _-ℤ_}
 use lib.Ieee.{Float, nan, inf, fin, neg}
 use Rattle.laws.specs.Z.{_≺_}
 use Rattle.laws.specs.Ring.{ring, v, ⊟_, _⊟⊟_}
-use Rattle.exact.specs.Whole.{Zb, val, isz-val, neg-z, neg-b, sub-b}
+use Rattle.laws.specs.exact.Whole.{Zb, val, isz-val, neg-z, neg-b, sub-b}
 use Rattle.simplex.specs.Ord.{0ℤ}
 use Rattle.simplex.specs.Lin.{Vec, δ, plus}
 use Rattle.simplex.specs.Choose.{All}
@@ -27,11 +27,11 @@ use Rattle.steps.specs.Optimise.{dualOptimise}
 use Rattle.steps.specs.Add.{wholeWithin}
 use Rattle.steps.specs.Edit.{shiftOf, shiftRows, shiftConstants, suggestSteps}
 use Rattle.steps.specs.Calls.{Result, begin, refusedBy, acceptedAs}
-use Rattle.bridge.specs.Nums.{finite≢, worse-r, constantBound-z, whole-if}
-use Rattle.bridge.specs.Table.{ReadsWork}
-use Rattle.bridge.specs.Looks.{slack-in}
-use Rattle.bridge.specs.Runs.{markOf, dual-mark}
-use Rattle.bridge.specs.Drags.{Drag as Dragging, Dragged, Ends, drag}
+use Rattle.simplex.specs.bridge.Nums.{finite≢, worse-r, constantBound-z, whole-if}
+use Rattle.simplex.specs.bridge.Table.{ReadsWork}
+use Rattle.simplex.specs.bridge.Looks.{slack-in}
+use Rattle.simplex.specs.bridge.Runs.{markOf, dual-mark}
+use Rattle.simplex.specs.bridge.Drags.{Drag as Dragging, Dragged, Ends, drag}
 use Rattle.run.specs.Demand.{ofEdit, Call, make, accepted, liveAfter, Moment, next}
 use Rattle.run.specs.Inv.{nonZeroTerms, columns, Held, exprOf, formOf, otherId, conOf, findHeld, Shaped, EditedAs, WholeDemand, Inv}
 use Rattle.run.specs.AtRest.{one, best-columns}
@@ -121,7 +121,7 @@ module _ (m : Moment) (I : Inv m) (u : ℕ) (x : Float) (e : Edit) (h : Held) (f
 
   delta-z : wholeWithin constantBound x ≡ true → Zb (2 ^ 31) delta grown
   unfolding delta grown
-  delta-z w = Rattle.exact.specs.Whole.within (sub-b (whole-within constantBound (2 ^ 30) constantBound-z x w) (neg-back old) (omega arith)) (omega arith)
+  delta-z w = Rattle.laws.specs.exact.Whole.within (sub-b (whole-within constantBound (2 ^ 30) constantBound-z x w) (neg-back old) (omega arith)) (omega arith)
 
   pub new-constant : wholeWithin constantBound x ≡ true → val (h .demand .constant) -ℤ grown ≡ val (neg x)
   unfolding grown

@@ -11,8 +11,8 @@ use lib.IntN.{pos, negℤ}
 use lib.Signed.{leZ}
 use lib.Ieee.{Float, neg, le}
 use Rattle.laws.specs.Z.{abs-neg}
-use Rattle.exact.specs.Whole.{val, neg-z}
-use Rattle.exact.specs.Compare.{le-z}
+use Rattle.laws.specs.exact.Whole.{val, neg-z}
+use Rattle.laws.specs.exact.Compare.{le-z}
 use Rattle.simplex.specs.Ord.{0ℤ}
 use Rattle.simplex.specs.Lin.{δ, plus}
 use Rattle.simplex.specs.Choose.{All, all-map}
@@ -33,10 +33,10 @@ use Rattle.steps.specs.Readable.{readable}
 use Rattle.steps.proofs.After.{says-whole}
 use Rattle.keeps.specs.Keys.{findEdit-is, keepEdit-is, dropEdit-is}
 use Rattle.keeps.specs.Tested.{reads-in}
-use Rattle.bridge.specs.Nums.{magnitude-z, constantBound-z}
-use Rattle.bridge.specs.Rows.{In}
-use Rattle.bridge.specs.Table.{ReadsWork}
-use Rattle.bridge.specs.Runs.{markOf}
+use Rattle.simplex.specs.bridge.Nums.{magnitude-z, constantBound-z}
+use Rattle.simplex.specs.bridge.Rows.{In}
+use Rattle.simplex.specs.bridge.Table.{ReadsWork}
+use Rattle.simplex.specs.bridge.Runs.{markOf}
 use Rattle.run.specs.Demand.{Key, ofConstraint, ofEdit, sameKey, Demand, moved, Call, suggests, make, accepted, Moment, next}
 use Rattle.run.specs.Inv.{nonZeroTerms, columns, Held, exprOf, formOf, otherId, conOf, findHeld, Shaped, StoredAs, ConstraintAt, EditedAs, EditAt, VarAt, WholeDemand, Inv}
 use Rattle.keeps.specs.Lookup.{find-keep-same, find-keep-other, find-drop-same, find-drop-other}

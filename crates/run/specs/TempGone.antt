@@ -27,8 +27,8 @@ use Rattle.steps.specs.Row.{Row}
 use Rattle.steps.specs.State.{Basic}
 use Rattle.steps.specs.Work.{Work, purge}
 use Rattle.steps.specs.CreateRow.{Created}
-use Rattle.bridge.specs.Table.{RowAt, ReadsTable, ReadsWork}
-use Rattle.bridge.specs.Columns.{purge-z}
+use Rattle.simplex.specs.bridge.Table.{RowAt, ReadsTable, ReadsWork}
+use Rattle.simplex.specs.bridge.Columns.{purge-z}
 use Rattle.run.specs.Demand.{Demand}
 use Rattle.run.specs.Inv.{Held, conOf}
 use Rattle.run.specs.Build.{newHeld, Built}

@@ -26,11 +26,11 @@ use Rattle.steps.specs.Changes.{clearChanged}
 use Rattle.steps.specs.CreateRow.{Created, appendTo}
 use Rattle.steps.specs.Substitute.{pivot}
 use Rattle.steps.specs.Artificial.{anyPivotableSymbol, isEmptyRow, standTemporary, removeTemporary}
-use Rattle.bridge.specs.Nums.{finite≢}
-use Rattle.bridge.specs.Rows.{In, NotIn, Sym?, is, isnt, sym?, ReadsRow}
-use Rattle.bridge.specs.Table.{kindOf, RowAt, Live, ReadsWork, pivot-z}
-use Rattle.bridge.specs.Looks.{in-or-not, is-live}
-use Rattle.bridge.specs.Runs.{markOf, pivot-pivots}
+use Rattle.simplex.specs.bridge.Nums.{finite≢}
+use Rattle.simplex.specs.bridge.Rows.{In, NotIn, Sym?, is, isnt, sym?, ReadsRow}
+use Rattle.simplex.specs.bridge.Table.{kindOf, RowAt, Live, ReadsWork, pivot-z}
+use Rattle.simplex.specs.bridge.Looks.{in-or-not, is-live}
+use Rattle.simplex.specs.bridge.Runs.{markOf, pivot-pivots}
 use Rattle.run.specs.Demand.{Demand}
 use Rattle.run.specs.Inv.{Held, conOf}
 use Rattle.run.specs.Build.{newHeld, Built}

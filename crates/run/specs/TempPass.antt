@@ -28,9 +28,9 @@ use Rattle.steps.specs.Work.{Work, Outcome, refused, going, withTableau, withRo
 use Rattle.steps.specs.CreateRow.{Created, appendTo}
 use Rattle.steps.specs.Optimise.{optimise, theArtificial}
 use Rattle.steps.specs.Artificial.{standTemporary}
-use Rattle.bridge.specs.Rows.{In}
-use Rattle.bridge.specs.Table.{ReadsWork}
-use Rattle.bridge.specs.Runs.{markOf, Standing, carried, Ran, rests, used-up, no-leaving, run}
+use Rattle.simplex.specs.bridge.Rows.{In}
+use Rattle.simplex.specs.bridge.Table.{ReadsWork}
+use Rattle.simplex.specs.bridge.Runs.{markOf, Standing, carried, Ran, rests, used-up, no-leaving, run}
 use Rattle.run.specs.Demand.{Demand}
 use Rattle.run.specs.Inv.{Held}
 use Rattle.run.specs.Build.{Built}

@@ -20,11 +20,11 @@ use Rattle.steps.specs.State.{Basic}
 use Rattle.steps.specs.Work.{Work, withTableau, withRows, withArtificial, findRow, keepRow, newSymbol, appendSymbol}
 use Rattle.steps.specs.CreateRow.{Created, appendTo}
 use Rattle.steps.specs.Artificial.{standTemporary}
-use Rattle.bridge.specs.Rows.{In, NotIn, ReadsRow}
-use Rattle.bridge.specs.Finds.{find-keep-same, find-keep-other, keep-up, keep-all}
-use Rattle.bridge.specs.Table.{RowAt, Live, ReadsTable, ReadsWork}
-use Rattle.bridge.specs.Looks.{in-or-not}
-use Rattle.bridge.specs.Enter.{append-z, append-row, append-new}
+use Rattle.simplex.specs.bridge.Rows.{In, NotIn, ReadsRow}
+use Rattle.simplex.specs.bridge.Finds.{find-keep-same, find-keep-other, keep-up, keep-all}
+use Rattle.simplex.specs.bridge.Table.{RowAt, Live, ReadsTable, ReadsWork}
+use Rattle.simplex.specs.bridge.Looks.{in-or-not}
+use Rattle.simplex.specs.bridge.Enter.{append-z, append-row, append-new}
 use Rattle.run.specs.Demand.{Demand}
 use Rattle.run.specs.Inv.{Held}
 use Rattle.run.specs.Build.{Built}

@@ -12,7 +12,7 @@ use Rattle.steps.specs.Changes.{findVariable, clearChanged, withFlag}
 use Rattle.steps.specs.Remove.{Fallen, useLess}
 use Rattle.keeps.specs.Lists.{Up}
 use Rattle.keeps.specs.Uses.{varNumber, usesOf, uses-hit, uses-miss}
-use Rattle.bridge.specs.Finds.{none≢some, some-injective}
+use Rattle.simplex.specs.bridge.Finds.{none≢some, some-injective}
 use Rattle.run.specs.Vars.{AlikeAt, same-clear}
 
 -- ---- numbers

@@ -10,7 +10,7 @@ use Rattle.simplex.specs.Opt.{Kind as KindZ}
 use Rattle.steps.specs.Symbol.{Symbol}
 use Rattle.steps.specs.State.{Variable, Basic}
 use Rattle.steps.specs.Changes.{findVariable, withFlag, clearChanged, reported}
-use Rattle.bridge.specs.Finds.{none≢some}
+use Rattle.simplex.specs.bridge.Finds.{none≢some}
 use Rattle.run.specs.Inv.{VarAt}
 
 pub record Alike (a b : Variable) : Type 0 where

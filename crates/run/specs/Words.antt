@@ -10,7 +10,7 @@ use lib.IntN.{ℤ, pos, negsuc, negℤ, natAbs, _+ℤ_, _*ℤ_}
 use lib.Ieee.{Float, lt}
 use Rattle.laws.specs.Z.{_≼_, at, _⊕_, eqZ}
 use Rattle.laws.specs.Ring.{ring, v, k, _⊞_, _⊠_}
-use Rattle.exact.specs.Whole.{IsZ, val, int, int-z}
+use Rattle.laws.specs.exact.Whole.{IsZ, val, int, int-z}
 use Rattle.simplex.specs.Ord.{0ℤ}
 use Rattle.simplex.specs.Lin.{Vec, δ, dot, dot-plus, dot-δ}
 use Rattle.simplex.specs.Choose.{All}
@@ -23,7 +23,7 @@ use Rattle.steps.specs.Symbol.{absent}
 use Rattle.steps.specs.State.{Term, Relation, atMost, equal, atLeast, strengthOf}
 use Rattle.steps.specs.Add.{wholeWithin, wholeTerms}
 use Rattle.steps.specs.Tests.{keptTerms}
-use Rattle.bridge.specs.Nums.{absent-yes, nearZero-absent}
+use Rattle.simplex.specs.bridge.Nums.{absent-yes, nearZero-absent}
 use Rattle.run.specs.Demand.{sumOf, excess, isRequired, Related, Meets, above, errorOf, weighted}
 use Rattle.run.specs.Inv.{nonZeroTerms, columns, Held, exprOf, formOf, conOf}
 

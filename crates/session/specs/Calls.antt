@@ -19,15 +19,15 @@ use Rattle.steps.specs.Tests.{hasConstraint, hasEdit}
 use Rattle.steps.specs.Session as session
 use Rattle.steps.specs.Session.{resets, adds, removes, drops, addsEdit, removesEdit, suggests, valueOf, fetches, hasConstraints, hasEdits, creates, clips, reads, dumps, setsNext}
 use Rattle.sparse.specs.Sparse.{Sparse}
-use Rattle.tags.specs.Tags.{relationOf}
+use Rattle.changes.specs.tags.Tags.{relationOf}
 use Rattle.sparse_test.specs.Asked.{asked}
 use Rattle.lending.specs.Lending.{Called, called, answerOf, callOf}
 use Rattle.lending.specs.Reset.{resetOf}
 use Rattle.lending.specs.Entered.{zeroRoom}
 use Rattle.lending.specs.declared.Answer as code
 use Rattle.fetches.specs.Fetch.{fetchOf}
-use Rattle.terms.specs.declared.Pack.{Pack}
-use Rattle.terms.specs.Terms.{termOf, termsIn, listed}
+use Rattle.changes.specs.declared.terms.Pack.{Pack}
+use Rattle.changes.specs.terms.Terms.{termOf, termsIn, listed}
 use Rattle.changes.specs.declared.Change as changes
 use Rattle.changes.specs.declared.Change.the-variants.{Add, Remove, Drop, AddEdit, RemoveEdit, Suggest}
 use Rattle.changes.specs.Change.{changingOf}

@@ -10,17 +10,18 @@ use lib.ListN.{length, getD, take, replicate}
 use lib.Ieee.{Float}
 use Rattle.steps.specs.Number.{zero64}
 use Rattle.steps.specs.Shown.{Given, shown}
+use Rattle.layout.specs.Layout.{termRoom}
 use Rattle.sparse.specs.Sparse.{Sparse, read}
 use Rattle.sparse_test.specs.Reads.{reads}
-use Rattle.shown.specs.Shown.{Line, line, without, lineOf, showOf}
-use Rattle.shown.specs.Few.{FewOf, few-shown, show-few}
+use Rattle.fetches.specs.shown.Shown.{Line, line, without, lineOf, showOf}
+use Rattle.fetches.specs.shown.Few.{FewOf, few-shown, show-few}
 use Rattle.text.specs.declared.floats.Id.{Id}
 use Rattle.text.specs.declared.floats.Id.the-variants.{Is32, No32}
 use Rattle.text.specs.Words.{wordsOf}
 use Rattle.text.specs.Stream.{heldOf}
 use Rattle.text.specs.Answers.{Wrote}
-use Rattle.show_text.specs.Puts.{Puts, wrote-put, put-as}
-use Rattle.show_text.specs.Show.{asksFor, givenText, noText, shownText, given-shown, given-short, no-short}
+use Rattle.text.specs.show_text.Puts.{Puts, wrote-put, put-as}
+use Rattle.text.specs.show_text.Show.{asksFor, givenText, noText, shownText, given-shown, given-short, no-short}
 use Rattle.session.specs.Said.{Said, said, Spoken}
 use Rattle.session.specs.Calls.{lineReply, heldReply}
 
@@ -51,7 +52,7 @@ textOf l = shownText (l .words) (l .reals) (l .variables) (l .coefficients)
 given-reply : (o : Option Given) → textOf (lineOf o) ≡ givenReply o
 unfolding lineOf givenReply shownText
 given-reply none = refl
-given-reply (some g) = given-shown (g .terms) (replicate (16 - length (g .terms)) 0) (replicate (16 - length (g .terms)) zero64) (g .group) (g .constant) (g .relation)
+given-reply (some g) = given-shown (g .terms) (replicate (termRoom - length (g .terms)) 0) (replicate (termRoom - length (g .terms)) zero64) (g .group) (g .constant) (g .relation)
 
 unread-reply : textOf (without 18) ≡ noText 18
 unfolding shownText
@@ -67,7 +68,7 @@ shown-reply n t = go (reads t)
 
 -- what stands in the places that the code is lent
 module _ (n : ℕ) (t : Sparse) {w v : List ℕ} {x k : List Float} (e : line w x v k ≡ showOf n t) where
-  pub few-places : getD w 4 0 ≤ 16
+  pub few-places : getD w 4 0 ≤ termRoom
   few-places = rw (← e) at (show-few n t)
 
   pub shown-wrote : (a b : List ℕ) (i j : ℕ) → Puts a b i j (shownText w x v k) → Wrote a b i j (shownReply n t)

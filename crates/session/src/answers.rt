@@ -12,18 +12,21 @@ ghost use Rattle.text.specs.Words.{wordsOf};
 ghost use Rattle.text.specs.Format.{callOf as Format·callOf};
 ghost use Rattle.text.specs.Lines.{lineOf};
 ghost use Rattle.text.specs.Stream.{heldOf};
-ghost use Rattle.show_text.specs.Show.{asksFor};
+ghost use Rattle.text.specs.show_text.Show.{asksFor};
 ghost use Rattle.session.specs.Said.{Spoken, fetchSaid};
 ghost use Rattle.session.specs.Calls.{room, replyOf, callFrom, askedText, heldReply};
 ghost use Rattle.session.specs.Shows.{shownReply, heldAnswer};
 use changes::Change;
+use changes::terms::Pack;
+use fetches::shown::LINE_REALS;
+use fetches::shown::LINE_WORDS;
+use layout::TERM_ROOM;
 use lending::Answer;
 use sparse::Bytes;
 use sparse::Keys;
 use sparse::Reals;
 use sparse::Values;
 use sparse::Words;
-use terms::Pack;
 use text::calls::Call;
 use text::calls::Line;
 use text::calls::Query;
@@ -46,10 +49,10 @@ fn change(
     ensures { λ r. ⌜ called (answerOf r) (lent (words .exit) (keys .exit) (bytes .exit) (reals .exit) (values .exit)) ≡ callOf (made (changingOf c p budget)) room (lent (words .entry) (keys .entry) (bytes .entry) (reals .entry) (values .entry)) ⌝ }
 {
     let mut w: Words = [0; sparse::WORDS_SIZE];
-    let mut k: Keys = [0; cells::CELL_ROOM];
+    let mut k: Keys = [0; layout::cells::CELL_ROOM];
     let mut b: Bytes = [0; sparse::BYTES_SIZE];
     let mut r: Reals = [0.0; sparse::REALS_SIZE];
-    let mut v: Values = [0.0; cells::CELL_ROOM];
+    let mut v: Values = [0.0; layout::cells::CELL_ROOM];
     solver::change(
         words,
         keys,
@@ -144,11 +147,11 @@ fn say_shown(
     requires { ⌜ at ≤ 5000 ⌝ }
     ensures { λ z. ⌜ Wrote (now (out .entry)) (now (out .exit)) at z (shownReply number (lent (words .entry) (keys .entry) (bytes .entry) (reals .entry) (values .entry))) ⌝ }
 {
-    let mut w = [0u64; 6];
-    let mut x = [0.0f64; 2];
-    let mut v = [0u32; 16];
-    let mut k = [0.0f64; 16];
-    shown::show(
+    let mut w = [0u64; LINE_WORDS];
+    let mut x = [0.0f64; LINE_REALS];
+    let mut v = [0u32; TERM_ROOM];
+    let mut k = [0.0f64; TERM_ROOM];
+    fetches::shown::show(
         words,
         keys,
         bytes,
@@ -160,7 +163,7 @@ fn say_shown(
         &mut v,
         &mut k,
     );
-    show_text::answers::put_shown(out, at, &w, &x, &v, &k)
+    text::show_text::answers::put_shown(out, at, &w, &x, &v, &k)
 }
 
 // p: the terms of an add.
@@ -229,7 +232,7 @@ fn show_front(line: &[u8], held: usize) -> Id
     requires { ⌜ held ≤ length (now line) ⌝ }
     ensures { λ c. ⌜ c ≡ asksFor (wordsOf (take held (now (line .entry)))) ⌝ }
 {
-    show_text::read_show(&line[..held])
+    text::show_text::read_show(&line[..held])
 }
 
 // The line of which `held` bytes were read: no call if they are more than the buffer's.

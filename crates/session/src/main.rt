@@ -12,10 +12,10 @@ use sparse::Words;
 // from a number of turns that no run uses up.
 fn main() {
     let mut words: Words = [0; sparse::WORDS_SIZE];
-    let mut keys: Keys = [0; cells::CELL_ROOM];
+    let mut keys: Keys = [0; layout::cells::CELL_ROOM];
     let mut bytes: Bytes = [0; sparse::BYTES_SIZE];
     let mut reals: Reals = [0.0; sparse::REALS_SIZE];
-    let mut values: Values = [0.0; cells::CELL_ROOM];
+    let mut values: Values = [0.0; layout::cells::CELL_ROOM];
     let mut piece = [0u8; 4096];
     let mut line = [0u8; 4096];
     let mut out = [0u8; 8192];

@@ -29,3 +29,4 @@ pub mod Count
 pub mod Gone
 pub mod Suggest
 pub mod Cells
+pub mod bridge

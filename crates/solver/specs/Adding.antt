@@ -1,4 +1,4 @@
--- Add: the calls put together, over variables. The terms come as the pack of a list (that of any pack: `terms::proper`).
+-- Add: the calls put together, over variables. The terms come as the pack of a list (that of any pack: `changes::terms::proper`).
 -- Assumes nothing.
 use Prim.Native.Nat.{ℕ, _+_, _≤_, _<_}
 use mathlib.Core.Path.{_≡_, refl, sym, ap, _∙_}
@@ -31,15 +31,15 @@ use Rattle.waist.specs.Ending.{Goes}
 use Rattle.lending.specs.declared.Answer as code
 use Rattle.lending.specs.Lending.{answerOf}
 use Rattle.lending.specs.Entered.{Entered}
-use Rattle.terms.specs.declared.Term.{Term}
-use Rattle.terms.specs.declared.Pack.{Pack}
-use Rattle.terms.specs.Terms.{packOf, keptOf, termsIn, termsOf}
-use Rattle.terms.specs.Packed.{pack-terms}
-use Rattle.terms.specs.Kept.{kept-terms}
+use Rattle.changes.specs.declared.terms.Term.{Term}
+use Rattle.changes.specs.declared.terms.Pack.{Pack}
+use Rattle.changes.specs.terms.Terms.{packOf, keptOf, termsIn, termsOf}
+use Rattle.changes.specs.terms.Packed.{pack-terms}
+use Rattle.changes.specs.terms.Kept.{kept-terms}
 use Rattle.refusals.specs.Refusals.{cutoffIn, addRefusal}
 use Rattle.refusals.specs.Tested.{few-terms}
 use Rattle.refusals.specs.Passed.{Room, add-refused, add-passes, add-passed}
-use Rattle.creation.specs.Created.{Opening}
+use Rattle.addition.specs.creation.Created.{Opening}
 use Rattle.waist.specs.Tags.{tagAt}
 use Rattle.solver.specs.Bringing.{brought, Comes, Ends}
 use Rattle.solver.specs.Begin.{storedMark, begun-is, pack-opens}

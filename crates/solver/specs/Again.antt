@@ -1,4 +1,4 @@
--- A room that holds a whole state: all records of the lent tables brought over, and a removal made in it as if its own tables had been lent.
+-- A room that holds a whole state: all records of the lent tables brought over, a removal made in it as if its own tables had been lent, and an accepted call's state left in it.
 -- Assumes nothing.
 use Prim.Native.Nat.{ℕ}
 use mathlib.Core.Path.{_≡_, refl, ap, _∙_}
@@ -10,11 +10,8 @@ use lib.Ieee.{Float}
 use lib.ListN.{length, set, length-set}
 use lib.Seq.{getD-set-other}
 use Rattle.laws.specs.Given.{Then}
-use Rattle.steps.specs.State.{State}
-use Rattle.steps.specs.Calls.{remove}
-use Rattle.steps.specs.Changing.{removes}
+use Rattle.steps.specs.Changing.{Changing, made}
 use Rattle.steps.specs.Readable.{readable}
-use Rattle.keeps.specs.Keeps.{remove-reads}
 use Rattle.sparse.specs.Places.{constraintCountAt, editCountAt, wholeAt, wordsSize}
 use Rattle.sparse.specs.Sparse.{Sparse, constraintCount, editCount, read}
 use Rattle.sparse.specs.Fits.{Lengths}
@@ -22,9 +19,9 @@ use Rattle.sparse.specs.Form.{Form}
 use Rattle.sparse.specs.Agree.{Agree}
 use Rattle.sparse_test.specs.Reads.{reads}
 use Rattle.sparse_test.specs.Meaning.{reads-form, reads-readable}
-use Rattle.narrow.specs.Narrow.{Narrow, made-narrow}
-use Rattle.narrow.specs.Tabled.{narrow-of}
-use Rattle.narrow.specs.Written.{form-reads}
+use Rattle.sparse_test.specs.narrow.Narrow.{Typed}
+use Rattle.sparse_test.specs.narrow.Tabled.{narrow-of}
+use Rattle.sparse_test.specs.narrow.Holds.{left-reads, made-left}
 use Rattle.stored.specs.Parts.{allOf}
 use Rattle.stored.specs.Maps.{Stores}
 use Rattle.stored.specs.Moved.{Moved}
@@ -35,10 +32,6 @@ use Rattle.solver.specs.Bringing.{brought, Comes, Ends}
 use Rattle.solver.specs.Begin.{apart-at-start}
 use Rattle.solver.specs.Brings.{stores-both, records-come}
 use Rattle.solver.specs.Concluding.{Done}
-
--- what the tables read as is left in others of the form
-left-reads : (u : Sparse) {s : State} → read u ≡ s → Form u → Lengths u → readable s ≡ true → Narrow s → reads u ≡ true
-left-reads u e form len good narrow = form-reads u form len (ap readable e ∙ good) (rw e narrow)
 
 -- ---- the records come over, all of them
 
@@ -124,10 +117,10 @@ entered-bare t good len e =
       changes = bare-changes t (len .0);
     })
 
--- where the removal is accepted the room holds a whole state again
-pub removed-reads : (n budget : ℕ) (t u : Sparse) (r : code.Answer) → reads t ≡ true → Lengths u → Done (remove n budget) r t u → Then (eqb (r .number) 0) (reads u ≡ true)
-removed-reads n budget t u r good len d = go (eqb (r .number) 0) (d .1) (d .2)
+-- where the call is accepted the room holds a whole state again
+pub made-again : (c : Changing) (t u : Sparse) (r : code.Answer) → Typed c → reads t ≡ true → Lengths u → Done (made c) r t u → Then (eqb (r .number) 0) (reads u ≡ true)
+made-again c t u r typed good len d = go (eqb (r .number) 0) (d .1) (d .2)
   where
-    go : (b : Bool) → Then b (read u ≡ remove n budget (read t) .state) → Then b (Form u) → Then b (reads u ≡ true)
-    go true e form = left-reads u e form len (remove-reads n budget (read t) (reads-readable t good)) (made-narrow (read t) (narrow-of t good) (removes n budget) tt)
+    go : (b : Bool) → Then b (read u ≡ made c (read t) .state) → Then b (Form u) → Then b (reads u ≡ true)
+    go true e form = made-left c t u typed good e form len
     go false e form = tt

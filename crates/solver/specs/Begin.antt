@@ -19,10 +19,11 @@ use Rattle.keeps.specs.Uses.{usesOf}
 use Rattle.keeps.specs.Reads.{Reads, usedBy}
 use Rattle.keeps.specs.Tested.{reads-in}
 use Rattle.keeps.specs.Good.{Good, tagsBy, begin-good}
-use Rattle.cells.specs.Names.{rowSpan, lastPlace}
-use Rattle.cells.specs.Cells.{Present}
-use Rattle.merging.specs.Merge.{Placed}
-use Rattle.places.specs.Finding.{all-at}
+use Rattle.layout.specs.Layout.{termRoom}
+use Rattle.layout.specs.cells.Names.{rowSpan, lastPlace}
+use Rattle.layout.specs.cells.Cells.{Present}
+use Rattle.waist.specs.merging.Merge.{Placed}
+use Rattle.rows.specs.places.Finding.{all-at}
 use Rattle.sparse.specs.Places.{mostRows, mostVariables, mostConstraints, wholeAt, nextIdAt, idsAt, variableNumbersAt, constraintNumbersAt, kindsAt, rowPlacesAt, variablePlacesAt, rowCountAt, symbolCountAt, variableCountAt}
 use Rattle.sparse.specs.Lookup.{Ascends}
 use Rattle.sparse.specs.Sparse.{Sparse, symbolCount, rowCount, cellCount, variableCount, constraintCount, editCount, symbolAt, otherAt, variableOf, constraintOf, editOf, symbolsOf, basicsOf, read}
@@ -37,23 +38,24 @@ use Rattle.sparse_test.specs.Meaning.{reads-form, reads-readable}
 use Rattle.sparse_test.specs.Tested.{kindAt, externalsIn}
 use Rattle.sparse_test.specs.Parts.{Parts, parts}
 use Rattle.sparse_test.specs.Meant.{tested-is, reads-apart, reads-constraints}
-use Rattle.substituting.specs.Held.{Held}
-use Rattle.substituting.specs.Named.{Named}
+use Rattle.sparse_test.specs.zeros.Fitting.{few-symbols}
+use Rattle.waist.specs.substituting.Held.{Held}
+use Rattle.waist.specs.substituting.Named.{Named}
 use Rattle.rows.specs.declared.number.Wrote.{Wrote}
 use Rattle.rows.specs.Marks.{markOf}
 use Rattle.waist.specs.Working.{artificialOf, workOf, linesOf, Sound}
 use Rattle.waist.specs.Standing.{Owners, Standing}
 use Rattle.lending.specs.Entered.{bare, bareWords, Entered, bare-same, count-same, past-same}
-use Rattle.terms.specs.declared.Pack.{Pack}
-use Rattle.terms.specs.Terms.{keptOf, termsOf}
-use Rattle.terms.specs.Kept.{most-le, terms-length, kept-terms}
+use Rattle.changes.specs.declared.terms.Pack.{Pack}
+use Rattle.changes.specs.terms.Terms.{keptOf, termsOf}
+use Rattle.changes.specs.terms.Kept.{most-le, terms-length, kept-terms}
 use Rattle.refusals.specs.Refusals as refusals
 use Rattle.refusals.specs.New.{new-is}
 use Rattle.refusals.specs.Passed.{Room}
-use Rattle.creation.specs.Going.{newIn}
-use Rattle.creation.specs.Created.{Opening, Spare}
+use Rattle.addition.specs.creation.Going.{newIn}
+use Rattle.addition.specs.creation.Created.{Opening, Spare}
 use Rattle.waist.specs.Tags.{tagAt}
-use Rattle.solver.specs.Few.{few-symbols, uses-spare}
+use Rattle.solver.specs.Few.{uses-spare}
 
 -- the mark that a call's steps begin with is the stored one
 abbrev pub storedMark : List ℕ → Mark
@@ -254,7 +256,7 @@ module _ (t w : Sparse) (en : Entered t w) where
   new-same : (terms : List Term) → newIn terms w ≡ newIn terms t
   new-same terms = rw (cutoff-same, en .changes) refl
 
-  pub opening-at-start : (terms : List Term) (constant : Float) → isFinite constant ≡ true → length terms ≤ 16
+  pub opening-at-start : (terms : List Term) (constant : Float) → isFinite constant ≡ true → length terms ≤ termRoom
       → constraintCount t + editCount t < mostConstraints → variableCount t + newIn terms t ≤ mostVariables → getD (t .words) nextIdAt 0 ≤ 4_294_900_000
       → Opening (storedMark (t .words)) terms constant w
   opening-at-start terms constant finite few room variables numbers =

@@ -12,7 +12,7 @@ use lib.ListN.{length, getD, set}
 use borrow.Author.Tests.{eq-eqb, ne-eqb}
 use Rattle.laws.specs.Lists.{sumIn, listOf, getD-tab}
 use Rattle.steps.specs.Number.{zero64}
-use Rattle.layout.specs.Layout.{comparisonIn, comparisonCode}
+use Rattle.layout.specs.Layout.{comparisonIn, comparisonCode, termRoom}
 use Rattle.layout.specs.Back.{comparison-back}
 use Rattle.layout.specs.Copied.{comparison-small}
 use Rattle.steps.specs.State.{Comparison, Constraint, Edit, State}
@@ -38,8 +38,8 @@ use Rattle.stored.specs.Ended.{Ready, roomOf, Kept}
 use Rattle.stored.specs.Ends.{records-kept, constraint-dropped, edit-dropped}
 use Rattle.stored.specs.Came.{tagIn, newConstraint, constraint-kept, edit-kept}
 use Rattle.stored.specs.Suggested.{withReal, suggestion-kept}
-use Rattle.terms.specs.declared.Pack.{Pack}
-use Rattle.terms.specs.Terms.{termsOf}
+use Rattle.changes.specs.declared.terms.Pack.{Pack}
+use Rattle.changes.specs.terms.Terms.{termsOf}
 use Rattle.waist.specs.Tags.{tagAt}
 use Rattle.solver.specs.Bringing.{brought, Comes, Ends}
 use Rattle.solver.specs.Begin.{edits-count}
@@ -55,7 +55,7 @@ edit-place : (s : Sparse) (j : ℕ) → j < editCount s → getD (read s .edits)
 unfolding read listOf
 edit-place s j l = getD-tab (editOf s) 0 (editCount s) j noEdit l ∙ ap (editOf s) (zero-add j)
 
-ends-of : (u v : Sparse) (cs : List Constraint) (es : List Edit) {m : ℕ} → Kept u v cs es m → Ends u cs es v
+pub ends-of : (u v : Sparse) (cs : List Constraint) (es : List Edit) {m : ℕ} → Kept u v cs es m → Ends u cs es v
 ends-of u v cs es k = (by (read v) (k .tableau) (k .changes) (k .constraints) (k .edits) (whole-is v ∙ rw (k .whole) (sym (whole-is u))), k .form)
   where
     by : (s : State) → s .tableau ≡ read u .tableau → s .changes ≡ read u .changes → s .constraints ≡ cs → s .edits ≡ es → s .whole ≡ read u .whole → s ≡ brought cs es u
@@ -71,7 +71,7 @@ module _ (t u : Sparse) (come : Comes t u) where
   facts : Reads (read t)
   facts = reads-in (read t) (reads-readable t good)
 
-  lent-apart : Apart t
+  pub lent-apart : Apart t
   lent-apart i j a b e = let q = reads-apart t good i j (omega (arith, a, b)) b e in omega (arith, a, q)
 
   ready : Ready t u
@@ -90,7 +90,7 @@ module _ (t u : Sparse) (come : Comes t u) where
       let a = ascends (t .words) constraintNumbersAt (constraintCount t) (parts t (tested-is t ∙ good) .constraintsUp) i j k h in
       ne-eqb (constraintOf t j .number) (constraintOf t i .number) (λ e. omega (arith, e, a, constraint-number i, constraint-number j))
 
-  edits-up : (i k : ℕ) → i < k → k < length (read t .edits) → getD (read t .edits) i noEdit .variable < getD (read t .edits) k noEdit .variable
+  pub edits-up : (i k : ℕ) → i < k → k < length (read t .edits) → getD (read t .edits) i noEdit .variable < getD (read t .edits) k noEdit .variable
   edits-up i k a b = up-less editNumber noEdit 0 (read t .edits) i k (facts .edits-up) a b
 
   edit-before : (j : ℕ) → j < editCount t → (i : ℕ) → i < j → eqb (editOf t j .variable) (editOf t i .variable) ≡ false
@@ -100,12 +100,12 @@ module _ (t u : Sparse) (come : Comes t u) where
       let c = ap (λ (e : Edit). e .variable) (edit-at t facts j noEdit h) in
       ne-eqb (editOf t j .variable) (editOf t i .variable) (λ e. omega (arith, e, a, b, c))
 
-  few-terms : constraintCount t < mostConstraints → (k : ℕ) → k ≤ 16 → sumIn (countsIn (t .bytes)) 0 (constraintCount t) + k ≤ mostTerms
+  few-terms : constraintCount t < mostConstraints → (k : ℕ) → k ≤ termRoom → sumIn (countsIn (t .bytes)) 0 (constraintCount t) + k ≤ mostTerms
   few-terms h k l =
-      let a = sum-most (countsIn (t .bytes)) (constraintCount t) (λ c q. most (t .bytes) termCountsAt (constraintCount t) 16 (parts t (tested-is t ∙ good) .termCounts) c q) in
+      let a = sum-most (countsIn (t .bytes)) (constraintCount t) (λ c q. most (t .bytes) termCountsAt (constraintCount t) termRoom (parts t (tested-is t ∙ good) .termCounts) c q) in
       omega (arith, a, h, l)
 
-  pub room-terms : constraintCount t + editCount t < mostConstraints → (p : Pack) → p .count ≤ 16 → (constraintCount t < mostConstraints) × (sumIn (countsIn (t .bytes)) 0 (constraintCount t) + p .count ≤ mostTerms)
+  pub room-terms : constraintCount t + editCount t < mostConstraints → (p : Pack) → p .count ≤ termRoom → (constraintCount t < mostConstraints) × (sumIn (countsIn (t .bytes)) 0 (constraintCount t) + p .count ≤ mostTerms)
   room-terms h p l = (omega (arith, h), few-terms (omega (arith, h)) (p .count) l)
 
   module _ (uw ub : List ℕ) (ur : List Float) (m : ℕ) where
@@ -135,7 +135,7 @@ module _ (t u : Sparse) (come : Comes t u) where
         (edit-dropped t u ready uw ub ur m j n raw h (edit-before j h) (eq-eqb n n refl) (hold-constraints u (read t .constraints) (dropEdit n (read t .edits)) q) (hold-edits u (read t .constraints) (dropEdit n (read t .edits)) q))
 
     -- the relation by its kind
-    by-kind : (n g marker other k : ℕ) (strength constant : Float) (p : Pack) → 1 ≤ marker → marker ≤ symbolCount u → other ≤ symbolCount u → k ≤ 2 → constraintCount t + editCount t < mostConstraints → p .count ≤ 16
+    by-kind : (n g marker other k : ℕ) (strength constant : Float) (p : Pack) → 1 ≤ marker → marker ≤ symbolCount u → other ≤ symbolCount u → k ≤ 2 → constraintCount t + editCount t < mostConstraints → p .count ≤ termRoom
         → readable (brought (keepConstraint (newConstraint u n g marker other k strength constant p) (read t .constraints)) (read t .edits) u) ≡ true
         → ConstraintKept n g marker other k strength constant p (t .words) (t .bytes) (t .reals) (u .words) (u .bytes) (u .reals) uw ub ur m
         → Ends u (keepConstraint (newConstraint u n g marker other k strength constant p) (read t .constraints)) (read t .edits) (roomOf u uw ub ur)
@@ -145,7 +145,7 @@ module _ (t u : Sparse) (come : Comes t u) where
         (constraint-kept t u ready uw ub ur m n g marker other k strength constant p raw few (holds-new u c (read t .constraints) (read t .edits) q) (low, high) o few-kinds (omega (arith, room)) (unfold termsFrom in few-terms (omega (arith, room)) (p .count) few)
         (holds-old u c (read t .constraints) (read t .edits) q) (hold-edits u (keepConstraint c (read t .constraints)) (read t .edits) q))
 
-    pub constraint-comes : (n g marker other : ℕ) (relation : Comparison) (strength constant : Float) (p : Pack) → 1 ≤ marker → marker ≤ symbolCount u → other ≤ symbolCount u → constraintCount t + editCount t < mostConstraints → p .count ≤ 16
+    pub constraint-comes : (n g marker other : ℕ) (relation : Comparison) (strength constant : Float) (p : Pack) → 1 ≤ marker → marker ≤ symbolCount u → other ≤ symbolCount u → constraintCount t + editCount t < mostConstraints → p .count ≤ termRoom
         → readable (brought (keepConstraint (record { number = n; group = g; comparison = relation; strength = strength; constant = constant; terms = termsOf p; tag = tagAt u marker other }) (read t .constraints)) (read t .edits) u) ≡ true
         → {k : ℕ} → k ≡ comparisonCode relation → ConstraintKept n g marker other k strength constant p (t .words) (t .bytes) (t .reals) (u .words) (u .bytes) (u .reals) uw ub ur m
         → Ends u (keepConstraint (record { number = n; group = g; comparison = relation; strength = strength; constant = constant; terms = termsOf p; tag = tagAt u marker other }) (read t .constraints)) (read t .edits) (roomOf u uw ub ur)

@@ -19,16 +19,16 @@ use Rattle.keeps.specs.Tested.{reads-in}
 use Rattle.layout.specs.Layout.{bitOf}
 use Rattle.layout.specs.Back.{bit-back}
 use Rattle.layout.specs.Copied.{bit-small, length-listOf}
-use Rattle.cells.specs.Names.{rowSpan, lastPlace, cellRoom}
-use Rattle.cells.specs.Cells.{Present}
-use Rattle.merging.specs.Merge.{Placed}
+use Rattle.layout.specs.cells.Names.{rowSpan, lastPlace, cellRoom}
+use Rattle.layout.specs.cells.Cells.{Present}
+use Rattle.waist.specs.merging.Merge.{Placed}
 use Rattle.sparse.specs.Places.{mostGone, symbolCountAt, rowCountAt, cellCountAt, variableCountAt, constraintCountAt, editCountAt, shouldClearAt, wholeAt, idsAt, variableNumbersAt, wordsSize}
 use Rattle.sparse.specs.Sparse.{Sparse, symbolCount, rowCount, cellCount, variableCount, constraintCount, editCount, goneCount, goneOf, termsFrom, otherAt, read}
 use Rattle.sparse.specs.Form.{Form}
 use Rattle.sparse.specs.Fits.{Lengths}
 use Rattle.sparse.specs.Repack as packed
 use Rattle.sparse_test.specs.Reads.{reads}
-use Rattle.substituting.specs.Held.{Held, held-few}
+use Rattle.waist.specs.substituting.Held.{Held, held-few}
 use Rattle.rows.specs.declared.number.Wrote.{Wrote}
 use Rattle.rows.specs.Marks.{markOf}
 use Rattle.waist.specs.Working.{workOf, linesOf}
@@ -196,6 +196,12 @@ module _ (wrote : Wrote) (u : Sparse) (st : Standing false (markOf wrote) u) whe
         lengths = (closed-long, h .wide, st .sound .named .wide, st .sound .long, h .wides);
         apart = λ i j a b. st .owners .apart i j a (omega (arith, b, k));
       }
+
+  pub closed-word : (m : ℕ) → (m ≡ wholeAt → ⊥) → (m ≡ constraintCountAt → ⊥) → (m ≡ editCountAt → ⊥) → getD (closed wrote u .words) m 0 ≡ getD (u .words) m 0
+  closed-word = other
+
+  pub closed-mark : getD (closed wrote u .words) wholeAt 0 ≡ bitOf (saysYes wrote)
+  closed-mark = flag
 
   pub closed-symbols : symbolCount (closed wrote u) ≡ symbolCount u
   closed-symbols = count-same u w' same symbolCountAt (omega arith)

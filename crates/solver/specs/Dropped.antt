@@ -18,8 +18,8 @@ use Rattle.steps.specs.Calls.{Answer, Result, remove, dropGroup}
 use Rattle.keeps.specs.Reads.{Reads}
 use Rattle.keeps.specs.Tested.{reads-in}
 use Rattle.keeps.specs.Groups.{Removable, group-removable}
-use Rattle.places.specs.Finding.{placeIn}
-use Rattle.cells.specs.Seek.{first-elim}
+use Rattle.rows.specs.places.Finding.{placeIn}
+use Rattle.layout.specs.cells.Seek.{first-elim}
 use Rattle.sparse.specs.Places.{wholeAt, constraintNumbersAt, constraintGroupsAt}
 use Rattle.sparse.specs.Lookup.{placeFrom}
 use Rattle.sparse.specs.Sparse.{Sparse, constraintCount, constraintOf, read}

@@ -31,14 +31,14 @@ use Rattle.waist.specs.Ending.{Goes}
 use Rattle.lending.specs.declared.Answer as code
 use Rattle.lending.specs.Lending.{answerOf}
 use Rattle.lending.specs.Entered.{Entered}
-use Rattle.tags.specs.declared.Relation.the-variants.{Equal}
-use Rattle.tags.specs.Tags.{relationOf}
-use Rattle.terms.specs.declared.Pack.{Pack}
-use Rattle.terms.specs.Terms.{termsOf}
+use Rattle.changes.specs.declared.tags.Relation.the-variants.{Equal}
+use Rattle.changes.specs.tags.Tags.{relationOf}
+use Rattle.changes.specs.declared.terms.Pack.{Pack}
+use Rattle.changes.specs.terms.Terms.{termsOf}
 use Rattle.refusals.specs.Refusals.{cutoffIn, editPack, addEditRefusal}
 use Rattle.refusals.specs.Tested.{edit-terms}
 use Rattle.refusals.specs.Passed.{Room, add-edit-refused, add-edit-passes, add-edit-passed}
-use Rattle.creation.specs.Created.{Opening}
+use Rattle.addition.specs.creation.Created.{Opening}
 use Rattle.waist.specs.Tags.{tagAt}
 use Rattle.solver.specs.Bringing.{brought, Comes, Ends}
 use Rattle.solver.specs.Begin.{storedMark, begun-is, pack-opens}

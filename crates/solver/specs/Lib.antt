@@ -1,5 +1,6 @@
 -- The changing calls over lent sparse tables: from the tables to the steps, and back.
 pub mod Few
+pub mod Numbers
 pub mod Bringing
 pub mod Begin
 pub mod Closing
@@ -15,6 +16,9 @@ pub mod EditRemoving
 pub mod Adding
 pub mod EditAdding
 pub mod Change
+pub mod Back
+pub mod Backed
+pub mod BackCalls
 pub mod Listed
 pub mod Again
 pub mod Dropping

@@ -16,7 +16,7 @@ use Rattle.steps.specs.Tests.{findConstraint, findEdit}
 use Rattle.keeps.specs.Lists.{Up}
 use Rattle.keeps.specs.Keys.{findBy, findConstraint-is, findEdit-is}
 use Rattle.keeps.specs.Reads.{Reads, conNumber, editNumber}
-use Rattle.places.specs.Finding.{placeIn, place-is, place-at}
+use Rattle.rows.specs.places.Finding.{placeIn, place-is, place-at}
 use Rattle.sparse.specs.Places.{variableNumbersAt, constraintNumbersAt, variablePlacesAt, editVariablesAt}
 use Rattle.sparse.specs.Lookup.{placeFrom}
 use Rattle.sparse.specs.Sparse.{Sparse, variableCount, constraintCount, editCount, numberAt, constraintOf, editOf, read}

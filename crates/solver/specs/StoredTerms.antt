@@ -14,8 +14,9 @@ use Rattle.steps.specs.Number.{nearZero}
 use Rattle.steps.specs.State as steps
 use Rattle.layout.specs.Copy.{most16}
 use Rattle.layout.specs.Copied.{length-listOf}
-use Rattle.places.specs.Listed.{map-list}
-use Rattle.places.specs.Finding.{placeIn}
+use Rattle.layout.specs.Layout.{termRoom}
+use Rattle.rows.specs.places.Listed.{map-list}
+use Rattle.rows.specs.places.Finding.{placeIn}
 use Rattle.sparse.specs.Places.{mostVariables, mostTerms, variableNumbersAt, variablePlacesAt, termCountsAt, termsAt, coefficientsAt}
 use Rattle.sparse.specs.Lookup.{placeFrom}
 use Rattle.sparse.specs.Sparse.{Sparse, variableCount, constraintCount, numberAt, termsFrom, termOf, constraintOf}
@@ -27,13 +28,13 @@ use Rattle.sparse_test.specs.Meaning.{reads-form}
 use Rattle.sparse_test.specs.Parts.{parts}
 use Rattle.sparse_test.specs.Meant.{tested-is}
 use Rattle.lending.specs.Entered.{termsIn}
-use Rattle.terms.specs.declared.Term.{Term}
-use Rattle.terms.specs.declared.Pack.{Pack}
-use Rattle.terms.specs.Terms as terms
-use Rattle.terms.specs.Terms.{noPack, pushed, packFrom, packOf, termIn, termsOf, pushedKept, keptOf}
-use Rattle.terms.specs.Packed.{pushed-room, few-none, pack-terms}
-use Rattle.terms.specs.Kept.{most-le}
-use Rattle.terms.specs.Listed.{gathered}
+use Rattle.changes.specs.declared.terms.Term.{Term}
+use Rattle.changes.specs.declared.terms.Pack.{Pack}
+use Rattle.changes.specs.terms.Terms as terms
+use Rattle.changes.specs.terms.Terms.{noPack, pushed, packFrom, packOf, termIn, termsOf, pushedKept, keptOf}
+use Rattle.changes.specs.terms.Packed.{pushed-room, few-none, pack-terms}
+use Rattle.changes.specs.terms.Kept.{most-le}
+use Rattle.changes.specs.terms.Listed.{gathered}
 use Rattle.refusals.specs.Refusals.{variablesIn}
 
 -- the number of the variable whose symbol's place stands at byte q
@@ -55,7 +56,7 @@ narrow-at w b q n e = rw e (unfold variableAt in n .narrow)
 
 -- n terms from the one at place `from` on
 pub record Terms (w b : List ℕ) (from n : ℕ) : Type 0 where
-  pub few : n ≤ 16
+  pub few : n ≤ termRoom
   pub within : from + n ≤ mostTerms
   pub names : (i : ℕ) → i < n → Names w b (termsAt + (from + i))
 
@@ -91,8 +92,8 @@ module _ (t : Sparse) (good : reads t ≡ true) where
   named : (j : ℕ) → j < constraintCount t → (i : ℕ) → i < count j → placeFrom (t .bytes) variablePlacesAt (variableCount t) (getD (t .bytes) (termsAt + (from j + i)) 0) < variableCount t
   named j h i k = rw (from-is j, ← index-is (getD (t .bytes) (termsAt + (termsFrom t j + i)) 0)) (form .named (termsFrom t j + i) (inside j h i k))
 
-  few : (j : ℕ) → j < constraintCount t → count j ≤ 16
-  few j h = most (t .bytes) termCountsAt (constraintCount t) 16 (parts t (tested-is t ∙ good) .termCounts) j h
+  few : (j : ℕ) → j < constraintCount t → count j ≤ termRoom
+  few j h = most (t .bytes) termCountsAt (constraintCount t) termRoom (parts t (tested-is t ∙ good) .termCounts) j h
 
   ends : (j : ℕ) → j < constraintCount t → termsFrom t j + count j ≤ mostTerms
   unfolding termsFrom
@@ -133,21 +134,21 @@ module _ (t : Sparse) (good : reads t ≡ true) where
 
 -- ---- the kept terms of a pack are no more than sixteen
 
-kept-turn : (cutoff : Float) (q : Pack) (t : Term) (n : ℕ) → q .count + suc n ≤ 16 → pushedKept cutoff q t .count + n ≤ 16
+kept-turn : (cutoff : Float) (q : Pack) (t : Term) (n : ℕ) → q .count + suc n ≤ termRoom → pushedKept cutoff q t .count + n ≤ termRoom
 unfolding pushedKept
 kept-turn cutoff q t n h = go (nearZero cutoff (t .coefficient))
   where
-    go : (b : Bool) → cond b q (pushed q t) .count + n ≤ 16
+    go : (b : Bool) → cond b q (pushed q t) .count + n ≤ termRoom
     go true = omega (arith, h)
     go false =
         let r : pushed q t .count ≡ q .count + 1 = ap (λ (z : Pack). z .count) (pushed-room q t (omega (arith, h))) in
         omega (arith, r, h)
 
-kept-from : (cutoff : Float) (p : Pack) (n i : ℕ) (q : Pack) → q .count + n ≤ 16 → turns (λ j r. pushedKept cutoff r (termIn p j)) n i q .count ≤ 16
+kept-from : (cutoff : Float) (p : Pack) (n i : ℕ) (q : Pack) → q .count + n ≤ termRoom → turns (λ j r. pushedKept cutoff r (termIn p j)) n i q .count ≤ termRoom
 unfolding turns
 kept-from cutoff p zero i q h = omega (arith, h)
 kept-from cutoff p (suc n) i q h = kept-from cutoff p n (suc i) (pushedKept cutoff q (termIn p i)) (kept-turn cutoff q (termIn p i) n h)
 
-pub kept-few : (cutoff : Float) (p : Pack) {q : Pack} → q ≡ keptOf cutoff p → q .count ≤ 16
+pub kept-few : (cutoff : Float) (p : Pack) {q : Pack} → q ≡ keptOf cutoff p → q .count ≤ termRoom
 unfolding keptOf run
 kept-few cutoff p e = rw (e, sub-zero (most16 (p .count))) (kept-from cutoff p (most16 (p .count)) 0 noPack (few-none (most16 (p .count)) (most-le (p .count))))

@@ -3,38 +3,32 @@
 use Prim.Native.Nat.{ℕ, _+_, _≤_, _<_}
 use mathlib.Core.Path.{_≡_, refl, sym, ap, _∙_, subst}
 use mathlib.Core.Bool.{true, false}
-use mathlib.Core.List.{List}
 use mathlib.Core.Option.{some}
 use native.Mathlib.Omega.{arith}
 use lib.Ieee.{Float, nan}
 use lib.ListN.{getD}
-use Rattle.steps.specs.Number.{zero64, isFinite}
-use Rattle.steps.specs.State.{Tag, Edit, State}
-use Rattle.steps.specs.Work.{Work}
+use Rattle.steps.specs.Number.{isFinite}
+use Rattle.steps.specs.State.{Edit, State}
 use Rattle.steps.specs.Edit.{suggestSteps}
 use Rattle.steps.specs.Tests.{findEdit, keepEdit, dropEdit}
 use Rattle.steps.specs.Calls.{begin, finish, conclude, suggest}
 use Rattle.steps.specs.Readable.{readable}
 use Rattle.keeps.specs.Keeps.{suggest-reads}
-use Rattle.sparse.specs.Places.{constraintNumbersAt, constraintMarkersAt, constraintOthersAt, constraintStrengthsAt, editMarkersAt, editOthersAt, editStrengthsAt, suggestionsAt}
-use Rattle.sparse.specs.Lookup.{placeFrom}
-use Rattle.sparse.specs.Sparse.{Sparse, symbolCount, constraintCount, editCount, constraintOf, editOf, read}
+use Rattle.sparse.specs.Places.{editMarkersAt, editOthersAt, suggestionsAt}
+use Rattle.sparse.specs.Sparse.{Sparse, symbolCount, editCount, editOf, read}
 use Rattle.sparse.specs.Form.{Form}
 use Rattle.sparse_test.specs.Meaning.{reads-form, reads-readable}
 use Rattle.rows.specs.declared.number.Wrote.{Wrote}
 use Rattle.rows.specs.Marks.{markOf}
 use Rattle.waist.specs.declared.ending.Ended.{Ended}
 use Rattle.waist.specs.Working.{workOf}
-use Rattle.waist.specs.Standing.{Standing}
 use Rattle.waist.specs.Ending.{outcomeOf, Goes}
-use Rattle.suggestion.specs.Suggested.{editBy, suggest-by}
+use Rattle.optimising.specs.suggestion.Suggested.{editBy, suggest-by}
 use Rattle.lending.specs.declared.Answer as code
 use Rattle.lending.specs.Lending.{answerOf}
 use Rattle.lending.specs.Entered.{Entered}
-use Rattle.terms.specs.declared.Pack.{Pack}
-use Rattle.terms.specs.Terms.{termsOf}
 use Rattle.refusals.specs.Refusals as refusals
-use Rattle.refusals.specs.Refusals.{liveIn, editedIn}
+use Rattle.refusals.specs.Refusals.{editedIn}
 use Rattle.refusals.specs.Known as known
 use Rattle.waist.specs.Tags.{tagAt}
 use Rattle.solver.specs.Bringing.{brought, Comes, Ends}
@@ -60,7 +54,9 @@ suggest-known : (x budget : ℕ) (new : Float) (s : State) (e : Edit) → isFini
 unfolding suggest
 suggest-known x budget new s e f a = rw (f, a, suggest) refl
 
-module _ (x budget : ℕ) (new : Float) (t w : Sparse) (en : Entered t w) (k : ℕ) (finite : isFinite new ≡ true) (live : editedIn (t .words) (t .bytes) x ≡ true) (placed : k ≡ editPlace (t .words) (t .bytes) x) where
+-- ---- the steps in the room, with the edit at place k
+
+module _ (t w : Sparse) (en : Entered t w) (k : ℕ) (in-range : k < editCount t) where
   abbrev marker : ℕ
   marker = getD (t .bytes) (editMarkersAt + k) 0
 
@@ -72,12 +68,6 @@ module _ (x budget : ℕ) (new : Float) (t w : Sparse) (en : Entered t w) (k : �
 
   abbrev edit : Edit
   edit = editOf t k
-
-  pub in-range : k < editCount t
-  in-range = edit-placed t (en .reads) x k placed live .0
-
-  number-is : edit .variable ≡ x
-  number-is = edit-placed t (en .reads) x k placed live .1
 
   form : Form t
   form = reads-form t (en .reads)
@@ -96,30 +86,40 @@ module _ (x budget : ℕ) (new : Float) (t w : Sparse) (en : Entered t w) (k : �
   unfolding editOf
   stored-is = refl
 
-  call-is : suggest x new budget (read t) ≡ conclude (read t) (suggestSteps budget edit new (begin (read t))) (λ w. finish w (read t .constraints) (keepEdit (suggested new edit) (dropEdit x (read t .edits))))
+  pub drag-ends : (budget : ℕ) (new : Float) (before : Wrote) → markOf before ≡ storedMark (t .words) → (e : Ended) (u : Sparse)
+      → outcomeOf false e u ≡ suggestSteps budget (editBy (tagAt w marker other) stored) new (workOf false (markOf before) 0 w)
+      → outcomeOf false e u ≡ suggestSteps budget edit new (begin (read t))
+  drag-ends budget new before begun e u ends = ends ∙ rw (tag-is, stored-is, begun-is t w en before begun) (sym (suggest-by budget edit new (begin (read t)) refl refl))
+
+-- ---- the call
+
+module _ (x budget : ℕ) (new : Float) (t w : Sparse) (en : Entered t w) (k : ℕ) (finite : isFinite new ≡ true) (live : editedIn (t .words) (t .bytes) x ≡ true) (placed : k ≡ editPlace (t .words) (t .bytes) x) where
+  pub in-range : k < editCount t
+  in-range = edit-placed t (en .reads) x k placed live .0
+
+  number-is : editOf t k .variable ≡ x
+  number-is = edit-placed t (en .reads) x k placed live .1
+
+  call-is : suggest x new budget (read t) ≡ conclude (read t) (suggestSteps budget (editOf t k) new (begin (read t))) (λ w. finish w (read t .constraints) (keepEdit (suggested new (editOf t k)) (dropEdit x (read t .edits))))
   call-is =
-      suggest-known x budget new (read t) edit finite (subst (λ (n : ℕ). findEdit n (read t .edits) ≡ some (editOf t k)) number-is (edit-found t (reads-at-start t w en) k in-range))
-      ∙ ap (λ (n : ℕ). conclude (read t) (suggestSteps budget edit new (begin (read t))) (λ w. finish w (read t .constraints) (keepEdit (record { variable = n; strength = edit .strength; tag = edit .tag; suggestion = new }) (dropEdit x (read t .edits))))) (sym number-is)
+      suggest-known x budget new (read t) (editOf t k) finite (subst (λ (n : ℕ). findEdit n (read t .edits) ≡ some (editOf t k)) number-is (edit-found t (reads-at-start t w en) k in-range))
+      ∙ ap (λ (n : ℕ). conclude (read t) (suggestSteps budget (editOf t k) new (begin (read t))) (λ w. finish w (read t .constraints) (keepEdit (record { variable = n; strength = editOf t k .strength; tag = editOf t k .tag; suggestion = new }) (dropEdit x (read t .edits))))) (sym number-is)
 
   again : readable (suggest x new budget (read t) .state) ≡ true
   again = suggest-reads x new budget (read t) (reads-readable t (en .reads))
 
-  module _ (before : Wrote) (begun : markOf before ≡ storedMark (t .words)) (e : Ended) (u : Sparse)
-      (ends : outcomeOf false e u ≡ suggestSteps budget (editBy (tagAt w marker other) stored) new (workOf false (markOf before) 0 w)) where
-    outcome : outcomeOf false e u ≡ suggestSteps budget edit new (begin (read t))
-    outcome = ends ∙ rw (tag-is, stored-is, begun-is t w en before begun) (sym (suggest-by budget edit new (begin (read t)) refl refl))
-
+  module _ (e : Ended) (u : Sparse) (outcome : outcomeOf false e u ≡ suggestSteps budget (editOf t k) new (begin (read t))) where
     -- for the call that brings the record with its new suggestion
-    pub drag-comes : Goes false e u → e .number ≡ 0 → (Comes t (closed (e .wrote) u)) × (readable (brought (read t .constraints) (keepEdit (suggested new edit) (dropEdit (edit .variable) (read t .edits))) (closed (e .wrote) u)) ≡ true)
+    pub drag-comes : Goes false e u → e .number ≡ 0 → (Comes t (closed (e .wrote) u)) × (readable (brought (read t .constraints) (keepEdit (suggested new (editOf t k)) (dropEdit (editOf t k .variable) (read t .edits))) (closed (e .wrote) u)) ≡ true)
     drag-comes goes on =
         let st = went e u goes on in
-        let q = accepted-reads (suggest x new budget) t e u again on st _ (read t .constraints) (keepEdit (suggested new edit) (dropEdit x (read t .edits))) call-is outcome in
-        (closed-comes (e .wrote) u st t (en .reads) (read t .constraints) (keepEdit (suggested new edit) (dropEdit x (read t .edits))) q, ap (λ (n : ℕ). readable (brought (read t .constraints) (keepEdit (suggested new edit) (dropEdit n (read t .edits))) (closed (e .wrote) u))) number-is ∙ q)
+        let q = accepted-reads (suggest x new budget) t e u again on st _ (read t .constraints) (keepEdit (suggested new (editOf t k)) (dropEdit x (read t .edits))) call-is outcome in
+        (closed-comes (e .wrote) u st t (en .reads) (read t .constraints) (keepEdit (suggested new (editOf t k)) (dropEdit x (read t .edits))) q, ap (λ (n : ℕ). readable (brought (read t .constraints) (keepEdit (suggested new (editOf t k)) (dropEdit n (read t .edits))) (closed (e .wrote) u))) number-is ∙ q)
 
     module _ (a : code.Answer) (says : answerOf a ≡ answered e) where
       pub drag-refused : (e .number ≡ 0 → ⊥) → (v : Sparse) → Done (suggest x new budget) a t v
       drag-refused n v = done-refused (suggest x new budget) t v a e u says _ _ call-is outcome n
 
-      pub drag-accepted : Goes false e u → e .number ≡ 0 → (v : Sparse) → Ends (closed (e .wrote) u) (read t .constraints) (keepEdit (suggested new edit) (dropEdit (edit .variable) (read t .edits))) v → Done (suggest x new budget) a t v
+      pub drag-accepted : Goes false e u → e .number ≡ 0 → (v : Sparse) → Ends (closed (e .wrote) u) (read t .constraints) (keepEdit (suggested new (editOf t k)) (dropEdit (editOf t k .variable) (read t .edits))) v → Done (suggest x new budget) a t v
       drag-accepted goes on v h =
-          done-accepted (suggest x new budget) t v a e u says _ (read t .constraints) (keepEdit (suggested new edit) (dropEdit x (read t .edits))) call-is outcome on (went e u goes on) h refl (ap (λ (n : ℕ). keepEdit (suggested new edit) (dropEdit n (read t .edits))) number-is)
+          done-accepted (suggest x new budget) t v a e u says _ (read t .constraints) (keepEdit (suggested new (editOf t k)) (dropEdit x (read t .edits))) call-is outcome on (went e u goes on) h refl (ap (λ (n : ℕ). keepEdit (suggested new (editOf t k)) (dropEdit n (read t .edits))) number-is)

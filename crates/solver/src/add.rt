@@ -2,8 +2,8 @@
 ghost use mathlib.Core.Path.{_≡_};
 ghost use Rattle.steps.specs.State.{strengthOf};
 ghost use Rattle.steps.specs.Calls.{add};
-ghost use Rattle.tags.specs.Tags.{relationOf};
-ghost use Rattle.terms.specs.Terms.{termsIn, listed};
+ghost use Rattle.changes.specs.tags.Tags.{relationOf};
+ghost use Rattle.changes.specs.terms.Terms.{termsIn, listed};
 ghost use Rattle.refusals.specs.Refusals.{cutoffIn, addRefusal};
 ghost use Rattle.solver.specs.Adding.{Packed, Adds};
 ghost use Rattle.solver.specs.Concluding.{Done};
@@ -15,6 +15,8 @@ use crate::begin::close;
 use crate::begin::stored_mark;
 use addition::add::add_steps;
 use addition::inputs::strength_of;
+use changes::tags::Relation;
+use changes::terms::Pack;
 use lending::Answer;
 use sparse::Bytes;
 use sparse::CUTOFF;
@@ -22,8 +24,6 @@ use sparse::Keys;
 use sparse::Reals;
 use sparse::Values;
 use sparse::Words;
-use tags::Relation;
-use terms::Pack;
 
 // The tests passed. What is said is said of every list that the pack is of.
 fn add_known(
@@ -68,7 +68,7 @@ fn add_known(
     }
     let wrote = e.wrote;
     let strength = strength_of(relation);
-    let kept = terms::kept(reals[CUTOFF], p);
+    let kept = changes::terms::kept(reals[CUTOFF], p);
     close(wwords, wrote);
     crate::bringing::with_constraint(
         words,
@@ -115,7 +115,7 @@ pub fn add(
     requires { ⌜ Entered (lent words keys bytes reals values) (lent wwords wkeys wbytes wreals wvalues) ⌝ }
     ensures { λ r. ⌜ Done (add g n (termsIn (listed p)) constant (relationOf relation) budget) r (lent (words .entry) (keys .entry) (bytes .entry) (reals .entry) (values .entry)) (lent (wwords .exit) (wkeys .exit) (wbytes .exit) (wreals .exit) (wvalues .exit)) ⌝ }
 {
-    let q = terms::proper(p);
+    let q = changes::terms::proper(p);
     let strength = strength_of(relation);
     let number = refusals::add_tests(words, reals[CUTOFF], g, n, q, constant, strength);
     if number != 0 {

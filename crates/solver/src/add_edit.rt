@@ -11,6 +11,7 @@ use crate::begin::by_test;
 use crate::begin::close;
 use crate::begin::stored_mark;
 use addition::add::add_steps;
+use changes::tags::Relation;
 use lending::Answer;
 use sparse::Bytes;
 use sparse::CUTOFF;
@@ -18,7 +19,6 @@ use sparse::Keys;
 use sparse::Reals;
 use sparse::Values;
 use sparse::Words;
-use tags::Relation;
 
 // The tests passed: "required-free equality of the variable with 0, stored suggestion 0.0"
 fn add_edit_known(

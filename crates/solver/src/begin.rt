@@ -58,12 +58,19 @@ pub fn answer_of(e: Ended) -> Answer
     }
 }
 
+// The mark as the tables have it.
+pub fn mark_bit(wrote: Wrote) -> u64
+    ensures { λ r. ⌜ r ≡ bitOf (saysYes wrote) ⌝ }
+{
+    let yes = says_yes(wrote);
+    bit(yes)
+}
+
 // The mark is stored; the room holds no record yet.
 pub fn close(words: &mut Words, wrote: Wrote)
     ensures { λ _. ⌜ now (words .exit) ≡ closedWords wrote (now (words .entry)) ⌝ }
 {
-    let yes = says_yes(wrote);
-    words[sparse::WHOLE] = bit(yes);
+    words[sparse::WHOLE] = mark_bit(wrote);
     words[sparse::CONSTRAINT_COUNT] = 0;
     words[sparse::EDIT_COUNT] = 0;
 }

@@ -6,15 +6,17 @@ ghost use Rattle.steps.specs.Number.{zero64};
 ghost use Rattle.steps.specs.State.{comparisonOf};
 ghost use Rattle.steps.specs.Tests.{keepConstraint, keepEdit, dropEdit};
 ghost use Rattle.steps.specs.Readable.{readable};
-ghost use Rattle.layout.specs.Layout.{comparisonCode};
-ghost use Rattle.tags.specs.Tags.{relationOf};
+ghost use Rattle.layout.specs.Layout.{comparisonCode, termRoom};
+ghost use Rattle.changes.specs.tags.Tags.{relationOf};
 ghost use Rattle.sparse.specs.Places.{mostConstraints};
 ghost use Rattle.sparse.specs.Sparse.{symbolCount, constraintCount, editCount, editOf, read};
 ghost use Rattle.waist.specs.Working.{lent};
-ghost use Rattle.terms.specs.Terms.{termsOf};
+ghost use Rattle.changes.specs.terms.Terms.{termsOf};
 ghost use Rattle.waist.specs.Tags.{tagAt};
 ghost use Rattle.solver.specs.Bringing.{brought, Comes, Ends};
 ghost use Rattle.solver.specs.Suggesting.{suggested};
+use changes::tags::Relation;
+use changes::terms::Pack;
 use sparse::Bytes;
 use sparse::Keys;
 use sparse::Reals;
@@ -22,8 +24,6 @@ use sparse::Values;
 use sparse::Words;
 use stored::new;
 use stored::records;
-use tags::Relation;
-use terms::Pack;
 
 // The j-th edit stays behind.
 pub fn without_edit(
@@ -84,7 +84,7 @@ pub fn with_constraint(
     requires { ⌜ marker ≤ symbolCount (lent wwords wkeys wbytes wreals wvalues) ⌝ }
     requires { ⌜ other ≤ symbolCount (lent wwords wkeys wbytes wreals wvalues) ⌝ }
     requires { ⌜ constraintCount (lent words keys bytes reals values) + editCount (lent words keys bytes reals values) < mostConstraints ⌝ }
-    requires { ⌜ p .count ≤ 16 ⌝ }
+    requires { ⌜ p .count ≤ termRoom ⌝ }
     requires { ⌜ readable (brought (keepConstraint (record { number = n; group = g; comparison = comparisonOf (relationOf relation); strength = strength; constant = constant; terms = termsOf p; tag = tagAt (lent wwords wkeys wbytes wreals wvalues) marker other }) (read (lent words keys bytes reals values) .constraints)) (read (lent words keys bytes reals values) .edits) (lent wwords wkeys wbytes wreals wvalues)) ≡ true ⌝ }
     ensures { λ _. ⌜ Ends (lent (wwords .entry) (wkeys .entry) (wbytes .entry) (wreals .entry) (wvalues .entry)) (keepConstraint (record { number = n; group = g; comparison = comparisonOf (relationOf relation); strength = strength; constant = constant; terms = termsOf p; tag = tagAt (lent (wwords .entry) (wkeys .entry) (wbytes .entry) (wreals .entry) (wvalues .entry)) marker other }) (read (lent (words .entry) (keys .entry) (bytes .entry) (reals .entry) (values .entry)) .constraints)) (read (lent (words .entry) (keys .entry) (bytes .entry) (reals .entry) (values .entry)) .edits) (lent (wwords .exit) (wkeys .exit) (wbytes .exit) (wreals .exit) (wvalues .exit)) ⌝ }
 {

@@ -9,13 +9,13 @@ ghost use Rattle.lending.specs.Entered.{termsIn};
 ghost use Rattle.refusals.specs.Refusals.{variablesIn, editsIn};
 ghost use Rattle.solver.specs.Placed.{editPlace};
 ghost use Rattle.solver.specs.StoredTerms.{variableAt, storedTerm, storedPack, Names, Terms};
+use changes::terms::Pack;
+use changes::terms::Term;
 use sparse::Bytes;
 use sparse::Reals;
 use sparse::Words;
 use sparse::lookup::look_up;
 use sparse_test::asking::byte_from;
-use terms::Pack;
-use terms::Term;
 
 // Where the edit of the variable n stands, which is known to have one.
 pub fn edit_place(words: &Words, bytes: &Bytes, n: u64) -> usize
@@ -64,11 +64,11 @@ pub fn stored_pack(words: &Words, bytes: &Bytes, reals: &Reals, from: usize, n: 
     requires { ⌜ Terms (now words) (now bytes) from n ⌝ }
     ensures { λ r. ⌜ r ≡ storedPack (now (words .entry)) (now (bytes .entry)) (now (reals .entry)) from n ⌝ }
 {
-    let mut p = terms::none();
+    let mut p = changes::terms::none();
     let mut i = 0;
     while i < n {
         let t = stored_term(words, bytes, reals, from, i, n);
-        p = terms::push(p, t);
+        p = changes::terms::push(p, t);
         i += 1;
     }
     p

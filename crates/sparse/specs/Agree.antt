@@ -12,10 +12,10 @@ use lib.Ieee.{Float, nan}
 use lib.ListN.{length, getD}
 use Rattle.laws.specs.Lists.{tab, tab-ext, getD-tab, length-tab, listOf, sumIn}
 use Rattle.layout.specs.Laying.{list-ext}
-use Rattle.cells.specs.Names.{rowSpan}
-use Rattle.cells.specs.Cells.{Ascending, cellAt, rowOf}
-use Rattle.cells.specs.Seek.{first-within}
-use Rattle.cells.specs.Reads.{cell-within}
+use Rattle.layout.specs.cells.Names.{rowSpan}
+use Rattle.layout.specs.cells.Cells.{Ascending, cellAt, rowOf}
+use Rattle.layout.specs.cells.Seek.{first-within}
+use Rattle.layout.specs.cells.Reads.{cell-within}
 use Rattle.sparse.specs.Places.{idsAt, variableNumbersAt, variableUsesAt, constraintNumbersAt, constraintGroupsAt, goneNumbersAt, kindsAt, rowPlacesAt, variablePlacesAt, changedAt, constraintMarkersAt, constraintOthersAt, termCountsAt, editVariablesAt, editMarkersAt, editOthersAt, termsAt, relationsAt, constantsAt, oldValuesAt, objectiveAt, cutoffAt, constraintStrengthsAt, editStrengthsAt, suggestionsAt, coefficientsAt, constraintConstantsAt, wordsSize, bytesSize, realsSize}
 use Rattle.sparse.specs.Sparse.{Sparse, symbolCount, rowCount, cellCount, variableCount, constraintCount, editCount, goneCount, symbolAt, otherAt, numberAt, variableOf, termsFrom, termOf, constraintOf, editOf, basicOf, symbolsOf, basicsOf, objectiveOf, goneOf, read}
 use Rattle.sparse.specs.Concat.{sum-ext, sum-in, sum-le}

@@ -19,8 +19,8 @@ use Rattle.steps.specs.Readable.{kindCode}
 use Rattle.layout.specs.Layout.{kindOf, bitOf, comparisonIn, comparisonCode}
 use Rattle.layout.specs.Laying.{getD-map, tab-from}
 use Rattle.layout.specs.Back.{bit-back, comparison-back}
-use Rattle.cells.specs.Cells.{rowOf}
-use Rattle.cells.specs.Seek.{first-elim, first-at}
+use Rattle.layout.specs.cells.Cells.{rowOf}
+use Rattle.layout.specs.cells.Seek.{first-elim, first-at}
 use Rattle.sparse.specs.Places.{idsAt, variableNumbersAt, variableUsesAt, constraintNumbersAt, constraintGroupsAt, goneNumbersAt, kindsAt, rowPlacesAt, variablePlacesAt, changedAt, constraintMarkersAt, constraintOthersAt, termCountsAt, editVariablesAt, editMarkersAt, editOthersAt, termsAt, relationsAt, constantsAt, oldValuesAt, objectiveAt, cutoffAt, constraintStrengthsAt, editStrengthsAt, suggestionsAt, coefficientsAt, constraintConstantsAt, wordsSize, bytesSize, realsSize}
 use Rattle.sparse.specs.Sparse.{Sparse, symbolAt, otherAt, numberAt, variableOf, termsFrom, termOf, constraintOf, editOf, basicOf, symbolsOf, basicsOf, objectiveOf, read}
 use Rattle.sparse.specs.Stretches.{Stretch, Within, lay-in}

@@ -6,7 +6,7 @@ use mathlib.Core.Option.{Option, none, some}
 use lib.ListN.{length, getD}
 use Rattle.steps.specs.Symbol.{Symbol}
 use Rattle.steps.specs.State.{State}
-use Rattle.cells.specs.Names.{cellRoom, lastPlace}
+use Rattle.layout.specs.cells.Names.{cellRoom, lastPlace}
 use Rattle.sparse.specs.Places.{mostRows, mostVariables, mostConstraints, mostTerms, mostGone, wordsSize, bytesSize, realsSize}
 use Rattle.sparse.specs.Sparse.{Sparse}
 use Rattle.sparse.specs.Laying.{Room, Settled}

@@ -7,8 +7,8 @@ use lib.Dec.{eqb}
 use lib.ListN.{getD}
 use borrow.Author.Tests.{eqb-true}
 use Rattle.laws.specs.Loops.{first}
-use Rattle.cells.specs.Names.{lastPlace, cellRoom}
-use Rattle.cells.specs.Seek.{first-elim, first-at}
+use Rattle.layout.specs.cells.Names.{lastPlace, cellRoom}
+use Rattle.layout.specs.cells.Seek.{first-elim, first-at}
 use Rattle.sparse.specs.Places.{mostRows, mostVariables, mostConstraints, mostTerms, mostGone, shouldClearAt, wholeAt, idsAt, variableNumbersAt, kindsAt, rowPlacesAt, variablePlacesAt, changedAt, constraintMarkersAt, constraintOthersAt, editVariablesAt, editMarkersAt, editOthersAt, termsAt, relationsAt}
 use Rattle.sparse.specs.Lookup.{Ascends}
 use Rattle.sparse.specs.Sparse.{Sparse, symbolCount, rowCount, cellCount, variableCount, constraintCount, editCount, goneCount, numberAt, termsFrom}

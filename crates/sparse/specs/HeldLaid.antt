@@ -12,11 +12,11 @@ use lib.ListN.{length, getD, set, length-set}
 use lib.Seq.{getD-set-same, getD-set-other}
 use borrow.Author.Tests.{ltb-true, ltb-false, eqb-true, eqb-false}
 use Rattle.steps.specs.Number.{zero64}
-use Rattle.cells.specs.Names.{rowSpan}
-use Rattle.cells.specs.Cells.{Cells, cells, putIf, packTurn, packed, counted}
-use Rattle.cells.specs.Seek.{run-inv}
-use Rattle.cells.specs.Pack.{Packing, compress-reads}
-use Rattle.cells.specs.Replace.{packed-size}
+use Rattle.layout.specs.cells.Names.{rowSpan}
+use Rattle.layout.specs.cells.Cells.{Cells, cells, putIf, packTurn, packed, counted}
+use Rattle.layout.specs.cells.Seek.{run-inv}
+use Rattle.layout.specs.cells.Pack.{Packing, compress-reads}
+use Rattle.layout.specs.cells.Replace.{packed-size}
 use Rattle.sparse.specs.Laying.{rowsLaid, Room, rows-ascend}
 use Rattle.sparse.specs.Repack.{Held}
 

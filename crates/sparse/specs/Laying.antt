@@ -12,12 +12,12 @@ use lib.ListN.{length, getD}
 use borrow.Author.Tests.{ltb-true, ltb-false}
 use Rattle.laws.specs.Lists.{tab, tab-ext, tab-getD}
 use Rattle.steps.specs.Number.{zero64}
-use Rattle.cells.specs.Names.{rowSpan}
-use Rattle.cells.specs.Cells.{Ascending, Cells, cells, cellIn, cellAt, rowOf, packed, counted, settled}
-use Rattle.cells.specs.Reads.{ascending-lt, cell-within}
-use Rattle.cells.specs.Pack.{Packing, compress-reads}
-use Rattle.cells.specs.Replace.{packed-size}
-use Rattle.cells.specs.Replaced.{counted-le}
+use Rattle.layout.specs.cells.Names.{rowSpan}
+use Rattle.layout.specs.cells.Cells.{Ascending, Cells, cells, cellIn, cellAt, rowOf, packed, counted, settled}
+use Rattle.layout.specs.cells.Reads.{ascending-lt, cell-within}
+use Rattle.layout.specs.cells.Pack.{Packing, compress-reads}
+use Rattle.layout.specs.cells.Replace.{packed-size}
+use Rattle.layout.specs.cells.Replaced.{counted-le}
 
 -- the rows of k cells each, as the rows i, i + 1, .. from the next place on
 unfoldable pub rowsLaid : ℕ → ℕ → List (List Float) → Cells → Cells

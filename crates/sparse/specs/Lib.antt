@@ -16,3 +16,4 @@ pub mod Copy
 pub mod Written
 pub mod Agree
 pub mod Copied
+pub mod lengths

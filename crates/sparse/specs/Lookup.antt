@@ -8,7 +8,7 @@ use native.Mathlib.Omega.{arith}
 use lib.Dec.{ltb}
 use lib.ListN.{getD}
 use borrow.Author.Tests.{ltb-true, ltb-false}
-use Rattle.places.specs.Finding.{placeIn, place-le, place-is, place-live}
+use Rattle.rows.specs.places.Finding.{placeIn, place-le, place-is, place-live}
 
 -- which of the n numbers from place a on is x, n if none is: "finding a variable's place by walking the table"
 unfoldable pub placeFrom : List ℕ → ℕ → ℕ → ℕ → ℕ

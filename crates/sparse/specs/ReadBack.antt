@@ -16,8 +16,8 @@ use Rattle.steps.specs.Readable.{concat, kindCode}
 use Rattle.layout.specs.Layout.{kindOf, bitOf}
 use Rattle.layout.specs.Laying.{getD-map, tab-from}
 use Rattle.layout.specs.Back.{bit-back}
-use Rattle.cells.specs.Cells.{rowOf}
-use Rattle.cells.specs.Seek.{first-elim, first-at}
+use Rattle.layout.specs.cells.Cells.{rowOf}
+use Rattle.layout.specs.cells.Seek.{first-elim, first-at}
 use Rattle.sparse.specs.Places.{idsAt, variableNumbersAt, goneNumbersAt, kindsAt, rowPlacesAt, variablePlacesAt, termCountsAt, termsAt, constantsAt, objectiveAt, cutoffAt, coefficientsAt}
 use Rattle.sparse.specs.Sparse.{Sparse, variableCount, symbolAt, otherAt, numberAt, variableOf, termsFrom, termOf, constraintOf, editOf, basicOf, symbolsOf, basicsOf, objectiveOf, goneOf, read}
 use Rattle.sparse.specs.Concat.{sum-ext, sum-in, sum-le, before, concat-at, concat-length}

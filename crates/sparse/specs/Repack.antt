@@ -14,12 +14,12 @@ use Rattle.laws.specs.Lists.{tab, getD-tab, laid}
 use Rattle.layout.specs.Layout.{over}
 use Rattle.layout.specs.Laying.{laid-nil}
 use Rattle.steps.specs.Number.{zero64}
-use Rattle.cells.specs.Names.{rowSpan}
-use Rattle.cells.specs.Cells.{Ascending, Cells, cells, cellAt, rowOf, lowerIn, packTurn, packed}
-use Rattle.cells.specs.Seek.{run-inv}
-use Rattle.cells.specs.Search.{Bound, lower-bound, lower-is}
-use Rattle.cells.specs.Reads.{ascending-lt, cell-here, cell-absent}
-use Rattle.cells.specs.Pack.{put-on, put-off}
+use Rattle.layout.specs.cells.Names.{rowSpan}
+use Rattle.layout.specs.cells.Cells.{Ascending, Cells, cells, cellAt, rowOf, lowerIn, packTurn, packed}
+use Rattle.layout.specs.cells.Seek.{run-inv}
+use Rattle.layout.specs.cells.Search.{Bound, lower-bound, lower-is}
+use Rattle.layout.specs.cells.Reads.{ascending-lt, cell-here, cell-absent}
+use Rattle.layout.specs.cells.Pack.{put-on, put-off}
 use Rattle.sparse.specs.Stretches.{copied}
 use Rattle.sparse.specs.Laying.{rowsLaid}
 

@@ -13,7 +13,7 @@ use Rattle.laws.specs.Lists.{tab, listOf, sumIn}
 use Rattle.steps.specs.Symbol.{Symbol}
 use Rattle.steps.specs.State.{Term, Basic, Variable, Constraint, Edit, State}
 use Rattle.layout.specs.Layout.{kindOf, comparisonIn}
-use Rattle.cells.specs.Cells.{rowOf}
+use Rattle.layout.specs.cells.Cells.{rowOf}
 use Rattle.sparse.specs.Places.{nextIdAt, symbolCountAt, rowCountAt, cellCountAt, variableCountAt, constraintCountAt, editCountAt, shouldClearAt, wholeAt, goneCountAt, idsAt, variableNumbersAt, variableUsesAt, constraintNumbersAt, constraintGroupsAt, goneNumbersAt, kindsAt, rowPlacesAt, variablePlacesAt, changedAt, constraintMarkersAt, constraintOthersAt, termCountsAt, editVariablesAt, editMarkersAt, editOthersAt, termsAt, relationsAt, constantsAt, oldValuesAt, objectiveAt, cutoffAt, constraintStrengthsAt, editStrengthsAt, suggestionsAt, coefficientsAt, constraintConstantsAt}
 
 pub record Sparse : Type 0 where

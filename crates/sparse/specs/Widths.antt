@@ -6,8 +6,8 @@ use lib.ListN.{length, getD}
 use lib.Ieee.{nan}
 use Rattle.laws.specs.Lists.{length-tab, getD-tab}
 use Rattle.steps.specs.State.{Basic}
-use Rattle.cells.specs.Names.{rowSpan}
-use Rattle.cells.specs.Cells.{cellAt, rowOf}
+use Rattle.layout.specs.cells.Names.{rowSpan}
+use Rattle.layout.specs.cells.Cells.{cellAt, rowOf}
 use Rattle.sparse.specs.Places.{objectiveAt}
 use Rattle.sparse.specs.Sparse.{Sparse, symbolCount, rowCount, cellCount, symbolAt, basicOf, symbolsOf, basicsOf, objectiveOf}
 

@@ -11,7 +11,7 @@ use Rattle.steps.specs.Symbol.{External, Symbol}
 use Rattle.steps.specs.State.{Term, exactly, Basic, Tag, Variable, Constraint, Edit, Tableau, State}
 use Rattle.steps.specs.Readable.{concat, kindCode}
 use Rattle.layout.specs.Layout.{bitOf, comparisonCode}
-use Rattle.cells.specs.Cells.{Cells, cells}
+use Rattle.layout.specs.cells.Cells.{Cells, cells}
 use Rattle.sparse.specs.Places.{nextIdAt, idsAt, variableNumbersAt, variableUsesAt, constraintNumbersAt, constraintGroupsAt, goneNumbersAt, kindsAt, rowPlacesAt, variablePlacesAt, changedAt, constraintMarkersAt, constraintOthersAt, termCountsAt, editVariablesAt, editMarkersAt, editOthersAt, termsAt, relationsAt, constantsAt, oldValuesAt, objectiveAt, cutoffAt, constraintStrengthsAt, editStrengthsAt, suggestionsAt, coefficientsAt, constraintConstantsAt}
 use Rattle.sparse.specs.Sparse.{Sparse}
 use Rattle.sparse.specs.Stretches.{Stretch, from, lay}

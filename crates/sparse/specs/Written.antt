@@ -19,8 +19,8 @@ use Rattle.layout.specs.Layout.{kindOf, bitOf, comparisonCode, over}
 use Rattle.layout.specs.Laying.{tab-from}
 use Rattle.layout.specs.Written.{comparison-read}
 use Rattle.layout.specs.Copied.{length-listOf, getD-listOf}
-use Rattle.cells.specs.Cells.{Cells, cells, rowOf}
-use Rattle.cells.specs.Seek.{first-elim, first-at}
+use Rattle.layout.specs.cells.Cells.{Cells, cells, rowOf}
+use Rattle.layout.specs.cells.Seek.{first-elim, first-at}
 use Rattle.sparse.specs.Places.{idsAt, variableNumbersAt, variableUsesAt, constraintNumbersAt, constraintGroupsAt, goneNumbersAt, kindsAt, rowPlacesAt, variablePlacesAt, changedAt, constraintMarkersAt, constraintOthersAt, termCountsAt, editVariablesAt, editMarkersAt, editOthersAt, termsAt, relationsAt, constantsAt, oldValuesAt, objectiveAt, cutoffAt, constraintStrengthsAt, editStrengthsAt, suggestionsAt, coefficientsAt, constraintConstantsAt}
 use Rattle.sparse.specs.Sparse.{Sparse, symbolCount, rowCount, cellCount, variableCount, constraintCount, editCount, goneCount, symbolAt, otherAt, numberAt, variableOf, termsFrom, termOf, constraintOf, editOf, basicOf, symbolsOf, basicsOf, objectiveOf, goneOf, read}
 use Rattle.sparse.specs.Stretches.{Stretch, part, lay, copied, over-itself, lay-itself, copied-itself}

@@ -1,9 +1,10 @@
 // The places of the sparse tables. specs/Sparse.antt says what stands there.
 // A symbol is named by its place, from 1 by ascending id, and 0 is none; rows are counted from 1, and row 0's keys are a loose row's.
 
+pub mod lengths;
 pub mod lookup;
 
-use cells::CELL_ROOM;
+use layout::cells::CELL_ROOM;
 
 // The five tables, as a function borrows them: arrays, whose lengths are their types'.
 pub type Words = [u64; WORDS_SIZE];
@@ -20,6 +21,12 @@ pub type Values = [f64; CELL_ROOM];
 pub const MOST_ROWS: usize = 50;
 
 pub const MOST_VARIABLES: usize = 32;
+
+// Edits counted.
+pub const MOST_CONSTRAINTS: usize = 48;
+
+// Of all constraints.
+pub const MOST_TERMS: usize = 768;
 
 // "At most 32 gone entries wait."
 pub const MOST_GONE: usize = 32;

@@ -21,15 +21,13 @@ use Rattle.steps.specs.State.{Basic, Variable, Constraint, Edit, State}
 use Rattle.steps.specs.Work.{findRow}
 use Rattle.steps.specs.Changes.{findVariable, valueOf, value}
 use Rattle.steps.specs.Tests.{findConstraint, findEdit, hasConstraint, hasEdit}
-use Rattle.places.specs.Finding.{placeIn, place-is, place-live, Apart}
-use Rattle.places.specs.Listed.{same}
+use Rattle.rows.specs.places.Finding.{placeIn, place-is, place-live, Apart}
+use Rattle.rows.specs.places.Listed.{same}
 use Rattle.sparse.specs.Places.{idsAt, variableNumbersAt, constraintNumbersAt, rowPlacesAt, variablePlacesAt, editVariablesAt, constantsAt}
-use Rattle.sparse.specs.Lookup.{Ascends, placeFrom}
+use Rattle.sparse.specs.Lookup.{placeFrom}
 use Rattle.sparse.specs.Sparse.{Sparse, rowCount, variableCount, constraintCount, editCount, symbolAt, numberAt, variableOf, constraintOf, editOf, basicOf, basicsOf, read}
-use Rattle.sparse.specs.Form.{indexAt, index-named, Counts, At, Form}
+use Rattle.sparse.specs.Form.{indexAt, index-named, At, Form}
 use Rattle.sparse_test.specs.Reads.{reads}
-use Rattle.sparse_test.specs.Meaning.{reads-form}
-use Rattle.sparse_test.specs.Meant.{reads-apart, reads-constraints}
 
 -- "Queries give false or 0.0 .. beside 18"
 unfoldable pub asked : {A : Type 0} → (State → A) → A → Sparse → A
@@ -223,30 +221,11 @@ module _ (t : Sparse) (form : Form t) (apart : Apart (λ j. getD (t .bytes) (var
 
 -- ---- what the code answers
 
-module _ (t : Sparse) (n : ℕ) {x : Bool} (e : x ≡ reads t) where
-  pub not-asked : {A : Type 0} (q : State → A) (d : A) → x ≡ false → d ≡ asked q d t
+module _ (t : Sparse) {x : Bool} (e : x ≡ reads t) {A : Type 0} (q : State → A) (d : A) where
+  pub not-asked : x ≡ false → d ≡ asked q d t
   unfolding asked
-  not-asked q d h = rw (← e, h) refl
+  not-asked h = rw (← e, h) refl
 
-  answered : {A : Type 0} (q : State → A) (d : A) → x ≡ true → q (read t) ≡ asked q d t
+  pub answered : x ≡ true → q (read t) ≡ asked q d t
   unfolding asked
-  answered q d h = rw (← e, h) refl
-
-  pub constraint-asked : x ≡ true → {z : ℕ} → z ≡ placeFrom (t .words) constraintNumbersAt (constraintCount t) n → ltb z (constraintCount t) ≡ asked (hasConstraint n) false t
-  constraint-asked h f = ap (λ (z : ℕ). ltb z (constraintCount t)) f ∙ sym (has-constraint t n) ∙ answered (hasConstraint n) false h
-
-  pub edit-asked : x ≡ true → {b : Bool} → b ≡ editIn (t .words) (t .bytes) (variableCount t) (editCount t) n → b ≡ asked (hasEdit n) false t
-  edit-asked h f = f ∙ sym (has-edit t (reads-form t (sym e ∙ h)) (reads-apart t (sym e ∙ h)) n) ∙ answered (hasEdit n) false h
-
-  pub value-asked : x ≡ true → {f : Float} → f ≡ valueIn (t .words) (t .bytes) (t .reals) (variableCount t) (rowCount t) n → f ≡ asked (value n) zero64 t
-  value-asked h f = f ∙ sym (value-is t n (reads-form t (sym e ∙ h))) ∙ answered (value n) zero64 h
-
-  pub counts-asked : x ≡ true → Counts t
-  counts-asked h = reads-form t (sym e ∙ h) .counts
-
-  -- the test that the tables read is what a lookup needs
-  pub numbers-asked : x ≡ true → Ascends (t .words) variableNumbersAt (variableCount t)
-  numbers-asked h = reads-form t (sym e ∙ h) .numbers
-
-  pub constraints-asked : x ≡ true → Ascends (t .words) constraintNumbersAt (constraintCount t)
-  constraints-asked h = reads-constraints t (sym e ∙ h)
+  answered h = rw (← e, h) refl

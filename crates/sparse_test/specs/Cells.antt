@@ -1,15 +1,15 @@
 -- The cells' test, key by key, is the state's: no basic cell, finite numbers, the sparse form.
 -- Assumes nothing.
-use Prim.Native.Nat.{ℕ, suc, _+_, _*_, _-_, _/_, _%_, _≤_, _<_}
-use mathlib.Core.Path.{_≡_, refl, sym, ap, _∙_, subst}
+use Prim.Native.Nat.{ℕ, zero, suc, _+_, _*_, _-_, _/_, _%_, _≤_, _<_}
+use mathlib.Core.Path.{_≡_, refl, sym, ap, _∙_}
 use mathlib.Core.Bool.{Bool, true, false, not, _&&_}
 use mathlib.Core.List.{List}
 use native.Mathlib.Omega.{arith}
 use lib.Dec.{eqb, leb, ltb}
 use lib.Ieee.{Float, nan, ne, ofBits}
 use lib.ListN.{getD}
-use borrow.Author.Tests.{eqb-true, eqb-false, ltb-true, lt-ltb, leb-true, le-leb, not-true}
-use Rattle.laws.specs.Lists.{tab, listOf, allIn}
+use borrow.Author.Tests.{ltb-true, ltb-false, lt-ltb, leb-true, le-leb, not-true}
+use Rattle.laws.specs.Lists.{tab, listOf, allFrom, allIn}
 use Rattle.layout.specs.Rooms.{both}
 use Rattle.steps.specs.Number.{isFinite, zero64}
 use Rattle.steps.specs.Symbol.{absent}
@@ -17,13 +17,13 @@ use Rattle.steps.specs.State.{Basic}
 use Rattle.steps.specs.Tests.{member}
 use Rattle.steps.specs.Readable as steps
 use Rattle.keeps.specs.Lists.{no-both}
-use Rattle.cells.specs.Names.{rowSpan}
-use Rattle.cells.specs.Cells.{ascendsOf, presentOf, cellIn, cellAt, rowOf}
-use Rattle.cells.specs.Seek.{first-elim}
-use Rattle.cells.specs.Reads.{cell-here, cell-absent}
-use Rattle.places.specs.Finding.{placeIn, place-is, place-live, all-at, at-all}
-use Rattle.places.specs.Listed.{join, member-list}
-use Rattle.places.specs.Shares.{finiteIn}
+use Rattle.layout.specs.cells.Names.{rowSpan}
+use Rattle.layout.specs.cells.Cells.{ascendsOf, presentOf, cellIn, cellAt, rowOf}
+use Rattle.layout.specs.cells.Seek.{first-elim}
+use Rattle.layout.specs.cells.Reads.{cell-here, cell-absent}
+use Rattle.rows.specs.places.Finding.{placeIn, place-is, place-live, all-at, at-all, rising-lt, tested-rising}
+use Rattle.rows.specs.places.Listed.{join, same, member-list}
+use Rattle.rows.specs.places.Shares.{finiteIn}
 use Rattle.sparse.specs.Places.{rowPlacesAt, constantsAt, objectiveAt}
 use Rattle.sparse.specs.Sparse.{Sparse, symbolCount, rowCount, cellCount, basicOf, basicsOf, objectiveOf, read}
 use Rattle.sparse.specs.Repack.{Held}
@@ -92,8 +92,16 @@ module _ (t : Sparse) where
       (b .0, b .1, a .1)
 
   values-parts : valuesFit (t .values) n ≡ true → (presentOf (t .values) n ≡ true) × (finiteIn (t .values) 0 n ≡ true)
-  unfolding valuesFit
-  values-parts h = both _ _ h
+  unfolding valuesFit presentOf finiteIn
+  values-parts h = (
+    at-all _ 0 n λ j u k. both _ _ (at j k) .0,
+    at-all _ 0 n λ j u k.
+        let e : 0 + j ≡ j = omega arith in
+        rw e (both (ne (value j) zero64) (isFinite (value j)) (at j k) .1),
+  )
+    where
+      at : (j : ℕ) → j < n → (ne (value j) zero64 && isFinite (value j)) ≡ true
+      at j k = all-at (λ j. ne (value j) zero64 && isFinite (value j)) 0 n h j (omega arith) k
 
   open-at : openIn (t .keys) (t .bytes) n k r ≡ true → (j : ℕ) → j < n → openAt (t .bytes) k r (key j % rowSpan) ≡ true
   unfolding openIn
@@ -197,10 +205,45 @@ module _ (t : Sparse) where
     form-costs = at-all _ 0 r λ i u h. clear .0 i h
 
     pub form-values : Finite → valuesFit (t .values) n ≡ true
-    unfolding valuesFit finiteIn
+    unfolding valuesFit
     form-values f =
-        join (fit-parts fits .1) (at-all _ 0 n λ j u h.
-        let e : 0 + j ≡ j = omega arith in
+        at-all _ 0 n λ j u h.
         let i = held .rows j h in
         let p = held .places j h in
-        rw e (ap isFinite (sym (held-cell held j h)) ∙ f .2 (key j / rowSpan) (key j % rowSpan) (i .0) (i .1) (p .0) (p .1)))
+        join (held .present j h) (ap isFinite (sym (held-cell held j h)) ∙ f .2 (key j / rowSpan) (key j % rowSpan) (i .0) (i .1) (p .0) (p .1))
+
+-- ---- the rows of keys that ascend: the first and the last key tell them
+
+module _ (keys : List ℕ) (n r : ℕ) where
+  abbrev rowAt : ℕ → ℕ
+  rowAt j = getD keys j 0 / rowSpan
+
+  pub no-rows : n ≡ 0 → true ≡ rowsIn keys n r
+  unfolding rowsIn allIn allFrom
+  no-rows e = rw e refl
+
+  pub rows-ends : ascendsOf keys n ≡ true → (n ≡ 0 → ⊥) → (leb 1 (rowAt 0) && leb (rowAt (n - 1)) r) ≡ rowsIn keys n r
+  unfolding ascendsOf rowsIn
+  rows-ends h some =
+      same _ _
+      (λ q. let p = both (leb 1 (rowAt 0)) (leb (rowAt (n - 1)) r) q in at-all _ 0 n λ j u k. join (le-leb 1 (rowAt j) (above (leb-true 1 (rowAt 0) (p .0)) j k)) (le-leb (rowAt j) r (below (leb-true (rowAt (n - 1)) r (p .1)) j k (ltb j (n - 1)) refl)))
+      (λ q. join (both (leb 1 (rowAt 0)) (leb (rowAt 0) r) (at q 0 (omega (arith, some))) .0) (both (leb 1 (rowAt (n - 1))) (leb (rowAt (n - 1)) r) (at q (n - 1) (omega (arith, some))) .1))
+    where
+      at : allIn (λ j. leb 1 (rowAt j) && leb (rowAt j) r) 0 n ≡ true → (j : ℕ) → j < n → (leb 1 (rowAt j) && leb (rowAt j) r) ≡ true
+      at q j k = all-at (λ j. leb 1 (rowAt j) && leb (rowAt j) r) 0 n q j (omega arith) k
+
+      up : (i j : ℕ) → i < j → j < n → getD keys i 0 < getD keys j 0
+      up i j a b =
+          let o : i + suc (j - suc i) ≡ j = omega (arith, a) in
+          rw o at (rising-lt (λ i. getD keys i 0) n (tested-rising (λ i. getD keys i 0) n h) i (j - suc i) (omega (arith, a, b)))
+
+      above : 1 ≤ rowAt 0 → (j : ℕ) → j < n → 1 ≤ rowAt j
+      above l zero k = l
+      above l (suc j) k = let q = up 0 (suc j) (omega arith) k in omega (arith, l, q)
+
+      below : rowAt (n - 1) ≤ r → (j : ℕ) → j < n → (b : Bool) → ltb j (n - 1) ≡ b → rowAt j ≤ r
+      below l j k true c = let q = up j (n - 1) (ltb-true j (n - 1) c) (omega (arith, k)) in omega (arith, l, q)
+      below l j k false c =
+          let m = ltb-false j (n - 1) c in
+          let o : n - 1 ≡ j = omega (arith, k, m) in
+          rw o at l

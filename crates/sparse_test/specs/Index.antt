@@ -10,9 +10,10 @@ use lib.ListN.{length, getD, set, replicate, length-set}
 use lib.Seq.{getD-set-same, getD-set-other}
 use borrow.Author.Tests.{eqb-true, eqb-false, eq-eqb, ne-eqb, ltb-true, ltb-false, lt-ltb, le-ltb}
 use Rattle.laws.specs.Loops.{seek, first}
-use Rattle.cells.specs.Seek.{first-none}
-use Rattle.places.specs.Finding.{placeIn}
-use Rattle.sparse.specs.Places.{variablePlacesAt}
+use Rattle.layout.specs.cells.Seek.{first-none}
+use Rattle.layout.specs.cells.Names.{placeRoom}
+use Rattle.rows.specs.places.Finding.{placeIn}
+use Rattle.sparse.specs.Places.{variablePlacesAt, mostVariables}
 use Rattle.sparse_test.specs.Tested.{indexIn, numberIn}
 
 -- what a table's entry means: one of v, or v
@@ -24,7 +25,7 @@ unfoldable pub indexFrom : List ℕ → ℕ → ℕ → ℕ → ℕ
 indexFrom b v i p = first (λ j. eqb p (getD b (variablePlacesAt + j) 0)) (λ j. j) v i v
 
 pub record IndexedFrom (index b : List ℕ) (v i : ℕ) : Type 0 where
-  pub long : length index ≡ 256
+  pub long : length index ≡ placeRoom
   pub tells : (p : ℕ) → p ≤ 255 → near v (getD index p 0) ≡ indexFrom b v i p
 
 abbrev pub Indexed : List ℕ → List ℕ → ℕ → Type 0
@@ -35,8 +36,8 @@ filled zero p x h = absurd (omega (arith, h))
 filled (suc n) zero x h = refl
 filled (suc n) (suc p) x h = filled n p x (omega (arith, h))
 
-pub index-none : (b : List ℕ) (v : ℕ) {l : List ℕ} → v ≤ 32 → l ≡ replicate 256 255 → IndexedFrom l b v v
-index-none b v {l} h e = record { long = ap length e; tells = λ p q. ap (λ (m : List ℕ). near v (getD m p 0)) e ∙ rw (filled 256 p 255 (omega (arith, q))) (none p) }
+pub index-none : (b : List ℕ) (v : ℕ) {l : List ℕ} → v ≤ mostVariables → l ≡ replicate placeRoom 255 → IndexedFrom l b v v
+index-none b v {l} h e = record { long = ap length e; tells = λ p q. ap (λ (m : List ℕ). near v (getD m p 0)) e ∙ rw (filled placeRoom p 255 (omega (arith, q))) (none p) }
   where
     none : (p : ℕ) → near v 255 ≡ indexFrom b v v p
     none p = unfold near indexFrom in rw (le-ltb 255 v (omega (arith, h))) (sym (first-none (λ j. eqb p (getD b (variablePlacesAt + j) 0)) (λ j. j) v v v (omega arith) λ j x y. absurd (omega (arith, x, y))))

@@ -13,9 +13,9 @@ use Rattle.laws.specs.Lists.{tab, listOf}
 use Rattle.steps.specs.Tests.{member}
 use Rattle.steps.specs.Readable as steps
 use Rattle.keeps.specs.Lists.{All, all-in, all-out, all-to, left, right, no-both}
-use Rattle.places.specs.Finding.{placeIn, place-is, place-live, Apart}
-use Rattle.places.specs.Listed.{same, member-list}
-use Rattle.places.specs.Spent.{countOf}
+use Rattle.rows.specs.places.Finding.{placeIn, place-is, place-live, Apart}
+use Rattle.rows.specs.places.Listed.{same, member-list}
+use Rattle.rows.specs.places.Spent.{countOf}
 
 module _ (c : ℕ → ℕ) (P : ℕ → Type 0) (inj : (x y : ℕ) → P x → P y → c x ≡ c y → x ≡ y) where
   eqb-map : (x y : ℕ) → P x → P y → eqb (c x) (c y) ≡ eqb x y

@@ -4,9 +4,13 @@ pub mod Reads
 pub mod Views
 pub mod Meaning
 pub mod Tested
+pub mod Claims
+pub mod Kinds
 pub mod Index
 pub mod Injective
 pub mod Owners
+pub mod Claimed
+pub mod Kept
 pub mod Uses
 pub mod Records
 pub mod Open
@@ -17,3 +21,5 @@ pub mod Meant
 pub mod Whole
 pub mod Asked
 pub mod WrittenReads
+pub mod zeros
+pub mod narrow

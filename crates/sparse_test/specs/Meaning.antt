@@ -16,11 +16,12 @@ use Rattle.steps.specs.Number.{zero64}
 use Rattle.steps.specs.State.{Constraint, Edit}
 use Rattle.steps.specs.Readable as steps
 use Rattle.keeps.specs.Clauses.{and3, Clauses, clauses-in}
-use Rattle.cells.specs.Names.{rowSpan, lastPlace, cellRoom}
-use Rattle.cells.specs.Cells.{ascendsOf, presentOf}
-use Rattle.cells.specs.Load.{ascends-true}
-use Rattle.places.specs.Finding.{all-at, at-all}
-use Rattle.places.specs.Listed.{join, listed-at, at-listed, ascend-list, from-list}
+use Rattle.layout.specs.Layout.{termRoom}
+use Rattle.layout.specs.cells.Names.{rowSpan, lastPlace, cellRoom}
+use Rattle.layout.specs.cells.Cells.{ascendsOf, presentOf}
+use Rattle.layout.specs.cells.Load.{ascends-true}
+use Rattle.rows.specs.places.Finding.{all-at, at-all}
+use Rattle.rows.specs.places.Listed.{join, listed-at, at-listed, ascend-list, from-list}
 use Rattle.sparse.specs.Places.{mostVariables, mostConstraints, mostTerms, mostGone, nextIdAt, shouldClearAt, wholeAt, idsAt, variableNumbersAt, constraintNumbersAt, goneNumbersAt, kindsAt, rowPlacesAt, variablePlacesAt, changedAt, constraintMarkersAt, constraintOthersAt, termCountsAt, editVariablesAt, editMarkersAt, editOthersAt, termsAt, relationsAt}
 use Rattle.sparse.specs.Sparse.{Sparse, symbolCount, rowCount, cellCount, variableCount, constraintCount, editCount, goneCount, termsFrom, termOf, constraintOf, read}
 use Rattle.sparse.specs.Concat.{sum-most}
@@ -192,27 +193,27 @@ module _ (t : Sparse) where
       ascends (t .words) variableNumbersAt (variableCount t) u i j a b
 
   abbrev pub fewTerms : Constraint → Bool
-  fewTerms c = leb (length (c .terms)) 16
+  fewTerms c = leb (length (c .terms)) termRoom
 
-  few-is : (i : ℕ) → fewTerms (constraintOf t i) ≡ leb (getD (t .bytes) (termCountsAt + i) 0) 16
+  few-is : (i : ℕ) → fewTerms (constraintOf t i) ≡ leb (getD (t .bytes) (termCountsAt + i) 0) termRoom
   unfolding constraintOf
   few-is i = rw (length-listOf (getD (t .bytes) (termCountsAt + i) 0) (termOf t (termsFrom t i))) refl
 
-  pub few-in : steps.all fewTerms (read t .constraints) ≡ true → (i : ℕ) → i < constraintCount t → getD (t .bytes) (termCountsAt + i) 0 ≤ 16
+  pub few-in : steps.all fewTerms (read t .constraints) ≡ true → (i : ℕ) → i < constraintCount t → getD (t .bytes) (termCountsAt + i) 0 ≤ termRoom
   unfolding read
   few-in q i h = leb-true _ _ (sym (few-is i) ∙ listed-at fewTerms (constraintCount t) (constraintOf t) q i h)
 
-  pub few-out : ((i : ℕ) → i < constraintCount t → getD (t .bytes) (termCountsAt + i) 0 ≤ 16) → steps.all fewTerms (read t .constraints) ≡ true
+  pub few-out : ((i : ℕ) → i < constraintCount t → getD (t .bytes) (termCountsAt + i) 0 ≤ termRoom) → steps.all fewTerms (read t .constraints) ≡ true
   unfolding read
   few-out f = at-listed fewTerms (constraintCount t) (constraintOf t) λ i h. few-is i ∙ le-leb _ _ (f i h)
 
-  pub terms-fit : constraintCount t ≤ mostConstraints → ((i : ℕ) → i < constraintCount t → getD (t .bytes) (termCountsAt + i) 0 ≤ 16) → termsFrom t (constraintCount t) ≤ mostTerms
+  pub terms-fit : constraintCount t ≤ mostConstraints → ((i : ℕ) → i < constraintCount t → getD (t .bytes) (termCountsAt + i) 0 ≤ termRoom) → termsFrom t (constraintCount t) ≤ mostTerms
   unfolding termsFrom
   terms-fit h f = let m = sum-most (λ c. getD (t .bytes) (termCountsAt + c) 0) (constraintCount t) f in omega (arith, m, h)
 
-  few-terms : steps.countsInRange (read t) ≡ true → (i : ℕ) → i < constraintCount t → getD (t .bytes) (termCountsAt + i) 0 ≤ 16
+  few-terms : steps.countsInRange (read t) ≡ true → (i : ℕ) → i < constraintCount t → getD (t .bytes) (termCountsAt + i) 0 ≤ termRoom
   unfolding steps.countsInRange
-  few-terms q = few-in (and3 (leb (length (read t .changes .variables)) 32) (leb (length (steps.tags (read t))) 48) (steps.all fewTerms (read t .constraints)) q .2)
+  few-terms q = few-in (and3 (leb (length (read t .changes .variables)) mostVariables) (leb (length (steps.tags (read t))) mostConstraints) (steps.all fewTerms (read t .constraints)) q .2)
 
   pub form-in : FormParts t → ((i j : ℕ) → 1 ≤ i → i < j → j ≤ symbolCount t → getD (t .words) (idsAt + i) 0 < getD (t .words) (idsAt + j) 0) → ((i j : ℕ) → i < j → j < variableCount t → getD (t .words) (variableNumbersAt + i) 0 < getD (t .words) (variableNumbersAt + j) 0) → termsFrom t (constraintCount t) ≤ mostTerms → Form t
   form-in p ids numbers terms =

@@ -1,15 +1,15 @@
 -- The test that the code runs is the meaning of 18: `tested t ≡ reads t`.
 -- Assumes nothing.
-use Prim.Native.Nat.{ℕ, _+_, _-_, _≤_, _<_}
+use Prim.Native.Nat.{ℕ, _+_, _-_, _<_}
 use mathlib.Core.Path.{_≡_, refl, sym, ap, _∙_}
-use mathlib.Core.Bool.{Bool, true, _&&_, _||_, cond}
+use mathlib.Core.Bool.{true, _||_}
 use mathlib.Core.List.{List, map}
 use native.Mathlib.Omega.{arith}
 use lib.Dec.{leb, ltb}
 use lib.Ieee.{nan, isNan}
 use lib.ListN.{length, getD}
-use borrow.Author.Tests.{leb-true, le-leb, ltb-true, lt-ltb}
-use Rattle.laws.specs.Lists.{listOf, allIn, length-tab}
+use borrow.Author.Tests.{le-leb, lt-ltb}
+use Rattle.laws.specs.Lists.{listOf, length-tab}
 use Rattle.layout.specs.Rooms.{both}
 use Rattle.layout.specs.Copied.{length-listOf}
 use Rattle.steps.specs.Number.{isFinite, cutoffFits}
@@ -18,21 +18,22 @@ use Rattle.steps.specs.State.{Variable, Constraint, Edit}
 use Rattle.steps.specs.Readable as steps
 use Rattle.keeps.specs.Lists.{All}
 use Rattle.keeps.specs.Clauses.{and3, and4, Clauses, clauses-in, clauses-out}
-use Rattle.places.specs.Finding.{at-all, Apart}
-use Rattle.places.specs.Listed.{join, same, ascend-list}
-use Rattle.places.specs.Shares.{finiteIn}
-use Rattle.sparse.specs.Places.{nextIdAt, idsAt, variableNumbersAt, constraintNumbersAt, goneNumbersAt, kindsAt, rowPlacesAt, variablePlacesAt, changedAt, constraintMarkersAt, constraintOthersAt, termCountsAt, editVariablesAt, editMarkersAt, editOthersAt, termsAt, constantsAt, objectiveAt, cutoffAt, constraintStrengthsAt, editStrengthsAt, suggestionsAt, coefficientsAt}
+use Rattle.layout.specs.Layout.{termRoom}
+use Rattle.rows.specs.places.Finding.{at-all, Apart}
+use Rattle.rows.specs.places.Listed.{join, same, ascend-list}
+use Rattle.sparse.specs.Places.{nextIdAt, idsAt, variableNumbersAt, constraintNumbersAt, goneNumbersAt, rowPlacesAt, variablePlacesAt, constraintMarkersAt, constraintOthersAt, termCountsAt, editVariablesAt, editMarkersAt, editOthersAt, termsAt, cutoffAt, mostConstraints, mostVariables, mostGone}
 use Rattle.sparse.specs.Lookup.{Ascends}
-use Rattle.sparse.specs.Sparse.{Sparse, symbolCount, rowCount, cellCount, variableCount, constraintCount, editCount, goneCount, goneOf, numberAt, termsFrom, basicOf, basicsOf, variableOf, read}
-use Rattle.sparse.specs.Form.{indexAt, index-named, At}
-use Rattle.sparse_test.specs.Stretch.{ascendIn, betweenIn, mostIn, ascends, between, in-between, most, in-most}
-use Rattle.sparse_test.specs.Reads.{greatestU32, countsFit, liveIn, namedIn, cellsFit, formFits, reads}
+use Rattle.sparse.specs.Sparse.{Sparse, symbolCount, rowCount, variableCount, constraintCount, editCount, goneCount, goneOf, numberAt, termsFrom, basicOf, basicsOf, variableOf, read}
+use Rattle.sparse.specs.Form.{indexAt, At}
+use Rattle.sparse_test.specs.Stretch.{ascendIn, betweenIn, ascends, between, in-between, most, in-most}
+use Rattle.sparse_test.specs.Reads.{liveIn, namedIn, reads}
 use Rattle.sparse_test.specs.Views.{owners, asked, tag-count, numbers-are, constraint-numbers-are, edit-numbers-are}
-use Rattle.sparse_test.specs.Meaning.{Counted, counted, recounted, FormParts, form-parts, form-joined, live-at, named-at, fewTerms, few-in, few-out, reads-readable, reads-parts}
-use Rattle.sparse_test.specs.Tested.{wordsFit, bytesFit, ownedFit, kindAt, externalsIn, tagsFit, errorsIn, kindsFit, oldsFit, realsFit, indexIn, numberIn, editsUp, usesFit, costsFit, keysFit, valuesFit, termCount, contentFits, tested}
+use Rattle.sparse_test.specs.Meaning.{FormParts, form-joined, live-at, named-at, fewTerms, few-in, few-out, reads-readable, reads-parts}
+use Rattle.sparse_test.specs.Tested.{editsUp, tested}
 use Rattle.sparse_test.specs.Parts.{Parts, parts, joined}
 use Rattle.sparse_test.specs.Injective.{each-list, list-each, both-lists, first-list, second-list, distinct-apart}
-use Rattle.sparse_test.specs.Owners.{IdsUp, Owns, fit-owns, owns-fit, owns-distinct, Placed, placed, all-placed}
+use Rattle.sparse_test.specs.Owners.{IdsUp, Owns, once-owns, owns-once, owns-distinct, Placed, placed, all-placed}
+use Rattle.sparse_test.specs.Kept.{kind-near}
 use Rattle.sparse_test.specs.Uses.{NumbersUp, number-is, uses-counted, counted-uses}
 use Rattle.sparse_test.specs.Records.{all-ext, externals-are, constraint-kinds-are, markers-are, groups-are, gone-ascend, notTold, returned-are, edit-kinds-are, olds-are, constraints-finite-are, edits-finite-are}
 use Rattle.sparse_test.specs.Tableau.{ids-in, ordered, orderly, RowsLive, rows-up, rows-live, Clear, no-basic, basic-no}
@@ -91,14 +92,6 @@ module _ (t : Sparse) where
   unfolding namedIn
   named-in a n f = at-all _ 0 n λ j u h. lt-ltb _ _ (f j h)
 
-  kind-near : mostIn (t .bytes) (kindsAt + 1) k 3 ≡ true → (p : ℕ) → At t p → kindAt (t .bytes) p ≤ 3
-  unfolding kindAt
-  kind-near h p l =
-      let a = l .0 in
-      let b = l .1 in
-      let o : kindsAt + 1 + (p - 1) ≡ kindsAt + p = omega (arith, a) in
-      rw o at (most (t .bytes) (kindsAt + 1) k 3 h (p - 1) (omega (arith, a, b)))
-
   numbers-rise : ascendIn (t .words) variableNumbersAt (variableCount t) ≡ true → NumbersUp t
   numbers-rise h = ascends (t .words) variableNumbersAt (variableCount t) h
 
@@ -116,7 +109,7 @@ module _ (t : Sparse) where
     up = ids-in t (p .idsUp)
 
     owning : Owns t × All (At t) (owners t) × (steps.distinct (owners t) ≡ true)
-    owning = fit-owns t up (p .counts .symbols) (p .owned)
+    owning = once-owns t up (p .owned)
 
     used : (steps.usesCounted (read t) ≡ true) × All Named (asked t)
     used = uses-counted t (numbers-rise (p .numbersUp)) (places-apart (owning .2)) (p .counts .variables) (p .uses)
@@ -153,7 +146,7 @@ module _ (t : Sparse) where
     unfolding steps.countsInRange
     counts-clause =
         let c = p .counts in
-        join (join (ap (λ (n : ℕ). leb n 32) variable-count ∙ le-leb _ _ (c .variables)) (ap (λ (n : ℕ). leb n 48) (tag-count t) ∙ le-leb _ _ (c .tags))) (few-out t (most (t .bytes) termCountsAt (constraintCount t) 16 (p .termCounts)))
+        join (join (ap (λ (n : ℕ). leb n mostVariables) variable-count ∙ le-leb _ _ (c .variables)) (ap (λ (n : ℕ). leb n mostConstraints) (tag-count t) ∙ le-leb _ _ (c .tags))) (few-out t (most (t .bytes) termCountsAt (constraintCount t) termRoom (p .termCounts)))
 
     ascending-clause : steps.numbersAscend (read t) ≡ true
     unfolding steps.numbersAscend
@@ -187,11 +180,11 @@ module _ (t : Sparse) where
     unfolding steps.kindsFit
     kinds-clause =
         let l = placed t (owning .1) in
-        join (join (join (externals-are t (λ i h. kind-near (p .kinds) _ (l .variables i h)) ∙ p .externals) (constraint-kinds-are t ∙ p .tags)) (markers-are t ∙ p .markers)) (edit-kinds-are t ∙ join (p .errors) (p .editTags))
+        join (join (join (externals-are t (λ i h. kind-near t (p .kinds) _ (l .variables i h)) ∙ p .externals) (constraint-kinds-are t ∙ p .tags)) (markers-are t ∙ p .markers)) (edit-kinds-are t ∙ join (p .errors) (p .editTags))
 
     gone-clause : steps.goneFits (read t) ≡ true
     unfolding steps.goneFits
-    gone-clause = join (join (ap (λ (n : ℕ). leb n 32) gone-count ∙ le-leb _ _ (p .counts .gone)) (gone-ascend t ∙ p .goneUp)) (returned-are t ∙ p .returned)
+    gone-clause = join (join (ap (λ (n : ℕ). leb n mostGone) gone-count ∙ le-leb _ _ (p .counts .gone)) (gone-ascend t ∙ p .goneUp)) (returned-are t ∙ p .returned)
 
     tested-reads : reads t ≡ true
     unfolding reads
@@ -279,7 +272,7 @@ module _ (t : Sparse) where
 
     few-of : steps.all (fewTerms t) (read t .constraints) ≡ true
     unfolding steps.countsInRange
-    few-of = and3 (leb (length (read t .changes .variables)) 32) (leb (length (steps.tags (read t))) 48) (steps.all (fewTerms t) (read t .constraints)) (c .counts) .2
+    few-of = and3 (leb (length (read t .changes .variables)) mostVariables) (leb (length (steps.tags (read t))) mostConstraints) (steps.all (fewTerms t) (read t .constraints)) (c .counts) .2
 
     finite-of : (steps.tableauFinite (read t) ≡ true) × (steps.all (λ (v : Variable). isFinite (v .old) || isNan (v .old)) (read t .changes .variables) ≡ true) × (steps.all steps.constraintFinite (read t .constraints) ≡ true) × (steps.all steps.editFinite (read t .edits) ≡ true)
     unfolding steps.numbersFinite
@@ -290,9 +283,9 @@ module _ (t : Sparse) where
     unfolding steps.kindsFit
     kinds-of = and4 (steps.all (λ (v : Variable). isExternal (v .symbol)) (read t .changes .variables)) (steps.all (λ (c : Constraint). steps.tagKinds (c .strength) (c .tag)) (read t .constraints)) (steps.all (λ (c : Constraint). steps.markerFits (c .comparison) (c .tag .marker)) (read t .constraints)) (steps.all steps.editKinds (read t .edits)) (c .kinds)
 
-    gone-of : (leb (length (read t .changes .gone)) 32 ≡ true) × (steps.ascend (read t .changes .gone) ≡ true) × (steps.all (notTold t) (read t .changes .variables) ≡ true)
+    gone-of : (leb (length (read t .changes .gone)) mostGone ≡ true) × (steps.ascend (read t .changes .gone) ≡ true) × (steps.all (notTold t) (read t .changes .variables) ≡ true)
     unfolding steps.goneFits
-    gone-of = and3 (leb (length (read t .changes .gone)) 32) (steps.ascend (read t .changes .gone)) (steps.all (notTold t) (read t .changes .variables)) (c .gone)
+    gone-of = and3 (leb (length (read t .changes .gone)) mostGone) (steps.ascend (read t .changes .gone)) (steps.all (notTold t) (read t .changes .variables)) (c .gone)
 
     reads-tested : tested t ≡ true
     reads-tested =
@@ -321,12 +314,12 @@ module _ (t : Sparse) where
           gone = f .gone;
           kinds = f .kinds;
           changed = f .changed;
-          termCounts = in-most (t .bytes) termCountsAt (constraintCount t) 16 (few-in t few-of);
+          termCounts = in-most (t .bytes) termCountsAt (constraintCount t) termRoom (few-in t few-of);
           rowsUp = sym (rows-up t up-of live-of) ∙ ordered-of .1;
           rows = rows-of;
           relations = f .relations;
-          owned = owns-fit t up-of (f .counts .symbols) l owned-of;
-          externals = sym (externals-are t (λ i h. kind-near (f .kinds) _ (placed-of .variables i h))) ∙ s .0;
+          owned = owns-once t up-of l owned-of;
+          externals = sym (externals-are t (λ i h. kind-near t (f .kinds) _ (placed-of .variables i h))) ∙ s .0;
           tags = sym (constraint-kinds-are t) ∙ s .1;
           markers = sym (markers-are t) ∙ s .2;
           errors = ek .0;

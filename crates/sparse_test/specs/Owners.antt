@@ -1,34 +1,24 @@
 -- The owners' test over places is the state's: "symbols .. are distinct", "every basic or cell symbol is a live variable's or tag's", and theirs are live.
 -- Assumes nothing.
-use Prim.Native.Nat.{ℕ, zero, suc, _+_, _-_, _≤_, _<_}
+use Prim.Native.Nat.{ℕ, _+_, _-_, _≤_, _<_}
 use mathlib.Core.Path.{_≡_, refl, sym, ap, _∙_}
 use mathlib.Core.Bool.{Bool, true, false, cond}
 use mathlib.Core.List.{List, [], _∷_, _++_, map}
 use native.Mathlib.Omega.{arith}
 use lib.Dec.{eqb, ltb}
-use lib.ListN.{length, getD, replicate}
+use lib.ListN.{getD}
 use borrow.Author.Tests.{ltb-true, ltb-false, eqb-true, eqb-false}
 use Rattle.laws.specs.Lists.{listOf}
 use Rattle.steps.specs.Symbol.{Symbol}
 use Rattle.steps.specs.Readable as steps
 use Rattle.keeps.specs.Lists.{All}
 use Rattle.keeps.specs.Codes.{code-injective}
-use Rattle.places.specs.Finding.{placeIn, place-le, place-is, place-at}
-use Rattle.places.specs.Listed.{map-list}
-use Rattle.places.specs.Shares.{Shares, shares, take, stock}
-use Rattle.places.specs.Spent.{takeEach, each-append, run-each, run-lists}
-use Rattle.places.specs.Owned.{shared-once, once-shared}
+use Rattle.rows.specs.places.Listed.{map-list}
 use Rattle.sparse.specs.Places.{idsAt, variablePlacesAt, constraintMarkersAt, constraintOthersAt, editMarkersAt, editOthersAt}
 use Rattle.sparse.specs.Sparse.{Sparse, symbolCount, variableCount, constraintCount, editCount, symbolAt, read}
 use Rattle.sparse.specs.Form.{At}
 use Rattle.sparse_test.specs.Views.{tagPlaces, codeAt, owners, lives-are, owned-are}
-use Rattle.sparse_test.specs.Tested.{shareOf, takePlace, takeOther, takeVariables, takeTags, noShares, takeAll, ownedFit}
-use Rattle.sparse_test.specs.Injective.{distinct-map, members-map, each-list, list-each, both-lists, first-list, second-list, all-lists, lists-all, one-apart, in-ones, ones-in}
-
-zeros : (n j : ℕ) → _≡_ {A = ℕ} (getD (replicate n 0) j 0) 0
-zeros zero j = refl
-zeros (suc n) zero = refl
-zeros (suc n) (suc j) = zeros n j
+use Rattle.sparse_test.specs.Injective.{distinct-map, members-map, each-list, list-each, both-lists, first-list, second-list, all-lists, lists-all, in-ones, ones-in}
 
 module _ (t : Sparse) where
   abbrev byte : ℕ → ℕ
@@ -37,61 +27,13 @@ module _ (t : Sparse) where
   abbrev k : ℕ
   k = symbolCount t
 
-  -- ---- the loops take a share for each owner
+  -- ---- each live symbol has one owner, by places
 
-  tag-taken : (m o : ℕ) (s : Shares) → takeOther k o (takePlace k m s) ≡ takeEach (placeIn (λ j. 1 + j) k) (tagPlaces m o) s
-  unfolding takeOther takePlace shareOf tagPlaces takeEach
-  tag-taken m o s = go (eqb o 0)
-    where
-      go : (b : Bool) → cond b (take (placeIn (λ j. 1 + j) k m) s) (take (placeIn (λ j. 1 + j) k o) (take (placeIn (λ j. 1 + j) k m) s)) ≡ takeEach (placeIn (λ j. 1 + j) k) (cond b [] (o ∷ [])) (take (placeIn (λ j. 1 + j) k m) s)
-      go true = refl
-      go false = refl
-
-  tags-taken : (m o n : ℕ) (s : Shares) → takeTags (t .bytes) k m o n s ≡ takeEach (placeIn (λ j. 1 + j) k) (steps.concat (listOf n λ i. tagPlaces (byte (m + i)) (byte (o + i)))) s
-  unfolding takeTags
-  tags-taken m o n s = run-lists (placeIn (λ j. 1 + j) k) _ (λ i. tagPlaces (byte (m + i)) (byte (o + i))) n s λ j h z. tag-taken (byte (m + j)) (byte (o + j)) z
-
-  variables-taken : (v : ℕ) (s : Shares) → takeVariables (t .bytes) k v s ≡ takeEach (placeIn (λ j. 1 + j) k) (listOf v λ i. byte (variablePlacesAt + i)) s
-  unfolding takeVariables takePlace shareOf
-  variables-taken v s = run-each (placeIn (λ j. 1 + j) k) (λ i. byte (variablePlacesAt + i)) v s
-
-  all-taken : takeAll (t .bytes) k (variableCount t) (constraintCount t) (editCount t) ≡ takeEach (placeIn (λ j. 1 + j) k) (owners t) (shares (stock (λ _. 1) k noShares) true)
-  unfolding takeAll
-  all-taken =
-      let s : Shares = shares (stock (λ _. 1) k noShares) true in
-      let place : ℕ → ℕ = placeIn (λ j. 1 + j) k in
-      let a : List ℕ = listOf (variableCount t) λ i. byte (variablePlacesAt + i) in
-      let b : List ℕ = steps.concat (listOf (constraintCount t) λ i. tagPlaces (byte (constraintMarkersAt + i)) (byte (constraintOthersAt + i))) in
-      let c : List ℕ = steps.concat (listOf (editCount t) λ i. tagPlaces (byte (editMarkersAt + i)) (byte (editOthersAt + i))) in
-      tags-taken editMarkersAt editOthersAt (editCount t) _
-      ∙ ap (takeEach (placeIn (λ j. 1 + j) k) c) (tags-taken constraintMarkersAt constraintOthersAt (constraintCount t) _ ∙ ap (takeEach (placeIn (λ j. 1 + j) k) b) (variables-taken (variableCount t) s))
-      ∙ sym (each-append (placeIn (λ j. 1 + j) k) b c (takeEach (placeIn (λ j. 1 + j) k) a s))
-      ∙ sym (each-append (placeIn (λ j. 1 + j) k) a (b ++ c) s)
-
-  abbrev fit : Bool
-  fit = ownedFit (t .bytes) k (variableCount t) (constraintCount t) (editCount t)
-
-  abbrev ones : List ℕ
+  abbrev pub ones : List ℕ
   ones = listOf k λ j. 1 + j
 
-  abbrev Once : Type 0
+  abbrev pub Once : Type 0
   Once = (steps.distinct (owners t) ≡ true) × (steps.allIn ones (owners t) ≡ true) × (steps.allIn (owners t) ones ≡ true)
-
-  room : k ≤ 129 → (k < length noShares) × (getD noShares k 0 ≡ 0)
-  unfolding noShares
-  room h = (omega arith, zeros 130 k)
-
-  fit-once : k ≤ 129 → fit ≡ true → Once
-  unfolding ownedFit
-  fit-once few h =
-      let r = room few in
-      shared-once (λ j. 1 + j) k (one-apart k) noShares (r .0) (r .1) (owners t) (rw all-taken at h)
-
-  once-fit : k ≤ 129 → Once → fit ≡ true
-  unfolding ownedFit
-  once-fit few q =
-      let r = room few in
-      rw all-taken (once-shared (λ j. 1 + j) k (one-apart k) noShares (r .0) (r .1) (owners t) (q .0) (q .1) (q .2))
 
   -- ---- a live symbol's code has one place
 
@@ -121,9 +63,8 @@ module _ (t : Sparse) where
   ones-live : All (At t) ones
   ones-live = each-list (At t) (λ j. 1 + j) k λ j h. (omega arith, omega (arith, h))
 
-  pub fit-owns : IdsUp → k ≤ 129 → fit ≡ true → Owns × All (At t) (owners t) × (steps.distinct (owners t) ≡ true)
-  fit-owns up few h =
-      let o = fit-once few h in
+  pub once-owns : IdsUp → Once → Owns × All (At t) (owners t) × (steps.distinct (owners t) ≡ true)
+  once-owns up o =
       let l : All (At t) (owners t) = in-ones k (owners t) (o .2) in (
         (
           ap steps.distinct (owned-are t) ∙ distinct-map (codeAt t) (At t) (one-place up) (owners t) l ∙ o .0,
@@ -134,13 +75,12 @@ module _ (t : Sparse) where
         o .0,
       )
 
-  pub owns-fit : IdsUp → k ≤ 129 → All (At t) (owners t) → Owns → fit ≡ true
-  owns-fit up few l o =
-      once-fit few (
-        sym (ap steps.distinct (owned-are t) ∙ distinct-map (codeAt t) (At t) (one-place up) (owners t) l) ∙ o .0,
-        sym ((rw (owned-are t, lives-map) refl) ∙ members-map (codeAt t) (At t) (one-place up) ones (owners t) ones-live l) ∙ o .1,
-        ones-in k (owners t) l,
-      )
+  pub owns-once : IdsUp → All (At t) (owners t) → Owns → Once
+  owns-once up l o = (
+    sym (ap steps.distinct (owned-are t) ∙ distinct-map (codeAt t) (At t) (one-place up) (owners t) l) ∙ o .0,
+    sym ((rw (owned-are t, lives-map) refl) ∙ members-map (codeAt t) (At t) (one-place up) ones (owners t) ones-live l) ∙ o .1,
+    ones-in k (owners t) l,
+  )
 
   -- the owners' places are distinct in a state too
   pub owns-distinct : IdsUp → All (At t) (owners t) → Owns → steps.distinct (owners t) ≡ true
@@ -193,22 +133,3 @@ module _ (t : Sparse) where
       (both-lists (At t) (steps.concat (listOf (constraintCount t) λ i. tagPlaces (byte (constraintMarkersAt + i)) (byte (constraintOthersAt + i)))) _
       (all-lists (At t) _ (each-list (λ (l : List ℕ). All (At t) l) (λ i. tagPlaces (byte (constraintMarkersAt + i)) (byte (constraintOthersAt + i))) (constraintCount t) λ i u. live-tag _ _ (p .markers i u) (p .others i u)))
       (all-lists (At t) _ (each-list (λ (l : List ℕ). All (At t) l) (λ i. tagPlaces (byte (editMarkersAt + i)) (byte (editOthersAt + i))) (editCount t) λ i u. live-tag _ _ (p .pluses i u) (p .minuses i u))))
-
--- ---- where a share is
-
-pub share-live : (k p : ℕ) → 1 ≤ p → p ≤ k → p - 1 ≡ shareOf k p
-unfolding shareOf
-share-live k p a b =
-    let o : 1 + (p - 1) ≡ p = omega (arith, a) in
-    sym (rw o at (place-at (λ j. 1 + j) k (p - 1) (one-apart k) (omega (arith, a, b))))
-
-pub share-none : (k p : ℕ) → (1 ≤ p → p ≤ k → ⊥) → k ≡ shareOf k p
-unfolding shareOf
-share-none k p f = go (ltb (placeIn (λ j. 1 + j) k p) k) refl
-  where
-    go : (b : Bool) → ltb (placeIn (λ j. 1 + j) k p) k ≡ b → k ≡ placeIn (λ j. 1 + j) k p
-    go true h =
-        let l = ltb-true (placeIn (λ j. 1 + j) k p) k h in
-        let e = place-is (λ j. 1 + j) k p l in
-        absurd (f (omega (arith, e)) (omega (arith, e, l)))
-    go false h = let l = place-le (λ j. 1 + j) k p in omega (arith, l, ltb-false (placeIn (λ j. 1 + j) k p) k h)

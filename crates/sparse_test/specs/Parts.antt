@@ -7,14 +7,17 @@ use lib.Ieee.{nan}
 use lib.ListN.{getD}
 use Rattle.layout.specs.Rooms.{both}
 use Rattle.steps.specs.Number.{cutoffFits}
-use Rattle.places.specs.Listed.{join}
-use Rattle.places.specs.Shares.{finiteIn}
+use Rattle.layout.specs.Layout.{termRoom}
+use Rattle.rows.specs.places.Listed.{join}
+use Rattle.rows.specs.places.Shares.{finiteIn}
 use Rattle.sparse.specs.Places.{nextIdAt, idsAt, variableNumbersAt, constraintNumbersAt, constraintGroupsAt, goneNumbersAt, kindsAt, rowPlacesAt, changedAt, constraintMarkersAt, constraintOthersAt, termCountsAt, editMarkersAt, editOthersAt, relationsAt, constantsAt, objectiveAt, cutoffAt, constraintStrengthsAt, editStrengthsAt, suggestionsAt, coefficientsAt, constraintConstantsAt}
 use Rattle.sparse.specs.Sparse.{Sparse, symbolCount, rowCount, cellCount, variableCount, constraintCount, editCount, goneCount, termsFrom}
-use Rattle.sparse_test.specs.Stretch.{ascendIn, betweenIn, mostIn, aboveZeroIn}
+use Rattle.sparse_test.specs.Stretch.{ascendIn, betweenIn, upIn, mostIn, aboveZeroIn, between-most, most-between}
 use Rattle.sparse_test.specs.Reads.{greatestU32}
 use Rattle.sparse_test.specs.Meaning.{Counted, counted, recounted}
-use Rattle.sparse_test.specs.Tested.{wordsFit, bytesFit, ownedFit, externalsIn, tagsFit, markersFit, errorsIn, kindsFit, oldsFit, returnedFit, realsFit, editsUp, usesFit, costsFit, keysFit, valuesFit, termCount, contentFits, tested}
+use Rattle.sparse_test.specs.Owners.{Once}
+use Rattle.sparse_test.specs.Kept.{Kept, fit-kept, kept-fit}
+use Rattle.sparse_test.specs.Tested.{wordsFit, bytesFit, externalsIn, tagsFit, markersFit, errorsIn, oldsFit, returnedFit, realsFit, editsUp, usesFit, costsFit, keysFit, valuesFit, termCount, contentFits, tested}
 
 pub record Parts (t : Sparse) : Type 0 where
   pub counts : Counted t
@@ -29,11 +32,11 @@ pub record Parts (t : Sparse) : Type 0 where
   pub gone : mostIn (t .words) goneNumbersAt (goneCount t) greatestU32 ≡ true
   pub kinds : mostIn (t .bytes) (kindsAt + 1) (symbolCount t) 3 ≡ true
   pub changed : mostIn (t .bytes) changedAt (variableCount t) 1 ≡ true
-  pub termCounts : mostIn (t .bytes) termCountsAt (constraintCount t) 16 ≡ true
+  pub termCounts : mostIn (t .bytes) termCountsAt (constraintCount t) termRoom ≡ true
   pub rowsUp : ascendIn (t .bytes) (rowPlacesAt + 1) (rowCount t) ≡ true
   pub rows : betweenIn (t .bytes) (rowPlacesAt + 1) (rowCount t) 1 (symbolCount t + 1) ≡ true
   pub relations : mostIn (t .bytes) relationsAt (constraintCount t) 2 ≡ true
-  pub owned : ownedFit (t .bytes) (symbolCount t) (variableCount t) (constraintCount t) (editCount t) ≡ true
+  pub owned : Once t
   pub externals : externalsIn (t .bytes) (variableCount t) ≡ true
   pub tags : tagsFit (t .bytes) (t .reals) constraintStrengthsAt constraintMarkersAt constraintOthersAt (constraintCount t) ≡ true
   pub markers : markersFit (t .bytes) (constraintCount t) ≡ true
@@ -56,37 +59,30 @@ pub record Parts (t : Sparse) : Type 0 where
   pub returned : returnedFit (t .words) (t .reals) (variableCount t) (goneCount t) ≡ true
 
 pub parts : (t : Sparse) → tested t ≡ true → Parts t
-unfolding tested wordsFit bytesFit contentFits kindsFit realsFit termCount termsFrom
+unfolding tested wordsFit bytesFit upIn contentFits realsFit termCount termsFrom
 parts t q =
     let a = both _ _ q in
     let b = both _ _ (a .1) in
     let c = both _ _ (b .1) in
-    let g₁ = both _ _ (b .0) in
-    let g₂ = both _ _ (g₁ .0) in
-    let w₁ = both _ _ (g₂ .0) in
+    let w₁ = both _ _ (b .0) in
     let w₂ = both _ _ (w₁ .0) in
     let w₃ = both _ _ (w₂ .0) in
     let w₄ = both _ _ (w₃ .0) in
-    let w₅ = both _ _ (w₄ .0) in
-    let w₆ = both _ _ (w₅ .0) in
+    let i₁ = both _ _ (w₄ .0) in
+    let i₂ = both _ _ (w₄ .1) in
+    let i₃ = both _ _ (w₃ .1) in
+    let i₄ = both _ _ (w₁ .1) in
     let b₀ = both _ _ (c .0) in
-    let b₁ = both _ _ (b₀ .0) in
-    let b₂ = both _ _ (b₁ .0) in
-    let b₃ = both _ _ (b₂ .0) in
-    let b₄ = both _ _ (b₃ .0) in
-    let c₀ = both _ _ (c .1) in
+    let i₅ = both _ _ (b₀ .1) in
+    let d = both _ _ (c .1) in
+    let o : Kept t = fit-kept t (counted t (a .0) .symbols) (d .0) in
+    let c₀ = both _ _ (d .1) in
     let c₁ = both _ _ (c₀ .0) in
     let c₂ = both _ _ (c₁ .0) in
     let c₃ = both _ _ (c₂ .0) in
     let c₄ = both _ _ (c₃ .0) in
     let c₅ = both _ _ (c₄ .0) in
-    let c₆ = both _ _ (c₅ .0) in
-    let c₇ = both _ _ (c₆ .0) in
-    let k₁ = both _ _ (c₇ .1) in
-    let k₂ = both _ _ (k₁ .0) in
-    let k₃ = both _ _ (k₂ .0) in
-    let k₄ = both _ _ (k₃ .0) in
-    let r₁ = both _ _ (c₆ .1) in
+    let r₁ = both _ _ (c₅ .0) in
     let r₂ = both _ _ (r₁ .0) in
     let r₃ = both _ _ (r₂ .0) in
     let r₄ = both _ _ (r₃ .0) in
@@ -96,27 +92,27 @@ parts t q =
     let r₈ = both _ _ (r₇ .0) in
     record {
       counts = counted t (a .0);
-      idsUp = w₆ .0;
-      ids = w₆ .1;
-      numbersUp = w₅ .1;
-      numbers = w₄ .1;
-      constraintsUp = w₃ .1;
-      constraints = w₂ .1;
-      groups = w₁ .1;
-      goneUp = g₂ .1;
-      gone = g₁ .1;
-      kinds = b₄ .0;
-      changed = b₄ .1;
-      termCounts = b₃ .1;
-      rowsUp = b₂ .1;
-      rows = b₁ .1;
-      relations = b₀ .1;
-      owned = c₇ .0;
-      externals = k₄ .0;
-      tags = k₄ .1;
-      markers = k₃ .1;
-      errors = k₂ .1;
-      editTags = k₁ .1;
+      idsUp = i₁ .0;
+      ids = i₁ .1;
+      numbersUp = i₂ .0;
+      numbers = between-most _ _ _ greatestU32 (i₂ .1);
+      constraintsUp = i₃ .0;
+      constraints = between-most _ _ _ greatestU32 (i₃ .1);
+      groups = w₂ .1;
+      goneUp = i₄ .0;
+      gone = between-most _ _ _ greatestU32 (i₄ .1);
+      kinds = o .kinds;
+      changed = o .changed;
+      termCounts = b₀ .0;
+      rowsUp = i₅ .0;
+      rows = i₅ .1;
+      relations = o .relations;
+      owned = o .once;
+      externals = o .externals;
+      tags = o .tags;
+      markers = o .markers;
+      errors = o .errors;
+      editTags = o .editTags;
       constants = r₈ .0;
       olds = r₈ .1;
       objective = r₇ .1;
@@ -135,12 +131,12 @@ parts t q =
     }
 
 pub joined : (t : Sparse) → Parts t → tested t ≡ true
-unfolding tested wordsFit bytesFit contentFits kindsFit realsFit termCount termsFrom
+unfolding tested wordsFit bytesFit upIn contentFits realsFit termCount termsFrom
 joined t p =
     join (recounted t (p .counts))
-    (join (join (join (join (join (join (join (join (join (p .idsUp) (p .ids)) (p .numbersUp)) (p .numbers)) (p .constraintsUp)) (p .constraints)) (p .groups)) (p .goneUp)) (p .gone))
-    (join (join (join (join (join (join (p .kinds) (p .changed)) (p .termCounts)) (p .rowsUp)) (p .rows)) (p .relations))
-    (join (join (join (join (join (join (join (join (p .owned)
-    (join (join (join (join (p .externals) (p .tags)) (p .markers)) (p .errors)) (p .editTags)))
-    (join (join (join (join (join (join (join (join (p .constants) (p .olds)) (p .objective)) (p .strengths)) (p .editStrengths)) (p .suggestions)) (p .coefficients)) (p .ownConstants)) (p .cutoff)))
-    (p .edits)) (p .uses)) (p .costs)) (p .keys)) (p .values)) (p .returned))))
+    (join (join (join (join (join (join (p .idsUp) (p .ids)) (join (p .numbersUp) (most-between _ _ _ greatestU32 (p .numbers)))) (join (p .constraintsUp) (most-between _ _ _ greatestU32 (p .constraints)))) (p .groups)) (join (p .goneUp) (most-between _ _ _ greatestU32 (p .gone))))
+    (join (join (p .termCounts) (join (p .rowsUp) (p .rows)))
+    (join (kept-fit t (record { once = p .owned; kinds = p .kinds; changed = p .changed; relations = p .relations; externals = p .externals; tags = p .tags; markers = p .markers; errors = p .errors; editTags = p .editTags }) (p .counts .symbols))
+    (join (join (join (join (join (join
+    (join (join (join (join (join (join (join (join (p .constants) (p .olds)) (p .objective)) (p .strengths)) (p .editStrengths)) (p .suggestions)) (p .coefficients)) (p .ownConstants)) (p .cutoff))
+    (p .edits)) (p .uses)) (p .costs)) (p .keys)) (p .values)) (p .returned)))))

@@ -5,8 +5,8 @@ use lib.Dec.{leb, ltb}
 use lib.ListN.{getD}
 use Rattle.laws.specs.Lists.{allIn}
 use Rattle.steps.specs.Readable.{readable}
-use Rattle.cells.specs.Names.{rowSpan, lastPlace, cellRoom}
-use Rattle.cells.specs.Cells.{ascendsOf, presentOf}
+use Rattle.layout.specs.cells.Names.{rowSpan, lastPlace, cellRoom}
+use Rattle.layout.specs.cells.Cells.{ascendsOf, presentOf}
 use Rattle.sparse.specs.Places.{mostVariables, mostConstraints, mostGone, nextIdAt, shouldClearAt, wholeAt, variableNumbersAt, constraintNumbersAt, goneNumbersAt, kindsAt, rowPlacesAt, variablePlacesAt, changedAt, constraintMarkersAt, constraintOthersAt, editVariablesAt, editMarkersAt, editOthersAt, termsAt, relationsAt}
 use Rattle.sparse.specs.Sparse.{Sparse, symbolCount, rowCount, cellCount, variableCount, constraintCount, editCount, goneCount, termsFrom, read}
 use Rattle.sparse.specs.Form.{indexAt}

@@ -20,9 +20,9 @@ use Rattle.steps.specs.Changes.{neverReported}
 use Rattle.steps.specs.Tests.{member}
 use Rattle.steps.specs.Readable as steps
 use Rattle.keeps.specs.Clauses.{and3, and4}
-use Rattle.places.specs.Finding.{all-at, at-all}
-use Rattle.places.specs.Listed.{join, same, all-list, at-listed, listed-at, member-list, ascend-list}
-use Rattle.places.specs.Shares.{finiteIn}
+use Rattle.rows.specs.places.Finding.{all-at, at-all}
+use Rattle.rows.specs.places.Listed.{join, same, all-list, at-listed, listed-at, member-list, ascend-list}
+use Rattle.rows.specs.places.Shares.{finiteIn}
 use Rattle.sparse.specs.Places.{variableNumbersAt, constraintGroupsAt, goneNumbersAt, kindsAt, variablePlacesAt, constraintMarkersAt, constraintOthersAt, editMarkersAt, editOthersAt, relationsAt, oldValuesAt, constraintStrengthsAt, editStrengthsAt, suggestionsAt, coefficientsAt, constraintConstantsAt}
 use Rattle.sparse.specs.Lookup.{placeFrom}
 use Rattle.sparse.specs.Sparse.{Sparse, variableCount, constraintCount, editCount, goneCount, goneOf, symbolAt, otherAt, variableOf, termsFrom, constraintOf, editOf, read}

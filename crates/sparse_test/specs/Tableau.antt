@@ -19,13 +19,13 @@ use Rattle.steps.specs.State.{Basic}
 use Rattle.steps.specs.Tests.{member}
 use Rattle.steps.specs.Readable as steps
 use Rattle.keeps.specs.Lists.{All, no-both}
-use Rattle.cells.specs.Names.{rowSpan}
-use Rattle.cells.specs.Cells.{cellAt, rowOf}
-use Rattle.cells.specs.Seek.{first-elim}
-use Rattle.cells.specs.Reads.{cell-here, cell-absent}
-use Rattle.places.specs.Finding.{placeIn, place-is, all-at, at-all, never}
-use Rattle.places.specs.Listed.{join, same, map-list, listed-at, at-listed, ascend-list, from-list, list-from, member-list}
-use Rattle.places.specs.Shares.{finiteIn}
+use Rattle.layout.specs.cells.Names.{rowSpan}
+use Rattle.layout.specs.cells.Cells.{cellAt, rowOf}
+use Rattle.layout.specs.cells.Seek.{first-elim}
+use Rattle.layout.specs.cells.Reads.{cell-here, cell-absent}
+use Rattle.rows.specs.places.Finding.{placeIn, place-is, all-at, at-all, never}
+use Rattle.rows.specs.places.Listed.{join, same, map-list, listed-at, at-listed, ascend-list, from-list, list-from, member-list}
+use Rattle.rows.specs.places.Shares.{finiteIn}
 use Rattle.sparse.specs.Places.{nextIdAt, idsAt, rowPlacesAt, constantsAt, objectiveAt}
 use Rattle.sparse.specs.Sparse.{Sparse, symbolCount, rowCount, cellCount, symbolAt, basicOf, symbolsOf, basicsOf, objectiveOf, read}
 use Rattle.sparse.specs.Repack.{Held}

@@ -4,78 +4,45 @@ use mathlib.Core.Bool.{Bool, true, not, _&&_, _||_, cond}
 use mathlib.Core.List.{List}
 use mathlib.Core.Option.{none, some}
 use lib.Dec.{eqb, leb, ltb}
-use lib.Ieee.{Float, nan, isNan, ne}
-use lib.ListN.{getD, replicate}
+use lib.Ieee.{Float, nan, isNan, ne, lt}
+use lib.ListN.{getD, set, replicate}
 use Rattle.laws.specs.Loops.{run}
 use Rattle.laws.specs.Lists.{listOf, allIn, sumIn}
-use Rattle.layout.specs.Layout.{kindOf, comparisonIn}
-use Rattle.steps.specs.Number.{isFinite, cutoffFits}
+use Rattle.layout.specs.Layout.{kindOf, comparisonIn, termRoom}
+use Rattle.steps.specs.Number.{isFinite, zero64, cutoffFits}
 use Rattle.steps.specs.Symbol.{Symbol, absent}
 use Rattle.steps.specs.State.{Tag}
 use Rattle.steps.specs.Tests.{member}
+use Rattle.steps.specs.Strength.{required}
 use Rattle.steps.specs.Readable.{tagKinds, markerFits}
-use Rattle.cells.specs.Names.{rowSpan}
-use Rattle.cells.specs.Cells.{ascendsOf, presentOf}
-use Rattle.places.specs.Finding.{placeIn}
-use Rattle.places.specs.Shares.{Shares, shares, take, noneLeft, stock, finiteIn}
+use Rattle.layout.specs.cells.Names.{rowSpan, placeRoom}
+use Rattle.layout.specs.cells.Cells.{ascendsOf}
+use Rattle.rows.specs.places.Finding.{placeIn}
+use Rattle.rows.specs.places.Shares.{Shares, shares, take, noneLeft, stock, finiteIn}
 use Rattle.sparse.specs.Places.{nextIdAt, idsAt, variableNumbersAt, variableUsesAt, constraintNumbersAt, constraintGroupsAt, goneNumbersAt, kindsAt, rowPlacesAt, variablePlacesAt, changedAt, constraintMarkersAt, constraintOthersAt, termCountsAt, editVariablesAt, editMarkersAt, editOthersAt, termsAt, relationsAt, constantsAt, oldValuesAt, objectiveAt, cutoffAt, constraintStrengthsAt, editStrengthsAt, suggestionsAt, coefficientsAt, constraintConstantsAt}
 use Rattle.sparse.specs.Lookup.{placeFrom}
 use Rattle.sparse.specs.Sparse.{Sparse, symbolCount, rowCount, cellCount, variableCount, constraintCount, editCount, goneCount}
-use Rattle.sparse_test.specs.Stretch.{ascendIn, betweenIn, mostIn, aboveZeroIn}
-use Rattle.sparse_test.specs.Reads.{greatestU32, countsFit}
+use Rattle.sparse_test.specs.Stretch.{upIn, mostIn, aboveZeroIn}
+use Rattle.sparse_test.specs.Reads.{countsFit}
+
+-- the least number that no u32 holds
+abbrev pub aboveU32 : ℕ
+aboveU32 = 4294967296
 
 -- ---- words: ids and numbers in order, groups, gone numbers
 
 unfoldable pub wordsFit : List ℕ → ℕ → ℕ → ℕ → ℕ → Bool
 wordsFit w k v c g =
-    ascendIn w (idsAt + 1) k
-    && betweenIn w (idsAt + 1) k 1 (getD w nextIdAt 0)
-    && ascendIn w variableNumbersAt v
-    && mostIn w variableNumbersAt v greatestU32
-    && ascendIn w constraintNumbersAt c
-    && mostIn w constraintNumbersAt c greatestU32
+    upIn w (idsAt + 1) k 1 (getD w nextIdAt 0)
+    && upIn w variableNumbersAt v 0 aboveU32
+    && upIn w constraintNumbersAt c 0 aboveU32
     && aboveZeroIn w constraintGroupsAt c
-    && ascendIn w goneNumbersAt g
-    && mostIn w goneNumbersAt g greatestU32
+    && upIn w goneNumbersAt g 0 aboveU32
 
--- ---- bytes: kinds, flags, counts of terms; rows' symbols in order; relations
+-- ---- bytes: counts of terms; rows' symbols in order
 
-unfoldable pub bytesFit : List ℕ → ℕ → ℕ → ℕ → ℕ → Bool
-bytesFit b k r v c =
-    mostIn b (kindsAt + 1) k 3
-    && mostIn b changedAt v 1
-    && mostIn b termCountsAt c 16
-    && ascendIn b (rowPlacesAt + 1) r
-    && betweenIn b (rowPlacesAt + 1) r 1 (k + 1)
-    && mostIn b relationsAt c 2
-
--- ---- owners: each live symbol has one share, and each owner takes one
-
--- where the share of the symbol at place p is; past the last, if p is no symbol's place
-unfoldable pub shareOf : ℕ → ℕ → ℕ
-shareOf k p = placeIn (λ j. 1 + j) k p
-
-unfoldable pub takePlace : ℕ → ℕ → Shares → Shares
-takePlace k p s = take (shareOf k p) s
-
-unfoldable pub takeOther : ℕ → ℕ → Shares → Shares
-takeOther k p s = cond (eqb p 0) s (takePlace k p s)
-
-unfoldable pub takeVariables : List ℕ → ℕ → ℕ → Shares → Shares
-takeVariables b k v s = run (λ i z. takePlace k (getD b (variablePlacesAt + i) 0) z) 0 v s
-
--- n tags: their markers from place m on, their others from place o on
-unfoldable pub takeTags : List ℕ → ℕ → ℕ → ℕ → ℕ → Shares → Shares
-takeTags b k m o n s = run (λ i z. takeOther k (getD b (o + i) 0) (takePlace k (getD b (m + i) 0) z)) 0 n s
-
-unfoldable pub noShares : List ℕ
-noShares = replicate 130 0
-
-unfoldable pub takeAll : List ℕ → ℕ → ℕ → ℕ → ℕ → Shares
-takeAll b k v c e = takeTags b k editMarkersAt editOthersAt e (takeTags b k constraintMarkersAt constraintOthersAt c (takeVariables b k v (shares (stock (λ _. 1) k noShares) true)))
-
-unfoldable pub ownedFit : List ℕ → ℕ → ℕ → ℕ → ℕ → Bool
-ownedFit b k v c e = takeAll b k v c e .ok && noneLeft (takeAll b k v c e .left) k
+unfoldable pub bytesFit : List ℕ → ℕ → ℕ → ℕ → Bool
+bytesFit b k r c = mostIn b termCountsAt c termRoom && upIn b (rowPlacesAt + 1) r 1 (k + 1)
 
 -- ---- kinds
 
@@ -104,9 +71,67 @@ markersFit b c = allIn (λ i. markerFits (comparisonIn (getD b (relationsAt + i)
 unfoldable pub errorsIn : List ℕ → ℕ → Bool
 errorsIn b e = allIn (λ i. eqb (kindAt b (getD b (editMarkersAt + i) 0)) 2) 0 e
 
-unfoldable pub kindsFit : List ℕ → List Float → ℕ → ℕ → ℕ → Bool
-kindsFit b r v c e =
-    externalsIn b v && tagsFit b r constraintStrengthsAt constraintMarkersAt constraintOthersAt c && markersFit b c && errorsIn b e && tagsFit b r editStrengthsAt editMarkersAt editOthersAt e
+-- ---- owners: a table has a code for each place, and each owner claims its symbols' places there
+
+-- a live symbol's code is one more than its kind, since 0 is the code of a place that is claimed; 9 is no symbol's
+unfoldable pub codeOf : ℕ → ℕ
+codeOf kind = cond (leb kind 3) (kind + 1) 9
+
+unfoldable pub codeAt : List ℕ → ℕ → ℕ → ℕ
+codeAt b k p = cond (leb 1 p && leb p k) (codeOf (kindAt b p)) 9
+
+unfoldable pub codes : List ℕ → ℕ → List ℕ
+codes b k = listOf placeRoom (codeAt b k)
+
+-- the place p, where the code x is expected
+unfoldable pub claim : ℕ → ℕ → Shares → Shares
+claim p x s = shares (set (s .left) p 0) (s .ok && eqb (getD (s .left) p 0) x)
+
+unfoldable pub claimOther : ℕ → Shares → Shares
+claimOther p s = cond (eqb p 0) s (claim p 3 s)
+
+unfoldable pub claimVariables : List ℕ → ℕ → Shares → Shares
+claimVariables b v s = run (λ i z. claim (getD b (variablePlacesAt + i) 0) 1 z) 0 v s
+
+-- an inequality's marker is its slack; an equality's is an Error, or a Dummy where there is no other symbol
+unfoldable pub markerCode : ℕ → ℕ → ℕ
+markerCode relation o = cond (eqb relation 1) (cond (eqb o 0) 4 3) 2
+
+unfoldable pub claimConstraints : List ℕ → ℕ → Shares → Shares
+claimConstraints b c s = run (λ i z. claimOther (getD b (constraintOthersAt + i) 0) (claim (getD b (constraintMarkersAt + i) 0) (markerCode (getD b (relationsAt + i) 0) (getD b (constraintOthersAt + i) 0)) z)) 0 c s
+
+unfoldable pub claimEdits : List ℕ → ℕ → Shares → Shares
+claimEdits b e s = run (λ i z. claimOther (getD b (editOthersAt + i) 0) (claim (getD b (editMarkersAt + i) 0) 3 z)) 0 e s
+
+-- there is no other symbol exactly if the constraint is required
+unfoldable pub softly : Float → ℕ → Bool
+softly strength o = cond (eqb o 0) (not (lt strength required)) (lt strength required)
+
+unfoldable pub constraintFits : List ℕ → List Float → ℕ → Bool
+constraintFits b r c = allIn (λ i. softly (getD r (constraintStrengthsAt + i) nan) (getD b (constraintOthersAt + i) 0) && leb (getD b (relationsAt + i) 0) 2) 0 c
+
+unfoldable pub editFits : List ℕ → List Float → ℕ → Bool
+editFits b r e = allIn (λ i. lt (getD r (editStrengthsAt + i) nan) required && not (eqb (getD b (editOthersAt + i) 0) 0)) 0 e
+
+-- what is left of the codes after the variables, after the constraints, after the edits
+abbrev pub after₁ : List ℕ → ℕ → ℕ → Shares
+after₁ b k v = claimVariables b v (shares (codes b k) true)
+
+abbrev pub after₂ : List ℕ → ℕ → ℕ → ℕ → Shares
+after₂ b k v c = claimConstraints b c (shares (after₁ b k v .left) true)
+
+abbrev pub after₃ : List ℕ → ℕ → ℕ → ℕ → ℕ → Shares
+after₃ b k v c e = claimEdits b e (shares (after₂ b k v c .left) true)
+
+unfoldable pub claimed : List ℕ → ℕ → ℕ → ℕ → ℕ → List ℕ
+claimed b k v c e = after₃ b k v c e .left
+
+unfoldable pub ownedFit : List ℕ → List Float → ℕ → ℕ → ℕ → ℕ → Bool
+ownedFit b r k v c e =
+    (after₁ b k v .ok && mostIn b changedAt v 1)
+    && (after₂ b k v c .ok && constraintFits b r c)
+    && (after₃ b k v c e .ok && editFits b r e)
+    && allIn (λ i. eqb (getD (claimed b k v c e) (1 + i) 0) 0) 0 k
 
 -- ---- finite numbers, and a cutoff that reset takes
 
@@ -177,7 +202,7 @@ unfoldable pub keysFit : List ℕ → List ℕ → ℕ → ℕ → ℕ → Bool
 keysFit keys b n k r = ascendsOf keys n && rowsIn keys n r && openIn keys b n k r
 
 unfoldable pub valuesFit : List Float → ℕ → Bool
-valuesFit vals n = presentOf vals n && finiteIn vals 0 n
+valuesFit vals n = allIn (λ j. ne (getD vals j nan) zero64 && isFinite (getD vals j nan)) 0 n
 
 -- ---- the test
 
@@ -186,17 +211,16 @@ termCount b c = sumIn (λ i. getD b (termCountsAt + i) 0) 0 c
 
 unfoldable pub contentFits : Sparse → Bool
 contentFits t =
-    ownedFit (t .bytes) (symbolCount t) (variableCount t) (constraintCount t) (editCount t)
-    && kindsFit (t .bytes) (t .reals) (variableCount t) (constraintCount t) (editCount t)
-    && realsFit (t .reals) (symbolCount t) (rowCount t) (variableCount t) (constraintCount t) (editCount t) (termCount (t .bytes) (constraintCount t))
+    ownedFit (t .bytes) (t .reals) (symbolCount t) (variableCount t) (constraintCount t) (editCount t)
+    && (realsFit (t .reals) (symbolCount t) (rowCount t) (variableCount t) (constraintCount t) (editCount t) (termCount (t .bytes) (constraintCount t))
     && editsUp (t .words) (t .bytes) (variableCount t) (editCount t)
     && usesFit (t .words) (t .bytes) (variableCount t) (editCount t) (termCount (t .bytes) (constraintCount t))
     && costsFit (t .reals) (t .bytes) (rowCount t)
     && keysFit (t .keys) (t .bytes) (cellCount t) (symbolCount t) (rowCount t)
     && valuesFit (t .values) (cellCount t)
-    && returnedFit (t .words) (t .reals) (variableCount t) (goneCount t)
+    && returnedFit (t .words) (t .reals) (variableCount t) (goneCount t))
 
 unfoldable pub tested : Sparse → Bool
 tested t =
     countsFit t
-    && (wordsFit (t .words) (symbolCount t) (variableCount t) (constraintCount t) (goneCount t) && (bytesFit (t .bytes) (symbolCount t) (rowCount t) (variableCount t) (constraintCount t) && contentFits t))
+    && (wordsFit (t .words) (symbolCount t) (variableCount t) (constraintCount t) (goneCount t) && (bytesFit (t .bytes) (symbolCount t) (rowCount t) (constraintCount t) && contentFits t))

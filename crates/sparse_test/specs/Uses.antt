@@ -14,13 +14,13 @@ use Rattle.steps.specs.State.{Term, Variable}
 use Rattle.steps.specs.Tests.{member}
 use Rattle.steps.specs.Readable as steps
 use Rattle.keeps.specs.Lists.{All, all-in, all-out, all-to}
-use Rattle.cells.specs.Seek.{first-elim, first-at}
-use Rattle.places.specs.Finding.{placeIn, place-live, place-at, Apart}
-use Rattle.places.specs.Listed.{join, map-list, member-list, at-listed, listed-at}
-use Rattle.places.specs.Shares.{Shares, shares, stock}
-use Rattle.places.specs.Spent.{countOf, takeEach, each-append, run-each}
-use Rattle.places.specs.Owned.{shared-counts, counts-shared}
-use Rattle.sparse.specs.Places.{variableNumbersAt, variableUsesAt, variablePlacesAt, editVariablesAt, termsAt}
+use Rattle.layout.specs.cells.Seek.{first-elim, first-at}
+use Rattle.rows.specs.places.Finding.{placeIn, place-live, place-at, Apart}
+use Rattle.rows.specs.places.Listed.{join, map-list, member-list, at-listed, listed-at}
+use Rattle.rows.specs.places.Shares.{Shares, shares, stock}
+use Rattle.rows.specs.places.Spent.{countOf, takeEach, each-append, run-each}
+use Rattle.rows.specs.places.Owned.{shared-counts, counts-shared}
+use Rattle.sparse.specs.Places.{variableNumbersAt, variableUsesAt, variablePlacesAt, editVariablesAt, termsAt, mostVariables}
 use Rattle.sparse.specs.Sparse.{Sparse, variableCount, constraintCount, editCount, numberAt, variableOf, termsFrom, read}
 use Rattle.sparse.specs.Form.{indexAt, index-named}
 use Rattle.sparse_test.specs.Views.{asked, variableOfTerm, stored-are, numbers-are}
@@ -70,7 +70,7 @@ module _ (t : Sparse) where
       ∙ ap (takeEach (placeIn placeAt v) (listOf (editCount t) λ i. byte (editVariablesAt + i))) (run-each (placeIn placeAt v) (λ j. byte (termsAt + j)) (termCount (t .bytes) (constraintCount t)) stocked)
       ∙ sym (each-append (placeIn placeAt v) (listOf (termCount (t .bytes) (constraintCount t)) λ j. byte (termsAt + j)) (listOf (editCount t) λ i. byte (editVariablesAt + i)) stocked)
 
-  room : v ≤ 32 → (v < length noUses) × (getD noUses v 0 ≡ 0)
+  room : v ≤ mostVariables → (v < length noUses) × (getD noUses v 0 ≡ 0)
   unfolding noUses
   room h = (omega arith, zeros 33 v)
 
@@ -88,14 +88,14 @@ module _ (t : Sparse) where
   unfolding indexAt placeIn
   named-all h = all-out (λ x. ltb (placeIn placeAt v x) v) (asked t) (all-to _ _ (λ x q. lt-ltb _ _ q) (asked t) h)
 
-  fit-spent : Apart placeAt v → v ≤ 32 → fit ≡ true → Spent
+  fit-spent : Apart placeAt v → v ≤ mostVariables → fit ≡ true → Spent
   unfolding usesFit
   fit-spent apart few h =
       let r = room few in
       let q = shared-counts placeAt v apart (λ i. word (variableUsesAt + i)) noUses (r .0) (r .1) (asked t) (rw uses-taken at h) in
       (q .0, all-named (q .1))
 
-  spent-fit : Apart placeAt v → v ≤ 32 → Spent → fit ≡ true
+  spent-fit : Apart placeAt v → v ≤ mostVariables → Spent → fit ≡ true
   unfolding usesFit
   spent-fit apart few q =
       let r = room few in
@@ -152,7 +152,7 @@ module _ (t : Sparse) where
         mapped l (h .1),
       )
 
-  pub uses-counted : NumbersUp → Apart placeAt v → v ≤ 32 → fit ≡ true → (steps.usesCounted (read t) ≡ true) × All Named (asked t)
+  pub uses-counted : NumbersUp → Apart placeAt v → v ≤ mostVariables → fit ≡ true → (steps.usesCounted (read t) ≡ true) × All Named (asked t)
   unfolding steps.usesCounted
   uses-counted up apart few h =
       let q = fit-spent apart few h in
@@ -161,7 +161,7 @@ module _ (t : Sparse) where
       counted : Spent → steps.all usedRight (read t .changes .variables) ≡ true
       counted q = unfold read variableOf in at-listed usedRight v (variableOf t) λ j h. eq-eqb _ _ (q .0 j h ∙ sym (used up apart (q .1) j h))
 
-  pub counted-uses : NumbersUp → Apart placeAt v → v ≤ 32 → All Named (asked t) → steps.usesCounted (read t) ≡ true → fit ≡ true
+  pub counted-uses : NumbersUp → Apart placeAt v → v ≤ mostVariables → All Named (asked t) → steps.usesCounted (read t) ≡ true → fit ≡ true
   unfolding steps.usesCounted
   counted-uses up apart few all h =
       spent-fit apart few ((λ j u. eqb-true _ _ (at j u) ∙ used up apart all j u), all)

@@ -8,26 +8,25 @@ use mathlib.Core.Option.{none, some}
 use native.Mathlib.Nat.{zero-add}
 use native.Mathlib.Omega.{arith}
 use lib.Dec.{eqb}
-use lib.Ieee.{nan}
 use lib.ListN.{length, getD, length-append}
-use Rattle.laws.specs.Lists.{tab, listOf, map-tab, length-tab}
-use Rattle.layout.specs.Laying.{tab-from, list-ext}
+use Rattle.laws.specs.Lists.{tab, listOf}
+use Rattle.layout.specs.Laying.{list-ext}
 use Rattle.layout.specs.Copied.{length-listOf}
 use Rattle.steps.specs.Symbol.{Symbol}
 use Rattle.steps.specs.State.{Term, Tag, Basic, Variable, Constraint, Edit}
 use Rattle.steps.specs.Edit.{editTerms}
 use Rattle.steps.specs.Readable as steps
-use Rattle.places.specs.Listed.{map-list}
-use Rattle.sparse.specs.Places.{idsAt, variableNumbersAt, constraintNumbersAt, rowPlacesAt, variablePlacesAt, constraintMarkersAt, constraintOthersAt, editVariablesAt, editMarkersAt, editOthersAt, termsAt, coefficientsAt}
+use Rattle.rows.specs.places.Listed.{map-list}
+use Rattle.sparse.specs.Places.{idsAt, variableNumbersAt, constraintNumbersAt, rowPlacesAt, variablePlacesAt, constraintMarkersAt, constraintOthersAt, editVariablesAt, editMarkersAt, editOthersAt, termsAt}
 use Rattle.sparse.specs.Sparse.{Sparse, symbolCount, rowCount, variableCount, constraintCount, editCount, symbolAt, otherAt, numberAt, variableOf, termsFrom, constraintOf, editOf, basicOf, symbolsOf, basicsOf, read}
 use Rattle.sparse.specs.Written.{part-is, termAt, terms-are}
 
 module _ {A B : Type 0} where
-  map-append : (f : A → B) (l m : List A) → map f (l ++ m) ≡ map f l ++ map f m
+  pub map-append : (f : A → B) (l m : List A) → map f (l ++ m) ≡ map f l ++ map f m
   map-append f [] m = refl
   map-append f (x ∷ l) m = ap (λ (r : List B). f x ∷ r) (map-append f l m)
 
-  map-concat : (f : A → B) (l : List (List A)) → map f (steps.concat l) ≡ steps.concat (map (λ (r : List A). map f r) l)
+  pub map-concat : (f : A → B) (l : List (List A)) → map f (steps.concat l) ≡ steps.concat (map (λ (r : List A). map f r) l)
   unfolding steps.concat
   map-concat f [] = refl
   map-concat f (x ∷ l) = map-append f x (steps.concat l) ∙ ap (λ (r : List B). map f x ++ r) (map-concat f l)
@@ -47,7 +46,7 @@ module _ {A : Type 0} where
   singles g i zero = refl
   singles g i (suc n) = ap (λ (r : List A). g i ∷ r) (singles g (suc i) n)
 
-single : {A : Type 0} (n : ℕ) (g : ℕ → A) → steps.concat (listOf n λ i. g i ∷ []) ≡ listOf n g
+pub single : {A : Type 0} (n : ℕ) (g : ℕ → A) → steps.concat (listOf n λ i. g i ∷ []) ≡ listOf n g
 unfolding listOf
 single n g = singles g 0 n
 

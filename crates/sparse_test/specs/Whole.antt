@@ -9,13 +9,14 @@ use lib.Dec.{leb, ltb}
 use lib.Ieee.{Float}
 use lib.ListN.{getD}
 use Rattle.layout.specs.Rooms.{both}
-use Rattle.cells.specs.Names.{lastPlace, cellRoom}
-use Rattle.sparse.specs.Places.{mostRows, mostVariables, mostConstraints, mostGone, nextIdAt, symbolCountAt, rowCountAt, cellCountAt, variableCountAt, constraintCountAt, editCountAt, shouldClearAt, wholeAt, goneCountAt, idsAt, variableNumbersAt, constraintNumbersAt, constraintGroupsAt, goneNumbersAt, kindsAt, rowPlacesAt, changedAt, termCountsAt, relationsAt}
+use Rattle.layout.specs.Layout.{termRoom}
+use Rattle.layout.specs.cells.Names.{lastPlace, cellRoom}
+use Rattle.sparse.specs.Places.{mostRows, mostVariables, mostConstraints, mostGone, nextIdAt, symbolCountAt, rowCountAt, cellCountAt, variableCountAt, constraintCountAt, editCountAt, shouldClearAt, wholeAt, goneCountAt, idsAt, variableNumbersAt, constraintNumbersAt, constraintGroupsAt, goneNumbersAt, rowPlacesAt, termCountsAt}
 use Rattle.sparse.specs.Lookup.{Ascends}
 use Rattle.sparse.specs.Sparse.{Sparse, symbolCount, rowCount, variableCount, constraintCount, goneCount}
-use Rattle.sparse_test.specs.Stretch.{ascendIn, betweenIn, mostIn, aboveZeroIn, ascends}
+use Rattle.sparse_test.specs.Stretch.{ascendIn, betweenIn, upIn, mostIn, aboveZeroIn, ascends}
 use Rattle.sparse_test.specs.Reads.{greatestU32, countsFit, reads}
-use Rattle.sparse_test.specs.Tested.{wordsFit, bytesFit, contentFits, tested}
+use Rattle.sparse_test.specs.Tested.{aboveU32, wordsFit, bytesFit, contentFits, tested}
 use Rattle.sparse_test.specs.Meaning.{Counted, counted}
 use Rattle.sparse_test.specs.Meant.{tested-is}
 
@@ -52,29 +53,18 @@ module _ (t : Sparse) where
   words-test = wordsFit (t .words) (symbolCount t) (variableCount t) (constraintCount t) (goneCount t)
 
   abbrev bytes-test : Bool
-  bytes-test = bytesFit (t .bytes) (symbolCount t) (rowCount t) (variableCount t) (constraintCount t)
+  bytes-test = bytesFit (t .bytes) (symbolCount t) (rowCount t) (constraintCount t)
 
-  pub few-terms : {x : Bool} → x ≡ bytes-test → x ≡ true → mostIn (t .bytes) termCountsAt (constraintCount t) 16 ≡ true
+  pub few-terms : {x : Bool} → x ≡ bytes-test → x ≡ true → mostIn (t .bytes) termCountsAt (constraintCount t) termRoom ≡ true
   unfolding bytesFit
-  few-terms e h =
-      third (mostIn (t .bytes) (kindsAt + 1) (symbolCount t) 3) (mostIn (t .bytes) changedAt (variableCount t) 1) (mostIn (t .bytes) termCountsAt (constraintCount t) 16) (ascendIn (t .bytes) (rowPlacesAt + 1) (rowCount t)) (betweenIn (t .bytes) (rowPlacesAt + 1) (rowCount t) 1 (symbolCount t + 1)) (mostIn (t .bytes) relationsAt (constraintCount t) 2) (sym e ∙ h)
-    where
-      third : (a b c d f g : Bool) → (a && b && c && d && f && g) ≡ true → c ≡ true
-      third a b c d f g q =
-          let x = both (a && b && c && d) f (both (a && b && c && d && f) g q .0) in
-          let y = both (a && b && c) d (x .0) in
-          both (a && b) c (y .0) .1
+  few-terms e h = both (mostIn (t .bytes) termCountsAt (constraintCount t) termRoom) (upIn (t .bytes) (rowPlacesAt + 1) (rowCount t) 1 (symbolCount t + 1)) (sym e ∙ h) .0
 
   pub gone-up : {x : Bool} → x ≡ words-test → x ≡ true → Ascends (t .words) goneNumbersAt (goneCount t)
-  unfolding wordsFit
+  unfolding wordsFit upIn
   gone-up e h =
       let w : List ℕ = t .words in
-      let n : Bool = ascendIn w (idsAt + 1) (symbolCount t) && betweenIn w (idsAt + 1) (symbolCount t) 1 (getD w nextIdAt 0) && ascendIn w variableNumbersAt (variableCount t) && mostIn w variableNumbersAt (variableCount t) greatestU32 in
-      ascends w goneNumbersAt (goneCount t)
-      (last n (ascendIn w constraintNumbersAt (constraintCount t)) (mostIn w constraintNumbersAt (constraintCount t) greatestU32) (aboveZeroIn w constraintGroupsAt (constraintCount t)) (ascendIn w goneNumbersAt (goneCount t)) (mostIn w goneNumbersAt (goneCount t) greatestU32) (sym e ∙ h))
-    where
-      last : (n a b c d f : Bool) → (n && a && b && c && d && f) ≡ true → d ≡ true
-      last n a b c d f q = both (n && a && b && c) d (both (n && a && b && c && d) f q .0) .1
+      let before : Bool = upIn w (idsAt + 1) (symbolCount t) 1 (getD w nextIdAt 0) && upIn w variableNumbersAt (variableCount t) 0 aboveU32 && upIn w constraintNumbersAt (constraintCount t) 0 aboveU32 && aboveZeroIn w constraintGroupsAt (constraintCount t) in
+      ascends w goneNumbersAt (goneCount t) (both (ascendIn w goneNumbersAt (goneCount t)) (betweenIn w goneNumbersAt (goneCount t) 0 aboveU32) (both before (upIn w goneNumbersAt (goneCount t) 0 aboveU32) (sym e ∙ h) .1) .0)
 
   -- ---- the early ends
 

@@ -19,11 +19,11 @@ use Rattle.steps.specs.State.{Basic, Variable, Constraint, Edit, State}
 use Rattle.steps.specs.Readable.{kindCode, readable}
 use Rattle.keeps.specs.Reads.{Reads}
 use Rattle.keeps.specs.Tested.{reads-in}
-use Rattle.cells.specs.Names.{rowSpan, cellRoom}
-use Rattle.cells.specs.Cells.{ascendsOf, presentOf}
-use Rattle.cells.specs.Reads.{ascending-lt}
-use Rattle.places.specs.Finding.{at-all, placeIn, place-live}
-use Rattle.places.specs.Listed.{join}
+use Rattle.layout.specs.cells.Names.{rowSpan, cellRoom}
+use Rattle.layout.specs.cells.Cells.{ascendsOf, presentOf}
+use Rattle.layout.specs.cells.Reads.{ascending-lt}
+use Rattle.rows.specs.places.Finding.{at-all, placeIn, place-live}
+use Rattle.rows.specs.places.Listed.{join}
 use Rattle.sparse.specs.Places.{kindsAt, rowPlacesAt, variableNumbersAt, constraintNumbersAt, goneNumbersAt, variablePlacesAt, changedAt, constraintMarkersAt, constraintOthersAt, editVariablesAt, editMarkersAt, editOthersAt, termsAt, relationsAt}
 use Rattle.sparse.specs.Sparse.{Sparse, symbolCount, rowCount, cellCount, variableCount, constraintCount, editCount, goneCount, termsFrom, read}
 use Rattle.sparse.specs.Concat.{sum-ext, sum-in, concat-length}

@@ -1,11 +1,13 @@
 // The queries, over sparse tables: has constraint, has edit, value. "Queries give false or 0.0 for an unknown number, and beside 18."
 ghost use mathlib.Core.Path.{_≡_};
-ghost use mathlib.Core.Bool.{false};
+ghost use mathlib.Core.Bool.{true, false};
 ghost use Prim.Native.Nat.{_+_, _≤_};
 ghost use Rattle.steps.specs.Number.{zero64};
 ghost use Rattle.steps.specs.Changes.{value};
 ghost use Rattle.steps.specs.Tests.{hasConstraint, hasEdit};
 ghost use Rattle.sparse.specs.Places.{mostRows, mostVariables, mostConstraints, variableNumbersAt, bytesSize};
+ghost use Rattle.sparse.specs.Sparse.{read};
+ghost use Rattle.sparse_test.specs.Reads.{reads};
 ghost use Rattle.sparse_test.specs.Whole.{tables};
 ghost use Rattle.sparse.specs.Lookup.{Ascends, placeFrom};
 ghost use Rattle.sparse_test.specs.Asked.{asked, constantOf, valueIn, editIn};
@@ -80,6 +82,22 @@ pub fn edit_in(words: &Words, bytes: &Bytes, v: usize, e: usize, n: u64) -> bool
     }
 }
 
+// The same on tables that are known to read as a state.
+pub fn has_constraint_held(
+    words: &Words,
+    keys: &Keys,
+    bytes: &Bytes,
+    reals: &Reals,
+    values: &Values,
+    n: u32,
+) -> bool
+    requires { ⌜ reads (tables (now words) (now keys) (now bytes) (now reals) (now values)) ≡ true ⌝ }
+    ensures { λ r. ⌜ r ≡ hasConstraint n (read (tables (now (words .entry)) (now (keys .entry)) (now (bytes .entry)) (now (reals .entry)) (now (values .entry)))) ⌝ }
+{
+    let c = words[sparse::CONSTRAINT_COUNT] as usize;
+    look_up(words, sparse::CONSTRAINT_NUMBERS, c, n as u64) < c
+}
+
 pub fn has_constraint(
     words: &Words,
     keys: &Keys,
@@ -93,8 +111,24 @@ pub fn has_constraint(
     if !reads_as_state(words, keys, bytes, reals, values) {
         return false;
     }
-    let c = words[sparse::CONSTRAINT_COUNT] as usize;
-    look_up(words, sparse::CONSTRAINT_NUMBERS, c, n as u64) < c
+    has_constraint_held(words, keys, bytes, reals, values, n)
+}
+
+// The same on tables that are known to read as a state.
+pub fn has_edit_held(
+    words: &Words,
+    keys: &Keys,
+    bytes: &Bytes,
+    reals: &Reals,
+    values: &Values,
+    n: u32,
+) -> bool
+    requires { ⌜ reads (tables (now words) (now keys) (now bytes) (now reals) (now values)) ≡ true ⌝ }
+    ensures { λ r. ⌜ r ≡ hasEdit n (read (tables (now (words .entry)) (now (keys .entry)) (now (bytes .entry)) (now (reals .entry)) (now (values .entry)))) ⌝ }
+{
+    let v = words[sparse::VARIABLE_COUNT] as usize;
+    let e = words[sparse::EDIT_COUNT] as usize;
+    edit_in(words, bytes, v, e, n as u64)
 }
 
 pub fn has_edit(
@@ -110,9 +144,24 @@ pub fn has_edit(
     if !reads_as_state(words, keys, bytes, reals, values) {
         return false;
     }
+    has_edit_held(words, keys, bytes, reals, values, n)
+}
+
+// The same on tables that are known to read as a state.
+pub fn get_value_held(
+    words: &Words,
+    keys: &Keys,
+    bytes: &Bytes,
+    reals: &Reals,
+    values: &Values,
+    n: u32,
+) -> f64
+    requires { ⌜ reads (tables (now words) (now keys) (now bytes) (now reals) (now values)) ≡ true ⌝ }
+    ensures { λ r. ⌜ r ≡ value n (read (tables (now (words .entry)) (now (keys .entry)) (now (bytes .entry)) (now (reals .entry)) (now (values .entry)))) ⌝ }
+{
     let v = words[sparse::VARIABLE_COUNT] as usize;
-    let e = words[sparse::EDIT_COUNT] as usize;
-    edit_in(words, bytes, v, e, n as u64)
+    let r = words[sparse::ROW_COUNT] as usize;
+    value_in(words, bytes, reals, v, r, n as u64)
 }
 
 pub fn get_value(
@@ -128,7 +177,5 @@ pub fn get_value(
     if !reads_as_state(words, keys, bytes, reals, values) {
         return 0.0;
     }
-    let v = words[sparse::VARIABLE_COUNT] as usize;
-    let r = words[sparse::ROW_COUNT] as usize;
-    value_in(words, bytes, reals, v, r, n as u64)
+    get_value_held(words, keys, bytes, reals, values, n)
 }

@@ -3,7 +3,8 @@ ghost use mathlib.Core.Path.{_≡_};
 ghost use mathlib.Core.Bool.{true};
 ghost use Prim.Native.Nat.{_≤_};
 ghost use lib.ListN.{getD};
-ghost use Rattle.cells.specs.Names.{lastPlace, cellRoom};
+ghost use Rattle.layout.specs.Layout.{termRoom};
+ghost use Rattle.layout.specs.cells.Names.{lastPlace, cellRoom};
 ghost use Rattle.sparse.specs.Places.{mostRows, mostVariables, mostConstraints, mostTerms, mostGone, symbolCountAt, rowCountAt, cellCountAt, variableCountAt, constraintCountAt, editCountAt, goneCountAt, goneNumbersAt, termCountsAt};
 ghost use Rattle.sparse.specs.Lookup.{Ascends};
 ghost use Rattle.sparse_test.specs.Stretch.{mostIn};
@@ -18,8 +19,13 @@ pub mod stretch;
 pub mod tableau;
 pub mod uses;
 
+use layout::TERM_ROOM;
+use layout::cells::LAST_PLACE;
 use sparse::Bytes;
 use sparse::Keys;
+use sparse::MOST_CONSTRAINTS;
+use sparse::MOST_GONE;
+use sparse::MOST_VARIABLES;
 use sparse::Reals;
 use sparse::Values;
 use sparse::Words;
@@ -27,16 +33,19 @@ use sparse::Words;
 // The greatest number that a u32 holds.
 const GREATEST_U32: u64 = 4294967295;
 
+// The least that it does not.
+const ABOVE_U32: u64 = 4294967296;
+
 fn room_for(c: u64, e: u64, r: u64) -> bool
     ensures { λ b. ⌜ b ≡ roomFor c e r ⌝ }
 {
-    if c > 48 {
+    if c > MOST_CONSTRAINTS as u64 {
         return false;
     }
-    if e > 48 {
+    if e > MOST_CONSTRAINTS as u64 {
         return false;
     }
-    (c + e <= 48) & (r <= c + e)
+    (c + e <= MOST_CONSTRAINTS as u64) & (r <= c + e)
 }
 
 fn counts_fit(words: &Words) -> bool
@@ -44,12 +53,12 @@ fn counts_fit(words: &Words) -> bool
 {
     (0 < words[sparse::NEXT_ID])
         & (words[sparse::NEXT_ID] <= GREATEST_U32)
-        & (words[sparse::SYMBOL_COUNT] <= 129)
-        & (words[sparse::CELL_COUNT] <= cells::CELL_ROOM as u64)
-        & (words[sparse::VARIABLE_COUNT] <= 32)
+        & (words[sparse::SYMBOL_COUNT] <= LAST_PLACE as u64)
+        & (words[sparse::CELL_COUNT] <= layout::cells::CELL_ROOM as u64)
+        & (words[sparse::VARIABLE_COUNT] <= MOST_VARIABLES as u64)
         & (words[sparse::SHOULD_CLEAR] <= 1)
         & (words[sparse::WHOLE] <= 1)
-        & (words[sparse::GONE_COUNT] <= 32)
+        & (words[sparse::GONE_COUNT] <= MOST_GONE as u64)
         & room_for(
             words[sparse::CONSTRAINT_COUNT],
             words[sparse::EDIT_COUNT],
@@ -64,36 +73,27 @@ fn words_fit(words: &Words, k: usize, v: usize, c: usize, g: usize) -> bool
     requires { ⌜ g ≤ mostGone ⌝ }
     ensures { λ r. ⌜ r ≡ wordsFit (now (words .entry)) k v c g ⌝ }
 {
-    stretch::words_ascend(words, sparse::IDS + 1, k)
-        & stretch::words_between(words, sparse::IDS + 1, k, 1, words[sparse::NEXT_ID])
-        & stretch::words_ascend(words, sparse::VARIABLE_NUMBERS, v)
-        & stretch::words_most(words, sparse::VARIABLE_NUMBERS, v, GREATEST_U32)
-        & stretch::words_ascend(words, sparse::CONSTRAINT_NUMBERS, c)
-        & stretch::words_most(words, sparse::CONSTRAINT_NUMBERS, c, GREATEST_U32)
+    stretch::words_up(words, sparse::IDS + 1, k, 1, words[sparse::NEXT_ID])
+        & stretch::words_up(words, sparse::VARIABLE_NUMBERS, v, 0, ABOVE_U32)
+        & stretch::words_up(words, sparse::CONSTRAINT_NUMBERS, c, 0, ABOVE_U32)
         & stretch::words_above_zero(words, sparse::CONSTRAINT_GROUPS, c)
-        & stretch::words_ascend(words, sparse::GONE_NUMBERS, g)
-        & stretch::words_most(words, sparse::GONE_NUMBERS, g, GREATEST_U32)
+        & stretch::words_up(words, sparse::GONE_NUMBERS, g, 0, ABOVE_U32)
 }
 
-fn bytes_fit(bytes: &Bytes, k: usize, r: usize, v: usize, c: usize) -> bool
+fn bytes_fit(bytes: &Bytes, k: usize, r: usize, c: usize) -> bool
     requires { ⌜ k ≤ lastPlace ⌝ }
     requires { ⌜ r ≤ mostRows ⌝ }
-    requires { ⌜ v ≤ mostVariables ⌝ }
     requires { ⌜ c ≤ mostConstraints ⌝ }
-    ensures { λ b. ⌜ b ≡ bytesFit (now (bytes .entry)) k r v c ⌝ }
+    ensures { λ b. ⌜ b ≡ bytesFit (now (bytes .entry)) k r c ⌝ }
 {
-    stretch::bytes_most(bytes, sparse::KINDS + 1, k, 3)
-        & stretch::bytes_most(bytes, sparse::CHANGED, v, 1)
-        & stretch::bytes_most(bytes, sparse::TERM_COUNTS, c, 16)
-        & stretch::bytes_ascend(bytes, sparse::ROW_PLACES + 1, r)
-        & stretch::bytes_between(bytes, sparse::ROW_PLACES + 1, r, 1, (k + 1) as u8)
-        & stretch::bytes_most(bytes, sparse::RELATIONS, c, 2)
+    stretch::bytes_most(bytes, sparse::TERM_COUNTS, c, TERM_ROOM as u8)
+        & stretch::bytes_up(bytes, sparse::ROW_PLACES + 1, r, 1, (k + 1) as u8)
 }
 
 // How many terms all constraints have.
 fn term_count(bytes: &Bytes, c: usize) -> usize
     requires { ⌜ c ≤ mostConstraints ⌝ }
-    requires { ⌜ mostIn (now bytes) termCountsAt c 16 ≡ true ⌝ }
+    requires { ⌜ mostIn (now bytes) termCountsAt c termRoom ≡ true ⌝ }
     ensures { λ r. ⌜ r ≡ termCount (now (bytes .entry)) c ⌝ }
     ensures { λ r. ⌜ r ≤ mostTerms ⌝ }
 {
@@ -113,7 +113,7 @@ fn content_fits(words: &Words, keys: &Keys, bytes: &Bytes, reals: &Reals, values
     requires { ⌜ getD (now words) variableCountAt 0 ≤ mostVariables ⌝ }
     requires { ⌜ getD (now words) constraintCountAt 0 ≤ mostConstraints ⌝ }
     requires { ⌜ getD (now words) editCountAt 0 ≤ mostConstraints ⌝ }
-    requires { ⌜ mostIn (now bytes) termCountsAt (getD (now words) constraintCountAt 0) 16 ≡ true ⌝ }
+    requires { ⌜ mostIn (now bytes) termCountsAt (getD (now words) constraintCountAt 0) termRoom ≡ true ⌝ }
     requires { ⌜ getD (now words) goneCountAt 0 ≤ mostGone ⌝ }
     requires { ⌜ Ascends (now words) goneNumbersAt (getD (now words) goneCountAt 0) ⌝ }
     ensures { λ b. ⌜ b ≡ contentFits (tables (now (words .entry)) (now (keys .entry)) (now (bytes .entry)) (now (reals .entry)) (now (values .entry))) ⌝ }
@@ -125,16 +125,20 @@ fn content_fits(words: &Words, keys: &Keys, bytes: &Bytes, reals: &Reals, values
     let c = words[sparse::CONSTRAINT_COUNT] as usize;
     let e = words[sparse::EDIT_COUNT] as usize;
     let g = words[sparse::GONE_COUNT] as usize;
+    let mut table = owners::no_codes();
+    owners::fill_codes(&mut table, bytes, k);
+    if !owners::owned_fit(&mut table, bytes, reals, k, v, c, e) {
+        return false;
+    }
     let m = term_count(bytes, c);
     let mut index = uses::no_index();
     uses::fill_index(&mut index, bytes, v);
-    owners::owned_fit(bytes, k, v, c, e)
-        & records::kinds_fit(bytes, reals, v, c, e)
-        & records::reals_fit(reals, k, r, v, c, e, m)
+    let costs = tableau::shut_basics(&mut table, reals, bytes, k, r);
+    records::reals_fit(reals, k, r, v, c, e, m)
         & uses::edits_up(words, &index, bytes, v, e)
         & uses::uses_fit(words, &index, bytes, v, e, m)
-        & tableau::costs_fit(reals, bytes, r)
-        & tableau::keys_fit(keys, bytes, n, k, r)
+        & costs
+        & tableau::keys_fit(keys, &table, bytes, n, k, r)
         & tableau::values_fit(values, n)
         & records::returned_fit(words, reals, v, g)
 }
@@ -158,7 +162,7 @@ pub fn reads_as_state(
     if !words_fit(words, k, v, c, g) {
         return false;
     }
-    if !bytes_fit(bytes, k, words[sparse::ROW_COUNT] as usize, v, c) {
+    if !bytes_fit(bytes, k, words[sparse::ROW_COUNT] as usize, c) {
         return false;
     }
     content_fits(words, keys, bytes, reals, values)

@@ -1,163 +1,186 @@
-// The owners' part of the test: each live symbol has one share, and each variable and each tag takes one for each of its symbols.
+// The owners' part of the test: a table has a code for each place, and each variable and each tag claims its symbols' places there.
 ghost use mathlib.Core.Path.{_≡_};
-ghost use Prim.Native.Nat.{_+_, _-_, _≤_};
-ghost use Rattle.cells.specs.Names.{lastPlace};
-ghost use Rattle.sparse.specs.Places.{mostVariables, mostConstraints, bytesSize};
-ghost use Rattle.places.specs.Shares.{shares, take, noneLeft, stock};
-ghost use Rattle.sparse_test.specs.Tested.{shareOf, takePlace, takeOther, takeVariables, takeTags, noShares, ownedFit};
+ghost use mathlib.Core.Bool.{true, _&&_};
+ghost use Prim.Native.Nat.{_+_, _≤_};
+ghost use lib.Dec.{eqb};
+ghost use lib.ListN.{getD, replicate};
+ghost use Rattle.laws.specs.Lists.{allIn};
+ghost use Rattle.layout.specs.cells.Names.{lastPlace, placeRoom};
+ghost use Rattle.sparse.specs.Places.{mostVariables, mostConstraints, changedAt};
+ghost use Rattle.rows.specs.places.Shares.{shares};
+ghost use Rattle.sparse_test.specs.Stretch.{mostIn};
+ghost use Rattle.sparse_test.specs.Tested.{codeOf, codes, claim, claimOther, markerCode, softly, claimVariables, claimConstraints, claimEdits, constraintFits, editFits, claimed, ownedFit};
 use crate::stretch::wide;
+use layout::cells::PLACE_ROOM;
 use sparse::Bytes;
+use sparse::Reals;
 
-fn no_shares() -> [u8; 130]
-    ensures { λ r. ⌜ r ≡ noShares ⌝ }
+// The strength from which on a constraint is required.
+const REQUIRED: f64 = 1001001000.0;
+
+// No symbol's place, or none that a cell may have.
+const SHUT: u8 = 9;
+
+// A kind's code is one more, since 0 is the code of a place that is claimed.
+fn code_of(kind: u8) -> u8
+    ensures { λ r. ⌜ r ≡ codeOf kind ⌝ }
 {
-    [0; 130]
+    if kind <= 3 { kind + 1 } else { SHUT }
 }
 
-fn one_each(left: &mut [u8; 130], k: usize)
-    requires { ⌜ k ≤ lastPlace ⌝ }
-    ensures { λ _. ⌜ now (left .exit) ≡ stock (λ _. 1) k (now (left .entry)) ⌝ }
+pub fn no_codes() -> [u8; PLACE_ROOM]
+    ensures { λ r. ⌜ r ≡ replicate placeRoom 9 ⌝ }
 {
-    let mut i = 0;
-    while i < k {
-        left[i] = 1;
-        i += 1;
+    [SHUT; PLACE_ROOM]
+}
+
+pub fn fill_codes(table: &mut [u8; PLACE_ROOM], bytes: &Bytes, k: usize)
+    requires { ⌜ k ≤ lastPlace ⌝ }
+    requires { ⌜ now table ≡ replicate placeRoom 9 ⌝ }
+    ensures { λ _. ⌜ now (table .exit) ≡ codes (now (bytes .entry)) k ⌝ }
+{
+    let mut p = 0;
+    while p < k {
+        p += 1;
+        table[p] = code_of(bytes[sparse::KINDS + p]);
     }
 }
 
-// Where the share of the symbol at place p is: past the last, if p is no symbol's place.
-fn share_of(k: usize, p: usize) -> usize
-    ensures { λ r. ⌜ r ≡ shareOf k p ⌝ }
-    ensures { λ r. ⌜ r ≤ k ⌝ }
+fn claim(table: &mut [u8; PLACE_ROOM], p: u8, x: u8, ok: bool) -> bool
+    ensures { λ r. ⌜ shares (now (table .exit)) r ≡ claim p x (shares (now (table .entry)) ok) ⌝ }
 {
-    if p == 0 {
-        return k;
-    }
-    if k < p {
-        return k;
-    }
-    p - 1
+    let i = wide(p);
+    let y = table[i];
+    table[i] = 0;
+    ok & (y == x)
 }
 
-fn less_one(x: u8) -> u8
-    ensures { λ r. ⌜ r ≡ x - 1 ⌝ }
-{
-    if x == 0 { 0 } else { x - 1 }
-}
-
-fn take_share(left: &mut [u8; 130], i: usize, ok: bool) -> bool
-    requires { ⌜ i ≤ lastPlace ⌝ }
-    ensures { λ r. ⌜ shares (now (left .exit)) r ≡ take i (shares (now (left .entry)) ok) ⌝ }
-{
-    let x = left[i];
-    left[i] = less_one(x);
-    ok & (0 < x)
-}
-
-fn take_place(left: &mut [u8; 130], k: usize, p: u8, ok: bool) -> bool
-    requires { ⌜ k ≤ lastPlace ⌝ }
-    ensures { λ r. ⌜ shares (now (left .exit)) r ≡ takePlace k p (shares (now (left .entry)) ok) ⌝ }
-{
-    let i = share_of(k, wide(p));
-    take_share(left, i, ok)
-}
-
-fn take_other(left: &mut [u8; 130], k: usize, p: u8, ok: bool) -> bool
-    requires { ⌜ k ≤ lastPlace ⌝ }
-    ensures { λ r. ⌜ shares (now (left .exit)) r ≡ takeOther k p (shares (now (left .entry)) ok) ⌝ }
+// A tag's other symbol is an Error.
+fn claim_other(table: &mut [u8; PLACE_ROOM], p: u8, ok: bool) -> bool
+    ensures { λ r. ⌜ shares (now (table .exit)) r ≡ claimOther p (shares (now (table .entry)) ok) ⌝ }
 {
     if p == 0 {
         return ok;
     }
-    take_place(left, k, p, ok)
+    claim(table, p, 3, ok)
 }
 
-fn take_variables(left: &mut [u8; 130], bytes: &Bytes, k: usize, v: usize, start: bool) -> bool
-    requires { ⌜ k ≤ lastPlace ⌝ }
-    requires { ⌜ v ≤ mostVariables ⌝ }
-    ensures { λ r. ⌜ shares (now (left .exit)) r ≡ takeVariables (now (bytes .entry)) k v (shares (now (left .entry)) start) ⌝ }
+fn claim_tag(table: &mut [u8; PLACE_ROOM], m: u8, x: u8, o: u8, ok: bool) -> bool
+    ensures { λ r. ⌜ shares (now (table .exit)) r ≡ claimOther o (claim m x (shares (now (table .entry)) ok)) ⌝ }
 {
-    let mut ok = start;
+    let marker = claim(table, m, x, ok);
+    claim_other(table, o, marker)
+}
+
+// External symbols; "changed" is a flag.
+fn claim_variables(table: &mut [u8; PLACE_ROOM], bytes: &Bytes, v: usize) -> bool
+    requires { ⌜ v ≤ mostVariables ⌝ }
+    ensures { λ r. ⌜ now (table .exit) ≡ claimVariables (now (bytes .entry)) v (shares (now (table .entry)) true) .left ⌝ }
+    ensures { λ r. ⌜ r ≡ (claimVariables (now (bytes .entry)) v (shares (now (table .entry)) true) .ok && mostIn (now (bytes .entry)) changedAt v 1) ⌝ }
+{
+    let mut ok = true;
+    let mut fits = true;
     let mut i = 0;
     while i < v {
-        ok = take_place(left, k, bytes[sparse::VARIABLE_PLACES + i], ok);
+        ok = claim(table, bytes[sparse::VARIABLE_PLACES + i], 1, ok);
+        fits = fits & (bytes[sparse::CHANGED + i] <= 1);
         i += 1;
     }
-    ok
+    ok & fits
 }
 
-fn take_tag(left: &mut [u8; 130], k: usize, m: u8, o: u8, ok: bool) -> bool
-    requires { ⌜ k ≤ lastPlace ⌝ }
-    ensures { λ r. ⌜ shares (now (left .exit)) r ≡ takeOther k o (takePlace k m (shares (now (left .entry)) ok)) ⌝ }
+// An inequality's marker is its slack; an equality's is an Error, or a Dummy where there is no other symbol.
+fn marker_code(relation: u8, other: u8) -> u8
+    ensures { λ r. ⌜ r ≡ markerCode relation other ⌝ }
 {
-    let marker = take_place(left, k, m, ok);
-    take_other(left, k, o, marker)
+    if relation == 1 {
+        if other == 0 { 4 } else { 3 }
+    } else {
+        2
+    }
 }
 
-// n tags: their markers from place m on, their others from place o on.
-fn take_tags(
-    left: &mut [u8; 130],
-    bytes: &Bytes,
-    k: usize,
-    m: usize,
-    o: usize,
-    n: usize,
-    start: bool,
-) -> bool
-    requires { ⌜ k ≤ lastPlace ⌝ }
-    requires { ⌜ m + n ≤ bytesSize ⌝ }
-    requires { ⌜ o + n ≤ bytesSize ⌝ }
-    ensures { λ r. ⌜ shares (now (left .exit)) r ≡ takeTags (now (bytes .entry)) k m o n (shares (now (left .entry)) start) ⌝ }
+// There is no other symbol exactly if the constraint is required; an equality's Errors are two.
+fn strength_fits(strength: f64, other: u8) -> bool
+    ensures { λ r. ⌜ r ≡ softly strength other ⌝ }
 {
-    let mut ok = start;
+    if other == 0 {
+        !(strength < REQUIRED)
+    } else {
+        strength < REQUIRED
+    }
+}
+
+fn claim_constraints(table: &mut [u8; PLACE_ROOM], bytes: &Bytes, reals: &Reals, c: usize) -> bool
+    requires { ⌜ c ≤ mostConstraints ⌝ }
+    ensures { λ r. ⌜ now (table .exit) ≡ claimConstraints (now (bytes .entry)) c (shares (now (table .entry)) true) .left ⌝ }
+    ensures { λ r. ⌜ r ≡ (claimConstraints (now (bytes .entry)) c (shares (now (table .entry)) true) .ok && constraintFits (now (bytes .entry)) (now (reals .entry)) c) ⌝ }
+{
+    let mut ok = true;
+    let mut fits = true;
     let mut i = 0;
-    while i < n {
-        ok = take_tag(left, k, bytes[m + i], bytes[o + i], ok);
+    while i < c {
+        let o = bytes[sparse::CONSTRAINT_OTHERS + i];
+        let relation = bytes[sparse::RELATIONS + i];
+        let x = marker_code(relation, o);
+        ok = claim_tag(table, bytes[sparse::CONSTRAINT_MARKERS + i], x, o, ok);
+        let soft = strength_fits(reals[sparse::CONSTRAINT_STRENGTHS + i], o);
+        fits = fits & (soft & (relation <= 2));
         i += 1;
     }
-    ok
+    ok & fits
 }
 
-fn none_left(left: &[u8; 130], k: usize) -> bool
+// Two Errors each.
+fn claim_edits(table: &mut [u8; PLACE_ROOM], bytes: &Bytes, reals: &Reals, e: usize) -> bool
+    requires { ⌜ e ≤ mostConstraints ⌝ }
+    ensures { λ r. ⌜ now (table .exit) ≡ claimEdits (now (bytes .entry)) e (shares (now (table .entry)) true) .left ⌝ }
+    ensures { λ r. ⌜ r ≡ (claimEdits (now (bytes .entry)) e (shares (now (table .entry)) true) .ok && editFits (now (bytes .entry)) (now (reals .entry)) e) ⌝ }
+{
+    let mut ok = true;
+    let mut fits = true;
+    let mut i = 0;
+    while i < e {
+        let o = bytes[sparse::EDIT_OTHERS + i];
+        ok = claim_tag(table, bytes[sparse::EDIT_MARKERS + i], 3, o, ok);
+        fits = fits & ((reals[sparse::EDIT_STRENGTHS + i] < REQUIRED) & !(o == 0));
+        i += 1;
+    }
+    ok & fits
+}
+
+fn all_claimed(table: &[u8; PLACE_ROOM], k: usize) -> bool
     requires { ⌜ k ≤ lastPlace ⌝ }
-    ensures { λ r. ⌜ r ≡ noneLeft (now (left .entry)) k ⌝ }
+    ensures { λ r. ⌜ r ≡ allIn (λ i. eqb (getD (now (table .entry)) (1 + i) 0) 0) 0 k ⌝ }
 {
     let mut ok = true;
     let mut i = 0;
     while i < k {
-        ok = ok & (left[i] == 0);
+        ok = ok & (table[1 + i] == 0);
         i += 1;
     }
     ok
 }
 
-pub fn owned_fit(bytes: &Bytes, k: usize, v: usize, c: usize, e: usize) -> bool
+pub fn owned_fit(
+    table: &mut [u8; PLACE_ROOM],
+    bytes: &Bytes,
+    reals: &Reals,
+    k: usize,
+    v: usize,
+    c: usize,
+    e: usize,
+) -> bool
     requires { ⌜ k ≤ lastPlace ⌝ }
     requires { ⌜ v ≤ mostVariables ⌝ }
     requires { ⌜ c ≤ mostConstraints ⌝ }
     requires { ⌜ e ≤ mostConstraints ⌝ }
-    ensures { λ r. ⌜ r ≡ ownedFit (now (bytes .entry)) k v c e ⌝ }
+    requires { ⌜ now table ≡ codes (now bytes) k ⌝ }
+    ensures { λ r. ⌜ now (table .exit) ≡ claimed (now (bytes .entry)) k v c e ⌝ }
+    ensures { λ r. ⌜ r ≡ ownedFit (now (bytes .entry)) (now (reals .entry)) k v c e ⌝ }
 {
-    let mut left = no_shares();
-    one_each(&mut left, k);
-    let ok1 = take_variables(&mut left, bytes, k, v, true);
-    let ok2 = take_tags(
-        &mut left,
-        bytes,
-        k,
-        sparse::CONSTRAINT_MARKERS,
-        sparse::CONSTRAINT_OTHERS,
-        c,
-        ok1,
-    );
-    let ok3 = take_tags(
-        &mut left,
-        bytes,
-        k,
-        sparse::EDIT_MARKERS,
-        sparse::EDIT_OTHERS,
-        e,
-        ok2,
-    );
-    ok3 & none_left(&left, k)
+    let variables = claim_variables(table, bytes, v);
+    let constraints = claim_constraints(table, bytes, reals, c);
+    let edits = claim_edits(table, bytes, reals, e);
+    variables & constraints & edits & all_claimed(table, k)
 }

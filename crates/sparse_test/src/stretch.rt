@@ -1,14 +1,12 @@
 // Tests of a stretch of a table: its numbers ascend, lie between two bounds, are at most so much, are finite.
 ghost use mathlib.Core.Path.{_≡_};
 ghost use Prim.Native.Nat.{_+_, _≤_};
-ghost use Rattle.cells.specs.Names.{cellRoom};
 ghost use Rattle.sparse.specs.Places.{wordsSize, bytesSize, realsSize};
-ghost use Rattle.places.specs.Shares.{finiteIn};
-ghost use Rattle.sparse_test.specs.Stretch.{ascendIn, betweenIn, mostIn, aboveZeroIn};
-use places::is_finite;
+ghost use Rattle.rows.specs.places.Shares.{finiteIn};
+ghost use Rattle.sparse_test.specs.Stretch.{missed, ascendIn, upIn, mostIn, aboveZeroIn};
+use rows::places::is_finite;
 use sparse::Bytes;
 use sparse::Reals;
-use sparse::Values;
 use sparse::Words;
 
 // A byte as a place of a table: it is below 256.
@@ -19,31 +17,36 @@ pub fn wide(x: u8) -> usize
     x as usize
 }
 
-pub fn words_ascend(words: &Words, a: usize, n: usize) -> bool
+// Counted, not joined: a loop that counts is run over several places at once.
+pub fn one_unless(ok: bool) -> usize
+    ensures { λ r. ⌜ r ≡ missed ok ⌝ }
+    ensures { λ r. ⌜ r ≤ 1 ⌝ }
+{
+    if ok { 0 } else { 1 }
+}
+
+fn words_ascend(words: &Words, a: usize, n: usize) -> bool
     requires { ⌜ a + n ≤ wordsSize ⌝ }
     ensures { λ r. ⌜ r ≡ ascendIn (now (words .entry)) a n ⌝ }
 {
-    let mut ok = true;
+    let mut misses = 0;
     let mut i = 1;
     while i < n {
-        ok = ok & (words[a + (i - 1)] < words[a + i]);
+        misses += one_unless(words[a + (i - 1)] < words[a + i]);
         i += 1;
     }
-    ok
+    misses == 0
 }
 
-pub fn words_between(words: &Words, a: usize, n: usize, low: u64, high: u64) -> bool
+// Words that ascend: the first and the last tell where all are.
+pub fn words_up(words: &Words, a: usize, n: usize, low: u64, high: u64) -> bool
     requires { ⌜ a + n ≤ wordsSize ⌝ }
-    ensures { λ r. ⌜ r ≡ betweenIn (now (words .entry)) a n low high ⌝ }
+    ensures { λ r. ⌜ r ≡ upIn (now (words .entry)) a n low high ⌝ }
 {
-    let mut ok = true;
-    let mut i = 0;
-    while i < n {
-        let x = words[a + i];
-        ok = ok & ((low <= x) & (x < high));
-        i += 1;
+    if n == 0 {
+        return true;
     }
-    ok
+    words_ascend(words, a, n) & (low <= words[a]) & (words[a + (n - 1)] < high)
 }
 
 // "no constraint with a number is in group 0"
@@ -51,29 +54,16 @@ pub fn words_above_zero(words: &Words, a: usize, n: usize) -> bool
     requires { ⌜ a + n ≤ wordsSize ⌝ }
     ensures { λ r. ⌜ r ≡ aboveZeroIn (now (words .entry)) a n ⌝ }
 {
-    let mut ok = true;
+    let mut misses = 0;
     let mut i = 0;
     while i < n {
-        ok = ok & (0 < words[a + i]);
+        misses += one_unless(0 < words[a + i]);
         i += 1;
     }
-    ok
+    misses == 0
 }
 
-pub fn words_most(words: &Words, a: usize, n: usize, most: u64) -> bool
-    requires { ⌜ a + n ≤ wordsSize ⌝ }
-    ensures { λ r. ⌜ r ≡ mostIn (now (words .entry)) a n most ⌝ }
-{
-    let mut ok = true;
-    let mut i = 0;
-    while i < n {
-        ok = ok & (words[a + i] <= most);
-        i += 1;
-    }
-    ok
-}
-
-pub fn bytes_ascend(bytes: &Bytes, a: usize, n: usize) -> bool
+fn bytes_ascend(bytes: &Bytes, a: usize, n: usize) -> bool
     requires { ⌜ a + n ≤ bytesSize ⌝ }
     ensures { λ r. ⌜ r ≡ ascendIn (now (bytes .entry)) a n ⌝ }
 {
@@ -86,18 +76,14 @@ pub fn bytes_ascend(bytes: &Bytes, a: usize, n: usize) -> bool
     ok
 }
 
-pub fn bytes_between(bytes: &Bytes, a: usize, n: usize, low: u8, high: u8) -> bool
+pub fn bytes_up(bytes: &Bytes, a: usize, n: usize, low: u8, high: u8) -> bool
     requires { ⌜ a + n ≤ bytesSize ⌝ }
-    ensures { λ r. ⌜ r ≡ betweenIn (now (bytes .entry)) a n low high ⌝ }
+    ensures { λ r. ⌜ r ≡ upIn (now (bytes .entry)) a n low high ⌝ }
 {
-    let mut ok = true;
-    let mut i = 0;
-    while i < n {
-        let x = bytes[a + i];
-        ok = ok & ((low <= x) & (x < high));
-        i += 1;
+    if n == 0 {
+        return true;
     }
-    ok
+    bytes_ascend(bytes, a, n) & (low <= bytes[a]) & (bytes[a + (n - 1)] < high)
 }
 
 pub fn bytes_most(bytes: &Bytes, a: usize, n: usize, most: u8) -> bool
@@ -117,24 +103,11 @@ pub fn reals_finite(reals: &Reals, a: usize, n: usize) -> bool
     requires { ⌜ a + n ≤ realsSize ⌝ }
     ensures { λ r. ⌜ r ≡ finiteIn (now (reals .entry)) a n ⌝ }
 {
-    let mut ok = true;
+    let mut misses = 0;
     let mut i = 0;
     while i < n {
-        ok = ok & is_finite(reals[a + i]);
+        misses += one_unless(is_finite(reals[a + i]));
         i += 1;
     }
-    ok
-}
-
-pub fn values_finite(values: &Values, n: usize) -> bool
-    requires { ⌜ n ≤ cellRoom ⌝ }
-    ensures { λ r. ⌜ r ≡ finiteIn (now (values .entry)) 0 n ⌝ }
-{
-    let mut ok = true;
-    let mut i = 0;
-    while i < n {
-        ok = ok & is_finite(values[i]);
-        i += 1;
-    }
-    ok
+    misses == 0
 }

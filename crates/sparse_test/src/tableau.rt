@@ -1,106 +1,101 @@
 // The tableau's part of the test: no basic symbol is a cell; keys of rows and of symbols that are not basic; values present and finite.
 ghost use mathlib.Core.Path.{_≡_};
 ghost use Prim.Native.Nat.{_+_, _≤_};
-ghost use lib.ListN.{replicate};
-ghost use Rattle.cells.specs.Names.{cellRoom, lastPlace};
+ghost use mathlib.Core.Bool.{true};
+ghost use Rattle.layout.specs.cells.Names.{cellRoom};
+ghost use Rattle.layout.specs.cells.Cells.{ascendsOf};
 ghost use Rattle.sparse.specs.Places.{mostRows};
 ghost use Rattle.sparse_test.specs.Tested.{costsFit, rowsIn, keysFit, valuesFit};
 ghost use Rattle.sparse_test.specs.Open.{Opened, openBy};
-use crate::stretch::values_finite;
+use crate::stretch::one_unless;
 use crate::stretch::wide;
+use layout::cells::PLACE_ROOM;
+use rows::places::is_finite;
 use sparse::Bytes;
 use sparse::Keys;
 use sparse::Reals;
 use sparse::Values;
 
-pub fn costs_fit(reals: &Reals, bytes: &Bytes, r: usize) -> bool
+// Basic symbols' places are shut, since "no basic symbol is a cell of any row", the objective among them.
+pub fn shut_basics(
+    table: &mut [u8; PLACE_ROOM],
+    reals: &Reals,
+    bytes: &Bytes,
+    k: usize,
+    r: usize,
+) -> bool
     requires { ⌜ r ≤ mostRows ⌝ }
+    requires { ⌜ Opened (now table) (now bytes) k 0 ⌝ }
+    ensures { λ _. ⌜ Opened (now (table .exit)) (now (bytes .entry)) k r ⌝ }
     ensures { λ b. ⌜ b ≡ costsFit (now (reals .entry)) (now (bytes .entry)) r ⌝ }
 {
     let mut ok = true;
     let mut i = 0;
     while i < r {
         let p = wide(bytes[sparse::ROW_PLACES + 1 + i]);
+        table[p] = 9;
         ok = ok & (reals[sparse::OBJECTIVE + p] == 0.0);
         i += 1;
     }
     ok
 }
 
-// One byte for each place: 1 where a cell may stand, at the place of a live symbol that is not basic.
-fn no_open() -> [u8; 256]
-    ensures { λ r. ⌜ r ≡ replicate 256 0 ⌝ }
-{
-    [0; 256]
-}
-
-fn open_live(free: &mut [u8; 256], bytes: &Bytes, k: usize)
-    requires { ⌜ k ≤ lastPlace ⌝ }
-    requires { ⌜ now free ≡ replicate 256 0 ⌝ }
-    ensures { λ _. ⌜ Opened (now (free .exit)) (now (bytes .entry)) k 0 ⌝ }
-{
-    let mut p = 0;
-    while p < k {
-        p += 1;
-        free[p] = 1;
-    }
-}
-
-fn shut_basics(free: &mut [u8; 256], bytes: &Bytes, k: usize, r: usize)
-    requires { ⌜ r ≤ mostRows ⌝ }
-    requires { ⌜ Opened (now free) (now bytes) k 0 ⌝ }
-    ensures { λ _. ⌜ Opened (now (free .exit)) (now (bytes .entry)) k r ⌝ }
-{
-    let mut i = 0;
-    while i < r {
-        free[wide(bytes[sparse::ROW_PLACES + 1 + i])] = 0;
-        i += 1;
-    }
-}
-
-fn open_in(keys: &Keys, free: &[u8; 256], n: usize) -> bool
+// The codes at the cells' places come to 0 exactly if each is open.
+fn open_in(keys: &Keys, table: &[u8; PLACE_ROOM], n: usize) -> bool
     requires { ⌜ n ≤ cellRoom ⌝ }
-    ensures { λ r. ⌜ r ≡ openBy (now (keys .entry)) (now (free .entry)) n ⌝ }
+    ensures { λ r. ⌜ r ≡ openBy (now (keys .entry)) (now (table .entry)) n ⌝ }
 {
-    let mut ok = true;
+    let mut sum = 0;
     let mut j = 0;
     while j < n {
-        let p = keys[j] % cells::ROW_SPAN;
-        ok = ok & (free[p as usize] == 1);
+        let p = keys[j] % layout::cells::ROW_SPAN;
+        sum += wide(table[p as usize]);
         j += 1;
     }
-    ok
+    sum == 0
 }
 
+// The first and the last of keys that ascend tell the rows of all.
 fn rows_in(keys: &Keys, n: usize, r: u16) -> bool
     requires { ⌜ n ≤ cellRoom ⌝ }
+    requires { ⌜ ascendsOf (now keys) n ≡ true ⌝ }
     ensures { λ b. ⌜ b ≡ rowsIn (now (keys .entry)) n r ⌝ }
 {
-    let mut ok = true;
-    let mut j = 0;
-    while j < n {
-        let i = keys[j] / cells::ROW_SPAN;
-        ok = ok & ((1 <= i) & (i <= r));
-        j += 1;
+    if n == 0 {
+        return true;
     }
-    ok
+    (1 <= keys[0] / layout::cells::ROW_SPAN) & (keys[n - 1] / layout::cells::ROW_SPAN <= r)
 }
 
-pub fn keys_fit(keys: &Keys, bytes: &Bytes, n: usize, k: usize, r: usize) -> bool
+pub fn keys_fit(
+    keys: &Keys,
+    table: &[u8; PLACE_ROOM],
+    bytes: &Bytes,
+    n: usize,
+    k: usize,
+    r: usize,
+) -> bool
     requires { ⌜ n ≤ cellRoom ⌝ }
-    requires { ⌜ k ≤ lastPlace ⌝ }
     requires { ⌜ r ≤ mostRows ⌝ }
+    requires { ⌜ Opened (now table) (now bytes) k r ⌝ }
     ensures { λ b. ⌜ b ≡ keysFit (now (keys .entry)) (now (bytes .entry)) n k r ⌝ }
 {
-    let mut free = no_open();
-    open_live(&mut free, bytes, k);
-    shut_basics(&mut free, bytes, k, r);
-    cells::search::ascends(keys, n) & rows_in(keys, n, r as u16) & open_in(keys, &free, n)
+    if !layout::cells::search::ascends(keys, n) {
+        return false;
+    }
+    rows_in(keys, n, r as u16) & open_in(keys, table, n)
 }
 
 pub fn values_fit(values: &Values, n: usize) -> bool
     requires { ⌜ n ≤ cellRoom ⌝ }
     ensures { λ b. ⌜ b ≡ valuesFit (now (values .entry)) n ⌝ }
 {
-    cells::search::present(values, n) & values_finite(values, n)
+    let mut misses = 0;
+    let mut i = 0;
+    while i < n {
+        let x = values[i];
+        misses += one_unless((x != 0.0) & is_finite(x));
+        i += 1;
+    }
+    misses == 0
 }

@@ -2,25 +2,27 @@
 ghost use mathlib.Core.Path.{_≡_};
 ghost use Prim.Native.Nat.{_+_, _-_, _<_, _≤_};
 ghost use lib.ListN.{getD, replicate};
+ghost use Rattle.layout.specs.cells.Names.{placeRoom};
 ghost use Rattle.sparse.specs.Places.{mostVariables, mostConstraints, mostTerms, bytesSize, variableUsesAt};
-ghost use Rattle.places.specs.Shares.{shares, take, noneLeft, stock};
+ghost use Rattle.rows.specs.places.Shares.{shares, take, noneLeft, stock};
 ghost use Rattle.sparse_test.specs.Tested.{indexIn, numberIn, editsUp, takeUses, noUses, usesFit};
 ghost use Rattle.sparse_test.specs.Index.{near, Indexed};
 use crate::stretch::wide;
+use layout::cells::PLACE_ROOM;
 use sparse::Bytes;
 use sparse::Words;
 
 // Which variable's symbol stands at each place; 255 is none's.
-pub fn no_index() -> [u8; 256]
-    ensures { λ r. ⌜ r ≡ replicate 256 255 ⌝ }
+pub fn no_index() -> [u8; PLACE_ROOM]
+    ensures { λ r. ⌜ r ≡ replicate placeRoom 255 ⌝ }
 {
-    [255; 256]
+    [255; PLACE_ROOM]
 }
 
 // From the last to the first: where two variables name one place, the first is found, as the meaning has it.
-pub fn fill_index(index: &mut [u8; 256], bytes: &Bytes, v: usize)
+pub fn fill_index(index: &mut [u8; PLACE_ROOM], bytes: &Bytes, v: usize)
     requires { ⌜ v ≤ mostVariables ⌝ }
-    requires { ⌜ now index ≡ replicate 256 255 ⌝ }
+    requires { ⌜ now index ≡ replicate placeRoom 255 ⌝ }
     ensures { λ _. ⌜ Indexed (now (index .exit)) (now (bytes .entry)) v ⌝ }
 {
     let mut i = v;
@@ -38,7 +40,7 @@ fn nearest(v: usize, x: usize) -> usize
 }
 
 // Which variable the byte at place j names.
-fn index_at(index: &[u8; 256], bytes: &Bytes, v: usize, j: usize) -> usize
+fn index_at(index: &[u8; PLACE_ROOM], bytes: &Bytes, v: usize, j: usize) -> usize
     requires { ⌜ j < bytesSize ⌝ }
     requires { ⌜ Indexed (now index) (now bytes) v ⌝ }
     ensures { λ r. ⌜ r ≡ indexIn (now (bytes .entry)) v (getD (now (bytes .entry)) j 0) ⌝ }
@@ -47,7 +49,7 @@ fn index_at(index: &[u8; 256], bytes: &Bytes, v: usize, j: usize) -> usize
     nearest(v, wide(index[wide(bytes[j])]))
 }
 
-fn number_at(words: &Words, index: &[u8; 256], bytes: &Bytes, v: usize, j: usize) -> u64
+fn number_at(words: &Words, index: &[u8; PLACE_ROOM], bytes: &Bytes, v: usize, j: usize) -> u64
     requires { ⌜ v ≤ mostVariables ⌝ }
     requires { ⌜ j < bytesSize ⌝ }
     requires { ⌜ Indexed (now index) (now bytes) v ⌝ }
@@ -61,7 +63,7 @@ fn number_at(words: &Words, index: &[u8; 256], bytes: &Bytes, v: usize, j: usize
     }
 }
 
-pub fn edits_up(words: &Words, index: &[u8; 256], bytes: &Bytes, v: usize, e: usize) -> bool
+pub fn edits_up(words: &Words, index: &[u8; PLACE_ROOM], bytes: &Bytes, v: usize, e: usize) -> bool
     requires { ⌜ v ≤ mostVariables ⌝ }
     requires { ⌜ e ≤ mostConstraints ⌝ }
     requires { ⌜ Indexed (now index) (now bytes) v ⌝ }
@@ -115,7 +117,7 @@ fn take_use(left: &mut [u64; 33], i: usize, ok: bool) -> bool
 // n of them from place a on.
 fn take_uses(
     left: &mut [u64; 33],
-    index: &[u8; 256],
+    index: &[u8; PLACE_ROOM],
     bytes: &Bytes,
     v: usize,
     a: usize,
@@ -153,7 +155,7 @@ fn none_left(left: &[u64; 33], v: usize) -> bool
 // m terms.
 pub fn uses_fit(
     words: &Words,
-    index: &[u8; 256],
+    index: &[u8; PLACE_ROOM],
     bytes: &Bytes,
     v: usize,
     e: usize,

@@ -9,8 +9,8 @@ use lib.ListN.{getD}
 use borrow.Author.Tests.{eq-eqb, ne-eqb}
 use Rattle.laws.specs.Lists.{tab, tab-ext, listOf}
 use Rattle.layout.specs.Laying.{list-ext}
-use Rattle.cells.specs.Names.{lastPlace, cellRoom}
-use Rattle.cells.specs.Seek.{first-within, first-at}
+use Rattle.layout.specs.cells.Names.{lastPlace, cellRoom}
+use Rattle.layout.specs.cells.Seek.{first-within, first-at}
 use Rattle.sparse.specs.Places.{mostRows, mostVariables, mostGone, nextIdAt, symbolCountAt, rowCountAt, cellCountAt, variableCountAt, constraintCountAt, editCountAt, shouldClearAt, wholeAt, goneCountAt, idsAt, variableNumbersAt, variableUsesAt, constraintNumbersAt, goneNumbersAt, kindsAt, rowPlacesAt, variablePlacesAt, changedAt, constraintMarkersAt, constantsAt, oldValuesAt, objectiveAt, cutoffAt, constraintStrengthsAt}
 use Rattle.sparse.specs.Sparse.{Sparse, symbolCount, rowCount, cellCount, variableCount, goneCount, symbolAt, otherAt, numberAt, variableOf, basicOf, symbolsOf, basicsOf, objectiveOf, goneOf, read}
 use Rattle.sparse.specs.Repack.{Held}

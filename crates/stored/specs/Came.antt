@@ -11,7 +11,7 @@ use lib.Ieee.{Float, nan}
 use lib.ListN.{getD}
 use borrow.Author.Tests.{lt-ltb, le-ltb, le-leb}
 use Rattle.laws.specs.Lists.{listOf, sumIn}
-use Rattle.layout.specs.Layout.{comparisonIn}
+use Rattle.layout.specs.Layout.{comparisonIn, termRoom}
 use Rattle.layout.specs.Copy.{most16}
 use Rattle.layout.specs.Laying.{list-ext}
 use Rattle.layout.specs.Copied.{length-listOf, getD-listOf}
@@ -19,8 +19,8 @@ use Rattle.steps.specs.Number.{zero64}
 use Rattle.steps.specs.State.{Tag, Constraint, Edit}
 use Rattle.steps.specs.Tests.{keepConstraint, keepEdit}
 use Rattle.keeps.specs.Lists.{All}
-use Rattle.terms.specs.declared.Pack.{Pack}
-use Rattle.terms.specs.Terms as terms
+use Rattle.changes.specs.declared.terms.Pack.{Pack}
+use Rattle.changes.specs.terms.Terms as terms
 use Rattle.sparse.specs.Places.{mostConstraints, mostTerms, constraintNumbersAt, constraintGroupsAt, constraintMarkersAt, constraintOthersAt, termCountsAt, editVariablesAt, editMarkersAt, editOthersAt, termsAt, relationsAt, constraintStrengthsAt, editStrengthsAt, suggestionsAt, coefficientsAt, constraintConstantsAt}
 use Rattle.sparse.specs.Sparse.{Sparse, symbolCount, variableCount, constraintCount, editCount, symbolAt, otherAt, numberAt, termsFrom, termOf, constraintOf, editOf, read}
 use Rattle.sparse.specs.Write.{noTerm}
@@ -60,9 +60,9 @@ gap-one z f at p from w u e r =
     let o : p .at + 0 ≡ p .at = add-zero (p .at) in
     rw o at (r .gap 0 (omega (arith, e)))
 
-sixteen : (n : ℕ) → n ≤ 16 → most16 n ≡ n
+sixteen : (n : ℕ) → n ≤ termRoom → most16 n ≡ n
 unfolding most16
-sixteen n h = rw (le-leb n 16 h) refl
+sixteen n h = rw (le-leb n termRoom h) refl
 
 -- ---- by ascending number
 
@@ -168,7 +168,7 @@ module _ (t w : Sparse) (ready : Ready t w) (uw ub : List ℕ) (ur : List Float)
   real-in : (j : ℕ) → j < p .count → getD ur (coefficientsAt + (s .at + j)) nan ≡ getD (p .coefs) j nan
   real-in j h = raw .moved .carried .reals .coefficients .gap j (let f = terms-free (countsIn (t .bytes)) c (p .count) in omega (arith, h, f)) ∙ (unfold termsPlan in raw .put .coefficients j h)
 
-  module _ (few : p .count ≤ 16) (holds : HoldsC w y) where
+  module _ (few : p .count ≤ termRoom) (holds : HoldsC w y) where
     known : (j : ℕ) → j < p .count → Known w (getD (p .vars) j 0)
     known j h = unfold terms.termsOf terms.termOf terms.termIn in
         (rw (getD-listOf (most16 (p .count)) (λ j. terms.termOf (terms.termIn p j)) j noTerm (rw (sixteen (p .count) few) h)) at (holds .terms j (rw (length-listOf (most16 (p .count)) (λ j. terms.termOf (terms.termIn p j)), sixteen (p .count) few) h)))

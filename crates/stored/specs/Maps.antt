@@ -10,7 +10,7 @@ use lib.ListN.{length, getD, set, length-set}
 use lib.Seq.{getD-set-same, getD-set-other}
 use borrow.Author.Tests.{ltb-true, ltb-false}
 use Rattle.laws.specs.Lists.{sumIn}
-use Rattle.cells.specs.Names.{lastPlace}
+use Rattle.layout.specs.cells.Names.{lastPlace, placeRoom}
 use Rattle.sparse.specs.Places.{mostVariables, mostConstraints, mostTerms, symbolCountAt, variableCountAt, constraintCountAt, editCountAt, idsAt, variableNumbersAt, constraintNumbersAt, variablePlacesAt, constraintMarkersAt, termCountsAt}
 use Rattle.sparse.specs.Lookup.{Ascends, placeFrom, place-here}
 use Rattle.sparse.specs.Sparse.{Sparse, variableCount, termsFrom}
@@ -135,20 +135,20 @@ seek-next l base lo x q f h i a b = go (ltb i q) refl
 
 -- the place in `to` of the symbol that stands at place p of `from`
 pub record TagPlaces (from to r : List ℕ) : Type 0 where
-  pub long : length r ≡ 256
+  pub long : length r ≡ placeRoom
   pub none : getD r 0 0 ≡ 0
   pub at : (p q : ℕ) → 1 ≤ p → p ≤ getD from symbolCountAt 0 → 1 ≤ q → q ≤ getD to symbolCountAt 0 → getD to (idsAt + q) 0 ≡ getD from (idsAt + p) 0 → getD r p 0 ≡ q
 
 -- the same for the places before p; the walk along `to` is at q
 pub record TagsTo (from to r : List ℕ) (q p : ℕ) : Type 0 where
-  pub long : length r ≡ 256
+  pub long : length r ≡ placeRoom
   pub none : getD r 0 0 ≡ 0
   pub at : (p' q' : ℕ) → 1 ≤ p' → p' < p → 1 ≤ q' → q' ≤ getD to symbolCountAt 0 → getD to (idsAt + q') 0 ≡ getD from (idsAt + p') 0 → getD r p' 0 ≡ q'
   pub low : 1 ≤ q
   pub high : q ≤ 1 + getD to symbolCountAt 0
   pub passed : (i p' : ℕ) → 1 ≤ i → i < q → p ≤ p' → p' ≤ getD from symbolCountAt 0 → getD to (idsAt + i) 0 < getD from (idsAt + p') 0
 
-pub tags-none : (from to r : List ℕ) → length r ≡ 256 → getD r 0 0 ≡ 0 → TagsTo from to r 1 1
+pub tags-none : (from to r : List ℕ) → length r ≡ placeRoom → getD r 0 0 ≡ 0 → TagsTo from to r 1 1
 tags-none from to r l z =
     record {
       long = l;
@@ -160,7 +160,7 @@ tags-none from to r l z =
     }
 
 module _ (from to : List ℕ) (up : Rise from idsAt 1 (1 + getD from symbolCountAt 0)) (rise : Rise to idsAt 1 (1 + getD to symbolCountAt 0)) (e : ℕ) (ends : e ≡ 1 + getD to symbolCountAt 0) where
-  pub tags-next : (r : List ℕ) (q p : ℕ) {q' x : ℕ} → 1 ≤ p → p < 256 → p ≤ getD from symbolCountAt 0 → TagsTo from to r q p → Sought to idsAt q e (getD from (idsAt + p) 0) q' → TagHere to e q' (getD from (idsAt + p) 0) x → TagsTo from to (set r p x) q' (p + 1)
+  pub tags-next : (r : List ℕ) (q p : ℕ) {q' x : ℕ} → 1 ≤ p → p < placeRoom → p ≤ getD from symbolCountAt 0 → TagsTo from to r q p → Sought to idsAt q e (getD from (idsAt + p) 0) q' → TagHere to e q' (getD from (idsAt + p) 0) x → TagsTo from to (set r p x) q' (p + 1)
   tags-next r q p {q'} {x} a w b t s here? =
       record {
         long = length-set r p x ∙ t .long;
@@ -200,17 +200,17 @@ tags-last from to r q p h t = record { long = t .long; none = t .none; at = λ p
 
 -- the place in `to` of the symbol of the variable whose symbol stands at a place of `from`
 pub record VariablePlaces (fw fb tw tb r : List ℕ) : Type 0 where
-  pub long : length r ≡ 256
+  pub long : length r ≡ placeRoom
   pub at : (i j : ℕ) → i < getD fw variableCountAt 0 → j < getD tw variableCountAt 0 → getD tw (variableNumbersAt + j) 0 ≡ getD fw (variableNumbersAt + i) 0 → getD r (getD fb (variablePlacesAt + i) 0) 0 ≡ getD tb (variablePlacesAt + j) 0
 
 -- the same for the variables before the i-th; the walk is at the q-th
 pub record VariablesTo (fw fb tw tb r : List ℕ) (q i : ℕ) : Type 0 where
-  pub long : length r ≡ 256
+  pub long : length r ≡ placeRoom
   pub at : (i' j : ℕ) → i' < i → j < getD tw variableCountAt 0 → getD tw (variableNumbersAt + j) 0 ≡ getD fw (variableNumbersAt + i') 0 → getD r (getD fb (variablePlacesAt + i') 0) 0 ≡ getD tb (variablePlacesAt + j) 0
   pub high : q ≤ getD tw variableCountAt 0
   pub passed : (j i' : ℕ) → j < q → i ≤ i' → i' < getD fw variableCountAt 0 → getD tw (variableNumbersAt + j) 0 < getD fw (variableNumbersAt + i') 0
 
-pub variables-none : (fw fb tw tb r : List ℕ) → length r ≡ 256 → VariablesTo fw fb tw tb r 0 0
+pub variables-none : (fw fb tw tb r : List ℕ) → length r ≡ placeRoom → VariablesTo fw fb tw tb r 0 0
 variables-none fw fb tw tb r l = record { long = l; at = λ i' j a. absurd (omega (arith, a)); high = omega arith; passed = λ j i' a. absurd (omega (arith, a)) }
 
 module _ (fw fb tw tb : List ℕ) (s : Names fw fb) (s' : Names tw tb) where

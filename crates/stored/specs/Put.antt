@@ -14,7 +14,7 @@ use Rattle.laws.specs.Loops.{first}
 use Rattle.laws.specs.Lists.{sumIn}
 use Rattle.steps.specs.Number.{zero64}
 use Rattle.sparse.specs.Places.{mostVariables, mostConstraints, mostTerms, variableCountAt, constraintCountAt, editCountAt, variableNumbersAt, constraintNumbersAt, constraintGroupsAt, goneNumbersAt, variablePlacesAt, constraintMarkersAt, constraintOthersAt, termCountsAt, editVariablesAt, editMarkersAt, editOthersAt, termsAt, relationsAt, constraintStrengthsAt, editStrengthsAt, suggestionsAt, coefficientsAt, constraintConstantsAt, wordsSize, bytesSize, realsSize}
-use Rattle.terms.specs.declared.Pack.{Pack}
+use Rattle.changes.specs.declared.terms.Pack.{Pack}
 use Rattle.stored.specs.declared.parts.Plan.{Plan}
 use Rattle.stored.specs.Parts.{Rest, allOf, opened}
 use Rattle.stored.specs.Maps.{Names, names-same, countsIn, Sought, NumberPlace}

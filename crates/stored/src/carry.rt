@@ -4,8 +4,6 @@ ghost use Rattle.sparse.specs.Places.{mostConstraints, mostTerms};
 ghost use Rattle.stored.specs.Parts.{sourceSize, targetSize};
 ghost use Rattle.stored.specs.Maps.{Names};
 ghost use Rattle.stored.specs.Carried.{WordsCarried, ConstraintBytes, EditBytes, BytesCarried, RealsCarried, Carried};
-use crate::MOST_CONSTRAINTS;
-use crate::MOST_TERMS;
 use crate::parts::Plan;
 use crate::parts::long_words;
 use crate::parts::split_bytes;
@@ -14,7 +12,10 @@ use crate::parts::split_reals;
 use crate::parts::split_words;
 use crate::places::tag_places;
 use crate::places::variable_places;
+use layout::cells::PLACE_ROOM;
 use sparse::Bytes;
+use sparse::MOST_CONSTRAINTS;
+use sparse::MOST_TERMS;
 use sparse::Reals;
 use sparse::Words;
 
@@ -31,7 +32,7 @@ fn carry_words(words: &mut Words, from: &Words, c: Plan, e: Plan)
     split_words(words, from, sparse::CONSTRAINT_GROUPS, MOST_CONSTRAINTS, c);
 }
 
-fn constraint_bytes(bytes: &mut Bytes, from: &Bytes, tags: &[u8; 256], c: Plan)
+fn constraint_bytes(bytes: &mut Bytes, from: &Bytes, tags: &[u8; PLACE_ROOM], c: Plan)
     requires { ⌜ sourceSize c ≤ mostConstraints ⌝ }
     requires { ⌜ targetSize c ≤ mostConstraints ⌝ }
     ensures { λ _. ⌜ ConstraintBytes (now (tags .entry)) c (now (from .entry)) (now (bytes .entry)) (now (bytes .exit)) ⌝ }
@@ -55,7 +56,13 @@ fn constraint_bytes(bytes: &mut Bytes, from: &Bytes, tags: &[u8; 256], c: Plan)
     split_bytes(bytes, from, sparse::TERM_COUNTS, MOST_CONSTRAINTS, c);
 }
 
-fn edit_bytes(bytes: &mut Bytes, from: &Bytes, tags: &[u8; 256], vars: &[u8; 256], e: Plan)
+fn edit_bytes(
+    bytes: &mut Bytes,
+    from: &Bytes,
+    tags: &[u8; PLACE_ROOM],
+    vars: &[u8; PLACE_ROOM],
+    e: Plan,
+)
     requires { ⌜ sourceSize e ≤ mostConstraints ⌝ }
     requires { ⌜ targetSize e ≤ mostConstraints ⌝ }
     ensures { λ _. ⌜ EditBytes (now (tags .entry)) (now (vars .entry)) e (now (from .entry)) (now (bytes .entry)) (now (bytes .exit)) ⌝ }
@@ -75,8 +82,8 @@ fn edit_bytes(bytes: &mut Bytes, from: &Bytes, tags: &[u8; 256], vars: &[u8; 256
 fn carry_bytes(
     bytes: &mut Bytes,
     from: &Bytes,
-    tags: &[u8; 256],
-    vars: &[u8; 256],
+    tags: &[u8; PLACE_ROOM],
+    vars: &[u8; PLACE_ROOM],
     c: Plan,
     s: Plan,
     e: Plan,

@@ -6,8 +6,3 @@ pub mod parts;
 pub mod places;
 pub mod record;
 pub mod records;
-
-// The most constraints, edits counted, and the most terms of all of them.
-pub const MOST_CONSTRAINTS: usize = 48;
-
-pub const MOST_TERMS: usize = 768;

@@ -3,6 +3,7 @@ ghost use mathlib.Core.Path.{_≡_};
 ghost use Prim.Native.Nat.{_+_, _<_, _≤_};
 ghost use lib.ListN.{getD};
 ghost use Rattle.laws.specs.Lists.{sumIn};
+ghost use Rattle.layout.specs.Layout.{termRoom};
 ghost use Rattle.sparse.specs.Places.{mostConstraints, mostTerms, constraintCountAt, editCountAt};
 ghost use Rattle.stored.specs.Maps.{Names, Stores, countsIn};
 ghost use Rattle.stored.specs.Put.{TermsPut, CoefficientsPut, ConstraintPut, EditPut, numberOf, EditSought, ConstraintKept, EditKept};
@@ -15,17 +16,17 @@ use crate::parts::long_reals;
 use crate::parts::long_words;
 use crate::places::number_place;
 use crate::places::seek;
+use changes::terms::Pack;
 use sparse::Bytes;
 use sparse::Reals;
 use sparse::Words;
-use terms::Pack;
 
 // ---- a constraint
 
 // The terms' variables from s on, each by the place of its symbol.
 fn put_terms(words: &Words, bytes: &mut Bytes, s: usize, p: Pack)
     requires { ⌜ Names (now words) (now bytes) ⌝ }
-    requires { ⌜ p .count ≤ 16 ⌝ }
+    requires { ⌜ p .count ≤ termRoom ⌝ }
     requires { ⌜ s + p .count ≤ mostTerms ⌝ }
     ensures { λ _. ⌜ TermsPut (now (words .entry)) (p .vars) s (p .count) (now (bytes .entry)) (now (bytes .exit)) ⌝ }
 {
@@ -41,7 +42,7 @@ fn put_terms(words: &Words, bytes: &mut Bytes, s: usize, p: Pack)
 }
 
 fn put_coefficients(reals: &mut Reals, s: usize, p: Pack)
-    requires { ⌜ p .count ≤ 16 ⌝ }
+    requires { ⌜ p .count ≤ termRoom ⌝ }
     requires { ⌜ s + p .count ≤ mostTerms ⌝ }
     ensures { λ _. ⌜ CoefficientsPut (p .coefs) s (p .count) (now (reals .entry)) (now (reals .exit)) ⌝ }
 {
@@ -73,7 +74,7 @@ fn put_constraint(
 )
     requires { ⌜ Names (now words) (now bytes) ⌝ }
     requires { ⌜ i < mostConstraints ⌝ }
-    requires { ⌜ p .count ≤ 16 ⌝ }
+    requires { ⌜ p .count ≤ termRoom ⌝ }
     requires { ⌜ s + p .count ≤ mostTerms ⌝ }
     ensures { λ _. ⌜ ConstraintPut i s n g marker other relation strength constant p (now (words .entry)) (now (bytes .entry)) (now (reals .entry)) (now (words .exit)) (now (bytes .exit)) (now (reals .exit)) ⌝ }
 {
@@ -112,7 +113,7 @@ pub fn keep_constraint(
     requires { ⌜ Stores (now fwords) (now fbytes) ⌝ }
     requires { ⌜ Stores (now words) (now bytes) ⌝ }
     requires { ⌜ n ≤ 4_294_967_295 ⌝ }
-    requires { ⌜ p .count ≤ 16 ⌝ }
+    requires { ⌜ p .count ≤ termRoom ⌝ }
     requires { ⌜ getD (now fwords) constraintCountAt 0 < mostConstraints ⌝ }
     requires { ⌜ sumIn (countsIn (now fbytes)) 0 (getD (now fwords) constraintCountAt 0) + p .count ≤ mostTerms ⌝ }
     ensures { λ r. ⌜ ConstraintKept n g marker other relation strength constant p (now (fwords .entry)) (now (fbytes .entry)) (now (freals .entry)) (now (words .entry)) (now (bytes .entry)) (now (reals .entry)) (now (words .exit)) (now (bytes .exit)) (now (reals .exit)) r ⌝ }

@@ -5,6 +5,7 @@ ghost use lib.ListN.{length, getD};
 ghost use lib.Ieee.{nan};
 ghost use Rattle.sparse.specs.Places.{wordsSize, bytesSize, realsSize};
 ghost use Rattle.stored.specs.Parts.{Part, Region, Rest, sourceSize, targetSize};
+use layout::cells::PLACE_ROOM;
 use sparse::Bytes;
 use sparse::Reals;
 use sparse::Words;
@@ -98,7 +99,7 @@ fn reals_part(to: &mut Reals, from: &Reals, a: usize, b: usize, n: usize)
 }
 
 // Each place by its name in a map.
-fn named_part(to: &mut Bytes, from: &Bytes, map: &[u8; 256], a: usize, b: usize, n: usize)
+fn named_part(to: &mut Bytes, from: &Bytes, map: &[u8; PLACE_ROOM], a: usize, b: usize, n: usize)
     requires { ⌜ a + n ≤ bytesSize ⌝ }
     requires { ⌜ b + n ≤ bytesSize ⌝ }
     ensures { λ _. ⌜ Part 0 (λ x. getD (now (map .entry)) x 0) a b n (now (from .entry)) (now (to .entry)) (now (to .exit)) ⌝ }
@@ -146,7 +147,14 @@ pub fn split_reals(to: &mut Reals, from: &Reals, at: usize, m: usize, p: Plan)
     reals_part(to, from, at + (p.at + p.drop), at + (p.at + p.free), p.rest);
 }
 
-pub fn split_named(to: &mut Bytes, from: &Bytes, map: &[u8; 256], at: usize, m: usize, p: Plan)
+pub fn split_named(
+    to: &mut Bytes,
+    from: &Bytes,
+    map: &[u8; PLACE_ROOM],
+    at: usize,
+    m: usize,
+    p: Plan,
+)
     requires { ⌜ at + m ≤ bytesSize ⌝ }
     requires { ⌜ sourceSize p ≤ m ⌝ }
     requires { ⌜ targetSize p ≤ m ⌝ }

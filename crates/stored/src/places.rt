@@ -1,9 +1,10 @@
 // Places of one set of tables named by the places of another: ids and numbers ascend in both, and one walk goes along both.
 ghost use Prim.Native.Nat.{_+_, _≤_};
-ghost use Rattle.cells.specs.Names.{lastPlace};
+ghost use Rattle.layout.specs.cells.Names.{lastPlace};
 ghost use Rattle.sparse.specs.Places.{mostVariables, wordsSize};
 ghost use Rattle.stored.specs.Maps.{Names, Sought, TagHere, VariableHere, NumberPlace, TagPlaces, VariablePlaces};
 use crate::parts::wide;
+use layout::cells::PLACE_ROOM;
 use sparse::Bytes;
 use sparse::Words;
 use sparse::lookup::look_up;
@@ -39,14 +40,14 @@ fn tag_at(words: &Words, e: usize, q: usize, id: u64) -> u8
 }
 
 // For each live place of `from`, the place of the same symbol in `to`; 0 if there is none.
-pub fn tag_places(from: &Words, fbytes: &Bytes, to: &Words, bytes: &Bytes) -> [u8; 256]
+pub fn tag_places(from: &Words, fbytes: &Bytes, to: &Words, bytes: &Bytes) -> [u8; PLACE_ROOM]
     requires { ⌜ Names (now from) (now fbytes) ⌝ }
     requires { ⌜ Names (now to) (now bytes) ⌝ }
     ensures { λ r. ⌜ TagPlaces (now (from .entry)) (now (to .entry)) r ⌝ }
 {
     let k = from[sparse::SYMBOL_COUNT] as usize;
     let e = to[sparse::SYMBOL_COUNT] as usize + 1;
-    let mut r = [0u8; 256];
+    let mut r = [0u8; PLACE_ROOM];
     let mut q = 1;
     let mut p = 1;
     while p <= k {
@@ -73,14 +74,14 @@ fn variable_at(words: &Words, bytes: &Bytes, e: usize, q: usize, n: u64) -> u8
 }
 
 // For each place of a variable's symbol in `from`, the place of the symbol of the same variable in `to`; 0 if there is none.
-pub fn variable_places(from: &Words, fbytes: &Bytes, to: &Words, bytes: &Bytes) -> [u8; 256]
+pub fn variable_places(from: &Words, fbytes: &Bytes, to: &Words, bytes: &Bytes) -> [u8; PLACE_ROOM]
     requires { ⌜ Names (now from) (now fbytes) ⌝ }
     requires { ⌜ Names (now to) (now bytes) ⌝ }
     ensures { λ r. ⌜ VariablePlaces (now (from .entry)) (now (fbytes .entry)) (now (to .entry)) (now (bytes .entry)) r ⌝ }
 {
     let v = from[sparse::VARIABLE_COUNT] as usize;
     let e = to[sparse::VARIABLE_COUNT] as usize;
-    let mut r = [0u8; 256];
+    let mut r = [0u8; PLACE_ROOM];
     let mut q = 0;
     let mut i = 0;
     while i < v {

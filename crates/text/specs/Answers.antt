@@ -12,7 +12,7 @@ use lib.ListN.{length, getD, take, set, length-append, length-set}
 use lib.Seq.{take-suc-set}
 use Rattle.steps.specs.Changes.{Change}
 use Rattle.laws.specs.Lists.{tab, listOf, length-tab}
-use Rattle.choose.specs.Walk.{tab-snoc}
+use Rattle.rows.specs.choose.Walk.{tab-snoc}
 use Rattle.steps.specs.Session.{Reply, answer, is, list, says, numbers}
 
 -- a number of at most k digits in decimal, with no zeros in front

@@ -17,7 +17,7 @@ use Rattle.text.specs.declared.floats.Budget.{Budget}
 use Rattle.text.specs.declared.floats.Budget.the-variants.{Is16, No16}
 use Rattle.text.specs.declared.floats.Real.{Real}
 use Rattle.text.specs.declared.floats.Real.the-variants.{Number, NoReal}
-use Rattle.terms.specs.Terms.{noPack, packOf}
+use Rattle.changes.specs.terms.Terms.{noPack, packOf}
 use Rattle.text.specs.Choices.{yes-in, no-in}
 use Rattle.text.specs.Digits.{digitsOf, upTo, sameBytes}
 use Rattle.text.specs.Floats.{idOf, budgetOf, floatOf}

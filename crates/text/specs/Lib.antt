@@ -12,3 +12,5 @@ pub mod FormatLaws
 pub mod Answers
 pub mod Put
 pub mod Stream
+pub mod show_text
+pub mod replies

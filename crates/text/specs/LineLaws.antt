@@ -11,12 +11,12 @@ use lib.Seq.{drop-cons}
 use Rattle.steps.specs.State.{Term}
 use Rattle.text.specs.declared.floats.Id.the-variants.{Is32, No32}
 use Rattle.text.specs.declared.floats.Real.the-variants.{Number, NoReal}
-use Rattle.terms.specs.declared.Pack.{Pack}
+use Rattle.changes.specs.declared.terms.Pack.{Pack}
 use Rattle.text.specs.declared.packing.Packed.{Packed}
 use Rattle.text.specs.Words.{word}
 use Rattle.text.specs.Floats.{idOf, floatOf}
 use Rattle.text.specs.Format.{termThen, termsOf}
-use Rattle.terms.specs.Terms.{noPack, pushed, packFrom}
+use Rattle.changes.specs.terms.Terms.{noPack, pushed, packFrom}
 use Rattle.text.specs.Lines.{packed, packedFrom}
 
 -- the two words of a term, and those after it

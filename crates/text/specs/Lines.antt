@@ -4,9 +4,9 @@ use mathlib.Core.Bool.{Bool, true, false}
 use mathlib.Core.List.{List, map}
 use mathlib.Core.Option.{Option, none, some}
 use lib.ListN.{drop}
-use Rattle.terms.specs.declared.Term.{Term as Given}
-use Rattle.terms.specs.declared.Pack.{Pack}
-use Rattle.terms.specs.Terms.{noPack, packFrom, packOf}
+use Rattle.changes.specs.declared.terms.Term.{Term as Given}
+use Rattle.changes.specs.declared.terms.Pack.{Pack}
+use Rattle.changes.specs.terms.Terms.{noPack, packFrom, packOf}
 use Rattle.text.specs.Words.{word}
 use Rattle.text.specs.Floats.{idOf, budgetOf, floatOf}
 use Rattle.text.specs.Format.{relationOf, addWords}
@@ -21,8 +21,8 @@ use Rattle.text.specs.declared.floats.Budget.the-variants.{Is16, No16}
 use Rattle.text.specs.declared.floats.Real.{Real}
 use Rattle.text.specs.declared.floats.Real.the-variants.{Number, NoReal}
 use Rattle.changes.specs.declared.Change.the-variants.{Add, Remove, Drop, AddEdit, RemoveEdit, Suggest}
-use Rattle.tags.specs.declared.Relation.{Relation}
-use Rattle.tags.specs.declared.Relation.the-variants.{AtMost, Equal, AtLeast}
+use Rattle.changes.specs.declared.tags.Relation.{Relation}
+use Rattle.changes.specs.declared.tags.Relation.the-variants.{AtMost, Equal, AtLeast}
 use Rattle.text.specs.declared.calls.Related.{Related}
 use Rattle.text.specs.declared.calls.Related.the-variants.{By, NoRelation}
 use Rattle.text.specs.declared.calls.Call.{Call}

@@ -6,9 +6,9 @@ use mathlib.Core.List.{List, _++_}
 use mathlib.Core.Option.{Option}
 use native.Mathlib.Omega.{arith}
 use lib.ListN.{length, set}
-use Rattle.streams.specs.Lines as streams
-use Rattle.streams.specs.Held as held
-use Rattle.streams.specs.Lines.{Cut, before}
+use Rattle.laws.specs.streams.Lines as streams
+use Rattle.laws.specs.streams.Held as held
+use Rattle.laws.specs.streams.Lines.{Cut, before}
 
 unfoldable pub grown : Option (List ℕ) → ℕ → Option (List ℕ)
 grown = streams.grown 4096

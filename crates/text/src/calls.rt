@@ -8,8 +8,8 @@ use crate::floats::Budget;
 use crate::floats::Id;
 use crate::floats::Real;
 use changes::Change;
-use tags::Relation;
-use terms::Pack;
+use changes::tags::Relation;
+use changes::terms::Pack;
 
 // 1E-8: what `reset` alone takes.
 pub const USUAL_CUTOFF: f64 = 0.00000001;

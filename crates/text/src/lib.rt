@@ -4,6 +4,8 @@ pub mod digits;
 pub mod floats;
 pub mod packing;
 pub mod reading;
+pub mod replies;
+pub mod show_text;
 pub mod stream;
 pub mod words;
 pub mod writing;

@@ -5,14 +5,14 @@ ghost use Prim.Native.Nat.{_+_, _*_, _≤_};
 ghost use lib.ListN.{length, drop};
 ghost use Rattle.text.specs.Words.{wordsOf};
 ghost use Rattle.text.specs.Format.{termsOf};
-ghost use Rattle.terms.specs.Terms.{noPack};
+ghost use Rattle.changes.specs.terms.Terms.{noPack};
 ghost use Rattle.text.specs.Lines.{packed, packedFrom};
 use crate::floats;
 use crate::floats::Id;
 use crate::floats::Real;
 use crate::words;
-use terms::Pack;
-use terms::Term;
+use changes::terms::Pack;
+use changes::terms::Term;
 
 // Terms, if all could be read.
 pub struct Packed {
@@ -23,7 +23,7 @@ pub struct Packed {
 fn no_packed() -> Packed
     ensures { λ r. ⌜ r ≡ packed false noPack ⌝ }
 {
-    let t = terms::none();
+    let t = changes::terms::none();
     Packed {
         ok: false,
         terms: t,
@@ -36,7 +36,7 @@ pub fn read_terms(s: &[u8], from: usize, m: usize) -> Packed
     requires { ⌜ length (wordsOf (now s)) ≡ from + 2 * m ⌝ }
     ensures { λ r. ⌜ r ≡ packedFrom noPack (termsOf (drop from (wordsOf (now (s .entry))))) ⌝ }
 {
-    let mut t = terms::none();
+    let mut t = changes::terms::none();
     let mut i: usize = 0;
     while i < m {
         let Id::Is32(v) = floats::id_word(words::word_at(s, from + 2 * i)) else {
@@ -49,7 +49,7 @@ pub fn read_terms(s: &[u8], from: usize, m: usize) -> Packed
             variable: v,
             coefficient: x,
         };
-        t = terms::push(t, one);
+        t = changes::terms::push(t, one);
         i += 1;
     }
     Packed { ok: true, terms: t }

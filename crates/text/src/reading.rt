@@ -142,7 +142,7 @@ fn read_short(s: &[u8], n: usize) -> Call
 fn no_line() -> Line
     ensures { λ r. ⌜ r ≡ lineOf none ⌝ }
 {
-    let t = terms::none();
+    let t = changes::terms::none();
     Line {
         call: Call::Bad,
         terms: t,
@@ -225,6 +225,6 @@ pub fn read_line(s: &[u8]) -> Line
         return read_long(s, n);
     }
     let c = read_short(s, n);
-    let t = terms::none();
+    let t = changes::terms::none();
     Line { call: c, terms: t }
 }

@@ -15,8 +15,8 @@ use Rattle.steps.specs.CreateRow.{withVariables}
 use Rattle.keeps.specs.Fits.{FitsW}
 use Rattle.sparse.specs.Places.{mostRows, mostVariables, nextIdAt, symbolCountAt, rowCountAt, cellCountAt, variableCountAt, shouldClearAt, goneCountAt, idsAt, variableNumbersAt, kindsAt, rowPlacesAt, variablePlacesAt, constantsAt, oldValuesAt, objectiveAt, cutoffAt}
 use Rattle.sparse.specs.Sparse.{Sparse, symbolCount, rowCount, cellCount, variableCount, symbolAt, basicOf, symbolsOf, basicsOf, objectiveOf, goneOf, read}
-use Rattle.cells.specs.Names.{lastPlace}
-use Rattle.substituting.specs.Named.{Named}
+use Rattle.layout.specs.cells.Names.{lastPlace}
+use Rattle.waist.specs.substituting.Named.{Named}
 use Rattle.waist.specs.Working.{artificialOf, workOf, work-parts, lines-same, Sound}
 use Rattle.waist.specs.Dropping.{basic-by}
 use Rattle.waist.specs.Standing.{Owners, Standing, Makes}

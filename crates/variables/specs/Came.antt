@@ -8,8 +8,8 @@ use native.Mathlib.Omega.{arith}
 use lib.Dec.{eqb, ltb}
 use lib.ListN.{length, getD}
 use borrow.Author.Tests.{ltb-true, ltb-false, eqb-true, eqb-false}
-use Rattle.moves.specs.Close.{opened}
-use Rattle.moves.specs.Moved.{opened-before, opened-at, opened-inside}
+use Rattle.rows.specs.moves.Close.{opened}
+use Rattle.rows.specs.moves.Moved.{opened-before, opened-at, opened-inside}
 
 -- f is the stretch before, of k elements, and g the one after: y is at place z
 pub record Came {A : Type 0} (k z : ℕ) (y : A) (f g : ℕ → A) : Type 0 where

@@ -16,9 +16,9 @@ use Rattle.steps.specs.Changes.{neverReported, tellGone}
 use Rattle.steps.specs.CreateRow.{withVariables}
 use Rattle.steps.specs.Remove.{Fallen, useLess, lose}
 use Rattle.keeps.specs.Waits.{goneAfter}
-use Rattle.choose.specs.declared.Found.{Found}
-use Rattle.choose.specs.declared.Found.the-variants.{At, Nothing}
-use Rattle.choose.specs.Choose.{onFound}
+use Rattle.rows.specs.declared.choose.Found.{Found}
+use Rattle.rows.specs.declared.choose.Found.the-variants.{At, Nothing}
+use Rattle.rows.specs.choose.Choose.{onFound}
 use Rattle.sparse.specs.Places.{shouldClearAt, variableUsesAt, variablePlacesAt, oldValuesAt}
 use Rattle.sparse.specs.Sparse.{Sparse, symbolCount, variableCount, symbolAt, variableOf, goneOf, read}
 use Rattle.waist.specs.Working.{sparse, Sound}

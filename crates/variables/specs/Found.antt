@@ -12,11 +12,11 @@ use borrow.Author.Tests.{eqb-true, eqb-false, lt-ltb, le-ltb}
 use Rattle.laws.specs.Loops.{seek, first}
 use Rattle.laws.specs.Lists.{tab, listOf}
 use Rattle.steps.specs.Changes.{findVariable}
-use Rattle.choose.specs.declared.Found.{Found}
-use Rattle.choose.specs.declared.Found.the-variants.{At, Nothing}
-use Rattle.choose.specs.Choose.{onFound}
-use Rattle.cells.specs.Seek.{first-elim}
-use Rattle.places.specs.Finding.{placeIn}
+use Rattle.rows.specs.declared.choose.Found.{Found}
+use Rattle.rows.specs.declared.choose.Found.the-variants.{At, Nothing}
+use Rattle.rows.specs.choose.Choose.{onFound}
+use Rattle.layout.specs.cells.Seek.{first-elim}
+use Rattle.rows.specs.places.Finding.{placeIn}
 use Rattle.sparse.specs.Places.{variableCountAt, variableNumbersAt}
 use Rattle.sparse.specs.Lookup.{placeFrom}
 use Rattle.sparse.specs.Sparse.{Sparse, variableCount, variableOf, read}

@@ -15,10 +15,10 @@ use Rattle.steps.specs.Number.{Mark}
 use Rattle.steps.specs.Symbol.{Symbol}
 use Rattle.steps.specs.State.{Variable}
 use Rattle.steps.specs.CreateRow.{keepVariable, withVariables}
-use Rattle.choose.specs.declared.Found.the-variants.{Nothing}
-use Rattle.choose.specs.Chosen.{as-cond}
-use Rattle.cells.specs.Names.{lastPlace}
-use Rattle.moves.specs.Walk.{keep-walk}
+use Rattle.rows.specs.declared.choose.Found.the-variants.{Nothing}
+use Rattle.rows.specs.choose.Chosen.{as-cond}
+use Rattle.layout.specs.cells.Names.{lastPlace}
+use Rattle.rows.specs.moves.Walk.{keep-walk}
 use Rattle.sparse.specs.Places.{mostVariables, shouldClearAt, variableNumbersAt, variableUsesAt, kindsAt, variablePlacesAt, changedAt, oldValuesAt, wordsSize, bytesSize, realsSize}
 use Rattle.sparse.specs.Sparse.{Sparse, symbolCount, variableCount, symbolAt, variableOf, read}
 use Rattle.waist.specs.Working.{Sound}

@@ -7,10 +7,10 @@ use lib.Dec.{eqb}
 use lib.ListN.{getD, set}
 use lib.Ieee.{Float, nan, ne}
 use Rattle.steps.specs.Work.{Work, withChanges, purge}
-use Rattle.choose.specs.declared.Found.{Found}
-use Rattle.choose.specs.declared.Found.the-variants.{At, Nothing}
-use Rattle.choose.specs.Choose.{onFound}
-use Rattle.moves.specs.Close.{closed}
+use Rattle.rows.specs.declared.choose.Found.{Found}
+use Rattle.rows.specs.declared.choose.Found.the-variants.{At, Nothing}
+use Rattle.rows.specs.choose.Choose.{onFound}
+use Rattle.rows.specs.moves.Close.{closed}
 use Rattle.sparse.specs.Places.{variableCountAt, variableNumbersAt, variableUsesAt, variablePlacesAt, changedAt, oldValuesAt}
 use Rattle.sparse.specs.Sparse.{Sparse, symbolAt}
 use Rattle.variables.specs.declared.less.Gone.{Gone}

@@ -10,12 +10,12 @@ use lib.ListN.{length, getD, set, length-set}
 use lib.Seq.{getD-set-same, getD-set-other}
 use Rattle.laws.specs.Loops.{first}
 use Rattle.laws.specs.Lists.{tab}
-use Rattle.choose.specs.declared.Found.the-variants.{At}
-use Rattle.moves.specs.Close.{closed}
-use Rattle.moves.specs.Moved.{closed-before, closed-after, length-closed}
+use Rattle.rows.specs.declared.choose.Found.the-variants.{At}
+use Rattle.rows.specs.moves.Close.{closed}
+use Rattle.rows.specs.moves.Moved.{closed-before, closed-after, length-closed}
 use Rattle.sparse.specs.Places.{mostVariables, variableCountAt, shouldClearAt, goneCountAt, variableNumbersAt, variableUsesAt, goneNumbersAt, kindsAt, variablePlacesAt, changedAt, wordsSize, bytesSize, oldValuesAt}
 use Rattle.sparse.specs.Sparse.{Sparse, symbolCount, variableCount, symbolAt, variableOf, goneOf, read}
-use Rattle.substituting.specs.Gone.{gone-kept}
+use Rattle.waist.specs.substituting.Gone.{gone-kept}
 use Rattle.waist.specs.Working.{sparse, Sound}
 use Rattle.waist.specs.Standing.{Owners, Unowned}
 use Rattle.variables.specs.Variables.{foundIn}

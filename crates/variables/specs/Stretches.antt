@@ -9,12 +9,12 @@ use lib.Ieee.{Float, nan}
 use lib.ListN.{length, getD, set, length-set}
 use lib.Seq.{getD-set-same, getD-set-other}
 use borrow.Author.Tests.{ltb-true, ltb-false}
-use Rattle.cells.specs.Seek.{first-elim}
-use Rattle.moves.specs.Close.{opened}
-use Rattle.moves.specs.Moved.{opened-before, opened-after, length-opened}
+use Rattle.layout.specs.cells.Seek.{first-elim}
+use Rattle.rows.specs.moves.Close.{opened}
+use Rattle.rows.specs.moves.Moved.{opened-before, opened-after, length-opened}
 use Rattle.sparse.specs.Places.{mostVariables, variableCountAt, goneCountAt, variableNumbersAt, variableUsesAt, constraintNumbersAt, goneNumbersAt, variablePlacesAt, changedAt, oldValuesAt, wordsSize, bytesSize, realsSize}
 use Rattle.sparse.specs.Sparse.{Sparse, variableCount, goneOf}
-use Rattle.substituting.specs.Gone.{gone-kept}
+use Rattle.waist.specs.substituting.Gone.{gone-kept}
 use Rattle.waist.specs.Working.{sparse}
 use Rattle.variables.specs.Variables.{spotIn, keptWords, keptBytes, keptReals}
 use Rattle.variables.specs.Alone.{VariablesAlone}

@@ -13,12 +13,12 @@ use borrow.Author.Tests.{leb-true, leb-false, eqb-true, eqb-false, eq-eqb, ne-eq
 use Rattle.laws.specs.Loops.{first}
 use Rattle.laws.specs.Lists.{tab, listOf, tab-ext, length-tab}
 use Rattle.steps.specs.Changes.{keepNumber}
-use Rattle.choose.specs.declared.Found.{Found}
-use Rattle.choose.specs.declared.Found.the-variants.{At, Nothing}
-use Rattle.choose.specs.Choose.{onFound}
-use Rattle.cells.specs.Seek.{first-elim}
-use Rattle.moves.specs.Close.{opened}
-use Rattle.moves.specs.Moved.{opened-before, opened-at, opened-inside, length-opened}
+use Rattle.rows.specs.declared.choose.Found.{Found}
+use Rattle.rows.specs.declared.choose.Found.the-variants.{At, Nothing}
+use Rattle.rows.specs.choose.Choose.{onFound}
+use Rattle.layout.specs.cells.Seek.{first-elim}
+use Rattle.rows.specs.moves.Close.{opened}
+use Rattle.rows.specs.moves.Moved.{opened-before, opened-at, opened-inside, length-opened}
 use Rattle.sparse.specs.Places.{mostGone, goneCountAt, goneNumbersAt, wordsSize}
 
 -- the numbers that wait, as words hold them

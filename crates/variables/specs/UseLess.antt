@@ -13,9 +13,9 @@ use Rattle.laws.specs.Lists.{tab, tab-ext}
 use Rattle.steps.specs.State.{Variable}
 use Rattle.steps.specs.Changes.{findVariable}
 use Rattle.steps.specs.Remove.{Fallen, useLess}
-use Rattle.choose.specs.declared.Found.the-variants.{At, Nothing}
-use Rattle.choose.specs.Chosen.{as-cond}
-use Rattle.moves.specs.Walk.{drop-walk}
+use Rattle.rows.specs.declared.choose.Found.the-variants.{At, Nothing}
+use Rattle.rows.specs.choose.Chosen.{as-cond}
+use Rattle.rows.specs.moves.Walk.{drop-walk}
 
 abbrev pub fallen : List Variable → Option Variable → Fallen
 fallen vs g = record { variables = vs; gone = g }

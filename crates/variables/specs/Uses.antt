@@ -13,10 +13,10 @@ use borrow.Author.Tests.{ltb-true, ltb-false, eqb-true, eqb-false, eq-eqb, ne-eq
 use Rattle.laws.specs.Lists.{tab-ext, map-tab}
 use Rattle.steps.specs.Number.{Mark}
 use Rattle.steps.specs.CreateRow.{withVariables, useOnce}
-use Rattle.choose.specs.declared.Found.the-variants.{At, Nothing}
+use Rattle.rows.specs.declared.choose.Found.the-variants.{At, Nothing}
 use Rattle.sparse.specs.Places.{mostVariables, variableCountAt, shouldClearAt, goneCountAt, variableNumbersAt, variableUsesAt, goneNumbersAt, variablePlacesAt, wordsSize}
 use Rattle.sparse.specs.Sparse.{Sparse, variableCount, variableOf, goneOf, read}
-use Rattle.substituting.specs.Gone.{gone-kept}
+use Rattle.waist.specs.substituting.Gone.{gone-kept}
 use Rattle.waist.specs.Working.{sparse, Sound}
 use Rattle.waist.specs.Standing.{Owners, Standing, Makes}
 use Rattle.variables.specs.Variables.{foundIn, usedWords}

@@ -6,9 +6,9 @@ use lib.Dec.{eqb, ltb}
 use lib.ListN.{getD, set}
 use lib.Ieee.{Float, nan}
 use Rattle.laws.specs.Loops.{first}
-use Rattle.choose.specs.declared.Found.{Found}
-use Rattle.choose.specs.declared.Found.the-variants.{At, Nothing}
-use Rattle.moves.specs.Close.{opened}
+use Rattle.rows.specs.declared.choose.Found.{Found}
+use Rattle.rows.specs.declared.choose.Found.the-variants.{At, Nothing}
+use Rattle.rows.specs.moves.Close.{opened}
 use Rattle.sparse.specs.Places.{variableCountAt, variableNumbersAt, variableUsesAt, variablePlacesAt, changedAt, oldValuesAt}
 
 -- the place found is below n

@@ -8,8 +8,8 @@ use native.Mathlib.Omega.{arith}
 use lib.Dec.{ltb}
 use lib.ListN.{length, getD}
 use borrow.Author.Tests.{ltb-true, ltb-false}
-use Rattle.moves.specs.Close.{closed}
-use Rattle.moves.specs.Moved.{closed-before, closed-inside}
+use Rattle.rows.specs.moves.Close.{closed}
+use Rattle.rows.specs.moves.Moved.{closed-before, closed-inside}
 
 -- where the j-th that is left stood, once the one at z went
 unfoldable pub past : ℕ → ℕ → ℕ

@@ -5,7 +5,7 @@ ghost use lib.ListN.{getD};
 ghost use Rattle.sparse.specs.Places.{mostVariables, variableCountAt, variableNumbersAt, variableUsesAt};
 ghost use Rattle.sparse.specs.Lookup.{Ascends};
 ghost use Rattle.variables.specs.Variables.{Below, foundIn, mostUses, usedWords};
-use choose::Found;
+use rows::choose::Found;
 use sparse::VARIABLE_COUNT;
 use sparse::VARIABLE_NUMBERS;
 use sparse::VARIABLE_USES;

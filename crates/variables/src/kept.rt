@@ -2,8 +2,8 @@
 ghost use mathlib.Core.Path.{_≡_};
 ghost use Prim.Native.Nat.{_≤_, _<_};
 ghost use lib.ListN.{length, getD};
-ghost use Rattle.moves.specs.Close.{opened};
-ghost use Rattle.sparse.specs.Places.{mostVariables, variableCountAt, wordsSize, bytesSize, realsSize};
+ghost use Rattle.rows.specs.moves.Close.{opened};
+ghost use Rattle.sparse.specs.Places.{mostVariables, variableCountAt, wordsSize};
 ghost use Rattle.variables.specs.Variables.{spotIn, keptWords, keptBytes, keptReals};
 use sparse::Bytes;
 use sparse::CHANGED;
@@ -14,8 +14,10 @@ use sparse::VARIABLE_NUMBERS;
 use sparse::VARIABLE_PLACES;
 use sparse::VARIABLE_USES;
 use sparse::Words;
+use waist::basis::open_bytes;
+use waist::basis::open_reals;
 
-// An array by value tells its length, and one behind a reference does not: these hand it over.
+// An array by value tells its length, and one behind a reference does not: this hands it over.
 fn told_words(t: Words)
     ensures { λ _. ⌜ length t ≡ wordsSize ⌝ }
 {}
@@ -24,26 +26,6 @@ fn wide_words(t: &Words)
     ensures { λ _. ⌜ length (now (t .entry)) ≡ wordsSize ⌝ }
 {
     told_words(*t);
-}
-
-fn told_bytes(t: Bytes)
-    ensures { λ _. ⌜ length t ≡ bytesSize ⌝ }
-{}
-
-fn wide_bytes(t: &Bytes)
-    ensures { λ _. ⌜ length (now (t .entry)) ≡ bytesSize ⌝ }
-{
-    told_bytes(*t);
-}
-
-fn told_reals(t: Reals)
-    ensures { λ _. ⌜ length t ≡ realsSize ⌝ }
-{}
-
-fn wide_reals(t: &Reals)
-    ensures { λ _. ⌜ length (now (t .entry)) ≡ realsSize ⌝ }
-{
-    told_reals(*t);
 }
 
 // ---- by one place
@@ -60,34 +42,6 @@ pub fn open_words(words: &mut Words, i: usize, e: usize, x: u64)
         j -= 1;
     }
     words[i] = x;
-}
-
-fn open_bytes(bytes: &mut Bytes, i: usize, e: usize, x: u8)
-    requires { ⌜ i ≤ e ⌝ }
-    requires { ⌜ e < bytesSize ⌝ }
-    ensures { λ _. ⌜ now (bytes .exit) ≡ opened i e x (now (bytes .entry)) ⌝ }
-{
-    wide_bytes(bytes);
-    let mut j = e;
-    while i < j {
-        bytes[j] = bytes[j - 1];
-        j -= 1;
-    }
-    bytes[i] = x;
-}
-
-fn open_reals(reals: &mut Reals, i: usize, e: usize, x: f64)
-    requires { ⌜ i ≤ e ⌝ }
-    requires { ⌜ e < realsSize ⌝ }
-    ensures { λ _. ⌜ now (reals .exit) ≡ opened i e x (now (reals .entry)) ⌝ }
-{
-    wide_reals(reals);
-    let mut j = e;
-    while i < j {
-        reals[j] = reals[j - 1];
-        j -= 1;
-    }
-    reals[i] = x;
 }
 
 // ---- a variable

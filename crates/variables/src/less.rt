@@ -8,7 +8,7 @@ ghost use Rattle.sparse.specs.Lookup.{Ascends};
 ghost use Rattle.variables.specs.declared.less.Gone.the-variants.{Stays};
 ghost use Rattle.variables.specs.Less.{wentWords, wentBytes, wentReals, loss, lostUse, lessOf};
 use crate::found::find_variable;
-use choose::Found;
+use rows::choose::Found;
 use sparse::Bytes;
 use sparse::CHANGED;
 use sparse::OLD_VALUES;

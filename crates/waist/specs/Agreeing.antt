@@ -13,11 +13,11 @@ use Rattle.steps.specs.Symbol.{absent}
 use Rattle.steps.specs.State.{Basic}
 use Rattle.sparse.specs.Places.{cellCountAt, rowPlacesAt, constantsAt}
 use Rattle.sparse.specs.Sparse.{Sparse, symbolCount, rowCount, cellCount, symbolAt, variableOf, basicOf, symbolsOf, basicsOf, objectiveOf, goneOf, read}
-use Rattle.cells.specs.Names.{rowSpan, cellRoom}
-use Rattle.cells.specs.Cells.{Ascending, Present, cellIn, cellAt, rowOf}
-use Rattle.cells.specs.Reads.{cell-within}
-use Rattle.merging.specs.Merge.{Placed}
-use Rattle.substituting.specs.Held.{Held}
+use Rattle.layout.specs.cells.Names.{rowSpan, cellRoom}
+use Rattle.layout.specs.cells.Cells.{Ascending, Present, cellIn, cellAt, rowOf}
+use Rattle.layout.specs.cells.Reads.{cell-within}
+use Rattle.waist.specs.merging.Merge.{Placed}
+use Rattle.waist.specs.substituting.Held.{Held}
 use Rattle.waist.specs.Working.{sparse, artificialOf, workOf, linesOf, Sound}
 use Rattle.waist.specs.Owning.{Inside, Owners, Kept}
 

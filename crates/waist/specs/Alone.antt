@@ -14,10 +14,10 @@ use Rattle.steps.specs.State.{Basic, Variable}
 use Rattle.steps.specs.Work.{withTableau, withRows}
 use Rattle.sparse.specs.Places.{nextIdAt, symbolCountAt, rowCountAt, cellCountAt, variableCountAt, shouldClearAt, goneCountAt, idsAt, variableNumbersAt, variableUsesAt, goneNumbersAt, kindsAt, rowPlacesAt, variablePlacesAt, changedAt, oldValuesAt, objectiveAt, cutoffAt}
 use Rattle.sparse.specs.Sparse.{Sparse, symbolCount, variableCount, symbolAt, variableOf, symbolsOf, basicsOf, objectiveOf, goneOf, read}
-use Rattle.cells.specs.Names.{lastPlace}
-use Rattle.substituting.specs.Notes.{noted}
-use Rattle.substituting.specs.Gone.{gone-kept}
-use Rattle.substituting.specs.Named.{Named}
+use Rattle.layout.specs.cells.Names.{lastPlace}
+use Rattle.waist.specs.substituting.Notes.{noted}
+use Rattle.waist.specs.substituting.Gone.{gone-kept}
+use Rattle.waist.specs.substituting.Named.{Named}
 use Rattle.waist.specs.Working.{artificialOf, workOf, work-parts}
 use Rattle.waist.specs.Owning.{Owners, Low, owners-by}
 

@@ -18,14 +18,14 @@ use Rattle.layout.specs.Layout.{cellsOf}
 use Rattle.rows.specs.Reading as dense
 use Rattle.sparse.specs.Places.{rowCountAt, cellCountAt, rowPlacesAt, constantsAt}
 use Rattle.sparse.specs.Sparse.{Sparse, symbolCount, rowCount, cellCount, symbolAt, basicOf, basicsOf, read}
-use Rattle.cells.specs.Names.{rowSpan, cellRoom, lastPlace}
-use Rattle.cells.specs.Cells.{Ascending, Present, Cells, cells, cellAt, rowOf, lowerIn, replaced}
-use Rattle.cells.specs.Search.{Bound, lower-bound}
-use Rattle.cells.specs.Reads.{ascending-le, cell-within}
-use Rattle.cells.specs.Replaced.{replaced-own, replaced-other}
-use Rattle.merging.specs.Merge.{Placed}
-use Rattle.substituting.specs.Held.{Held, held-room, held-replaced}
-use Rattle.substituting.specs.Loose.{SettledRow}
+use Rattle.layout.specs.cells.Names.{rowSpan, cellRoom, lastPlace}
+use Rattle.layout.specs.cells.Cells.{Ascending, Present, Cells, cells, cellAt, rowOf, lowerIn, replaced}
+use Rattle.layout.specs.cells.Search.{Bound, lower-bound}
+use Rattle.layout.specs.cells.Reads.{ascending-le, cell-within}
+use Rattle.layout.specs.cells.Replaced.{replaced-own, replaced-other}
+use Rattle.waist.specs.merging.Merge.{Placed}
+use Rattle.waist.specs.substituting.Held.{Held, held-room, held-replaced}
+use Rattle.waist.specs.substituting.Loose.{SettledRow}
 use Rattle.waist.specs.Working.{sparse, artificialOf, workOf, linesOf, dense-cells, Sound, lines-few, basic-symbol}
 use Rattle.waist.specs.Owning.{Inside, Kept}
 use Rattle.waist.specs.Within.{within-replaced}

@@ -24,14 +24,14 @@ use Rattle.keeps.specs.Fits.{IsBasic, FitsW}
 use Rattle.keeps.specs.Adding.{temporary-fits}
 use Rattle.layout.specs.Layout.{kindOf, cellsOf}
 use Rattle.rows.specs.Reading as dense
-use Rattle.choose.specs.Walk.{tab-snoc}
+use Rattle.rows.specs.choose.Walk.{tab-snoc}
 use Rattle.sparse.specs.Places.{mostRows}
 use Rattle.sparse.specs.Sparse.{Sparse, symbolCount, rowCount, symbolAt, read}
-use Rattle.cells.specs.Names.{rowRoom, lastPlace}
-use Rattle.cells.specs.Cells.{settled}
-use Rattle.cells.specs.Column.{zero-absent}
-use Rattle.merging.specs.Substituted.{settled-absent}
-use Rattle.substituting.specs.Loose.{SettledRow}
+use Rattle.layout.specs.cells.Names.{rowRoom, lastPlace}
+use Rattle.layout.specs.cells.Cells.{settled}
+use Rattle.layout.specs.cells.Column.{zero-absent}
+use Rattle.waist.specs.merging.Substituted.{settled-absent}
+use Rattle.waist.specs.substituting.Loose.{SettledRow}
 use Rattle.waist.specs.Working.{workOf, dense-cells, Sound}
 use Rattle.waist.specs.Alone.{symbols-count}
 use Rattle.waist.specs.Dropping.{Free}

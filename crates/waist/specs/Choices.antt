@@ -10,10 +10,10 @@ use Rattle.steps.specs.Number.{Mark}
 use Rattle.steps.specs.Symbol.{Symbol, firstSymbol}
 use Rattle.steps.specs.Optimise.{goalCells, getEnteringSymbol, getLeavingRow, getDualEnteringSymbol}
 use Rattle.steps.specs.Artificial.{anyPivotableSymbol, isEmptyRow}
-use Rattle.choose.specs.declared.Found.{Found}
-use Rattle.choose.specs.declared.Want.the-variants as want
-use Rattle.choose.specs.Choose.{Within, onFound, wants, isNothing}
-use Rattle.choose.specs.Steps.{picked, on-some}
+use Rattle.rows.specs.declared.choose.Found.{Found}
+use Rattle.rows.specs.declared.choose.Want.the-variants as want
+use Rattle.rows.specs.choose.Choose.{Within, onFound, wants, isNothing}
+use Rattle.rows.specs.choose.Steps.{picked, on-some}
 use Rattle.sparse.specs.Sparse.{Sparse, symbolCount, rowCount, symbolAt, basicOf, symbolsOf, read}
 use Rattle.waist.specs.Working.{artificialOf, workOf, Sound}
 use Rattle.waist.specs.Standing.{rowSymbol, Chooses}

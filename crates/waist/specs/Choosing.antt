@@ -18,14 +18,14 @@ use Rattle.steps.specs.State.{Basic}
 use Rattle.steps.specs.Optimise.{getDualLeavingRow, Goal, theObjective, theArtificial, goalCells, getEnteringSymbol}
 use Rattle.layout.specs.Layout.{kindOf}
 use Rattle.layout.specs.Laying.{tab-from}
-use Rattle.choose.specs.declared.Found.{Found}
-use Rattle.choose.specs.declared.Found.the-variants.{At, Nothing}
-use Rattle.choose.specs.Choose.{onFound}
-use Rattle.choose.specs.Chosen.{as-cond}
-use Rattle.choose.specs.Walk.{first-walk}
+use Rattle.rows.specs.declared.choose.Found.{Found}
+use Rattle.rows.specs.declared.choose.Found.the-variants.{At, Nothing}
+use Rattle.rows.specs.choose.Choose.{onFound}
+use Rattle.rows.specs.choose.Chosen.{as-cond}
+use Rattle.rows.specs.choose.Walk.{first-walk}
 use Rattle.sparse.specs.Places.{symbolCountAt, rowCountAt, kindsAt, rowPlacesAt, constantsAt, objectiveAt}
 use Rattle.sparse.specs.Sparse.{Sparse, symbolAt, basicOf, symbolsOf, basicsOf, objectiveOf, read}
-use Rattle.substituting.specs.Notes.{isExternalKind}
+use Rattle.waist.specs.substituting.Notes.{isExternalKind}
 use Rattle.waist.specs.Working.{workOf}
 
 -- what a pass optimises

@@ -19,18 +19,18 @@ use Rattle.steps.specs.Row.{Row}
 use Rattle.steps.specs.State.{Basic}
 use Rattle.steps.specs.Work.{withRows, dropRow}
 use Rattle.layout.specs.Laying.{tab-from}
-use Rattle.choose.specs.declared.Found.the-variants.{At, Nothing}
-use Rattle.choose.specs.Own.{first-is}
-use Rattle.choose.specs.Chosen.{as-cond}
-use Rattle.moves.specs.Close.{closed}
-use Rattle.moves.specs.Moved.{closed-before, closed-inside, closed-after, length-closed}
-use Rattle.moves.specs.Walk.{drop-walk}
+use Rattle.rows.specs.declared.choose.Found.the-variants.{At, Nothing}
+use Rattle.rows.specs.choose.Own.{first-is}
+use Rattle.rows.specs.choose.Chosen.{as-cond}
+use Rattle.rows.specs.moves.Close.{closed}
+use Rattle.rows.specs.moves.Moved.{closed-before, closed-inside, closed-after, length-closed}
+use Rattle.rows.specs.moves.Walk.{drop-walk}
 use Rattle.sparse.specs.Places.{mostRows, rowCountAt, cellCountAt, rowPlacesAt, constantsAt, realsSize}
 use Rattle.sparse.specs.Sparse.{Sparse, symbolCount, rowCount, cellCount, symbolAt, basicOf, basicsOf, read}
-use Rattle.cells.specs.Names.{rowSpan, lastPlace}
-use Rattle.cells.specs.Cells.{Cells, cells, rowOf, dropped}
-use Rattle.cells.specs.Drop.{dropped-before, dropped-after}
-use Rattle.substituting.specs.Held.{Held, held-few}
+use Rattle.layout.specs.cells.Names.{rowSpan, lastPlace}
+use Rattle.layout.specs.cells.Cells.{Cells, cells, rowOf, dropped}
+use Rattle.layout.specs.cells.Drop.{dropped-before, dropped-after}
+use Rattle.waist.specs.substituting.Held.{Held, held-few}
 use Rattle.waist.specs.Working.{sparse, artificialOf, workOf, linesOf, Sound, lines-few, rows-lines, id-at, basic-symbol}
 use Rattle.waist.specs.Owning.{Inside, Kept}
 use Rattle.waist.specs.Alone.{RowsAlone, symbols-count, symbol-alone, named-alone, owners-alone, work-alone}

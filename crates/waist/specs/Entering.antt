@@ -15,9 +15,9 @@ use Rattle.steps.specs.Substitute.{substitute, enterBasis}
 use Rattle.rows.specs.Reading as dense
 use Rattle.sparse.specs.Places.{mostRows, mostVariables, symbolCountAt, rowCountAt, cellCountAt, shouldClearAt, idsAt, kindsAt, rowPlacesAt, variablePlacesAt, changedAt, constraintStrengthsAt}
 use Rattle.sparse.specs.Sparse.{Sparse, symbolCount, rowCount, symbolAt}
-use Rattle.cells.specs.Names.{lastPlace}
-use Rattle.substituting.specs.Loose.{SettledRow}
-use Rattle.substituting.specs.Notes.{isExternalKind}
+use Rattle.layout.specs.cells.Names.{lastPlace}
+use Rattle.waist.specs.substituting.Loose.{SettledRow}
+use Rattle.waist.specs.substituting.Notes.{isExternalKind}
 use Rattle.waist.specs.Working.{workOf, Sound}
 use Rattle.waist.specs.Owning.{Kept, kept-then}
 use Rattle.waist.specs.Substitutes.{Stays, Substitutes}

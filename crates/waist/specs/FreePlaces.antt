@@ -21,9 +21,9 @@ use Rattle.keeps.specs.Cells.{Fine, holds-held}
 use Rattle.keeps.specs.RowOps.{RowOk}
 use Rattle.keeps.specs.Fits.{bids, IsBasic}
 use Rattle.keeps.specs.Passes.{entering-free, dual-entering, held-free}
-use Rattle.choose.specs.declared.Found.{Found}
-use Rattle.choose.specs.declared.Found.the-variants.{At}
-use Rattle.choose.specs.Choose.{onFound}
+use Rattle.rows.specs.declared.choose.Found.{Found}
+use Rattle.rows.specs.declared.choose.Found.the-variants.{At}
+use Rattle.rows.specs.choose.Choose.{onFound}
 use Rattle.sparse.specs.Places.{rowPlacesAt}
 use Rattle.sparse.specs.Sparse.{Sparse, symbolCount, rowCount, symbolAt, basicOf, symbolsOf, basicsOf, read}
 use Rattle.waist.specs.Working.{workOf, basic-symbol}

@@ -30,10 +30,10 @@ use Rattle.rows.specs.Place.{PlaceOf, insert-values, insert-marks}
 use Rattle.sparse.specs.Places.{constantsAt, oldValuesAt, objectiveAt, cutoffAt, realsSize}
 use Rattle.sparse.specs.Sparse.{Sparse, symbolCount, rowCount, cellCount, variableCount, symbolAt, variableOf, basicOf, symbolsOf, basicsOf, objectiveOf, goneOf, read}
 use Rattle.sparse.specs.Widths.{objective-wide}
-use Rattle.cells.specs.Names.{rowRoom}
-use Rattle.cells.specs.Cells.{loaded, rowOf}
-use Rattle.cells.specs.Load.{loaded-reads}
-use Rattle.substituting.specs.Objective.{Aim, aim, aimTurn, objectiveAlong, aim-cells, aim-marks, aim-beyond, aim-long}
+use Rattle.layout.specs.cells.Names.{rowRoom}
+use Rattle.layout.specs.cells.Cells.{loaded, rowOf}
+use Rattle.layout.specs.cells.Load.{loaded-reads}
+use Rattle.waist.specs.substituting.Objective.{Aim, aim, aimTurn, objectiveAlong, aim-cells, aim-marks, aim-beyond, aim-long}
 use Rattle.waist.specs.Working.{sparse, artificialOf, workOf, cutoffOf, work-parts, linesOf, Sound, live-place}
 use Rattle.waist.specs.Owning.{Owners}
 use Rattle.waist.specs.Dropping.{Free}

@@ -20,14 +20,14 @@ use Rattle.keeps.specs.Lists.{All}
 use Rattle.keeps.specs.Fits.{FitsW}
 use Rattle.keeps.specs.Building.{append-fits}
 use Rattle.layout.specs.Layout.{kindOf}
-use Rattle.choose.specs.Walk.{tab-snoc}
+use Rattle.rows.specs.choose.Walk.{tab-snoc}
 use Rattle.sparse.specs.Places.{nextIdAt, symbolCountAt, rowCountAt, cellCountAt, variableCountAt, shouldClearAt, goneCountAt, idsAt, variableNumbersAt, variableUsesAt, goneNumbersAt, kindsAt, rowPlacesAt, variablePlacesAt, changedAt, constantsAt, oldValuesAt, objectiveAt, cutoffAt}
 use Rattle.sparse.specs.Sparse.{Sparse, symbolCount, rowCount, cellCount, variableCount, symbolAt, variableOf, basicOf, symbolsOf, basicsOf, objectiveOf, goneOf, read}
-use Rattle.cells.specs.Names.{rowSpan, lastPlace}
-use Rattle.cells.specs.Cells.{cellAt, rowOf}
-use Rattle.cells.specs.Reads.{cell-absent}
-use Rattle.substituting.specs.Gone.{gone-kept}
-use Rattle.substituting.specs.Named.{Named}
+use Rattle.layout.specs.cells.Names.{rowSpan, lastPlace}
+use Rattle.layout.specs.cells.Cells.{cellAt, rowOf}
+use Rattle.layout.specs.cells.Reads.{cell-absent}
+use Rattle.waist.specs.substituting.Gone.{gone-kept}
+use Rattle.waist.specs.substituting.Named.{Named}
 use Rattle.waist.specs.Working.{sparse, artificialOf, workOf, work-parts, lines-same, Sound, id-at, basic-symbol}
 use Rattle.waist.specs.Dropping.{Free, basic-by}
 use Rattle.waist.specs.Standing.{Inside, Owners, Standing, Makes, Unowned}

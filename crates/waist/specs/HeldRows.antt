@@ -13,16 +13,16 @@ use Rattle.laws.specs.Loops.{mapIn}
 use Rattle.laws.specs.Places.{length-mapIn, mapIn-at, mapIn-before}
 use Rattle.steps.specs.Symbol.{absent}
 use Rattle.sparse.specs.Places.{mostRows}
-use Rattle.cells.specs.Names.{rowSpan, lastPlace}
-use Rattle.cells.specs.Cells.{Ascending, Present, lowerIn, moved, dropped, droppedAt, rowAfter, opened}
-use Rattle.cells.specs.Slide.{length-moved, moved-before, moved-in}
-use Rattle.cells.specs.Search.{lower-bound}
-use Rattle.cells.specs.Reads.{RowRun, run-le, run-past}
-use Rattle.cells.specs.Replace.{row-run}
-use Rattle.cells.specs.Drop.{dropped-ascends}
-use Rattle.cells.specs.Open.{after-is, Raisable, opened-ascends}
-use Rattle.merging.specs.Merge.{Placed}
-use Rattle.substituting.specs.Held.{Held, held-few}
+use Rattle.layout.specs.cells.Names.{rowSpan, lastPlace}
+use Rattle.layout.specs.cells.Cells.{Ascending, Present, lowerIn, moved, dropped, droppedAt, rowAfter, opened}
+use Rattle.layout.specs.cells.Slide.{length-moved, moved-before, moved-in}
+use Rattle.layout.specs.cells.Search.{lower-bound}
+use Rattle.layout.specs.cells.Reads.{RowRun, run-le, run-past}
+use Rattle.layout.specs.cells.Replace.{row-run}
+use Rattle.layout.specs.cells.Drop.{dropped-ascends}
+use Rattle.layout.specs.cells.Open.{after-is, Raisable, opened-ascends}
+use Rattle.waist.specs.merging.Merge.{Placed}
+use Rattle.waist.specs.substituting.Held.{Held, held-few}
 
 module _ (lines n i : ℕ) (keys : List ℕ) (vals : List Float) (h : Held lines n keys vals) (few : lines ≤ mostRows) where
   in-keys : n ≤ length keys

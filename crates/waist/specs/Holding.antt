@@ -16,7 +16,7 @@ use Rattle.rows.specs.Reading as dense
 use Rattle.rows.specs.declared.number.Wrote.{Wrote}
 use Rattle.rows.specs.Marks.{markOf, join, joined-mark}
 use Rattle.sparse.specs.Sparse.{Sparse, symbolCount, symbolAt, read}
-use Rattle.substituting.specs.Notes.{noted, varChangedIf}
+use Rattle.waist.specs.substituting.Notes.{noted, varChangedIf}
 use Rattle.waist.specs.Working.{sparse, workOf, Sound, basic-symbol}
 use Rattle.waist.specs.Owning.{Kept}
 use Rattle.waist.specs.Dropping.{Free, Drops}

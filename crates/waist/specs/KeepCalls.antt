@@ -7,13 +7,13 @@ use mathlib.Core.List.{List}
 use native.Mathlib.Omega.{arith}
 use lib.Ieee.{Float, nan}
 use lib.ListN.{getD, set}
-use Rattle.moves.specs.Close as place
+use Rattle.rows.specs.moves.Close as place
 use Rattle.sparse.specs.Places.{mostRows, rowCountAt, cellCountAt, rowPlacesAt, constantsAt}
 use Rattle.sparse.specs.Sparse.{Sparse, symbolCount, rowCount, cellCount}
-use Rattle.cells.specs.Names.{cellRoom}
-use Rattle.cells.specs.Cells.{Ascending, cells, opened, replaced}
-use Rattle.substituting.specs.Held.{held-room}
-use Rattle.substituting.specs.Loose.{SettledRow}
+use Rattle.layout.specs.cells.Names.{cellRoom}
+use Rattle.layout.specs.cells.Cells.{Ascending, cells, opened, replaced}
+use Rattle.waist.specs.substituting.Held.{held-room}
+use Rattle.waist.specs.substituting.Loose.{SettledRow}
 use Rattle.waist.specs.Working.{sparse, linesOf, Sound, lines-few, rows-lines}
 use Rattle.waist.specs.HeldRows.{held-opened}
 use Rattle.waist.specs.Dropping.{Free}

@@ -19,19 +19,19 @@ use Rattle.steps.specs.Work.{keepRow}
 use Rattle.layout.specs.Layout.{cellsOf}
 use Rattle.layout.specs.Laying.{tab-from}
 use Rattle.rows.specs.Reading as dense
-use Rattle.choose.specs.Chosen.{as-cond}
-use Rattle.moves.specs.Close as place
-use Rattle.moves.specs.Moved as moved
-use Rattle.moves.specs.Walk.{keep-walk}
+use Rattle.rows.specs.choose.Chosen.{as-cond}
+use Rattle.rows.specs.moves.Close as place
+use Rattle.rows.specs.moves.Moved as moved
+use Rattle.rows.specs.moves.Walk.{keep-walk}
 use Rattle.sparse.specs.Places.{mostRows, rowCountAt, cellCountAt, rowPlacesAt, constantsAt, realsSize}
 use Rattle.sparse.specs.Sparse.{Sparse, symbolCount, rowCount, cellCount, symbolAt, basicOf, basicsOf, read}
-use Rattle.cells.specs.Names.{rowSpan, lastPlace, cellRoom}
-use Rattle.cells.specs.Cells.{Cells, rowOf, opened, replaced}
-use Rattle.cells.specs.Seek.{first-moved}
-use Rattle.cells.specs.Open.{opened-before, opened-after}
-use Rattle.cells.specs.Replaced.{replaced-own, replaced-other}
-use Rattle.substituting.specs.Held.{Held, held-room, held-replaced}
-use Rattle.substituting.specs.Loose.{SettledRow}
+use Rattle.layout.specs.cells.Names.{rowSpan, lastPlace, cellRoom}
+use Rattle.layout.specs.cells.Cells.{Cells, rowOf, opened, replaced}
+use Rattle.layout.specs.cells.Seek.{first-moved}
+use Rattle.layout.specs.cells.Open.{opened-before, opened-after}
+use Rattle.layout.specs.cells.Replaced.{replaced-own, replaced-other}
+use Rattle.waist.specs.substituting.Held.{Held, held-room, held-replaced}
+use Rattle.waist.specs.substituting.Loose.{SettledRow}
 use Rattle.waist.specs.Working.{sparse, artificialOf, workOf, linesOf, dense-cells, Sound, lines-few, id-at, basic-symbol}
 use Rattle.waist.specs.Owning.{Inside, Kept}
 use Rattle.waist.specs.Within.{within-replaced}

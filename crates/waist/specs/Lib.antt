@@ -1,3 +1,5 @@
+pub mod merging
+pub mod substituting
 pub mod Working
 pub mod Owning
 pub mod Agreeing

@@ -17,7 +17,7 @@ use Rattle.keeps.specs.Along.{Mem}
 use Rattle.keeps.specs.Fits.{bids}
 use Rattle.sparse.specs.Places.{rowPlacesAt}
 use Rattle.sparse.specs.Sparse.{Sparse, symbolCount, rowCount, symbolAt, basicOf, symbolsOf, basicsOf}
-use Rattle.substituting.specs.Named.{same-place}
+use Rattle.waist.specs.substituting.Named.{same-place}
 use Rattle.waist.specs.Working.{Sound, id-at, basic-symbol}
 use Rattle.waist.specs.Dropping.{Free}
 

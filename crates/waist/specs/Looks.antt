@@ -15,18 +15,18 @@ use Rattle.steps.specs.Number.{belowZero}
 use Rattle.steps.specs.Symbol.{External, Slack, Error, Dummy, Symbol, isExternal, isDummy, isPivotable, holds, firstSymbol}
 use Rattle.layout.specs.Layout.{kindOf, cellsOf}
 use Rattle.layout.specs.Laying.{tab-from}
-use Rattle.choose.specs.declared.Found.{Found}
-use Rattle.choose.specs.declared.Found.the-variants.{At, Nothing}
-use Rattle.choose.specs.declared.Want.{Want}
-use Rattle.choose.specs.declared.Want.the-variants as want
-use Rattle.choose.specs.Choose.{onFound, wants}
-use Rattle.choose.specs.Walk.{first-walk}
+use Rattle.rows.specs.declared.choose.Found.{Found}
+use Rattle.rows.specs.declared.choose.Found.the-variants.{At, Nothing}
+use Rattle.rows.specs.declared.choose.Want.{Want}
+use Rattle.rows.specs.declared.choose.Want.the-variants as want
+use Rattle.rows.specs.choose.Choose.{onFound, wants}
+use Rattle.rows.specs.choose.Walk.{first-walk}
 use Rattle.sparse.specs.Places.{mostRows, symbolCountAt, kindsAt}
 use Rattle.sparse.specs.Sparse.{Sparse, symbolCount, cellCount, symbolAt, basicOf, symbolsOf}
-use Rattle.cells.specs.Names.{rowRoom, cellRoom, lastPlace}
-use Rattle.cells.specs.Cells.{Ascending, Narrow, loaded}
-use Rattle.cells.specs.Load.{loaded-reads}
-use Rattle.substituting.specs.Held.{held-room}
+use Rattle.layout.specs.cells.Names.{rowRoom, cellRoom, lastPlace}
+use Rattle.layout.specs.cells.Cells.{Ascending, Narrow, loaded}
+use Rattle.layout.specs.cells.Load.{loaded-reads}
+use Rattle.waist.specs.substituting.Held.{held-room}
 use Rattle.waist.specs.Working.{Sound, lines-few, dense-cells}
 use Rattle.waist.specs.Pivoting.{narrow-held}
 

@@ -14,14 +14,14 @@ use Rattle.steps.specs.State.{Basic}
 use Rattle.steps.specs.Optimise.{smallestRatio, negativeRatios}
 use Rattle.steps.specs.Remove.{cellIn, firstDummyRow, positiveRatios, lastExternalRow, getMarkerLeavingRow}
 use Rattle.layout.specs.Laying.{tab-from}
-use Rattle.choose.specs.declared.Found.{Found}
-use Rattle.choose.specs.declared.Found.the-variants.{At, Nothing}
-use Rattle.choose.specs.Back.{back}
-use Rattle.choose.specs.Choose.{Within, onFound, orElse}
-use Rattle.choose.specs.Chosen.{as-cond}
-use Rattle.choose.specs.Walk.{first-walk, last-walk, tab-snoc}
+use Rattle.rows.specs.declared.choose.Found.{Found}
+use Rattle.rows.specs.declared.choose.Found.the-variants.{At, Nothing}
+use Rattle.rows.specs.choose.Back.{back}
+use Rattle.rows.specs.choose.Choose.{Within, onFound, orElse}
+use Rattle.rows.specs.choose.Chosen.{as-cond}
+use Rattle.rows.specs.choose.Walk.{first-walk, last-walk, tab-snoc}
 use Rattle.sparse.specs.Sparse.{Sparse, symbolCount, rowCount, symbolAt, basicOf, symbolsOf, basicsOf, read}
-use Rattle.substituting.specs.Notes.{isExternalKind}
+use Rattle.waist.specs.substituting.Notes.{isExternalKind}
 use Rattle.waist.specs.Working.{workOf, Sound}
 use Rattle.waist.specs.Standing.{rowSymbol, Chooses}
 use Rattle.waist.specs.Choosing.{isDummyKind}

@@ -12,10 +12,10 @@ use Rattle.steps.specs.Work.{Work, withChanges}
 use Rattle.steps.specs.Changes.{varChanged, note}
 use Rattle.sparse.specs.Places.{nextIdAt, symbolCountAt, rowCountAt, cellCountAt, shouldClearAt, rowPlacesAt}
 use Rattle.sparse.specs.Sparse.{Sparse, symbolCount, rowCount, cellCount, symbolAt, basicOf, symbolsOf, basicsOf, objectiveOf, read}
-use Rattle.cells.specs.Names.{lastPlace}
-use Rattle.substituting.specs.Notes.{Noted, noted, varChangedIf}
-use Rattle.substituting.specs.Named.{NotesKept, named-kept, note-if-kept}
-use Rattle.substituting.specs.NotesRead.{noteIn, symbol-kept, changed-if-read}
+use Rattle.layout.specs.cells.Names.{lastPlace}
+use Rattle.waist.specs.substituting.Notes.{Noted, noted, varChangedIf}
+use Rattle.waist.specs.substituting.Named.{NotesKept, named-kept, note-if-kept}
+use Rattle.waist.specs.substituting.NotesRead.{noteIn, symbol-kept, changed-if-read}
 use Rattle.waist.specs.Working.{sparse, artificialOf, workOf, work-parts, linesOf, lines-same, Sound, basic-symbol}
 use Rattle.waist.specs.Owning.{Kept, owners-by, low-if}
 use Rattle.waist.specs.Substitutes.{Stays}

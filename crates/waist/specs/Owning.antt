@@ -11,10 +11,10 @@ use lib.ListN.{getD}
 use lib.Seq.{getD-set-same}
 use Rattle.sparse.specs.Places.{symbolCountAt, rowCountAt, cellCountAt, variableCountAt, shouldClearAt, variableNumbersAt, kindsAt, rowPlacesAt, variablePlacesAt, changedAt}
 use Rattle.sparse.specs.Sparse.{Sparse, symbolCount, cellCount, variableCount}
-use Rattle.cells.specs.Names.{rowSpan}
-use Rattle.cells.specs.Seek.{run-inv}
-use Rattle.substituting.specs.Notes.{Noted, noted, varChangedAt, varChangedIf, noteRow, noteRows}
-use Rattle.substituting.specs.Named.{Named, named-kept, note-kept, note-flag, note-if-kept}
+use Rattle.layout.specs.cells.Names.{rowSpan}
+use Rattle.layout.specs.cells.Seek.{run-inv}
+use Rattle.waist.specs.substituting.Notes.{Noted, noted, varChangedAt, varChangedIf, noteRow, noteRows}
+use Rattle.waist.specs.substituting.Named.{Named, named-kept, note-kept, note-flag, note-if-kept}
 
 -- no cell stands past the live symbols
 abbrev pub Inside : Sparse → Type 0

@@ -27,13 +27,13 @@ use Rattle.rows.specs.Reading as dense
 use Rattle.sparse.specs.Places.{mostRows, rowPlacesAt, constantsAt}
 use Rattle.sparse.specs.Sparse.{Sparse, symbolCount, rowCount, cellCount, symbolAt, basicOf, symbolsOf, basicsOf, read}
 use Rattle.sparse.specs.Widths.{symbols-read}
-use Rattle.cells.specs.Names.{rowSpan, rowRoom, lastPlace}
-use Rattle.cells.specs.Cells.{Narrow, cellAt, rowOf, loaded, settled}
-use Rattle.cells.specs.Column.{zero-absent}
-use Rattle.cells.specs.Load.{loaded-reads}
-use Rattle.merging.specs.Merge.{Placed}
-use Rattle.merging.specs.Substituted.{settled-absent, settled-stored, settled-insert, cell-settled}
-use Rattle.substituting.specs.Loose.{SettledRow}
+use Rattle.layout.specs.cells.Names.{rowSpan, rowRoom, lastPlace}
+use Rattle.layout.specs.cells.Cells.{Narrow, cellAt, rowOf, loaded, settled}
+use Rattle.layout.specs.cells.Column.{zero-absent}
+use Rattle.layout.specs.cells.Load.{loaded-reads}
+use Rattle.waist.specs.merging.Merge.{Placed}
+use Rattle.waist.specs.merging.Substituted.{settled-absent, settled-stored, settled-insert, cell-settled}
+use Rattle.waist.specs.substituting.Loose.{SettledRow}
 use Rattle.waist.specs.Working.{workOf, cutoffOf, dense-cells, Sound, live-place, id-at, basic-symbol}
 use Rattle.waist.specs.Owning.{Kept, kept-then}
 use Rattle.waist.specs.Dropping.{Free, Drops}
@@ -41,7 +41,7 @@ use Rattle.waist.specs.Entering.{Later, later-then, later-alone, later-s
 
 -- ---- no cell of a solved row is -0.0
 
-abbrev Fine : Float → Type 0
+abbrev pub Fine : Float → Type 0
 Fine c = settled c ≡ c
 
 scale-one : (f c : Float) → Fine c → Fine (cellValue (scaleCell f c))
@@ -52,12 +52,12 @@ scale-one f c h = go (absent c)
     go true = h
     go false = settled-stored (c *₆₄ f)
 
-scale-fine : (f : Float) (cs : List Float) → Every Fine cs → Every Fine (cellValues (scaleCells f cs))
+pub scale-fine : (f : Float) (cs : List Float) → Every Fine cs → Every Fine (cellValues (scaleCells f cs))
 unfolding Every scaleCells cellValues
 scale-fine f [] h = tt
 scale-fine f (c ∷ cs) h = (scale-one f c (h .0), scale-fine f cs (h .1))
 
-clear-fine : (s : ℕ) (xs : List Symbol) (cs : List Float) → Every Fine cs → Every Fine (clearCell s xs cs)
+pub clear-fine : (s : ℕ) (xs : List Symbol) (cs : List Float) → Every Fine cs → Every Fine (clearCell s xs cs)
 unfolding Every clearCell
 clear-fine s [] cs h = tt
 clear-fine s (x ∷ xs) [] h = tt

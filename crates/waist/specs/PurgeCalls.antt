@@ -16,14 +16,14 @@ use Rattle.steps.specs.State.{Basic}
 use Rattle.steps.specs.Work.{Work, withTableau, withRows, dropRow, purge}
 use Rattle.keeps.specs.Fits.{FitsW}
 use Rattle.keeps.specs.Fallen.{purge-fits}
-use Rattle.choose.specs.declared.Found.{Found}
-use Rattle.choose.specs.declared.Found.the-variants.{At, Nothing}
-use Rattle.moves.specs.Close.{closed}
+use Rattle.rows.specs.declared.choose.Found.{Found}
+use Rattle.rows.specs.declared.choose.Found.the-variants.{At, Nothing}
+use Rattle.rows.specs.moves.Close.{closed}
 use Rattle.sparse.specs.Places.{symbolCountAt, cellCountAt, variableCountAt, idsAt, kindsAt, rowPlacesAt, variablePlacesAt, objectiveAt}
 use Rattle.sparse.specs.Sparse.{Sparse, symbolCount, rowCount, cellCount, variableCount, symbolAt, basicOf, basicsOf, read}
-use Rattle.cells.specs.Names.{lastPlace}
-use Rattle.cells.specs.Cells.{cells}
-use Rattle.substituting.specs.Named.{same-place}
+use Rattle.layout.specs.cells.Names.{lastPlace}
+use Rattle.layout.specs.cells.Cells.{cells}
+use Rattle.waist.specs.substituting.Named.{same-place}
 use Rattle.waist.specs.Working.{sparse, artificialOf, workOf, Sound, id-at, basic-symbol}
 use Rattle.waist.specs.Owning.{Kept}
 use Rattle.waist.specs.Alone.{RowsAlone, symbols-count, symbol-alone}

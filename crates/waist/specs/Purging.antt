@@ -16,18 +16,18 @@ use Rattle.steps.specs.Symbol.{Symbol, isSymbol, deleteCell, deleteSymbol}
 use Rattle.steps.specs.State.{Variable}
 use Rattle.steps.specs.Work.{Work, withTableau}
 use Rattle.layout.specs.Laying.{tab-from}
-use Rattle.choose.specs.declared.Found.the-variants.{At, Nothing}
-use Rattle.choose.specs.Own.{first-is}
-use Rattle.choose.specs.Chosen.{as-cond}
-use Rattle.moves.specs.Walk.{drop-walk}
-use Rattle.moves.specs.Columns.{cut, cutTableau}
+use Rattle.rows.specs.declared.choose.Found.the-variants.{At, Nothing}
+use Rattle.rows.specs.choose.Own.{first-is}
+use Rattle.rows.specs.choose.Chosen.{as-cond}
+use Rattle.rows.specs.moves.Walk.{drop-walk}
+use Rattle.rows.specs.moves.Columns.{cut, cutTableau}
 use Rattle.sparse.specs.Places.{nextIdAt, symbolCountAt, rowCountAt, cellCountAt, variableCountAt, shouldClearAt, goneCountAt, idsAt, variableNumbersAt, variableUsesAt, goneNumbersAt, kindsAt, rowPlacesAt, variablePlacesAt, changedAt, constantsAt, oldValuesAt, objectiveAt}
 use Rattle.sparse.specs.Sparse.{Sparse, symbolCount, rowCount, cellCount, variableCount, symbolAt, variableOf, basicOf, symbolsOf, basicsOf, objectiveOf, goneOf, read}
-use Rattle.cells.specs.Names.{rowSpan, lastPlace}
-use Rattle.cells.specs.Cells.{Cells, cellAt, rowOf}
-use Rattle.substituting.specs.Gone.{gone-kept}
-use Rattle.substituting.specs.Named.{Named}
-use Rattle.substituting.specs.Held.{held-few}
+use Rattle.layout.specs.cells.Names.{rowSpan, lastPlace}
+use Rattle.layout.specs.cells.Cells.{Cells, cellAt, rowOf}
+use Rattle.waist.specs.substituting.Gone.{gone-kept}
+use Rattle.waist.specs.substituting.Named.{Named}
+use Rattle.waist.specs.substituting.Held.{held-few}
 use Rattle.waist.specs.Working.{artificialOf, workOf, work-parts, linesOf, lines-same, Sound, lines-few, id-at, basic-symbol}
 use Rattle.waist.specs.Dropping.{Free, basic-by}
 use Rattle.waist.specs.Standing.{Inside, Owners, Unowned}

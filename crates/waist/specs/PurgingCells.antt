@@ -12,13 +12,13 @@ use lib.Seq.{getD-set-same, getD-set-other}
 use borrow.Author.Tests.{ltb-true, ltb-false, eqb-true, eqb-false}
 use Rattle.laws.specs.Loops.{run}
 use Rattle.steps.specs.Number.{zero64}
-use Rattle.cells.specs.Names.{rowSpan, lastPlace}
-use Rattle.cells.specs.Cells.{Ascending, Present, Cells, cells, cellIn, cellAt, nearerOf}
-use Rattle.cells.specs.Seek.{first-elim, run-inv}
-use Rattle.cells.specs.Reads.{ascending-lt, cell-here, cell-absent}
-use Rattle.cells.specs.Close.{nearer-lt}
-use Rattle.merging.specs.Merge.{Placed}
-use Rattle.substituting.specs.Held.{Held}
+use Rattle.layout.specs.cells.Names.{rowSpan, lastPlace}
+use Rattle.layout.specs.cells.Cells.{Ascending, Present, Cells, cells, cellIn, cellAt, nearerOf}
+use Rattle.layout.specs.cells.Seek.{first-elim, run-inv}
+use Rattle.layout.specs.cells.Reads.{ascending-lt, cell-here, cell-absent}
+use Rattle.layout.specs.cells.Close.{nearer-lt}
+use Rattle.waist.specs.merging.Merge.{Placed}
+use Rattle.waist.specs.substituting.Held.{Held}
 
 -- cell j goes if it is of place p, and else comes to the next place kept
 unfoldable pub purgeTurn : ℕ → ℕ → Cells → Cells

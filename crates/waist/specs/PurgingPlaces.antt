@@ -10,12 +10,12 @@ use lib.ListN.{length, getD, set, length-set}
 use lib.Seq.{getD-set-same, getD-set-other}
 use Rattle.laws.specs.Loops.{mapIn}
 use Rattle.laws.specs.Places.{length-mapIn, mapIn-at, mapIn-before, mapIn-after}
-use Rattle.moves.specs.Close.{closed}
-use Rattle.moves.specs.Moved.{closed-before, closed-inside, closed-after, length-closed}
+use Rattle.rows.specs.moves.Close.{closed}
+use Rattle.rows.specs.moves.Moved.{closed-before, closed-inside, closed-after, length-closed}
 use Rattle.sparse.specs.Places.{symbolCountAt, cellCountAt, idsAt, variableNumbersAt, kindsAt, rowPlacesAt, variablePlacesAt, changedAt, objectiveAt, cutoffAt}
 use Rattle.sparse.specs.Sparse.{Sparse, symbolCount, rowCount, cellCount, variableCount}
-use Rattle.cells.specs.Names.{lastPlace}
-use Rattle.cells.specs.Cells.{Cells}
+use Rattle.layout.specs.cells.Names.{lastPlace}
+use Rattle.layout.specs.cells.Cells.{Cells}
 use Rattle.waist.specs.Working.{sparse, Sound}
 use Rattle.waist.specs.Lowering.{nearPlace}
 use Rattle.waist.specs.PurgingCells.{purgedCells}

@@ -18,17 +18,17 @@ use Rattle.steps.specs.Remove.{cellIn, positiveRatios}
 use Rattle.layout.specs.Layout.{cellsOf}
 use Rattle.layout.specs.Laying.{tab-from}
 use Rattle.rows.specs.Place.{coefficient-at}
-use Rattle.choose.specs.declared.Found.{Found}
-use Rattle.choose.specs.declared.Best.{Best}
-use Rattle.choose.specs.Choose.{onFound, noBest, betterOf, foundOf, smallestOf}
-use Rattle.choose.specs.Chosen.{as-cond}
-use Rattle.choose.specs.Walk.{smallest-walk}
+use Rattle.rows.specs.declared.choose.Found.{Found}
+use Rattle.rows.specs.declared.choose.Best.{Best}
+use Rattle.rows.specs.choose.Choose.{onFound, noBest, betterOf, foundOf, smallestOf}
+use Rattle.rows.specs.choose.Chosen.{as-cond}
+use Rattle.rows.specs.choose.Walk.{smallest-walk}
 use Rattle.sparse.specs.Places.{symbolCountAt, kindsAt, rowPlacesAt, constantsAt, objectiveAt}
 use Rattle.sparse.specs.Sparse.{Sparse, symbolCount, rowCount, cellCount, symbolAt, basicOf, symbolsOf, basicsOf, objectiveOf}
 use Rattle.sparse.specs.Widths.{symbols-read}
-use Rattle.cells.specs.Names.{rowSpan}
-use Rattle.cells.specs.Cells.{cellAt, rowOf}
-use Rattle.substituting.specs.Notes.{isExternalKind}
+use Rattle.layout.specs.cells.Names.{rowSpan}
+use Rattle.layout.specs.cells.Cells.{cellAt, rowOf}
+use Rattle.waist.specs.substituting.Notes.{isExternalKind}
 use Rattle.waist.specs.Working.{Sound, dense-cells, live-place}
 use Rattle.waist.specs.Standing.{rowSymbol}
 use Rattle.waist.specs.Choosing.{isDummyKind}

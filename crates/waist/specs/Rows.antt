@@ -15,15 +15,15 @@ use Rattle.steps.specs.Symbol.{isSymbol}
 use Rattle.steps.specs.Row.{Row}
 use Rattle.steps.specs.Work.{findRow}
 use Rattle.layout.specs.Laying.{tab-from}
-use Rattle.choose.specs.declared.Found.{Found}
-use Rattle.choose.specs.declared.Found.the-variants.{At, Nothing}
-use Rattle.choose.specs.Choose.{onFound}
-use Rattle.choose.specs.Chosen.{as-cond}
-use Rattle.choose.specs.Walk.{first-walk}
-use Rattle.cells.specs.Seek.{clash, first-elim, first-moved}
+use Rattle.rows.specs.declared.choose.Found.{Found}
+use Rattle.rows.specs.declared.choose.Found.the-variants.{At, Nothing}
+use Rattle.rows.specs.choose.Choose.{onFound}
+use Rattle.rows.specs.choose.Chosen.{as-cond}
+use Rattle.rows.specs.choose.Walk.{first-walk}
+use Rattle.layout.specs.cells.Seek.{clash, first-elim, first-moved}
 use Rattle.sparse.specs.Places.{rowCountAt, idsAt, rowPlacesAt}
 use Rattle.sparse.specs.Sparse.{Sparse, symbolCount, rowCount, symbolAt, basicOf, basicsOf}
-use Rattle.substituting.specs.Named.{same-place}
+use Rattle.waist.specs.substituting.Named.{same-place}
 use Rattle.waist.specs.Working.{Sound}
 use Rattle.waist.specs.Dropping.{Free}
 

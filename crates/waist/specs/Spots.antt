@@ -13,12 +13,12 @@ use Rattle.laws.specs.Loops.{first}
 use Rattle.steps.specs.Number.{Mark}
 use Rattle.steps.specs.Work.{withRows, keepRow}
 use Rattle.rows.specs.Reading as dense
-use Rattle.moves.specs.Close as place
+use Rattle.rows.specs.moves.Close as place
 use Rattle.sparse.specs.Places.{symbolCountAt, rowCountAt, cellCountAt, idsAt, rowPlacesAt, constantsAt}
 use Rattle.sparse.specs.Sparse.{Sparse, symbolCount, rowCount, cellCount, symbolAt}
-use Rattle.cells.specs.Cells.{Cells, rowOf, opened, replaced}
-use Rattle.cells.specs.Seek.{first-elim}
-use Rattle.substituting.specs.Named.{Named}
+use Rattle.layout.specs.cells.Cells.{Cells, rowOf, opened, replaced}
+use Rattle.layout.specs.cells.Seek.{first-elim}
+use Rattle.waist.specs.substituting.Named.{Named}
 use Rattle.waist.specs.Working.{sparse, workOf, linesOf, Sound}
 use Rattle.waist.specs.Owning.{Kept}
 use Rattle.waist.specs.Alone.{RowsAlone}

@@ -8,8 +8,8 @@ use Rattle.steps.specs.Number.{Mark}
 use Rattle.steps.specs.Symbol.{Symbol}
 use Rattle.steps.specs.Work.{Work}
 use Rattle.keeps.specs.Fits.{FitsW}
-use Rattle.choose.specs.declared.Found.{Found}
-use Rattle.choose.specs.Choose.{Within, onFound}
+use Rattle.rows.specs.declared.choose.Found.{Found}
+use Rattle.rows.specs.choose.Choose.{Within, onFound}
 use Rattle.sparse.specs.Places.{variablePlacesAt}
 use Rattle.sparse.specs.Sparse.{Sparse, variableCount, basicOf}
 use Rattle.waist.specs.Working.{workOf, Sound}

@@ -15,15 +15,15 @@ use Rattle.steps.specs.Symbol.{Symbol, isPivotable, coefficientFor}
 use Rattle.steps.specs.CreateRow.{Created, negativeTag, chooseSubject, allDummies}
 use Rattle.layout.specs.Layout.{cellsOf}
 use Rattle.rows.specs.Reading as dense
-use Rattle.choose.specs.declared.Found.{Found}
-use Rattle.choose.specs.declared.Found.the-variants.{At, Nothing}
-use Rattle.choose.specs.declared.Want.the-variants as want
-use Rattle.choose.specs.Choose.{Within, onFound, wants, isNothing, orElse}
-use Rattle.choose.specs.Steps.{picked, on-some}
+use Rattle.rows.specs.declared.choose.Found.{Found}
+use Rattle.rows.specs.declared.choose.Found.the-variants.{At, Nothing}
+use Rattle.rows.specs.declared.choose.Want.the-variants as want
+use Rattle.rows.specs.choose.Choose.{Within, onFound, wants, isNothing, orElse}
+use Rattle.rows.specs.choose.Steps.{picked, on-some}
 use Rattle.sparse.specs.Places.{kindsAt}
 use Rattle.sparse.specs.Sparse.{Sparse, symbolCount, symbolAt, otherAt, symbolsOf, read}
 use Rattle.sparse.specs.Widths.{symbols-read}
-use Rattle.substituting.specs.Named.{Named}
+use Rattle.waist.specs.substituting.Named.{Named}
 use Rattle.waist.specs.Working.{workOf, live-place}
 use Rattle.waist.specs.Looks.{ofKind, seen, lookOf, look-chosen}
 use Rattle.waist.specs.Choices.{named}

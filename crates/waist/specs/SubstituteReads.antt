@@ -24,17 +24,17 @@ use Rattle.rows.specs.Reading as dense
 use Rattle.sparse.specs.Places.{mostRows, mostVariables, nextIdAt, symbolCountAt, rowCountAt, cellCountAt, variableCountAt, shouldClearAt, goneCountAt, idsAt, variableNumbersAt, variableUsesAt, goneNumbersAt, kindsAt, rowPlacesAt, variablePlacesAt, changedAt, constantsAt, oldValuesAt, objectiveAt, cutoffAt, constraintStrengthsAt, realsSize}
 use Rattle.sparse.specs.Sparse.{Sparse, symbolCount, rowCount, cellCount, variableCount, symbolAt, variableOf, basicOf, symbolsOf, basicsOf, objectiveOf, goneOf, read}
 use Rattle.sparse.specs.Widths.{symbols-read}
-use Rattle.cells.specs.Names.{rowSpan, lastPlace}
-use Rattle.cells.specs.Cells.{rowOf, cellAt}
-use Rattle.merging.specs.Merge.{otherCell}
-use Rattle.substituting.specs.Lines.{Lines, lines, heldBy, linesIn}
-use Rattle.substituting.specs.LinesRead.{lineOf, stepOf, step-changed, lines-held, lines-row, lines-mark, lines-beyond, lines-long}
-use Rattle.substituting.specs.Objective.{Aim, objectiveIn, objectiveAlong, objective-cells, objective-mark, objective-beyond, objective-long}
-use Rattle.substituting.specs.Notes.{Noted, noted, changes, noteRows}
-use Rattle.substituting.specs.Gone.{gone-kept}
-use Rattle.substituting.specs.Named.{Named, NotesKept, named-kept}
-use Rattle.substituting.specs.NotesRead.{noteIn, steppedRow, notes-read, notes-kept}
-use Rattle.substituting.specs.Held.{Held}
+use Rattle.layout.specs.cells.Names.{rowSpan, lastPlace}
+use Rattle.layout.specs.cells.Cells.{rowOf, cellAt}
+use Rattle.waist.specs.merging.Merge.{otherCell}
+use Rattle.waist.specs.substituting.Lines.{Lines, lines, heldBy, linesIn}
+use Rattle.waist.specs.substituting.LinesRead.{lineOf, stepOf, step-changed, lines-held, lines-row, lines-mark, lines-beyond, lines-long}
+use Rattle.waist.specs.substituting.Objective.{Aim, objectiveIn, objectiveAlong, objective-cells, objective-mark, objective-beyond, objective-long}
+use Rattle.waist.specs.substituting.Notes.{Noted, noted, changes, noteRows}
+use Rattle.waist.specs.substituting.Gone.{gone-kept}
+use Rattle.waist.specs.substituting.Named.{Named, NotesKept, named-kept}
+use Rattle.waist.specs.substituting.NotesRead.{noteIn, steppedRow, notes-read, notes-kept}
+use Rattle.waist.specs.substituting.Held.{Held}
 use Rattle.waist.specs.Working.{artificialOf, workOf, cutoffOf, work, work-parts, linesOf, lines-same, dense-cells, Sound, named-words, lines-few, rows-lines, live-place, basic-symbol}
 use Rattle.waist.specs.Owning.{Inside, Kept, Low, owners-by, low-rows}
 use Rattle.waist.specs.Within.{lines-within}

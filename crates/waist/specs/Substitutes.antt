@@ -13,14 +13,14 @@ use Rattle.steps.specs.Substitute.{substitute}
 use Rattle.rows.specs.Reading as dense
 use Rattle.sparse.specs.Places.{mostVariables, cellCountAt, shouldClearAt, changedAt, constraintStrengthsAt}
 use Rattle.sparse.specs.Sparse.{Sparse, symbolCount, rowCount, cellCount, symbolAt}
-use Rattle.cells.specs.Names.{cellRoom, rowRoom, lastPlace}
-use Rattle.cells.specs.Cells.{cells, packed, rowOf}
-use Rattle.merging.specs.Merge.{otherCell}
-use Rattle.substituting.specs.Lines.{Lines, lines, linesIn}
-use Rattle.substituting.specs.Passed.{Alike}
-use Rattle.substituting.specs.Loose.{SettledRow, loose-none, loose-reads}
-use Rattle.substituting.specs.Objective.{aim, objectiveIn}
-use Rattle.substituting.specs.Notes.{noted, noteRows}
+use Rattle.layout.specs.cells.Names.{cellRoom, rowRoom, lastPlace}
+use Rattle.layout.specs.cells.Cells.{cells, packed, rowOf}
+use Rattle.waist.specs.merging.Merge.{otherCell}
+use Rattle.waist.specs.substituting.Lines.{Lines, lines, linesIn}
+use Rattle.waist.specs.substituting.Passed.{Alike}
+use Rattle.waist.specs.substituting.Loose.{SettledRow, loose-none, loose-reads}
+use Rattle.waist.specs.substituting.Objective.{aim, objectiveIn}
+use Rattle.waist.specs.substituting.Notes.{noted, noteRows}
 use Rattle.waist.specs.Working.{sparse, workOf, cutoffOf, linesOf, Sound}
 use Rattle.waist.specs.Owning.{Kept}
 use Rattle.waist.specs.Agreeing.{work-same, sound-same, kept-same}

@@ -13,20 +13,20 @@ use Rattle.laws.specs.Lists.{getD-tab}
 use Rattle.steps.specs.Number.{zero64}
 use Rattle.steps.specs.Symbol.{absent}
 use Rattle.sparse.specs.Places.{mostRows}
-use Rattle.cells.specs.Names.{rowSpan, lastPlace}
-use Rattle.cells.specs.Cells.{Ascending, Present, Cells, cells, lowerIn, cellIn, cellAt, rowOf, moved, packed, settled, counted, replacedAt, replaced}
-use Rattle.cells.specs.Seek.{run-inv}
-use Rattle.cells.specs.Slide.{length-moved}
-use Rattle.cells.specs.Reads.{RowRun, run-le, cell-here, cell-absent, cell-run}
-use Rattle.cells.specs.Pack.{Packing, compress-reads}
-use Rattle.cells.specs.Replace.{row-run, packed-size, Replacing, replacing}
-use Rattle.cells.specs.Replaced.{counted-le, replaced-own, replaced-other}
-use Rattle.cells.specs.Column.{zero-absent}
-use Rattle.merging.specs.Merge.{Placed, ownValue, ownCell, otherCell, mergedRow, ownIn, mergedInto}
-use Rattle.merging.specs.Merging.{inserted-none, row-at}
-use Rattle.merging.specs.Substituted.{settled-absent}
-use Rattle.substituting.specs.Held.{Held, held-room}
-use Rattle.substituting.specs.Lines.{Lines, heldBy, lineWith, lineIn, linesIn, HeldIn, held-line}
+use Rattle.layout.specs.cells.Names.{rowSpan, lastPlace}
+use Rattle.layout.specs.cells.Cells.{Ascending, Present, Cells, cells, lowerIn, cellIn, cellAt, rowOf, moved, packed, settled, counted, replacedAt, replaced}
+use Rattle.layout.specs.cells.Seek.{run-inv}
+use Rattle.layout.specs.cells.Slide.{length-moved}
+use Rattle.layout.specs.cells.Reads.{RowRun, run-le, cell-here, cell-absent, cell-run}
+use Rattle.layout.specs.cells.Pack.{Packing, compress-reads}
+use Rattle.layout.specs.cells.Replace.{row-run, packed-size, Replacing, replacing}
+use Rattle.layout.specs.cells.Replaced.{counted-le, replaced-own, replaced-other}
+use Rattle.layout.specs.cells.Column.{zero-absent}
+use Rattle.waist.specs.merging.Merge.{Placed, ownValue, ownCell, otherCell, mergedRow, ownIn, mergedInto}
+use Rattle.waist.specs.merging.Merging.{inserted-none, row-at}
+use Rattle.waist.specs.merging.Substituted.{settled-absent}
+use Rattle.waist.specs.substituting.Held.{Held, held-room}
+use Rattle.waist.specs.substituting.Lines.{Lines, heldBy, lineWith, lineIn, linesIn, HeldIn, held-line}
 
 -- no key of the first n names a place past w
 abbrev pub Within : ℕ → List ℕ → ℕ → Type 0

@@ -24,8 +24,8 @@ use Rattle.rows.specs.Place.{PlaceOf, place-from}
 use Rattle.sparse.specs.Places.{mostRows, nextIdAt, symbolCountAt, rowCountAt, cellCountAt, variableCountAt, idsAt, rowPlacesAt, cutoffAt, realsSize}
 use Rattle.sparse.specs.Sparse.{Sparse, symbolCount, rowCount, cellCount, symbolAt, basicOf, symbolsOf, basicsOf, objectiveOf, read}
 use Rattle.sparse.specs.Widths.{symbols-read}
-use Rattle.substituting.specs.Held.{Held}
-use Rattle.substituting.specs.Named.{Named}
+use Rattle.waist.specs.substituting.Held.{Held}
+use Rattle.waist.specs.substituting.Named.{Named}
 
 abbrev pub sparse : List ℕ → List ℕ → List ℕ → List Float → List Float → Sparse
 sparse w k b r v = record { words = w; keys = k; bytes = b; reals = r; values = v }

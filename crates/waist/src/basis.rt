@@ -3,16 +3,16 @@ ghost use mathlib.Core.Path.{_≡_};
 ghost use Prim.Native.Nat.{_+_, _≤_, _<_};
 ghost use lib.Ieee.{nan};
 ghost use lib.ListN.{length, getD};
-ghost use Rattle.moves.specs.Close.{closed, opened};
+ghost use Rattle.rows.specs.moves.Close.{closed, opened};
 ghost use Rattle.sparse.specs.Places.{mostRows, symbolCountAt, rowCountAt, bytesSize, realsSize};
-ghost use Rattle.substituting.specs.Loose.{SettledRow};
+ghost use Rattle.waist.specs.substituting.Loose.{SettledRow};
 ghost use Rattle.waist.specs.Working.{sparse, Sound};
 ghost use Rattle.waist.specs.Dropping.{Free, Drops};
 ghost use Rattle.waist.specs.Spots.{spotOf, Keeps};
 use crate::substitution::lines_of;
-use cells::ROW_ROOM;
-use cells::row::replace_row;
-use cells::shift::open_row;
+use layout::cells::ROW_ROOM;
+use layout::cells::row::replace_row;
+use layout::cells::shift::open_row;
 use sparse::Bytes;
 use sparse::CELL_COUNT;
 use sparse::CONSTANTS;
@@ -73,7 +73,7 @@ pub fn close_reals(reals: &mut Reals, i: usize, e: usize)
     }
 }
 
-fn open_bytes(bytes: &mut Bytes, i: usize, e: usize, x: u8)
+pub fn open_bytes(bytes: &mut Bytes, i: usize, e: usize, x: u8)
     requires { ⌜ i ≤ e ⌝ }
     requires { ⌜ e < bytesSize ⌝ }
     ensures { λ _. ⌜ now (bytes .exit) ≡ opened i e x (now (bytes .entry)) ⌝ }
@@ -87,7 +87,7 @@ fn open_bytes(bytes: &mut Bytes, i: usize, e: usize, x: u8)
     bytes[i] = x;
 }
 
-fn open_reals(reals: &mut Reals, i: usize, e: usize, x: f64)
+pub fn open_reals(reals: &mut Reals, i: usize, e: usize, x: f64)
     requires { ⌜ i ≤ e ⌝ }
     requires { ⌜ e < realsSize ⌝ }
     ensures { λ _. ⌜ now (reals .exit) ≡ opened i e x (now (reals .entry)) ⌝ }
@@ -121,7 +121,7 @@ pub fn drop_row(
     let r = words[ROW_COUNT];
     let n = words[CELL_COUNT] as usize;
     let lines = lines_of(art, r as u8);
-    let left = cells::shift::drop_row(keys, values, n, i);
+    let left = layout::cells::shift::drop_row(keys, values, n, i);
     close_bytes(bytes, ROW_PLACES + i as usize, ROW_PLACES + r as usize);
     close_reals(reals, CONSTANTS + i as usize, CONSTANTS + lines as usize);
     words[ROW_COUNT] = r - 1;

@@ -7,11 +7,11 @@ ghost use Rattle.steps.specs.Number.{Mark, belowZero};
 ghost use Rattle.steps.specs.Optimise.{getEnteringSymbol, getLeavingRow, getDualEnteringSymbol};
 ghost use Rattle.steps.specs.Artificial.{anyPivotableSymbol, isEmptyRow};
 ghost use Rattle.steps.specs.Remove.{getMarkerLeavingRow};
-ghost use Rattle.choose.specs.Choose.{Within};
+ghost use Rattle.rows.specs.choose.Choose.{Within};
 ghost use Rattle.sparse.specs.Places.{mostRows, symbolCountAt, rowCountAt};
 ghost use Rattle.sparse.specs.Sparse.{symbolCount, rowCount, symbolAt, basicOf};
-ghost use Rattle.cells.specs.Names.{lastPlace};
-ghost use Rattle.substituting.specs.Notes.{isExternalKind};
+ghost use Rattle.layout.specs.cells.Names.{lastPlace};
+ghost use Rattle.waist.specs.substituting.Notes.{isExternalKind};
 ghost use Rattle.waist.specs.Working.{workOf, lent, Sound};
 ghost use Rattle.waist.specs.Standing.{rowSymbol, Chooses};
 ghost use Rattle.waist.specs.Choosing.{goalOf, isDummyKind, dualLeavingOf, enteringOf};
@@ -23,9 +23,11 @@ use crate::marker::first_dummy_row;
 use crate::marker::last_external_row;
 use crate::ratios::dual_along;
 use crate::ratios::ratio_row;
-use cells::ROW_ROOM;
-use choose::Found;
-use choose::Want;
+use crate::substituting::notes::is_external;
+use crate::substituting::notes::kind_at;
+use layout::cells::ROW_ROOM;
+use rows::choose::Found;
+use rows::choose::Want;
 use sparse::Bytes;
 use sparse::CONSTANTS;
 use sparse::KINDS;
@@ -37,8 +39,6 @@ use sparse::Reals;
 use sparse::SYMBOL_COUNT;
 use sparse::Values;
 use sparse::Words;
-use substituting::notes::is_external;
-use substituting::notes::kind_at;
 
 fn is_below(kind: u8, constant: f64) -> bool
     ensures { λ r. ⌜ r ≡ (not (isExternalKind kind) && belowZero constant) ⌝ }

@@ -11,8 +11,8 @@ ghost use Rattle.rows.specs.Reading.{rowOf};
 ghost use Rattle.rows.specs.Marks.{markOf};
 ghost use Rattle.sparse.specs.Places.{mostRows, mostVariables, symbolCountAt, rowCountAt, variableCountAt};
 ghost use Rattle.sparse.specs.Sparse.{symbolAt};
-ghost use Rattle.substituting.specs.Loose.{SettledRow};
-ghost use Rattle.substituting.specs.Notes.{noted, varChangedIf};
+ghost use Rattle.waist.specs.substituting.Loose.{SettledRow};
+ghost use Rattle.waist.specs.substituting.Notes.{noted, varChangedIf};
 ghost use Rattle.waist.specs.Working.{workOf, lent, Sound};
 ghost use Rattle.waist.specs.Alone.{RowsAlone};
 ghost use Rattle.waist.specs.Dropping.{Free};
@@ -21,7 +21,8 @@ ghost use Rattle.waist.specs.Standing.{Standing, Makes, rowSymbol};
 use crate::basis::drop_row;
 use crate::pivoting::enter_basis;
 use crate::pivoting::pivot;
-use cells::ROW_ROOM;
+use crate::substituting::notes::var_changed_if;
+use layout::cells::ROW_ROOM;
 use rows::number::Wrote;
 use rows::number::joined;
 use sparse::Bytes;
@@ -29,7 +30,6 @@ use sparse::Keys;
 use sparse::Reals;
 use sparse::Values;
 use sparse::Words;
-use substituting::notes::var_changed_if;
 
 // Row i leaves and the symbol at place p, which is not basic, enters.
 pub fn pivot_on(

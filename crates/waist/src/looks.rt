@@ -3,16 +3,17 @@ ghost use mathlib.Core.Path.{_≡_};
 ghost use mathlib.Core.Bool.{_&&_};
 ghost use Prim.Native.Nat.{_≤_};
 ghost use lib.ListN.{getD};
-ghost use Rattle.choose.specs.Choose.{Within, wants, isNothing};
+ghost use Rattle.rows.specs.choose.Choose.{Within, wants, isNothing};
 ghost use Rattle.sparse.specs.Places.{mostRows, symbolCountAt};
 ghost use Rattle.sparse.specs.Sparse.{Sparse};
-ghost use Rattle.cells.specs.Names.{lastPlace};
+ghost use Rattle.layout.specs.cells.Names.{lastPlace};
 ghost use Rattle.waist.specs.Working.{lent};
 ghost use Rattle.waist.specs.Looks.{ofKind, seen, lookOf, Loadable, Loads};
-use cells::ROW_ROOM;
-use cells::row::load_row;
-use choose::Found;
-use choose::Want;
+use crate::substituting::notes::is_external;
+use layout::cells::ROW_ROOM;
+use layout::cells::row::load_row;
+use rows::choose::Found;
+use rows::choose::Want;
 use rows::row::wide;
 use sparse::Bytes;
 use sparse::CELL_COUNT;
@@ -22,7 +23,6 @@ use sparse::Reals;
 use sparse::SYMBOL_COUNT;
 use sparse::Values;
 use sparse::Words;
-use substituting::notes::is_external;
 
 fn wanted(want: Want, kind: u8) -> bool
     ensures { λ r. ⌜ r ≡ wants want (ofKind kind) ⌝ }

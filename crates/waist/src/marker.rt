@@ -4,19 +4,21 @@ ghost use mathlib.Core.Bool.{false, _&&_};
 ghost use Prim.Native.Nat.{_≤_};
 ghost use lib.ListN.{getD};
 ghost use Rattle.steps.specs.Symbol.{holds};
-ghost use Rattle.choose.specs.Choose.{Within};
+ghost use Rattle.rows.specs.choose.Choose.{Within};
 ghost use Rattle.sparse.specs.Places.{mostRows, rowCountAt, cellCountAt};
-ghost use Rattle.cells.specs.Names.{lastPlace};
-ghost use Rattle.cells.specs.Spots.{Spots};
-ghost use Rattle.substituting.specs.Notes.{isExternalKind};
+ghost use Rattle.layout.specs.cells.Names.{lastPlace};
+ghost use Rattle.layout.specs.cells.Spots.{Spots};
+ghost use Rattle.waist.specs.substituting.Notes.{isExternalKind};
 ghost use Rattle.waist.specs.Working.{lent, Sound};
 ghost use Rattle.waist.specs.Choosing.{isDummyKind};
 ghost use Rattle.waist.specs.Ratios.{columnAt};
 ghost use Rattle.waist.specs.MarkerRow.{dummyRowOf, externalRowOf};
 use crate::spots::spots_of;
-use cells::LINES_ROOM;
-use cells::spots::spot_cell;
-use choose::Found;
+use crate::substituting::notes::is_external;
+use crate::substituting::notes::kind_at;
+use layout::cells::LINES_ROOM;
+use layout::cells::spots::spot_cell;
+use rows::choose::Found;
 use sparse::Bytes;
 use sparse::CELL_COUNT;
 use sparse::Keys;
@@ -25,8 +27,6 @@ use sparse::ROW_PLACES;
 use sparse::Reals;
 use sparse::Values;
 use sparse::Words;
-use substituting::notes::is_external;
-use substituting::notes::kind_at;
 
 // Row i's cell at place p.
 fn column_at(

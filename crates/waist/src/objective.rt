@@ -9,14 +9,15 @@ ghost use Rattle.steps.specs.Remove.{insertRowInObjective};
 ghost use Rattle.rows.specs.Marks.{markOf};
 ghost use Rattle.sparse.specs.Places.{symbolCountAt, rowCountAt};
 ghost use Rattle.sparse.specs.Sparse.{symbolAt, basicOf};
-ghost use Rattle.cells.specs.Names.{lastPlace};
-ghost use Rattle.substituting.specs.Objective.{aim};
+ghost use Rattle.layout.specs.cells.Names.{lastPlace};
+ghost use Rattle.waist.specs.substituting.Objective.{aim};
 ghost use Rattle.waist.specs.Working.{lent};
 ghost use Rattle.waist.specs.Dropping.{Free};
 ghost use Rattle.waist.specs.Standing.{Standing, Makes};
 ghost use Rattle.waist.specs.Goals.{symbolGoal, symbolGoalMark, rowGoal};
-use cells::ROW_ROOM;
-use cells::row::load_row;
+use crate::substituting::objective::insert_at;
+use layout::cells::ROW_ROOM;
+use layout::cells::row::load_row;
 use rows::cell::cell_value;
 use rows::cell::insert_cell;
 use rows::cell::mark_cell;
@@ -34,7 +35,6 @@ use sparse::Reals;
 use sparse::SYMBOL_COUNT;
 use sparse::Values;
 use sparse::Words;
-use substituting::objective::insert_at;
 
 fn insert_symbol(reals: &mut Reals, p: u8, k: f64, before: Wrote) -> Wrote
     requires { ⌜ p ≤ lastPlace ⌝ }

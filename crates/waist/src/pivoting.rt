@@ -7,17 +7,20 @@ ghost use lib.ListN.{getD};
 ghost use Rattle.steps.specs.Number.{zero64};
 ghost use Rattle.rows.specs.Marks.{markOf};
 ghost use Rattle.sparse.specs.Places.{mostRows, symbolCountAt, rowCountAt};
-ghost use Rattle.substituting.specs.Loose.{SettledRow};
-ghost use Rattle.substituting.specs.Notes.{isExternalKind};
+ghost use Rattle.waist.specs.substituting.Loose.{SettledRow};
+ghost use Rattle.waist.specs.substituting.Notes.{isExternalKind};
 ghost use Rattle.waist.specs.Working.{sparse, Sound};
 ghost use Rattle.waist.specs.Dropping.{Free};
 ghost use Rattle.waist.specs.Entering.{Enters};
 ghost use Rattle.waist.specs.Pivoting.{Pivots};
 use crate::basis::drop_row;
 use crate::basis::keep_row;
+use crate::substituting::notes::is_external;
+use crate::substituting::notes::kind_at;
+use crate::substituting::notes::var_changed_if;
 use crate::substitution::substitute;
-use cells::ROW_ROOM;
-use cells::row::load_row;
+use layout::cells::ROW_ROOM;
+use layout::cells::row::load_row;
 use rows::number::Wrote;
 use rows::number::joined;
 use rows::row::solve_for_symbols;
@@ -32,9 +35,6 @@ use sparse::Reals;
 use sparse::SYMBOL_COUNT;
 use sparse::Values;
 use sparse::Words;
-use substituting::notes::is_external;
-use substituting::notes::kind_at;
-use substituting::notes::var_changed_if;
 
 fn enters_noted(kind: u8, y: f64) -> bool
     ensures { λ r. ⌜ r ≡ (isExternalKind kind && ne y zero64) ⌝ }

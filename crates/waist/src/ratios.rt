@@ -5,18 +5,20 @@ ghost use Prim.Native.Nat.{_≤_, _<_};
 ghost use lib.Ieee.{lt};
 ghost use lib.ListN.{getD};
 ghost use Rattle.steps.specs.Number.{zero64, _/₆₄_};
-ghost use Rattle.choose.specs.Choose.{Within, noBest, betterOf, foundOf};
+ghost use Rattle.rows.specs.choose.Choose.{Within, noBest, betterOf, foundOf};
 ghost use Rattle.sparse.specs.Places.{symbolCountAt, rowCountAt};
-ghost use Rattle.cells.specs.Names.{lastPlace};
-ghost use Rattle.substituting.specs.Notes.{isExternalKind};
+ghost use Rattle.layout.specs.cells.Names.{lastPlace};
+ghost use Rattle.waist.specs.substituting.Notes.{isExternalKind};
 ghost use Rattle.waist.specs.Working.{lent, Sound};
 ghost use Rattle.waist.specs.Choosing.{isDummyKind};
 ghost use Rattle.waist.specs.Ratios.{signed, over, ratioRowOf, dualEnteringOf};
 use crate::spots::spots_of;
-use cells::ROW_ROOM;
-use cells::spots::spot_cell;
-use choose::Best;
-use choose::Found;
+use crate::substituting::notes::is_external;
+use crate::substituting::notes::kind_at;
+use layout::cells::ROW_ROOM;
+use layout::cells::spots::spot_cell;
+use rows::choose::Best;
+use rows::choose::Found;
 use sparse::Bytes;
 use sparse::CELL_COUNT;
 use sparse::CONSTANTS;
@@ -29,8 +31,6 @@ use sparse::Reals;
 use sparse::SYMBOL_COUNT;
 use sparse::Values;
 use sparse::Words;
-use substituting::notes::is_external;
-use substituting::notes::kind_at;
 
 // Place 0 and an infinite ratio stand for none.
 fn no_best() -> Best

@@ -1,11 +1,11 @@
 // A column of the tables at one walk: which cell of each line names a place.
 ghost use lib.ListN.{getD};
 ghost use Rattle.sparse.specs.Places.{cellCountAt};
-ghost use Rattle.cells.specs.Spots.{Spots};
+ghost use Rattle.layout.specs.cells.Spots.{Spots};
 ghost use Rattle.waist.specs.Working.{lent, Sound};
-use cells::LINES_ROOM;
-use cells::spots::fill_spots;
-use cells::spots::no_spots;
+use layout::cells::LINES_ROOM;
+use layout::cells::spots::fill_spots;
+use layout::cells::spots::no_spots;
 use sparse::Bytes;
 use sparse::CELL_COUNT;
 use sparse::Keys;

@@ -9,11 +9,11 @@ ghost use Rattle.steps.specs.Number.{Mark, belowZero};
 ghost use Rattle.steps.specs.Symbol.{isPivotable};
 ghost use Rattle.steps.specs.CreateRow.{chooseSubject, allDummies};
 ghost use Rattle.rows.specs.Reading as dense;
-ghost use Rattle.choose.specs.Choose.{Within};
+ghost use Rattle.rows.specs.choose.Choose.{Within};
 ghost use Rattle.sparse.specs.Places.{symbolCountAt};
 ghost use Rattle.sparse.specs.Sparse.{symbolAt};
-ghost use Rattle.cells.specs.Names.{lastPlace};
-ghost use Rattle.substituting.specs.Named.{Named};
+ghost use Rattle.layout.specs.cells.Names.{lastPlace};
+ghost use Rattle.waist.specs.substituting.Named.{Named};
 ghost use Rattle.waist.specs.Working.{sparse, workOf};
 ghost use Rattle.waist.specs.Looks.{ofKind};
 ghost use Rattle.waist.specs.Choices.{named};
@@ -21,12 +21,12 @@ ghost use Rattle.waist.specs.Tags.{tagAt};
 ghost use Rattle.waist.specs.Subject.{negativeOf, subjectOf};
 use crate::looks::first_along;
 use crate::looks::is_nothing;
-use cells::ROW_ROOM;
-use choose::Found;
-use choose::Want;
+use crate::substituting::notes::kind_at;
+use layout::cells::ROW_ROOM;
+use rows::choose::Found;
+use rows::choose::Want;
 use sparse::Bytes;
 use sparse::Words;
-use substituting::notes::kind_at;
 
 fn negative_pivotable(kind: u8, x: f64) -> bool
     ensures { λ r. ⌜ r ≡ (isPivotable (ofKind kind) && belowZero x) ⌝ }

@@ -5,14 +5,18 @@ ghost use Prim.Native.Nat.{_+_, _≤_, _<_};
 ghost use lib.ListN.{length, getD, replicate};
 ghost use Rattle.rows.specs.Marks.{markOf};
 ghost use Rattle.sparse.specs.Places.{mostRows, symbolCountAt};
-ghost use Rattle.cells.specs.Names.{rowRoom, linesRoom, cellRoom};
-ghost use Rattle.substituting.specs.Loose.{SettledRow};
+ghost use Rattle.layout.specs.cells.Names.{rowRoom, linesRoom, cellRoom};
+ghost use Rattle.waist.specs.substituting.Loose.{SettledRow};
 ghost use Rattle.waist.specs.Working.{sparse, Sound};
 ghost use Rattle.waist.specs.Substitutes.{Substitutes};
-use cells::LINES_ROOM;
-use cells::ROW_ROOM;
-use cells::spots::fill_spots;
-use cells::spots::no_spots;
+use crate::substituting::loose::loose_run;
+use crate::substituting::notes::note_rows;
+use crate::substituting::objective::substitute_objective;
+use crate::substituting::onepass::substitute_lines;
+use layout::cells::LINES_ROOM;
+use layout::cells::ROW_ROOM;
+use layout::cells::spots::fill_spots;
+use layout::cells::spots::no_spots;
 use rows::number::Wrote;
 use rows::number::joined;
 use rows::row::wide;
@@ -25,10 +29,6 @@ use sparse::Reals;
 use sparse::SYMBOL_COUNT;
 use sparse::Values;
 use sparse::Words;
-use substituting::loose::loose_run;
-use substituting::notes::note_rows;
-use substituting::objective::substitute_objective;
-use substituting::onepass::substitute_lines;
 
 // An array by value tells its length, and one behind a reference does not: these hand it over.
 fn told(t: [u16; ROW_ROOM])

@@ -3,8 +3,8 @@ ghost use mathlib.Core.Path.{_≡_};
 ghost use Prim.Native.Nat.{_≤_};
 ghost use lib.ListN.{length};
 ghost use Rattle.text.specs.Words.{wordsOf};
-use tags::Relation;
-use terms::Pack;
+use changes::tags::Relation;
+use changes::terms::Pack;
 use text::calls;
 use text::calls::Related;
 use text::digits;
@@ -28,7 +28,7 @@ pub struct Given {
 }
 
 fn nothing() -> Given {
-    let t = terms::none();
+    let t = changes::terms::none();
     Given {
         head: Head::NoHead,
         terms: t,

@@ -6,8 +6,8 @@ use native.Mathlib.Omega.{arith}
 use borrow.Author.Tests.{lt-ltb, le-ltb}
 use lib.ListN.{length, set, replicate, length-append, length-replicate, length-set}
 use Rattle.laws.specs.Loops.{mapIn}
-use Rattle.plain.specs.Plain.{room}
-use Rattle.plain.specs.Decimal.{decimalIn}
+use Rattle.grammar.specs.plain.Plain.{room}
+use Rattle.grammar.specs.plain.Decimal.{decimalIn}
 
 -- "zero past the line"
 unfoldable pub padded : List ℕ → List ℕ

@@ -12,9 +12,9 @@ use lib.Ieee.{Float, nan, inf, fin, up, down, lt, neg, toUnsigned, ofBits}
 use lib.Ieee.Fits.{and-l, and-r}
 use Rattle.steps.specs.Number.{isWhole, zero64, magnitude}
 use Rattle.rows.specs.Integral.{small}
-use Rattle.exact.specs.Whole.{IsZ, val, int, int-z, lit-z, neg-z, abs-sgn}
-use Rattle.exact.specs.Compare.{lt-z}
-use Rattle.plain.specs.Plain.{isNegative}
+use Rattle.laws.specs.exact.Whole.{IsZ, val, int, int-z, lit-z, neg-z, abs-sgn}
+use Rattle.laws.specs.exact.Compare.{lt-z}
+use Rattle.grammar.specs.plain.Plain.{isNegative}
 use Rattle.writing.specs.declared.figures.Figure.{Figure}
 
 -- a whole number below 2^53 in size; from there on a number is too big for a line in any case

@@ -15,9 +15,9 @@ use Rattle.laws.specs.Z.{eqZb}
 use Rattle.laws.specs.Lists.{tab}
 use Rattle.grammar.specs.Sums.{Term, most, mostName}
 use Rattle.grammar.specs.Pieces.{both}
-use Rattle.exact.specs.Whole.{val}
-use Rattle.plain.specs.Decimal.{decimal}
-use Rattle.plain.specs.Plain.{isNegative, firstSign, nextSign, termText, nextText, constantText, sumText, belowFirst, ascends, termSaid, termsSaid}
+use Rattle.laws.specs.exact.Whole.{val}
+use Rattle.grammar.specs.plain.Decimal.{decimal}
+use Rattle.grammar.specs.plain.Plain.{isNegative, firstSign, nextSign, termText, nextText, constantText, sumText, belowFirst, ascends, termSaid, termsSaid}
 use Rattle.writing.specs.declared.figures.Figure.{Figure}
 use Rattle.writing.specs.Figures.{isFigure, figureOf}
 use Rattle.writing.specs.Texts.{signText, figureText, placeText, upTo, constText}

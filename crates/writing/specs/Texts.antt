@@ -8,9 +8,9 @@ use borrow.Author.Tests.{eq-eqb, ne-eqb}
 use lib.Dec.{eqb}
 use lib.ListN.{getD}
 use lib.Ieee.{Float, nan}
-use Rattle.plain.specs.Decimal.{decimal}
-use Rattle.edition.specs.Endings.{required}
-use Rattle.plain.specs.Plain.{sizeText, endingText}
+use Rattle.grammar.specs.plain.Decimal.{decimal}
+use Rattle.grammar.specs.edition.Endings.{required}
+use Rattle.grammar.specs.plain.Plain.{sizeText, endingText}
 use Rattle.writing.specs.declared.figures.Figure.{Figure}
 use Rattle.writing.specs.Figures.{figureOf}
 

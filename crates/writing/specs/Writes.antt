@@ -13,14 +13,14 @@ use Rattle.laws.specs.Lists.{tab, length-tab}
 use Rattle.grammar.specs.Sums.{Relation, atMost, equal, atLeast, most}
 use Rattle.grammar.specs.Trees.{markOf}
 use Rattle.grammar.specs.Pieces.{both}
-use Rattle.edition.specs.Endings.{Constraint, required, isGroup}
-use Rattle.edition.specs.Free.{and-both}
-use Rattle.exact.specs.Whole.{val}
-use Rattle.plain.specs.Plain.{isNegative, sumText, endingText, plainText, ascends, termsSaid, sayable, Written, wrote, refused, room, writeLine}
-use Rattle.plain.specs.Theorems.{Says, says, said}
-use Rattle.tags.specs.declared.Relation.{Relation as Given}
-use Rattle.tags.specs.declared.Relation.the-variants.{AtMost, Equal, AtLeast}
-use Rattle.terms.specs.declared.Pack.{Pack}
+use Rattle.grammar.specs.edition.Endings.{Constraint, required, isGroup}
+use Rattle.grammar.specs.edition.Free.{and-both}
+use Rattle.laws.specs.exact.Whole.{val}
+use Rattle.grammar.specs.plain.Plain.{isNegative, sumText, endingText, plainText, ascends, termsSaid, sayable, Written, wrote, refused, room, writeLine}
+use Rattle.grammar.specs.plain.Theorems.{Says, says, said}
+use Rattle.changes.specs.declared.tags.Relation.{Relation as Given}
+use Rattle.changes.specs.declared.tags.Relation.the-variants.{AtMost, Equal, AtLeast}
+use Rattle.changes.specs.declared.terms.Pack.{Pack}
 use Rattle.writing.specs.declared.figures.Figure.{Figure}
 use Rattle.writing.specs.declared.said.Related.{Related}
 use Rattle.writing.specs.Buffer.{padded, Holds, fits, passed, Adds}

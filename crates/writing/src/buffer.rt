@@ -2,7 +2,7 @@
 ghost use mathlib.Core.Path.{_≡_};
 ghost use mathlib.Core.List.{[], _∷_};
 ghost use lib.ListN.{length, replicate};
-ghost use Rattle.plain.specs.Decimal.{decimalIn, decimal};
+ghost use Rattle.grammar.specs.plain.Decimal.{decimalIn, decimal};
 ghost use Rattle.writing.specs.Buffer.{Adds};
 
 // "Its lent buffer is 200 bytes"

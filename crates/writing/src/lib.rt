@@ -14,8 +14,8 @@ use crate::figures::figure_of;
 use crate::said::related_of;
 use crate::said::said;
 use crate::texts::put_line;
-use tags::Relation;
-use terms::Pack;
+use changes::tags::Relation;
+use changes::terms::Pack;
 
 fn write_in(out: &mut [u8], relation: Relation, group: u16, constant: f64, p: Pack) -> u32
     requires { ⌜ length (now out) ≡ 200 ⌝ }

@@ -6,8 +6,8 @@ ghost use Rattle.writing.specs.Writes.{relatedOf, saidIn};
 use crate::figures::Figure;
 use crate::figures::REQUIRED;
 use crate::figures::figure_of;
-use tags::Relation;
-use terms::Pack;
+use changes::tags::Relation;
+use changes::terms::Pack;
 
 // "above 1,048,576 in size", of a coefficient and of the constant.
 const MOST: u64 = 1048576;

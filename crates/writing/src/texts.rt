@@ -2,8 +2,8 @@
 ghost use mathlib.Core.Path.{_≡_};
 ghost use mathlib.Core.List.{[], _∷_, _++_};
 ghost use Prim.Native.Nat.{_≤_};
-ghost use Rattle.plain.specs.Decimal.{decimal};
-ghost use Rattle.plain.specs.Plain.{sizeText, endingText};
+ghost use Rattle.grammar.specs.plain.Decimal.{decimal};
+ghost use Rattle.grammar.specs.plain.Plain.{sizeText, endingText};
 ghost use Rattle.writing.specs.Buffer.{Adds};
 ghost use Rattle.writing.specs.Texts.{signText, figureText, upTo, constText, relationText, lineText};
 use crate::buffer::put;
@@ -11,7 +11,7 @@ use crate::buffer::put_number;
 use crate::figures::Figure;
 use crate::figures::REQUIRED;
 use crate::figures::figure_of;
-use terms::Pack;
+use changes::terms::Pack;
 
 fn put_sign(out: &mut [u8], at: usize, negative: bool, first: bool) -> usize
     ensures { λ r. ⌜ Adds (now (out .entry)) (now (out .exit)) at r (signText negative first) ⌝ }

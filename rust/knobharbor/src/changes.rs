@@ -1,5 +1,5 @@
 //! What a fetch lists: the entries themselves, and as pairs of the shape that cassowary 0.3.0 has.
-use crate::archive::{self, Tables, PLACES};
+use crate::archive::{Fetched, PLACES};
 use crate::Variable;
 use core::ops::Deref;
 
@@ -29,6 +29,27 @@ impl Change {
     }
 }
 
+impl Fetched {
+    pub(crate) fn entry(&self, i: usize) -> Change {
+        let variable = Variable::from_number(self.numbers[i] as u32);
+        if self.gone[i] == 1 {
+            Change::Gone(variable)
+        } else {
+            Change::Moved(variable, self.moved[i])
+        }
+    }
+
+    pub(crate) fn entries(&self) -> impl Iterator<Item = Change> + '_ {
+        (0..self.count).map(|i| self.entry(i))
+    }
+
+    /// One that went and is back has two entries, one after the other: the last has its value.
+    pub(crate) fn pairs(&self) -> impl Iterator<Item = (Variable, f64)> + '_ {
+        let last = move |i: &usize| *i + 1 == self.count || self.numbers[*i] != self.numbers[*i + 1];
+        (0..self.count).filter(last).map(|i| (self.entry(i).variable(), self.entry(i).value()))
+    }
+}
+
 /// What a fetch lists, by ascending variable number, gone before a value of the same variable. It derefs to a slice.
 #[derive(Copy, Clone, Debug)]
 pub struct Entries {
@@ -37,14 +58,12 @@ pub struct Entries {
 }
 
 impl Entries {
-    pub(crate) fn of(tables: &mut Tables) -> Entries {
-        let f = archive::fetch(tables);
+    pub(crate) fn of(fetched: &Fetched) -> Entries {
         let mut list = [Change::Gone(Variable::from_number(0)); PLACES];
-        for (i, place) in list.iter_mut().enumerate().take(f.count) {
-            let variable = Variable::from_number(f.numbers[i] as u32);
-            *place = if f.gone[i] == 1 { Change::Gone(variable) } else { Change::Moved(variable, f.moved[i]) };
+        for (place, entry) in list.iter_mut().zip(fetched.entries()) {
+            *place = entry;
         }
-        Entries { list, count: f.count }
+        Entries { list, count: fetched.count }
     }
 }
 
@@ -64,20 +83,13 @@ pub struct Changes {
 }
 
 impl Changes {
-    pub(crate) fn of(tables: &mut Tables) -> Changes {
+    pub(crate) fn of(fetched: &Fetched) -> Changes {
         let mut changes = Changes { list: [(Variable::from_number(0), 0.0); PLACES], count: 0 };
-        for entry in Entries::of(tables).iter() {
-            changes.put(entry.variable(), entry.value());
+        for (variable, value) in fetched.pairs() {
+            changes.list[changes.count] = (variable, value);
+            changes.count += 1;
         }
         changes
-    }
-
-    /// One that went and is back has two entries, one after the other: the last has its value.
-    fn put(&mut self, variable: Variable, value: f64) {
-        let again = self.last().is_some_and(|(before, _)| *before == variable);
-        let place = if again { self.count - 1 } else { self.count };
-        self.list[place] = (variable, value);
-        self.count = place + 1;
     }
 }
 

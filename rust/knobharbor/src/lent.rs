@@ -186,6 +186,30 @@ impl<'a> LentSolver<'a> {
         self.concluded(answer)
     }
 
+    /// Drags the variable and then fetches, in one call and with one test of the tables: just what `suggest` and `fetch` would answer one
+    /// after the other. So the fetch is made also where the suggestion is refused.
+    ///
+    /// ```
+    /// # use knobharbor::{LentSolver, Refusal, Tables, Variable};
+    /// const EDGE: Variable = Variable::from_number(1);
+    /// let (mut tables, mut room) = (Tables::new(), Tables::new());
+    /// let mut solver = LentSolver::new(&mut tables, &mut room);
+    /// solver.add_edit(EDGE, 1.0)?;
+    /// let (dragged, changes) = solver.drag(EDGE, 30.0);
+    /// assert_eq!((dragged, &*changes), (Ok(()), [(EDGE, 30.0)].as_slice()));
+    /// # Ok::<(), Refusal>(())
+    /// ```
+    pub fn drag(&mut self, v: Variable, value: f64) -> (Result<(), Refusal>, Changes) {
+        let (answer, fetched) = archive::drag(self.tables, self.room, v.number(), value, self.budget);
+        (self.concluded(answer), Changes::of(&fetched))
+    }
+
+    /// The same with the list entry by entry: see `fetch_entries`.
+    pub fn drag_entries(&mut self, v: Variable, value: f64) -> (Result<(), Refusal>, Entries) {
+        let (answer, fetched) = archive::drag(self.tables, self.room, v.number(), value, self.budget);
+        (self.concluded(answer), Entries::of(&fetched))
+    }
+
     /// The variable's value; 0 for one that the solver does not know.
     pub fn value(&self, v: Variable) -> f64 {
         archive::value(self.tables, v.number())
@@ -193,11 +217,11 @@ impl<'a> LentSolver<'a> {
 
     /// The variables whose values changed since the last fetch, one pair a variable: see `Solver::fetch_changes`.
     pub fn fetch(&mut self) -> Changes {
-        Changes::of(self.tables)
+        Changes::of(&archive::fetch(self.tables))
     }
 
     /// The same list entry by entry, those that are gone told apart: see `Solver::fetch_entries`.
     pub fn fetch_entries(&mut self) -> Entries {
-        Entries::of(self.tables)
+        Entries::of(&archive::fetch(self.tables))
     }
 }

@@ -1,40 +1,20 @@
-//! The solver: its tables, its working room, and the numbers of its constraints.
-use crate::archive::{self, Added, Answer, Tables};
-use crate::changes::{Change, Changes, Entries};
+//! The solver: its state, which it keeps to itself, and the numbers of its constraints.
+use crate::archive::{Added, Answer, Held};
+use crate::changes::Change;
 use crate::{
     AddConstraintError, AddEditVariableError, Constraint, Line, Refusal, Refused, RemoveConstraintError, RemoveEditVariableError,
     SuggestValueError, Variable, LARGEST_BUDGET, USUAL_CUTOFF, USUAL_GROUP,
 };
-use alloc::alloc::{alloc_zeroed, handle_alloc_error, Layout};
-use alloc::boxed::Box;
 use alloc::vec::Vec;
-
-/// A solver's tables and its working room, in one piece.
-#[repr(C)]
-struct Held {
-    tables: Tables,
-    room: Tables,
-}
-
-impl Held {
-    /// All zero. It is zeroed where it stands: built on the stack and moved it would be written twice.
-    fn zero() -> Box<Held> {
-        let layout = Layout::new::<Held>();
-        // Held is not of size 0, and all its bits zero are numbers of its arrays.
-        unsafe {
-            let held = alloc_zeroed(layout) as *mut Held;
-            if held.is_null() {
-                handle_alloc_error(layout);
-            }
-            Box::from_raw(held)
-        }
-    }
-}
 
 /// A constraint solver with fixed tables. Every call ends within the pivot budget, and a refused call changes nothing. A clone is a
 /// snapshot: both go on by themselves.
+///
+/// Nobody else reaches its tables, so its calls need not test at each turn that they read as a state, as those of a `LentSolver` do:
+/// `check` makes that test when it is asked to.
+#[derive(Clone)]
 pub struct Solver {
-    held: Box<Held>,
+    held: Held,
     budget: u16,
     cutoff: f64,
     constraints: Vec<(Constraint, u32)>,
@@ -48,26 +28,16 @@ pub struct Solver {
 impl Solver {
     /// An empty solver, with the largest budget and the usual cutoff.
     pub fn new() -> Solver {
-        let mut held = Held::zero();
-        let last = archive::reset(&mut held.tables, USUAL_CUTOFF);
-        Solver::over(held, USUAL_CUTOFF, last)
+        Solver::with_cutoff(USUAL_CUTOFF).unwrap_or_else(|_| unreachable!("the usual cutoff is in its range"))
     }
 
     /// An empty solver with another cutoff: a number is near zero, so that a coefficient counts as absent and a remainder as met, if
     /// its size is strictly below it. It is above 0 and at most `LARGEST_CUTOFF`, else `Refusal::CutoffOutOfRange`. While `is_whole`
     /// says yes, no answer depends on it.
     pub fn with_cutoff(cutoff: f64) -> Result<Solver, Refusal> {
-        let mut held = Held::zero();
-        let last = archive::reset(&mut held.tables, cutoff);
-        match Refusal::of(last.number) {
-            None => Ok(Solver::over(held, cutoff, last)),
-            Some(refusal) => Err(refusal),
-        }
-    }
-
-    fn over(held: Box<Held>, cutoff: f64, last: Answer) -> Solver {
+        let (held, last) = Held::new(cutoff)?;
         let (constraints, changes, entries) = (Vec::new(), Vec::new(), Vec::new());
-        Solver { held, budget: LARGEST_BUDGET, cutoff, constraints, next: 0, changes, entries, last, refused: None }
+        Ok(Solver { held, budget: LARGEST_BUDGET, cutoff, constraints, next: 0, changes, entries, last, refused: None })
     }
 
     /// A call that needs more pivots than this is refused with `Refusal::BudgetUsedUp`, and changes nothing.
@@ -131,7 +101,7 @@ impl Solver {
         let number = known.unwrap_or_else(|| self.free_number());
         let e = constraint.expr();
         let added = Added { group, number, terms: &e.terms, constant: e.constant, op: constraint.op(), strength: constraint.strength() };
-        let answer = archive::add(&mut self.held.tables, &mut self.held.room, added, self.budget);
+        let answer = self.held.add(added, self.budget);
         self.concluded(answer, Some(&constraint))?;
         self.constraints.push((constraint, number));
         Ok(())
@@ -152,7 +122,7 @@ impl Solver {
             // a number that is not live: the archive refuses it, with the stored mark
             None => self.free_number(),
         };
-        let answer = archive::remove(&mut self.held.tables, &mut self.held.room, number, self.budget);
+        let answer = self.held.remove(number, self.budget);
         self.concluded(answer, Some(constraint))?;
         self.constraints.retain(|(c, _)| c != constraint);
         Ok(())
@@ -162,17 +132,17 @@ impl Solver {
     /// go, or none: if one removal is refused, the drop is, and nothing has changed. Edits are in no such group and stay, also those of
     /// a variable that the group's constraints alone named. There is no constraint in the group: `Refusal::EmptyGroup`.
     pub fn drop_group(&mut self, group: u16) -> Result<(), Refusal> {
-        let answer = archive::drop_group(&mut self.held.tables, &mut self.held.room, group, self.budget);
+        let answer = self.held.drop_group(group, self.budget);
         self.concluded(answer, None)?;
-        let tables = &self.held.tables;
-        self.constraints.retain(|(_, number)| archive::has_constraint(tables, *number));
+        let held = &self.held;
+        self.constraints.retain(|(_, number)| held.has_constraint(*number));
         Ok(())
     }
 
     /// Whether the constraint is in the solver.
     pub fn has_constraint(&self, constraint: &Constraint) -> bool {
         match self.number_of(constraint) {
-            Some(number) => archive::has_constraint(&self.held.tables, number),
+            Some(number) => self.held.has_constraint(number),
             None => false,
         }
     }
@@ -195,54 +165,75 @@ impl Solver {
     /// ```
     pub fn line_of(&self, constraint: &Constraint) -> Result<Line, Refusal> {
         let number = self.number_of(constraint).ok_or(Refusal::UnknownConstraint)?;
-        Line::shown(&self.held.tables, number)
+        Line::shown(self.held.tables(), number)
     }
 
     /// Makes the variable one that can be dragged, at a strength below required.
     pub fn add_edit_variable(&mut self, v: Variable, strength: f64) -> Result<(), AddEditVariableError> {
-        let answer = archive::add_edit(&mut self.held.tables, &mut self.held.room, v.number(), strength, self.budget);
+        let answer = self.held.add_edit(v.number(), strength, self.budget);
         Ok(self.concluded(answer, None)?)
     }
 
     /// Removes the variable's edit, and with it the last suggestion.
     pub fn remove_edit_variable(&mut self, v: Variable) -> Result<(), RemoveEditVariableError> {
-        let answer = archive::remove_edit(&mut self.held.tables, &mut self.held.room, v.number(), self.budget);
+        let answer = self.held.remove_edit(v.number(), self.budget);
         Ok(self.concluded(answer, None)?)
     }
 
     /// Whether the variable can be dragged.
     pub fn has_edit_variable(&self, v: &Variable) -> bool {
-        archive::has_edit(&self.held.tables, v.number())
+        self.held.has_edit(v.number())
     }
 
     /// Moves an edit's aim. If it is refused, every value, and the aim itself, is as it was.
     pub fn suggest_value(&mut self, v: Variable, value: f64) -> Result<(), SuggestValueError> {
-        let answer = archive::suggest(&mut self.held.tables, &mut self.held.room, v.number(), value, self.budget);
+        let answer = self.held.suggest(v.number(), value, self.budget);
         Ok(self.concluded(answer, None)?)
+    }
+
+    /// Moves an edit's aim and lists what that changed: `suggest_value`, and if it is accepted `fetch_changes`. If it is refused, nothing is
+    /// fetched.
+    ///
+    /// ```
+    /// use knobharbor::{strength::STRONG, Solver, Variable};
+    ///
+    /// let edge = Variable::from_number(1);
+    /// let mut solver = Solver::new();
+    /// assert!(solver.drag(edge, 30.0).is_err());
+    /// solver.add_edit_variable(edge, STRONG).unwrap();
+    /// assert_eq!(solver.drag(edge, 30.0).unwrap(), [(edge, 30.0)]);
+    /// ```
+    pub fn drag(&mut self, v: Variable, value: f64) -> Result<&[(Variable, f64)], SuggestValueError> {
+        self.suggest_value(v, value)?;
+        Ok(self.fetch_changes())
     }
 
     /// The variables whose values changed since the last fetch, by ascending number, one pair a variable; a second fetch straight after
     /// reports none. One that no constraint or edit names any more is reported at 0, as `get_value` has it; if it is back since, with
     /// its value. A new one that stands at 0 is not reported. So whoever takes what was never reported as 0 holds every value.
     pub fn fetch_changes(&mut self) -> &[(Variable, f64)] {
-        let changes = Changes::of(&mut self.held.tables);
         self.changes.clear();
-        self.changes.extend_from_slice(&changes);
+        self.changes.extend(self.held.fetch().pairs());
         &self.changes
     }
 
     /// The same fetch, entry by entry: a variable that no constraint or edit names any more is `Change::Gone`, once, and one that is back
     /// since is that and then `Change::Moved`. (A fetch by either name is a fetch: what one has listed, the other does not list again.)
     pub fn fetch_entries(&mut self) -> &[Change] {
-        let entries = Entries::of(&mut self.held.tables);
         self.entries.clear();
-        self.entries.extend_from_slice(&entries);
+        self.entries.extend(self.held.fetch().entries());
         &self.entries
     }
 
     /// The variable's value; 0 for one that the solver does not know.
     pub fn get_value(&self, v: Variable) -> f64 {
-        archive::value(&self.held.tables, v.number())
+        self.held.value(v.number())
+    }
+
+    /// Whether the tables read as a state: the test that every call of a `LentSolver` makes, and no other of this solver. It says yes,
+    /// unless the machine's memory, or code that is not safe, has changed the tables beneath it.
+    pub fn check(&self) -> bool {
+        self.held.check()
     }
 
     /// Empties the solver; the budget and the cutoff stay.
@@ -251,12 +242,12 @@ impl Solver {
         self.changes.clear();
         self.entries.clear();
         self.refused = None;
-        self.last = archive::reset(&mut self.held.tables, self.cutoff);
+        self.last = self.held.reset(self.cutoff);
     }
 
     /// Empties the solver, with another cutoff from here on. If that is refused, nothing changes.
     pub fn reset_with_cutoff(&mut self, cutoff: f64) -> Result<(), Refusal> {
-        let answer = archive::reset(&mut self.held.tables, cutoff);
+        let answer = self.held.reset(cutoff);
         self.concluded(answer, None)?;
         self.cutoff = cutoff;
         self.constraints.clear();
@@ -269,24 +260,5 @@ impl Solver {
 impl Default for Solver {
     fn default() -> Solver {
         Solver::new()
-    }
-}
-
-impl Clone for Solver {
-    fn clone(&self) -> Solver {
-        let mut held = Held::zero();
-        // the room is all zero after every call
-        held.tables.copy_from(&self.held.tables);
-        Solver {
-            held,
-            budget: self.budget,
-            cutoff: self.cutoff,
-            constraints: self.constraints.clone(),
-            next: self.next,
-            changes: self.changes.clone(),
-            entries: self.entries.clone(),
-            last: self.last,
-            refused: self.refused.clone(),
-        }
     }
 }

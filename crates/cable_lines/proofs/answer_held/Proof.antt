@@ -2,7 +2,7 @@
 -- Assumes nothing.
 use mathlib.Core.Path.{sym, ap, _∙_}
 use borrow.Author.Needs.{needs}
-use Rattle.second.specs.Replies.{asReply}
+use Rattle.reader.specs.second.Replies.{asReply}
 use Rattle.cable_lines.specs.State.{answer-within, answer-over}
 use Rattle.cable_lines.proofs.answer_held.Statement.{statement}
 use Rattle.cable_lines.proofs.answer_held.Tie as tie

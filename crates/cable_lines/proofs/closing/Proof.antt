@@ -6,8 +6,8 @@ use mathlib.Core.Option.{Option}
 use native.Mathlib.Omega.{arith}
 use borrow.Author.Needs.{needs}
 use lib.ListN.{getD}
-use Rattle.edition.specs.Endings.{Reply as Answer}
-use Rattle.second.specs.declared.Reply.{Reply}
+use Rattle.grammar.specs.edition.Endings.{Reply as Answer}
+use Rattle.reader.specs.declared.second.Reply.{Reply}
 use Rattle.cable_lines.specs.declared.Taken.{Taken}
 use Rattle.cable_lines.specs.Given.{asTaken, same-begun}
 use Rattle.cable_lines.specs.State.{unended-none, unended-some}

@@ -6,7 +6,7 @@ use mathlib.Core.Bool.{true, false}
 use native.Mathlib.Omega.{arith}
 use borrow.Author.Needs.{needs}
 use lib.ListN.{length}
-use Rattle.second.specs.declared.Reply.{Reply}
+use Rattle.reader.specs.declared.second.Reply.{Reply}
 use Rattle.cable_lines.specs.declared.Taken.{Taken}
 use Rattle.cable_lines.specs.Given.{asBegun, same-begun}
 use Rattle.cable_lines.specs.State.{kept-all, kept-ends}

@@ -1,7 +1,8 @@
 -- `entry::change` meets its contract. Assumes nothing.
 use Rattle.steps.specs.Changing.{made}
 use Rattle.changes.specs.Change.{changingOf}
-use Rattle.entry.specs.Entry.{lists, fit-by, unfit-by, places, unfit-call, kept-unfit, kept-fit, fit-call, fit-room}
+use Rattle.sparse.specs.lengths.Lengths.{lists}
+use Rattle.entry.specs.Entry.{fit-by, unfit-by, places, unfit-call, kept-unfit, kept-fit, fit-call, fit-room}
 use borrow.Author.Needs.{needs}
 use Rattle.entry.proofs.change.Statement.{statement}
 use Rattle.entry.proofs.change.Tie as tie

@@ -1,6 +1,6 @@
 -- `entry::change_once` meets its contract. Assumes nothing.
 use mathlib.Core.Path.{sym, _∙_}
-use Rattle.sparse_copy.specs.Over.{tables}
+use Rattle.lending.specs.sparse_copy.Over.{tables}
 use Rattle.lending.specs.Entered.{cleared-is}
 use borrow.Author.Needs.{needs}
 use Rattle.entry.proofs.change_once.Statement.{statement}

@@ -5,7 +5,7 @@ use mathlib.Core.List.{[]}
 use native.Mathlib.Omega.{arith}
 use lib.ListN.{length, length-set}
 use Rattle.laws.specs.Loops.{mapIn, map-next, map-last}
-use Rattle.cells.specs.Names.{cellRoom}
+use Rattle.layout.specs.cells.Names.{cellRoom}
 use Rattle.entry.specs.Entry.{each, zeroes}
 use borrow.Author.Needs.{needs}
 use Rattle.entry.proofs.clear_all_keys.Statement.{statement}

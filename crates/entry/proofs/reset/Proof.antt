@@ -1,5 +1,6 @@
 -- `entry::reset` meets its contract. Assumes nothing.
-use Rattle.entry.specs.Entry.{lists, reset-fit-by, reset-unfit-by, unfit-reset, unfit-kept, fit-kept, first-places, fit-reset}
+use Rattle.sparse.specs.lengths.Lengths.{lists}
+use Rattle.entry.specs.Entry.{reset-fit-by, reset-unfit-by, unfit-reset, unfit-kept, fit-kept, first-places, fit-reset}
 use borrow.Author.Needs.{needs}
 use Rattle.entry.proofs.reset.Statement.{statement}
 use Rattle.entry.proofs.reset.Tie as tie

@@ -1,7 +1,7 @@
 -- `lending::put_back_if` meets its contract. Assumes nothing.
 use mathlib.Core.Path.{refl, sym, _∙_}
 use Rattle.laws.specs.Given.{then-given}
-use Rattle.sparse_copy.specs.Over.{tables}
+use Rattle.lending.specs.sparse_copy.Over.{tables}
 use Rattle.lending.specs.Entered.{terms-in}
 use borrow.Author.Needs.{needs}
 use Rattle.lending.proofs.put_back_if.Statement.{statement}

@@ -1,5 +1,5 @@
 -- `lending::refuse24` meets its contract. Assumes nothing.
-use Rattle.sparse_copy.specs.Over.{tables}
+use Rattle.lending.specs.sparse_copy.Over.{tables}
 use Rattle.lending.specs.Reset.{refused-is}
 use borrow.Author.Needs.{needs}
 use Rattle.lending.proofs.refuse24.Statement.{statement}

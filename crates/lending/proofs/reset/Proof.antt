@@ -1,6 +1,6 @@
 -- `lending::reset` meets its contract. Assumes nothing.
 use borrow.Author.Tests.{not-true, not-false}
-use Rattle.sparse_copy.specs.Over.{tables}
+use Rattle.lending.specs.sparse_copy.Over.{tables}
 use Rattle.lending.specs.Reset.{reset-done, reset-not}
 use borrow.Author.Needs.{needs}
 use Rattle.lending.proofs.reset.Statement.{statement}

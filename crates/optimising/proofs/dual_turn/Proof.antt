@@ -2,7 +2,7 @@
 -- Assumes nothing.
 use native.Mathlib.Omega.{arith}
 use borrow.Author.Needs.{needs}
-use Rattle.choose.specs.Better.{within}
+use Rattle.rows.specs.choose.Better.{within}
 use Rattle.waist.specs.FreePlaces.{dual-free}
 use Rattle.optimising.specs.Chosen.{turn-ends, turn-stuck, dual-turns, dual-ended, dual-stuck, dual-pivots}
 use Rattle.optimising.proofs.dual_turn.Statement.{statement}

@@ -2,7 +2,7 @@
 -- Assumes nothing.
 use native.Mathlib.Omega.{arith}
 use borrow.Author.Needs.{needs}
-use Rattle.choose.specs.Better.{within}
+use Rattle.rows.specs.choose.Better.{within}
 use Rattle.waist.specs.FreePlaces.{goal-free}
 use Rattle.optimising.specs.Chosen.{turn-ends, turn-stuck, optimise-turns, optimise-ended, optimise-stuck, optimise-pivots}
 use Rattle.optimising.proofs.optimise_turn.Statement.{statement}

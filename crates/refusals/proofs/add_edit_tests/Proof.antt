@@ -6,7 +6,7 @@ use mathlib.Core.List.{List}
 use native.Mathlib.Omega.{arith}
 use lib.Ieee.{Float, eq}
 use Rattle.steps.specs.Strength.{required}
-use Rattle.terms.specs.declared.Pack.{Pack}
+use Rattle.changes.specs.declared.terms.Pack.{Pack}
 use Rattle.refusals.specs.Refusals.{editedIn, roomRefusal, editPack, addEditRefusal}
 use borrow.Author.Needs.{needs}
 use Rattle.refusals.proofs.add_edit_tests.Statement.{statement}

@@ -7,7 +7,7 @@ use lib.Dec.{eqb}
 use native.Mathlib.Omega.{arith}
 use lib.Ieee.{Float}
 use Rattle.sparse.specs.Places.{constraintNumbersAt}
-use Rattle.terms.specs.declared.Pack.{Pack}
+use Rattle.changes.specs.declared.terms.Pack.{Pack}
 use Rattle.refusals.specs.Refusals.{constraintsIn, liveIn, roomRefusal, inputRefusal, addRefusal}
 use borrow.Author.Needs.{needs}
 use Rattle.refusals.proofs.add_tests.Statement.{statement}

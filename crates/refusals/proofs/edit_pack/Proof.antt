@@ -2,8 +2,8 @@
 use Prim.Native.Nat.{ℕ}
 use mathlib.Core.Path.{_≡_, refl}
 use Rattle.steps.specs.Number.{one64}
-use Rattle.terms.specs.declared.Pack.{Pack}
-use Rattle.terms.specs.Terms.{noPack, pushed, packFrom, packOf}
+use Rattle.changes.specs.declared.terms.Pack.{Pack}
+use Rattle.changes.specs.terms.Terms.{noPack, pushed, packFrom, packOf}
 use Rattle.refusals.specs.Refusals.{editPack}
 use borrow.Author.Needs.{needs}
 use Rattle.refusals.proofs.edit_pack.Statement.{statement}

@@ -7,6 +7,7 @@ use native.Mathlib.Omega.{arith}
 use lib.Dec.{eqb}
 use lib.ListN.{length, getD}
 use Rattle.laws.specs.Lists.{allIn, allOn, all-next, all-last}
+use Rattle.layout.specs.Layout.{termRoom}
 use Rattle.refusals.specs.Refusals.{firstOf}
 use borrow.Author.Needs.{needs}
 use Rattle.refusals.proofs.first_of.Statement.{statement}
@@ -16,7 +17,7 @@ abbrev differs : List ℕ → ℕ → ℕ → Bool
 differs vars x j = not (eqb x (getD vars j 0))
 
 abbrev Inv-loop : tie.InvT-loop
-Inv-loop i vars x ok₀ j₀ ok j = (allOn (differs vars x) j i ok ≡ allIn (differs vars x) 0 i) × (i < 16) × (length vars ≡ 16)
+Inv-loop i vars x ok₀ j₀ ok j = (allOn (differs vars x) j i ok ≡ allIn (differs vars x) 0 i) × (i < termRoom) × (length vars ≡ termRoom)
 
 abbrev μ-loop : tie.MeasureT-loop
 μ-loop i vars x ok₀ j₀ ok j = i - j

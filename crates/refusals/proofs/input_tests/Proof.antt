@@ -5,7 +5,7 @@ use mathlib.Core.Bool.{Bool, not, _&&_, cond}
 use lib.Dec.{eqb}
 use lib.Ieee.{Float, lt, ofBits, binary64}
 use Rattle.steps.specs.Number.{zero64, belowZero, isFinite}
-use Rattle.terms.specs.declared.Pack.{Pack}
+use Rattle.changes.specs.declared.terms.Pack.{Pack}
 use Rattle.refusals.specs.Refusals.{inputRefusal}
 use borrow.Author.Needs.{needs}
 use Rattle.refusals.proofs.input_tests.Statement.{statement}

@@ -7,7 +7,7 @@ use native.Mathlib.Omega.{arith}
 use lib.ListN.{getD}
 use Rattle.layout.specs.Layout.{bitOf}
 use Rattle.sparse.specs.Places.{variableNumbersAt}
-use Rattle.terms.specs.declared.Pack.{Pack}
+use Rattle.changes.specs.declared.terms.Pack.{Pack}
 use Rattle.refusals.specs.Refusals.{liveIn, firstOf, newAt}
 use borrow.Author.Needs.{needs}
 use Rattle.refusals.proofs.new_at.Statement.{statement}

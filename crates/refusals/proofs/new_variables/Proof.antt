@@ -3,13 +3,14 @@ use Prim.Native.Nat.{ℕ, _+_, _-_, _≤_}
 use mathlib.Core.Path.{_≡_, ap, _∙_}
 use native.Mathlib.Omega.{arith}
 use Rattle.laws.specs.Lists.{sumIn, sumOn, sum-start, sum-next, sum-last}
+use Rattle.layout.specs.Layout.{termRoom}
 use Rattle.refusals.specs.Refusals.{newAt, newIn}
 use borrow.Author.Needs.{needs}
 use Rattle.refusals.proofs.new_variables.Statement.{statement}
 use Rattle.refusals.proofs.new_variables.Tie as tie
 
 abbrev Inv-loop : tie.InvT-loop
-Inv-loop words v p e s₀ i₀ s i = (sumOn (newAt words v p) i e s ≡ newIn words v p) × (s ≤ i) × (i ≤ e) × (e ≤ 16)
+Inv-loop words v p e s₀ i₀ s i = (sumOn (newAt words v p) i e s ≡ newIn words v p) × (s ≤ i) × (i ≤ e) × (e ≤ termRoom)
 
 abbrev μ-loop : tie.MeasureT-loop
 μ-loop words v p e s₀ i₀ s i = e - i

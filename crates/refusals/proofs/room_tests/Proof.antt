@@ -4,7 +4,7 @@ use mathlib.Core.Path.{_≡_, refl}
 use mathlib.Core.Bool.{Bool, cond}
 use mathlib.Core.List.{List}
 use lib.Ieee.{Float}
-use Rattle.terms.specs.declared.Pack.{Pack}
+use Rattle.changes.specs.declared.terms.Pack.{Pack}
 use Rattle.refusals.specs.Refusals.{constraintsFullIn, variablesFullIn, idsUsedIn, roomRefusal}
 use borrow.Author.Needs.{needs}
 use Rattle.refusals.proofs.room_tests.Statement.{statement}

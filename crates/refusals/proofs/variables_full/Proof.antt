@@ -6,8 +6,8 @@ use native.Mathlib.Omega.{arith}
 use lib.Dec.{ltb}
 use lib.Ieee.{Float}
 use Rattle.sparse.specs.Places.{mostVariables}
-use Rattle.terms.specs.declared.Pack.{Pack}
-use Rattle.terms.specs.Terms.{keptOf}
+use Rattle.changes.specs.declared.terms.Pack.{Pack}
+use Rattle.changes.specs.terms.Terms.{keptOf}
 use Rattle.refusals.specs.Refusals.{variablesIn, newIn, variablesFullIn}
 use borrow.Author.Needs.{needs}
 use Rattle.refusals.proofs.variables_full.Statement.{statement}

@@ -1,6 +1,6 @@
 -- `removal::remove_steps` meets its contract.
 -- Assumes nothing.
-use Rattle.terms.specs.Terms.{termsOf}
+use Rattle.changes.specs.terms.Terms.{termsOf}
 use Rattle.removal.specs.Uses.{room-of}
 use Rattle.removal.specs.Steps.{pack-used, removed-pack}
 use borrow.Author.Needs.{needs}

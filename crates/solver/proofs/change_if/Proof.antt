@@ -1,7 +1,7 @@
 -- `solver::change_if` meets its contract. Assumes nothing.
 use borrow.Author.Tests.{not-true, not-false}
 use Rattle.steps.specs.Changing.{made}
-use Rattle.sparse_copy.specs.Over.{tables}
+use Rattle.lending.specs.sparse_copy.Over.{tables}
 use Rattle.changes.specs.Change.{changingOf}
 use Rattle.solver.specs.Concluding.{entered-if, if-not, if-done}
 use borrow.Author.Needs.{needs}

@@ -1,5 +1,5 @@
 -- `solver::change_in` meets its contract. Assumes nothing.
-use Rattle.sparse_copy.specs.Over.{tables}
+use Rattle.lending.specs.sparse_copy.Over.{tables}
 use Rattle.solver.specs.Change.{known-done}
 use borrow.Author.Needs.{needs}
 use Rattle.solver.proofs.change_in.Statement.{statement}

@@ -6,7 +6,7 @@ use mathlib.Core.Bool.{Bool, _&&_}
 use mathlib.Core.List.{List}
 use lib.Dec.{leb, ltb}
 use lib.ListN.{getD}
-use Rattle.cells.specs.Names.{lastPlace, cellRoom}
+use Rattle.layout.specs.cells.Names.{lastPlace, cellRoom}
 use Rattle.sparse.specs.Places.{mostVariables, mostGone, nextIdAt, symbolCountAt, rowCountAt, cellCountAt, variableCountAt, constraintCountAt, editCountAt, shouldClearAt, wholeAt, goneCountAt}
 use Rattle.sparse_test.specs.Reads.{greatestU32}
 use Rattle.sparse_test.specs.Whole.{roomFor, countsIn}

@@ -1,7 +1,6 @@
 -- `sparse_test::reads_as_state` meets its contract.
 -- Assumes nothing.
 use borrow.Author.Tests.{not-true, not-false}
-use Rattle.sparse_test.specs.Meaning.{Counted}
 use Rattle.sparse_test.specs.Whole.{tables, counts-in, rows-few, few-terms, gone-up, no-counts, no-words, no-bytes, whole-test}
 use borrow.Author.Needs.{needs}
 use Rattle.sparse_test.proofs.reads_as_state.Statement.{statement}
@@ -17,7 +16,7 @@ returns-2 : tie.Need-returns-2
 returns-2 c = no-words (tables (c .before .before .before .before .before .before .before .before .args .words .now) (c .before .before .before .before .before .before .before .before .args .keys .now) (c .before .before .before .before .before .before .before .before .args .bytes .now) (c .before .before .before .before .before .before .before .before .args .reals .now) (c .before .before .before .before .before .before .before .before .args .values .now)) (c .before .before .before .before .before .before .before .counts-fit .ensures) (not-false _ (c .before .before .before .before .before .before .if1 .left)) (c .before .words-fit .ensures) (not-true _ (c .if2 .taken))
 
 bytes-fit-requires : tie.Need-bytes-fit-requires
-bytes-fit-requires c κs = let q = counts-in (tables (c .before .before .before .before .before .before .before .before .before .args .words .now) (c .before .before .before .before .before .before .before .before .before .args .keys .now) (c .before .before .before .before .before .before .before .before .before .args .bytes .now) (c .before .before .before .before .before .before .before .before .before .args .reals .now) (c .before .before .before .before .before .before .before .before .before .args .values .now)) (c .before .before .before .before .before .before .before .before .counts-fit .ensures) (not-false _ (c .before .before .before .before .before .before .before .if1 .left)) in (q .symbols, (rows-few (tables (c .before .before .before .before .before .before .before .before .before .args .words .now) (c .before .before .before .before .before .before .before .before .before .args .keys .now) (c .before .before .before .before .before .before .before .before .before .args .bytes .now) (c .before .before .before .before .before .before .before .before .before .args .reals .now) (c .before .before .before .before .before .before .before .before .before .args .values .now)) q, (q .variables, q .constraints)))
+bytes-fit-requires c κs = let q = counts-in (tables (c .before .before .before .before .before .before .before .before .before .args .words .now) (c .before .before .before .before .before .before .before .before .before .args .keys .now) (c .before .before .before .before .before .before .before .before .before .args .bytes .now) (c .before .before .before .before .before .before .before .before .before .args .reals .now) (c .before .before .before .before .before .before .before .before .before .args .values .now)) (c .before .before .before .before .before .before .before .before .counts-fit .ensures) (not-false _ (c .before .before .before .before .before .before .before .if1 .left)) in (q .symbols, (rows-few (tables (c .before .before .before .before .before .before .before .before .before .args .words .now) (c .before .before .before .before .before .before .before .before .before .args .keys .now) (c .before .before .before .before .before .before .before .before .before .args .bytes .now) (c .before .before .before .before .before .before .before .before .before .args .reals .now) (c .before .before .before .before .before .before .before .before .before .args .values .now)) q, q .constraints))
 
 returns-3 : tie.Need-returns-3
 returns-3 c = no-bytes (tables (c .before .before .before .before .before .before .before .before .before .before .before .args .words .now) (c .before .before .before .before .before .before .before .before .before .before .before .args .keys .now) (c .before .before .before .before .before .before .before .before .before .before .before .args .bytes .now) (c .before .before .before .before .before .before .before .before .before .before .before .args .reals .now) (c .before .before .before .before .before .before .before .before .before .before .before .args .values .now)) (c .before .before .before .before .before .before .before .before .before .before .counts-fit .ensures) (not-false _ (c .before .before .before .before .before .before .before .before .before .if1 .left)) (c .before .before .before .before .words-fit .ensures) (not-false _ (c .before .before .before .if2 .left)) (c .before .bytes-fit .ensures) (not-true _ (c .if3 .taken))

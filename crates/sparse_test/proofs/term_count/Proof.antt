@@ -7,6 +7,7 @@ use mathlib.Core.List.{List}
 use native.Mathlib.Omega.{arith}
 use lib.ListN.{getD}
 use Rattle.laws.specs.Lists.{sumOn, sum-start, sum-next, sum-last}
+use Rattle.layout.specs.Layout.{termRoom}
 use Rattle.sparse.specs.Places.{termCountsAt}
 use Rattle.sparse_test.specs.Stretch.{mostIn, most}
 use Rattle.sparse_test.specs.Tested.{termCount}
@@ -14,11 +15,11 @@ use borrow.Author.Needs.{needs}
 use Rattle.sparse_test.proofs.term_count.Statement.{statement}
 use Rattle.sparse_test.proofs.term_count.Tie as tie
 
-few : (b : List ℕ) (n i : ℕ) {w : ℕ} → mostIn b termCountsAt n 16 ≡ true → i < n → w ≡ getD b (termCountsAt + i) 0 → w ≤ 16
-few b n i h k e = let q = most b termCountsAt n 16 h i k in omega (arith, q, e)
+few : (b : List ℕ) (n i : ℕ) {w : ℕ} → mostIn b termCountsAt n termRoom ≡ true → i < n → w ≡ getD b (termCountsAt + i) 0 → w ≤ termRoom
+few b n i h k e = let q = most b termCountsAt n termRoom h i k in omega (arith, q, e)
 
 abbrev Inv-loop : tie.InvT-loop
-Inv-loop bytes c m₀ i₀ m i = (sumOn (λ j. getD bytes (termCountsAt + j) 0) i c m ≡ termCount bytes c) × (m ≤ i * 16) × (i ≤ c)
+Inv-loop bytes c m₀ i₀ m i = (sumOn (λ j. getD bytes (termCountsAt + j) 0) i c m ≡ termCount bytes c) × (m ≤ i * termRoom) × (i ≤ c)
 
 abbrev μ-loop : tie.MeasureT-loop
 μ-loop bytes c m₀ i₀ m i = c - i

@@ -2,7 +2,7 @@
 -- Assumes nothing.
 use mathlib.Core.Path.{refl}
 use Rattle.steps.specs.State.{strengthOf}
-use Rattle.tags.specs.Tags.{relationOf}
+use Rattle.changes.specs.tags.Tags.{relationOf}
 use borrow.Author.Needs.{needs}
 use Rattle.addition.proofs.inputs.strength_of.Statement.{statement}
 use Rattle.addition.proofs.inputs.strength_of.Tie as tie

@@ -6,13 +6,14 @@ use mathlib.Core.Bool.{Bool, true, _&&_}
 use native.Mathlib.Omega.{arith}
 use Rattle.laws.specs.Lists.{allOn, all-next, all-last}
 use Rattle.steps.specs.Number.{cellBound}
+use Rattle.layout.specs.Layout.{termRoom}
 use Rattle.addition.specs.Inputs.{wholeAt, whole-terms}
 use borrow.Author.Needs.{needs}
 use Rattle.addition.proofs.inputs.whole_terms.Statement.{statement}
 use Rattle.addition.proofs.inputs.whole_terms.Tie as tie
 
 abbrev Inv-loop : tie.InvT-loop
-Inv-loop n coefs ok₀ i₀ ok i = (allOn (wholeAt coefs) i n ok ≡ allOn (wholeAt coefs) 0 n true) × (n ≤ 16)
+Inv-loop n coefs ok₀ i₀ ok i = (allOn (wholeAt coefs) i n ok ≡ allOn (wholeAt coefs) 0 n true) × (n ≤ termRoom)
 
 abbrev μ-loop : tie.MeasureT-loop
 μ-loop n coefs ok₀ i₀ ok i = n - i

@@ -1,7 +1,7 @@
 -- `addition::row::add_created` meets its contract.
 -- Assumes nothing.
 use native.Mathlib.Omega.{arith}
-use Rattle.choose.specs.Better.{within}
+use Rattle.rows.specs.choose.Better.{within}
 use Rattle.addition.specs.Chosen.{marker-open, chosen-open, chosen-added, unchosen-added}
 use borrow.Author.Needs.{needs}
 use Rattle.addition.proofs.row.add_created.Statement.{statement}

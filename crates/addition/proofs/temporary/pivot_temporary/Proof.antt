@@ -3,7 +3,7 @@
 use mathlib.Core.Path.{refl}
 use native.Mathlib.Omega.{arith}
 use borrow.Author.Tests.{eq-eqb, ne-eqb}
-use Rattle.choose.specs.Better.{within}
+use Rattle.rows.specs.choose.Better.{within}
 use Rattle.waist.specs.FreePlaces.{pivotable-free}
 use Rattle.addition.specs.Symbols.{alike-later, temporary-alike}
 use Rattle.addition.specs.Removed.{pivotable-none, pivot-refused, pivot-gone}

@@ -1,7 +1,7 @@
 -- `addition::temporary::remove_temporary` meets its contract.
 -- Assumes nothing.
 use native.Mathlib.Omega.{arith}
-use Rattle.choose.specs.Better.{within}
+use Rattle.rows.specs.choose.Better.{within}
 use Rattle.addition.specs.Removed.{looked-by, looked-at, not-basic, is-empty, not-empty}
 use borrow.Author.Needs.{needs}
 use Rattle.addition.proofs.temporary.remove_temporary.Statement.{statement}

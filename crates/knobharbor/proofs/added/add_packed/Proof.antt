@@ -1,7 +1,7 @@
 -- `knobharbor::added::add_packed` meets its contract. Assumes nothing.
 use mathlib.Core.Path.{refl}
 use borrow.Author.Tests.{not-true, not-false}
-use Rattle.sparse_copy.specs.Over.{tables}
+use Rattle.lending.specs.sparse_copy.Over.{tables}
 use Rattle.lending.specs.Lending.{answerOf, called}
 use Rattle.knobharbor.specs.Adding.{refused, packed-unfit, packed-fit}
 use Rattle.knobharbor.specs.Places.{placed, call-placed}

@@ -38,22 +38,22 @@ use denote.Triple.Table.{entered, cited}
 use denote.Triple.Walked.{says, Stays, stay-dropped, gave-ref, walkOf, goes-dropped, goes-gave-ref, Walks, ends-at, walked, walk-meets}
 use denote.Triple.Clauses.{Lasts, ensured, lasts}
 use denote.Exit.{yes}
-use Rattle.cells.specs.Names.{cellRoom}
+use Rattle.layout.specs.cells.Names.{cellRoom}
 use Rattle.sparse.specs.Places.{wordsSize, bytesSize, realsSize}
 use Rattle.sparse.specs.Sparse.{Sparse}
-use Rattle.sparse_copy.specs.Over.{tables, cleared}
-use Rattle.terms.specs.declared.Term.{Term}
-use Rattle.terms.specs.declared.Pack.{Pack}
-use Rattle.terms.specs.Terms.{packOf}
+use Rattle.lending.specs.sparse_copy.Over.{tables, cleared}
+use Rattle.changes.specs.declared.terms.Term.{Term}
+use Rattle.changes.specs.declared.terms.Pack.{Pack}
+use Rattle.changes.specs.terms.Terms.{packOf}
 use Rattle.knobharbor.specs.Adding.{packedOf, packed-list}
 use Rattle.knobharbor.specs.Places.{placed, placedBy}
-use Rattle.terms.proofs.Term as T
-use Rattle.terms.proofs.Pack as P
-use Rattle.terms.proofs.Pack.Laws as P′
-use Rattle.terms.proofs.collect as collect
-use Rattle.terms.proofs.collect.Symbol as collect-def
-use Rattle.terms.proofs.collect.Symbol.{name as #terms·collect}
-use Rattle.terms.proofs.collect.Met as collect-thm
+use Rattle.changes.proofs.terms.Term as T
+use Rattle.changes.proofs.terms.Pack as P
+use Rattle.changes.proofs.terms.Pack.Laws as P′
+use Rattle.changes.proofs.terms.collect as collect
+use Rattle.changes.proofs.terms.collect.Symbol as collect-def
+use Rattle.changes.proofs.terms.collect.Symbol.{name as #changes·terms·collect}
+use Rattle.changes.proofs.terms.collect.Met as collect-thm
 use Rattle.knobharbor.proofs.added.add_packed as add
 use Rattle.knobharbor.proofs.added.add_packed.Symbol as add-def
 use Rattle.knobharbor.proofs.added.add_packed.Symbol.{name as #knobharbor·added·add-packed}
@@ -216,7 +216,7 @@ module _ {M : Type 1} (𝓤 : URA M) (H : Heap 𝓤) (A : Atoms 𝓤) (W : Given
       says-both ! (said ∙ ap placedBy (packed-list in-group n constant kind strength budget room before (terms .now) e)) clear $
       move ! (2 ∷ 1 ∷ []) $ use2 W (‵ (chain tokens (fsep token ftrue))) (chain-in 𝓤 H A tokens token ftrue) $ frame ! $ frame ! $ feqI ! (List Val) (vunit ∷ []) (vunit ∷ []) refl $ done !)))
 
-  module _ (C : Calls 𝓤 H) (Λ : Loops 𝓤 H) (fm : FmC 𝓤 H (W .laws) C) (known-collect : Triple 𝓤 (C #terms·collect) (Collect 𝓤 H A mem run)) (known-add : Triple 𝓤 (C #knobharbor·added·add-packed) (Add 𝓤 H A mem run))
+  module _ (C : Calls 𝓤 H) (Λ : Loops 𝓤 H) (fm : FmC 𝓤 H (W .laws) C) (known-collect : Triple 𝓤 (C #changes·terms·collect) (Collect 𝓤 H A mem run)) (known-add : Triple 𝓤 (C #knobharbor·added·add-packed) (Add 𝓤 H A mem run))
       (g : Are (kinds κs) (Ises (kinds κs)) a vals) where
     -- the locals' values: the parameters', then the pack, then the pointers that are lent on
     abbrev passed : List Val
@@ -300,7 +300,7 @@ module _ {M : Type 1} (𝓤 : URA M) (H : Heap 𝓤) (A : Atoms 𝓤) (W : Given
         move ! (2 ∷ 0 ∷ 3 ∷ 1 ∷ []) $ collects u)
 
 module _ {M : Type 1} (𝓤 : URA M) (H : Heap 𝓤) (A : Atoms 𝓤) (W : Given 𝓤 H A) (mem : Memory → SProp 𝓤) (run : Routine → Fun 𝓤) (𝓣 : Tables 𝓤 H)
-    (known-collect : Triple 𝓤 (𝓣 .C #terms·collect) (Collect 𝓤 H A mem run)) (known-add : Triple 𝓤 (𝓣 .C #knobharbor·added·add-packed) (Add 𝓤 H A mem run)) where
+    (known-collect : Triple 𝓤 (𝓣 .C #changes·terms·collect) (Collect 𝓤 H A mem run)) (known-add : Triple 𝓤 (𝓣 .C #knobharbor·added·add-packed) (Add 𝓤 H A mem run)) where
   knobharbor-add-walks : Walks 𝓤 H A knobharbor-add.ended stayed (WpFn 𝓤 H (𝓣 .C) (𝓣 .Λ) code.function) (knobharbor-add.clauses 𝓤 H A mem run)
   knobharbor-add-walks = walked 𝓤 H A knobharbor-add.ended stayed (knobharbor-add.clauses 𝓤 H A mem run) (WpFn 𝓤 H (𝓣 .C) (𝓣 .Λ) code.function) spelled
       (λ κs. (mut-tells (named 0) (κs .0) (wordsS .row κs), (mut-tells (named 1) (κs .1 .0) (keysS .row κs), (mut-tells (named 2) (κs .1 .1 .0) (bytesS .row κs), (mut-tells (named 3) (κs .1 .1 .1 .0) (realsS .row κs), (mut-tells (named 4) (κs .1 .1 .1 .1 .0) (valuesS .row κs), (mut-tells (named 5) (κs .1 .1 .1 .1 .1 .0) (wordsS .row κs), (mut-tells (named 6) (κs .1 .1 .1 .1 .1 .1 .0) (keysS .row κs), (mut-tells (named 7) (κs .1 .1 .1 .1 .1 .1 .1 .0) (bytesS .row κs), (mut-tells (named 8) (κs .1 .1 .1 .1 .1 .1 .1 .1 .0) (realsS .row κs), (mut-tells (named 9) (κs .1 .1 .1 .1 .1 .1 .1 .1 .1 .0) (valuesS .row κs), (mut-tells (named 10) (κs .1 .1 .1 .1 .1 .1 .1 .1 .1 .1 .0) (answerS .row κs), (uint-tells w16, (uint-tells w32, (shr-slice-tells (named 11) (κs .1 .1 .1 .1 .1 .1 .1 .1 .1 .1 .1 .0) T.the-row, (float-tells binary64, (uint-tells w32, (float-tells binary64, (uint-tells w16, tt)))))))))))))))))))
@@ -317,5 +317,5 @@ knobharbor-add-spec 𝓤 H 𝓜 𝓖 𝓡 =
     entered 𝓤 H (tripleOf 𝓤 H (𝓖 .A) knobharbor-add.signature (knobharbor-add.spec 𝓤 H (𝓖 .A) (𝓜 .mem) (𝓡 .run)))
     (tablesAt 𝓤 H 𝓜 𝓡 code.env .C) (tablesAt 𝓤 H 𝓜 𝓡 code.env .Λ) #knobharbor·added·knobharbor-add code.function (code.unfolded 𝓤 H 𝓜 𝓡)
     (knobharbor-add-meets 𝓤 H (𝓖 .A) (givenOf 𝓤 H 𝓜 𝓖) (𝓜 .mem) (𝓡 .run) (tablesOf 𝓤 H 𝓜 (tablesAt 𝓤 H 𝓜 𝓡 code.env))
-    (cited 𝓤 H (Collect 𝓤 H (𝓖 .A) (𝓜 .mem) (𝓡 .run)) 𝓜 𝓡 code.env #terms·collect collect-def.routine code.calls-terms·collect (collect-thm.met 𝓤 H 𝓜 𝓖 𝓡))
+    (cited 𝓤 H (Collect 𝓤 H (𝓖 .A) (𝓜 .mem) (𝓡 .run)) 𝓜 𝓡 code.env #changes·terms·collect collect-def.routine code.calls-changes·terms·collect (collect-thm.met 𝓤 H 𝓜 𝓖 𝓡))
     (cited 𝓤 H (Add 𝓤 H (𝓖 .A) (𝓜 .mem) (𝓡 .run)) 𝓜 𝓡 code.env #knobharbor·added·add-packed add-def.routine code.calls-knobharbor·added·add-packed (add-thm.met 𝓤 H 𝓜 𝓖 𝓡)))

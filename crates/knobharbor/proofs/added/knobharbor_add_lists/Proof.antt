@@ -3,7 +3,7 @@ use mathlib.Core.Path.{refl}
 use native.Mathlib.Omega.{arith}
 use lib.ListN.{length}
 use borrow.Author.Tests.{not-true, not-false, eqb-true}
-use Rattle.sparse_copy.specs.Over.{tables}
+use Rattle.lending.specs.sparse_copy.Over.{tables}
 use Rattle.lending.specs.Lending.{answerOf, called}
 use Rattle.knobharbor.specs.Adding.{refused, lists-unfit, lists-fit}
 use Rattle.knobharbor.specs.Places.{placed, call-placed}

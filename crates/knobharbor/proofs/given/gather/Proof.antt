@@ -5,7 +5,7 @@ use native.Mathlib.Omega.{arith}
 use lib.ListN.{length}
 use borrow.Author.Needs.{needs}
 use Rattle.laws.specs.Loops.{run, run-next, run-last}
-use Rattle.terms.specs.Terms.{packOf}
+use Rattle.changes.specs.terms.Terms.{packOf}
 use Rattle.knobharbor.specs.Given.{termAt, given, gathers, gather-starts}
 use Rattle.knobharbor.proofs.given.gather.Statement.{statement}
 use Rattle.knobharbor.proofs.given.gather.Tie as tie

@@ -1,6 +1,6 @@
 -- `lending::clearing::clear_room` meets its contract. Assumes nothing.
 use mathlib.Core.Path.{_∙_}
-use Rattle.sparse_copy.specs.Over.{tables}
+use Rattle.lending.specs.sparse_copy.Over.{tables}
 use Rattle.lending.specs.Entered.{cleared-is}
 use borrow.Author.Needs.{needs}
 use Rattle.lending.proofs.clearing.clear_room.Statement.{statement}

@@ -4,7 +4,7 @@ use native.Mathlib.Omega.{arith}
 use borrow.Author.Needs.{needs}
 use borrow.Author.Tests.{eq-eqb, ne-eqb}
 use lib.ListN.{length}
-use Rattle.sums.specs.Held.{zeroAt}
+use Rattle.reader.specs.sums.Held.{zeroAt}
 use Rattle.reader.specs.Answers.{keptWith, set-past}
 use Rattle.reader.proofs.answers.keep.Statement.{statement}
 use Rattle.reader.proofs.answers.keep.Tie as tie

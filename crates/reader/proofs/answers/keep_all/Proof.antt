@@ -4,7 +4,7 @@ use mathlib.Core.Path.{_≡_, refl}
 use native.Mathlib.Omega.{arith}
 use borrow.Author.Needs.{needs}
 use lib.ListN.{drop, getD}
-use Rattle.sums.specs.Held.{held}
+use Rattle.reader.specs.sums.Held.{held}
 use Rattle.reader.specs.Answers.{keptFrom, keptOf}
 use Rattle.reader.specs.AnswerLaws.{keep-next, keep-last, count-next}
 use Rattle.reader.proofs.answers.keep_all.Statement.{statement}

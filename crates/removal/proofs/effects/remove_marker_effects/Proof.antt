@@ -5,7 +5,7 @@ use Rattle.waist.specs.Working.{sparse}
 use mathlib.Core.Path.{sym, _∙_}
 use native.Mathlib.Omega.{arith}
 use borrow.Author.Tests.{eq-eqb, ne-eqb}
-use Rattle.choose.specs.Better.{within}
+use Rattle.rows.specs.choose.Better.{within}
 use Rattle.waist.specs.Rows.{row-free, row-found}
 use Rattle.removal.specs.Effects.{no-error, not-basic, is-basic}
 use borrow.Author.Needs.{needs}

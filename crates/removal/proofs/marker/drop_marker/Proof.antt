@@ -4,7 +4,7 @@ use Rattle.waist.specs.Working.{sparse}
 use mathlib.Core.Path.{sym, _∙_}
 use native.Mathlib.Omega.{arith}
 use Rattle.rows.specs.Marks.{markOf}
-use Rattle.choose.specs.Better.{within}
+use Rattle.rows.specs.choose.Better.{within}
 use Rattle.waist.specs.Rows.{row-at}
 use Rattle.removal.specs.Marker.{row-of, row-dropped, row-symbol, dropped-basic}
 use borrow.Author.Needs.{needs}

@@ -3,7 +3,7 @@
 use Rattle.waist.specs.Working.{sparse}
 use mathlib.Core.Path.{sym, _∙_}
 use native.Mathlib.Omega.{arith}
-use Rattle.choose.specs.Better.{within}
+use Rattle.rows.specs.choose.Better.{within}
 use Rattle.waist.specs.Rows.{row-at}
 use Rattle.removal.specs.Marker.{no-row-of, none-dropped, row-dropped, row-symbol}
 use borrow.Author.Needs.{needs}

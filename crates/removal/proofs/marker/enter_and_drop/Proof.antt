@@ -3,7 +3,7 @@
 use native.Mathlib.Omega.{arith}
 use borrow.Author.Tests.{eq-eqb, ne-eqb}
 use Rattle.rows.specs.Marks.{markOf}
-use Rattle.choose.specs.Better.{within}
+use Rattle.rows.specs.choose.Better.{within}
 use Rattle.removal.specs.Reading.{count-same}
 use Rattle.removal.specs.Bound.{goes-given}
 use Rattle.removal.specs.Marker.{no-row-of, free-lone, dropped-stuck, dropped-refused, entered-symbols, dropped-entered}

@@ -7,13 +7,14 @@ use lib.Ieee.{nan}
 use lib.ListN.{length, length-set}
 use borrow.Author.Needs.{needs}
 use Rattle.laws.specs.Loops.{fold2-last, fold2-next-set, fold2In, zip-last, zip-next, zipIn}
+use Rattle.layout.specs.cells.Names.{rowRoom}
 use Rattle.rows.specs.Marks.{mark-clean, markOf}
 use Rattle.rows.specs.Table.{insertCellsIn, insertCellsMark, insertedMark, insertedValue}
 use Rattle.rows.proofs.row.insert_cells.Statement.{statement}
 use Rattle.rows.proofs.row.insert_cells.Tie as tie
 
 abbrev Inv-loop : tie.InvT-loop
-Inv-loop cutoff row₀ other k width bound w₀ i₀ row w i = (zipIn (insertedValue cutoff k) i (1 + width) row other ≡ zipIn (insertedValue cutoff k) i₀ (1 + width) row₀ other) × (fold2In (insertedMark cutoff bound k) i (1 + width) row other (markOf w) ≡ fold2In (insertedMark cutoff bound k) i₀ (1 + width) row₀ other (markOf w₀)) × (length row ≡ 130) × (length other ≡ 130) × (i ≤ 1 + width)
+Inv-loop cutoff row₀ other k width bound w₀ i₀ row w i = (zipIn (insertedValue cutoff k) i (1 + width) row other ≡ zipIn (insertedValue cutoff k) i₀ (1 + width) row₀ other) × (fold2In (insertedMark cutoff bound k) i (1 + width) row other (markOf w) ≡ fold2In (insertedMark cutoff bound k) i₀ (1 + width) row₀ other (markOf w₀)) × (length row ≡ rowRoom) × (length other ≡ rowRoom) × (i ≤ 1 + width)
 
 abbrev μ-loop : tie.MeasureT-loop
 μ-loop cutoff row₀ other k width bound w₀ i₀ row w i = 1 + width - i

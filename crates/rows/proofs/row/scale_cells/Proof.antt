@@ -7,13 +7,14 @@ use lib.Ieee.{nan}
 use lib.ListN.{length, length-set}
 use borrow.Author.Needs.{needs}
 use Rattle.laws.specs.Loops.{fold-last, fold-next-set, foldIn, map-last, map-next, mapIn}
+use Rattle.layout.specs.cells.Names.{rowRoom}
 use Rattle.rows.specs.Marks.{mark-clean, markOf}
 use Rattle.rows.specs.Table.{scaleCellsIn, scaleCellsMark, scaledMark, scaledValue}
 use Rattle.rows.proofs.row.scale_cells.Statement.{statement}
 use Rattle.rows.proofs.row.scale_cells.Tie as tie
 
 abbrev Inv-loop : tie.InvT-loop
-Inv-loop row₀ factor width w₀ i₀ row w i = (mapIn (scaledValue factor) i (1 + width) row ≡ mapIn (scaledValue factor) i₀ (1 + width) row₀) × (foldIn (scaledMark factor) i (1 + width) row (markOf w) ≡ foldIn (scaledMark factor) i₀ (1 + width) row₀ (markOf w₀)) × (length row ≡ 130) × (i ≤ 1 + width)
+Inv-loop row₀ factor width w₀ i₀ row w i = (mapIn (scaledValue factor) i (1 + width) row ≡ mapIn (scaledValue factor) i₀ (1 + width) row₀) × (foldIn (scaledMark factor) i (1 + width) row (markOf w) ≡ foldIn (scaledMark factor) i₀ (1 + width) row₀ (markOf w₀)) × (length row ≡ rowRoom) × (i ≤ 1 + width)
 
 abbrev μ-loop : tie.MeasureT-loop
 μ-loop row₀ factor width w₀ i₀ row w i = 1 + width - i

@@ -1,9 +1,9 @@
 -- `solver::add::add` meets its contract. Assumes nothing.
 use mathlib.Core.Path.{_≡_, sym, ap, _∙_}
 use lib.Ieee.{Float}
-use Rattle.tags.specs.Tags.{relationOf}
-use Rattle.terms.specs.Terms.{listed}
-use Rattle.sparse_copy.specs.Over.{tables}
+use Rattle.changes.specs.tags.Tags.{relationOf}
+use Rattle.changes.specs.terms.Terms.{listed}
+use Rattle.lending.specs.sparse_copy.Over.{tables}
 use Rattle.refusals.specs.Refusals.{cutoffIn, addRefusal}
 use Rattle.refusals.specs.Numbers.{add-low}
 use Rattle.solver.specs.Begin.{counts-at-start, numbers-at-start, constraints-at-start}

@@ -1,6 +1,6 @@
 -- `solver::add::add_known` meets its contract. Assumes nothing.
-use Rattle.tags.specs.Tags.{relationOf}
-use Rattle.sparse_copy.specs.Over.{tables}
+use Rattle.changes.specs.tags.Tags.{relationOf}
+use Rattle.lending.specs.sparse_copy.Over.{tables}
 use Rattle.addition.specs.Whole.{addedOf}
 use Rattle.solver.specs.Begin.{spare-at-start}
 use Rattle.solver.specs.StoredTerms.{kept-few}

@@ -1,7 +1,7 @@
 -- `solver::add_edit::add_edit` meets its contract. Assumes nothing.
 use mathlib.Core.Path.{_≡_, sym, ap, _∙_}
 use lib.Ieee.{Float}
-use Rattle.sparse_copy.specs.Over.{tables}
+use Rattle.lending.specs.sparse_copy.Over.{tables}
 use Rattle.refusals.specs.Refusals.{cutoffIn, addEditRefusal}
 use Rattle.refusals.specs.Numbers.{add-edit-low}
 use Rattle.solver.specs.Begin.{counts-at-start, numbers-at-start}

@@ -1,6 +1,6 @@
 -- `solver::add_edit::add_edit_known` meets its contract. Assumes nothing.
 use Rattle.steps.specs.Number.{zero64}
-use Rattle.sparse_copy.specs.Over.{tables}
+use Rattle.lending.specs.sparse_copy.Over.{tables}
 use Rattle.addition.specs.Whole.{addedOf}
 use Rattle.solver.specs.Begin.{spare-at-start}
 use Rattle.solver.specs.Concluding.{went, tag-live}

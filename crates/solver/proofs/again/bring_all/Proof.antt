@@ -1,5 +1,5 @@
 -- `solver::again::bring_all` meets its contract. Assumes nothing.
-use Rattle.sparse_copy.specs.Over.{tables}
+use Rattle.lending.specs.sparse_copy.Over.{tables}
 use Rattle.solver.specs.Again.{all-stored, all-brought, all-read}
 use borrow.Author.Needs.{needs}
 use Rattle.solver.proofs.again.bring_all.Statement.{statement}

@@ -1,7 +1,7 @@
 -- `solver::bringing::kind_of` meets its contract. Assumes nothing.
 use Rattle.steps.specs.State.{comparisonOf}
 use Rattle.layout.specs.Layout.{comparisonCode}
-use Rattle.tags.specs.Tags.{relationOf}
+use Rattle.changes.specs.tags.Tags.{relationOf}
 use borrow.Author.Needs.{needs}
 use Rattle.solver.proofs.bringing.kind_of.Statement.{statement}
 use Rattle.solver.proofs.bringing.kind_of.Tie as tie

@@ -1,8 +1,8 @@
 -- `solver::bringing::with_constraint` meets its contract. Assumes nothing.
 use native.Mathlib.Omega.{arith}
 use Rattle.steps.specs.State.{comparisonOf}
-use Rattle.tags.specs.Tags.{relationOf}
-use Rattle.sparse_copy.specs.Over.{tables}
+use Rattle.changes.specs.tags.Tags.{relationOf}
+use Rattle.lending.specs.sparse_copy.Over.{tables}
 use Rattle.solver.specs.Brings.{stores-both, room-terms, constraint-comes}
 use borrow.Author.Needs.{needs}
 use Rattle.solver.proofs.bringing.with_constraint.Statement.{statement}

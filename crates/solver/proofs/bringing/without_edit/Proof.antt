@@ -1,6 +1,6 @@
 -- `solver::bringing::without_edit` meets its contract. Assumes nothing.
 use native.Mathlib.Omega.{arith}
-use Rattle.sparse_copy.specs.Over.{tables}
+use Rattle.lending.specs.sparse_copy.Over.{tables}
 use Rattle.solver.specs.Brings.{stores-both, room-terms, edit-behind}
 use borrow.Author.Needs.{needs}
 use Rattle.solver.proofs.bringing.without_edit.Statement.{statement}

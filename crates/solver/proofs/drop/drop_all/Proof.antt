@@ -2,7 +2,7 @@
 use mathlib.Core.Path.{refl, sym, _∙_}
 use lib.ListN.{getD}
 use Rattle.sparse.specs.Places.{constraintCountAt}
-use Rattle.sparse_copy.specs.Over.{tables}
+use Rattle.lending.specs.sparse_copy.Over.{tables}
 use Rattle.sparse_test.specs.Meaning.{reads-form}
 use Rattle.solver.specs.Dropped.{Halfway, at-start, halfway-refused, halfway-fewer, halfway-on, halfway-ended}
 use borrow.Author.Needs.{needs}

@@ -2,7 +2,7 @@
 use Prim.Native.Nat.{_-_}
 use mathlib.Core.Path.{refl}
 use native.Mathlib.Omega.{arith}
-use Rattle.sparse_copy.specs.Over.{tables}
+use Rattle.lending.specs.sparse_copy.Over.{tables}
 use Rattle.sparse_test.specs.Meaning.{reads-form}
 use Rattle.solver.specs.Dropped.{place-in, first-small, first-free, first-within, went-by}
 use borrow.Author.Needs.{needs}

@@ -5,9 +5,9 @@ use mathlib.Core.List.{List}
 use native.Mathlib.Omega.{arith}
 use lib.Ieee.{Float}
 use Rattle.laws.specs.Loops.{run, run-next, run-last}
-use Rattle.terms.specs.declared.Term.{Term}
-use Rattle.terms.specs.declared.Pack.{Pack}
-use Rattle.terms.specs.Terms.{pushed}
+use Rattle.changes.specs.declared.terms.Term.{Term}
+use Rattle.changes.specs.declared.terms.Pack.{Pack}
+use Rattle.changes.specs.terms.Terms.{pushed}
 use Rattle.solver.specs.StoredTerms.{storedTerm, storedPack, Terms, pack-gathered}
 use borrow.Author.Needs.{needs}
 use Rattle.solver.proofs.looks.stored_pack.Statement.{statement}

@@ -1,6 +1,6 @@
 -- `solver::remove::remove_known` meets its contract. Assumes nothing.
 use native.Mathlib.Omega.{arith}
-use Rattle.sparse_copy.specs.Over.{tables}
+use Rattle.lending.specs.sparse_copy.Over.{tables}
 use Rattle.solver.specs.Begin.{counts-at-start, constraints-at-start, standing-at-start}
 use Rattle.solver.specs.StoredTerms.{stored-terms, pack-is}
 use Rattle.solver.specs.Removing.{in-range, removal-tag, removal-room, removal-stores, removal-refused, removal-accepted}

@@ -1,6 +1,6 @@
 -- `solver::remove_edit::remove_edit_known` meets its contract. Assumes nothing.
 use native.Mathlib.Omega.{arith}
-use Rattle.sparse_copy.specs.Over.{tables}
+use Rattle.lending.specs.sparse_copy.Over.{tables}
 use Rattle.refusals.specs.Known.{remove-edit-passed}
 use Rattle.solver.specs.Begin.{counts-at-start, numbers-at-start, standing-at-start}
 use Rattle.solver.specs.Placed.{variable-known}

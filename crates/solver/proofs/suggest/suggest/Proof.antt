@@ -1,6 +1,6 @@
 -- `solver::suggest::suggest` meets its contract. Assumes nothing.
 use mathlib.Core.Path.{sym, _∙_}
-use Rattle.sparse_copy.specs.Over.{tables}
+use Rattle.lending.specs.sparse_copy.Over.{tables}
 use Rattle.refusals.specs.Known.{suggest-passed}
 use Rattle.refusals.specs.Numbers.{suggest-low}
 use Rattle.solver.specs.Begin.{counts-at-start, numbers-at-start}

@@ -7,7 +7,7 @@ use mathlib.Core.List.{List}
 use lib.Ieee.{Float, nan}
 use lib.ListN.{getD}
 use Rattle.steps.specs.Number.{cutoffFits}
-use Rattle.places.specs.Shares.{finiteIn}
+use Rattle.rows.specs.places.Shares.{finiteIn}
 use Rattle.sparse.specs.Places.{constantsAt, objectiveAt, cutoffAt, constraintStrengthsAt, editStrengthsAt, suggestionsAt, coefficientsAt, constraintConstantsAt}
 use Rattle.sparse_test.specs.Tested.{oldsFit, realsFit}
 use borrow.Author.Needs.{needs}

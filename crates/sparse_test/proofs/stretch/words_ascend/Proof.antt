@@ -1,31 +1,31 @@
 -- `sparse_test::stretch::words_ascend` meets its contract.
 -- Assumes nothing.
-use Prim.Native.Nat.{_+_, _-_, _≤_}
-use lib.Dec.{ltb}
-use mathlib.Core.Path.{_≡_, refl}
+use Prim.Native.Nat.{ℕ, _+_, _-_, _≤_}
+use mathlib.Core.Path.{_≡_, ap}
 use native.Mathlib.Omega.{arith}
+use lib.Dec.{ltb}
 use lib.ListN.{getD}
-use Rattle.laws.specs.Lists.{allOn, all-next, all-last}
-use Rattle.sparse_test.specs.Stretch.{ascendIn}
+use Rattle.laws.specs.Lists.{sumIn, sumOn, sum-start, sum-next}
+use Rattle.sparse_test.specs.Stretch.{missed, none-missed, ascendIn}
 use borrow.Author.Needs.{needs}
 use Rattle.sparse_test.proofs.stretch.words_ascend.Statement.{statement}
 use Rattle.sparse_test.proofs.stretch.words_ascend.Tie as tie
 
 abbrev Inv-loop : tie.InvT-loop
-Inv-loop words a n ok₀ i₀ ok i = (allOn (λ j. ltb (getD words (a + (j - 1)) 0) (getD words (a + j) 0)) i n ok ≡ ascendIn words a n) × (1 ≤ i)
+Inv-loop words a n misses₀ i₀ misses i = (sumOn (λ j. missed (ltb (getD words (a + (j - 1)) 0) (getD words (a + j) 0))) i n misses ≡ sumIn (λ j. missed (ltb (getD words (a + (j - 1)) 0) (getD words (a + j) 0))) 1 n) × (misses ≤ i) × (1 ≤ i)
 
 abbrev μ-loop : tie.MeasureT-loop
-μ-loop words a n ok₀ i₀ ok i = n - i
+μ-loop words a n misses₀ i₀ misses i = n - i
 
 loop-holds : tie.Need-loop-holds Inv-loop μ-loop
-unfolding allOn ascendIn
-loop-holds c = (refl, search needs)
+loop-holds c = (sum-start _ _ _, omega arith, omega arith)
 
 loop-again : tie.Need-loop-again Inv-loop μ-loop
-loop-again c = (all-next _ _ _ _ (omega arith) refl (c .before .before .before .loop .inv .0), omega arith)
+loop-again c = (sum-next _ _ _ _ (omega arith) (ap (λ (x : ℕ). c .before .before .before .before .loop .misses + x) (c .one-unless .ensures .0)) (c .before .before .before .before .loop .inv .0), omega arith, omega arith)
 
 returns : tie.Need-returns Inv-loop μ-loop
-returns c = all-last _ _ _ _ (omega arith) (c .before .loop .inv .0)
+unfolding ascendIn
+returns c = none-missed _ 1 _ _ _ (omega arith) (c .before .loop .inv .0)
 
 pub words-ascend-spec : {M : Type 1} → statement M
 words-ascend-spec =
@@ -40,6 +40,8 @@ words-ascend-spec =
     (λ c. search needs)
     (λ c. search needs)
     (λ c. search needs)
+    (λ c. search needs)
+    (λ c κs. search needs)
     (λ c. search needs)
     (λ c. search needs)
     (λ c. search needs)

@@ -6,7 +6,7 @@ use native.Mathlib.Omega.{arith}
 use lib.Dec.{eqb}
 use lib.ListN.{getD}
 use Rattle.laws.specs.Lists.{allOn, all-next, all-last}
-use Rattle.places.specs.Shares.{noneLeft}
+use Rattle.rows.specs.places.Shares.{noneLeft}
 use borrow.Author.Needs.{needs}
 use Rattle.sparse_test.proofs.uses.none_left.Statement.{statement}
 use Rattle.sparse_test.proofs.uses.none_left.Tie as tie

@@ -5,7 +5,7 @@ use mathlib.Core.Path.{_≡_, refl}
 use native.Mathlib.Omega.{arith}
 use lib.ListN.{getD, set}
 use Rattle.laws.specs.Loops.{run, run-next, run-last}
-use Rattle.places.specs.Shares.{stock}
+use Rattle.rows.specs.places.Shares.{stock}
 use Rattle.sparse.specs.Places.{variableUsesAt}
 use borrow.Author.Needs.{needs}
 use Rattle.sparse_test.proofs.uses.stock_uses.Statement.{statement}

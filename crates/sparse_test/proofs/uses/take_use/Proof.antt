@@ -6,7 +6,7 @@ use mathlib.Core.Bool.{Bool, _&&_}
 use mathlib.Core.List.{List}
 use lib.Dec.{ltb}
 use lib.ListN.{getD, set}
-use Rattle.places.specs.Shares.{shares, take}
+use Rattle.rows.specs.places.Shares.{shares, take}
 use borrow.Author.Needs.{needs}
 use Rattle.sparse_test.proofs.uses.take_use.Statement.{statement}
 use Rattle.sparse_test.proofs.uses.take_use.Tie as tie

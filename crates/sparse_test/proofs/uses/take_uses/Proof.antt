@@ -5,7 +5,7 @@ use mathlib.Core.Path.{_≡_, refl, ap, _∙_}
 use native.Mathlib.Omega.{arith}
 use lib.ListN.{getD}
 use Rattle.laws.specs.Loops.{run, run-next, run-last}
-use Rattle.places.specs.Shares.{Shares, shares, take}
+use Rattle.rows.specs.places.Shares.{Shares, shares, take}
 use Rattle.sparse_test.specs.Tested.{indexIn, takeUses}
 use borrow.Author.Needs.{needs}
 use Rattle.sparse_test.proofs.uses.take_uses.Statement.{statement}

@@ -6,7 +6,7 @@ use mathlib.Core.Bool.{Bool, true, _&&_}
 use mathlib.Core.List.{List}
 use native.Mathlib.Omega.{arith}
 use lib.ListN.{getD}
-use Rattle.places.specs.Shares.{Shares, shares, noneLeft, stock}
+use Rattle.rows.specs.places.Shares.{Shares, shares, noneLeft, stock}
 use Rattle.sparse.specs.Places.{variableUsesAt, editVariablesAt, termsAt}
 use Rattle.sparse_test.specs.Tested.{usesFit, allUses, takeUses, noUses}
 use borrow.Author.Needs.{needs}

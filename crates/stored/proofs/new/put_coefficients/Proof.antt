@@ -7,11 +7,12 @@ use lib.ListN.{length, length-set}
 use Rattle.sparse.specs.Places.{mostTerms, realsSize}
 use Rattle.stored.specs.Put.{CoefficientsPut, no-coefficients, next-coefficient, coefficients-end}
 use borrow.Author.Needs.{needs}
+use Rattle.layout.specs.Layout.{termRoom}
 use Rattle.stored.proofs.new.put_coefficients.Statement.{statement}
 use Rattle.stored.proofs.new.put_coefficients.Tie as tie
 
 abbrev Inv-loop : tie.InvT-loop
-Inv-loop reals₀ s n coefs j₀ reals j = CoefficientsPut coefs s j reals₀ reals × (j ≤ n) × (n ≤ 16) × (s + n ≤ mostTerms) × (length reals ≡ realsSize)
+Inv-loop reals₀ s n coefs j₀ reals j = CoefficientsPut coefs s j reals₀ reals × (j ≤ n) × (n ≤ termRoom) × (s + n ≤ mostTerms) × (length reals ≡ realsSize)
 
 abbrev μ-loop : tie.MeasureT-loop
 μ-loop reals₀ s n coefs j₀ reals j = n - j

@@ -8,11 +8,12 @@ use Rattle.sparse.specs.Places.{mostTerms, bytesSize}
 use Rattle.stored.specs.Maps.{Names}
 use Rattle.stored.specs.Put.{TermsPut, no-terms, terms-names, next-term, terms-end}
 use borrow.Author.Needs.{needs}
+use Rattle.layout.specs.Layout.{termRoom}
 use Rattle.stored.proofs.new.put_terms.Statement.{statement}
 use Rattle.stored.proofs.new.put_terms.Tie as tie
 
 abbrev Inv-loop : tie.InvT-loop
-Inv-loop words bytes₀ s n vars j₀ bytes j = TermsPut words vars s j bytes₀ bytes × Names words bytes₀ × (j ≤ n) × (n ≤ 16) × (s + n ≤ mostTerms) × (length bytes ≡ bytesSize)
+Inv-loop words bytes₀ s n vars j₀ bytes j = TermsPut words vars s j bytes₀ bytes × Names words bytes₀ × (j ≤ n) × (n ≤ termRoom) × (s + n ≤ mostTerms) × (length bytes ≡ bytesSize)
 
 abbrev μ-loop : tie.MeasureT-loop
 μ-loop words bytes₀ s n vars j₀ bytes j = n - j

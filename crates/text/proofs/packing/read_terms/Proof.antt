@@ -5,11 +5,11 @@ use Prim.Native.Nat.{ℕ, _+_, _*_, _-_, _≤_}
 use mathlib.Core.Path.{_≡_, ap, ap₂, sym, _∙_}
 use native.Mathlib.Omega.{arith}
 use lib.ListN.{drop}
-use Rattle.terms.specs.declared.Pack.{Pack}
+use Rattle.changes.specs.declared.terms.Pack.{Pack}
 use Rattle.text.specs.Words.{wordsOf}
 use Rattle.text.specs.Floats.{idOf, floatOf}
 use Rattle.text.specs.Format.{termsOf}
-use Rattle.terms.specs.Terms.{noPack}
+use Rattle.changes.specs.terms.Terms.{noPack}
 use Rattle.text.specs.Lines.{packedFrom}
 use Rattle.text.specs.LineLaws.{terms-next, terms-no-id, terms-no-real, terms-last}
 use Rattle.text.proofs.packing.read_terms.Statement.{statement}

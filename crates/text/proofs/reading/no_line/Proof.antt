@@ -4,7 +4,7 @@ use borrow.Author.Needs.{needs}
 use mathlib.Core.Path.{ap}
 use Rattle.text.specs.declared.calls.Call.the-variants.{Bad}
 use Rattle.text.specs.declared.calls.Line.{Line}
-use Rattle.terms.specs.declared.Pack.{Pack}
+use Rattle.changes.specs.declared.terms.Pack.{Pack}
 use Rattle.text.proofs.reading.no_line.Statement.{statement}
 use Rattle.text.proofs.reading.no_line.Tie as tie
 

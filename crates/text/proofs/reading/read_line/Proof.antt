@@ -5,7 +5,7 @@ use mathlib.Core.Path.{sym, _∙_}
 use native.Mathlib.Omega.{arith}
 use Rattle.text.specs.declared.calls.Call.{Call}
 use Rattle.text.specs.declared.calls.Line.{Line}
-use Rattle.terms.specs.declared.Pack.{Pack}
+use Rattle.changes.specs.declared.terms.Pack.{Pack}
 use Rattle.text.specs.Choices.{ap2}
 use Rattle.text.specs.Words.{wordsOf}
 use Rattle.text.specs.FormatLaws.{no-terms}

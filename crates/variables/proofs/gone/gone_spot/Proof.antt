@@ -8,7 +8,7 @@ use lib.Dec.{eqb, leb}
 use lib.ListN.{getD}
 use borrow.Author.Tests.{le-leb, lt-leb}
 use Rattle.laws.specs.Loops.{first, first-next, first-here, first-last}
-use Rattle.choose.specs.declared.Found.the-variants.{At, Nothing}
+use Rattle.rows.specs.declared.choose.Found.the-variants.{At, Nothing}
 use Rattle.sparse.specs.Places.{goneNumbersAt}
 use Rattle.variables.specs.Told.{goneSpot}
 use borrow.Author.Needs.{needs}

@@ -5,7 +5,7 @@ use mathlib.Core.Path.{_≡_, refl, ap, _∙_}
 use native.Mathlib.Omega.{arith}
 use lib.ListN.{length, length-set}
 use Rattle.laws.specs.Loops.{delete, insertAt, delete-down, put}
-use Rattle.moves.specs.Close.{opened}
+use Rattle.rows.specs.moves.Close.{opened}
 use Rattle.sparse.specs.Places.{wordsSize}
 use borrow.Author.Needs.{needs}
 use Rattle.variables.proofs.kept.open_words.Statement.{statement}

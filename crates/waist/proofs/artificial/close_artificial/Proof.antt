@@ -3,7 +3,7 @@
 use mathlib.Core.Bool.{true}
 use native.Mathlib.Omega.{arith}
 use borrow.Author.Needs.{needs}
-use Rattle.substituting.specs.Held.{held-room}
+use Rattle.waist.specs.substituting.Held.{held-room}
 use Rattle.waist.specs.Working.{lines-few}
 use Rattle.waist.specs.ArtificialCopy.{close-calls}
 use Rattle.waist.proofs.artificial.close_artificial.Statement.{statement}

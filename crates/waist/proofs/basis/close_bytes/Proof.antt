@@ -5,7 +5,7 @@ use mathlib.Core.Path.{_≡_, refl}
 use native.Mathlib.Omega.{arith}
 use lib.ListN.{length, length-set}
 use borrow.Author.Needs.{needs}
-use Rattle.moves.specs.Close.{closed, close-next, close-last}
+use Rattle.rows.specs.moves.Close.{closed, close-next, close-last}
 use Rattle.sparse.specs.Places.{bytesSize}
 use Rattle.waist.proofs.basis.close_bytes.Statement.{statement}
 use Rattle.waist.proofs.basis.close_bytes.Tie as tie

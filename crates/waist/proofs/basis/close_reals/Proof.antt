@@ -6,7 +6,7 @@ use native.Mathlib.Omega.{arith}
 use lib.Ieee.{nan}
 use lib.ListN.{length, length-set}
 use borrow.Author.Needs.{needs}
-use Rattle.moves.specs.Close.{closed, close-next, close-last}
+use Rattle.rows.specs.moves.Close.{closed, close-next, close-last}
 use Rattle.sparse.specs.Places.{realsSize}
 use Rattle.waist.proofs.basis.close_reals.Statement.{statement}
 use Rattle.waist.proofs.basis.close_reals.Tie as tie

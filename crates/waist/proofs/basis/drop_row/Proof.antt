@@ -3,7 +3,7 @@
 use mathlib.Core.Path.{refl}
 use native.Mathlib.Omega.{arith}
 use borrow.Author.Needs.{needs}
-use Rattle.substituting.specs.Held.{held-room}
+use Rattle.waist.specs.substituting.Held.{held-room}
 use Rattle.waist.specs.Working.{lines-by}
 use Rattle.waist.specs.Dropping.{drop-calls}
 use Rattle.waist.proofs.basis.drop_row.Statement.{statement}

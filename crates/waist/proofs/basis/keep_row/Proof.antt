@@ -4,7 +4,7 @@ use mathlib.Core.List.{[]}
 use mathlib.Core.Path.{refl}
 use native.Mathlib.Omega.{arith}
 use borrow.Author.Needs.{needs}
-use Rattle.substituting.specs.Held.{held-room}
+use Rattle.waist.specs.substituting.Held.{held-room}
 use Rattle.waist.specs.Working.{lines-by}
 use Rattle.waist.specs.KeepCalls.{keep-room, keep-calls}
 use Rattle.waist.proofs.basis.keep_row.Statement.{statement}

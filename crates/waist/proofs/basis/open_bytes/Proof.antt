@@ -6,7 +6,7 @@ use native.Mathlib.Omega.{arith}
 use lib.ListN.{length, length-set}
 use borrow.Author.Needs.{needs}
 use Rattle.laws.specs.Loops.{delete, insertAt, delete-down, put}
-use Rattle.moves.specs.Close.{opened}
+use Rattle.rows.specs.moves.Close.{opened}
 use Rattle.sparse.specs.Places.{bytesSize}
 use Rattle.waist.proofs.basis.open_bytes.Statement.{statement}
 use Rattle.waist.proofs.basis.open_bytes.Tie as tie

@@ -7,7 +7,7 @@ use lib.Ieee.{nan}
 use lib.ListN.{length, length-set}
 use borrow.Author.Needs.{needs}
 use Rattle.laws.specs.Loops.{delete, insertAt, delete-down, put}
-use Rattle.moves.specs.Close.{opened}
+use Rattle.rows.specs.moves.Close.{opened}
 use Rattle.sparse.specs.Places.{realsSize}
 use Rattle.waist.proofs.basis.open_reals.Statement.{statement}
 use Rattle.waist.proofs.basis.open_reals.Tie as tie

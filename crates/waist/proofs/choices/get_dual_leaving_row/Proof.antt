@@ -9,9 +9,9 @@ use lib.ListN.{getD}
 use borrow.Author.Needs.{needs}
 use Rattle.laws.specs.Loops.{first, first-next, first-here, first-last}
 use Rattle.steps.specs.Number.{belowZero}
-use Rattle.choose.specs.declared.Found.the-variants.{At, Nothing}
+use Rattle.rows.specs.declared.choose.Found.the-variants.{At, Nothing}
 use Rattle.sparse.specs.Places.{kindsAt, rowPlacesAt, constantsAt}
-use Rattle.substituting.specs.Notes.{isExternalKind}
+use Rattle.waist.specs.substituting.Notes.{isExternalKind}
 use Rattle.waist.specs.Choosing.{dualLeavingOf}
 use Rattle.waist.proofs.choices.get_dual_leaving_row.Statement.{statement}
 use Rattle.waist.proofs.choices.get_dual_leaving_row.Tie as tie

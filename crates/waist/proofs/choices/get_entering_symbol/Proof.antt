@@ -9,7 +9,7 @@ use lib.ListN.{getD}
 use borrow.Author.Needs.{needs}
 use Rattle.laws.specs.Loops.{first, first-next, first-here, first-last}
 use Rattle.steps.specs.Number.{belowZero}
-use Rattle.choose.specs.declared.Found.the-variants.{At, Nothing}
+use Rattle.rows.specs.declared.choose.Found.the-variants.{At, Nothing}
 use Rattle.sparse.specs.Places.{kindsAt, objectiveAt}
 use Rattle.waist.specs.Choosing.{isDummyKind, enteringOf}
 use Rattle.waist.proofs.choices.get_entering_symbol.Statement.{statement}

@@ -8,7 +8,7 @@ use lib.ListN.{getD}
 use borrow.Author.Tests.{eq-eqb, ne-eqb}
 use borrow.Author.Needs.{needs}
 use Rattle.laws.specs.Loops.{first, first-next, first-here, first-last}
-use Rattle.choose.specs.declared.Found.the-variants.{At, Nothing}
+use Rattle.rows.specs.declared.choose.Found.the-variants.{At, Nothing}
 use Rattle.sparse.specs.Places.{rowPlacesAt}
 use Rattle.waist.specs.Rows.{rowFor}
 use Rattle.waist.proofs.choices.row_of.Statement.{statement}

@@ -5,7 +5,7 @@ use mathlib.Core.Path.{_≡_, refl}
 use native.Mathlib.Omega.{arith}
 use borrow.Author.Needs.{needs}
 use Rattle.laws.specs.Loops.{run, run-next, run-last}
-use Rattle.cells.specs.Cells.{cells}
+use Rattle.layout.specs.cells.Cells.{cells}
 use Rattle.waist.specs.PurgingCells.{purgeTurn, purgedCells}
 use Rattle.waist.proofs.columns.drop_place.Statement.{statement}
 use Rattle.waist.proofs.columns.drop_place.Tie as tie

@@ -2,7 +2,7 @@
 -- Assumes nothing.
 use native.Mathlib.Omega.{arith}
 use borrow.Author.Needs.{needs}
-use Rattle.cells.specs.Cells.{cells}
+use Rattle.layout.specs.cells.Cells.{cells}
 use Rattle.waist.specs.PurgingCells.{purge-off, purge-on}
 use Rattle.waist.proofs.columns.keep_cell.Statement.{statement}
 use Rattle.waist.proofs.columns.keep_cell.Tie as tie

@@ -2,7 +2,7 @@
 -- Assumes nothing.
 use borrow.Author.Tests.{lt-ltb, le-ltb}
 use borrow.Author.Needs.{needs}
-use Rattle.cells.specs.Cells.{nearerOf}
+use Rattle.layout.specs.cells.Cells.{nearerOf}
 use Rattle.waist.proofs.columns.nearer_key.Statement.{statement}
 use Rattle.waist.proofs.columns.nearer_key.Tie as tie
 

@@ -8,8 +8,8 @@ use lib.Ieee.{nan}
 use lib.ListN.{getD}
 use borrow.Author.Needs.{needs}
 use Rattle.laws.specs.Loops.{first, first-next, first-here, first-last}
-use Rattle.choose.specs.declared.Found.the-variants.{At, Nothing}
-use Rattle.choose.specs.Choose.{wants}
+use Rattle.rows.specs.declared.choose.Found.the-variants.{At, Nothing}
+use Rattle.rows.specs.choose.Choose.{wants}
 use Rattle.sparse.specs.Places.{kindsAt}
 use Rattle.waist.specs.Looks.{ofKind, seen, lookOf}
 use Rattle.waist.proofs.looks.first_along.Statement.{statement}

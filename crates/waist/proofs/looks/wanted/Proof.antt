@@ -3,8 +3,8 @@
 use mathlib.Core.Path.{sym, ap}
 use mathlib.Core.Bool.{not}
 use borrow.Author.Needs.{needs}
-use Rattle.choose.specs.Choose.{wants}
-use Rattle.substituting.specs.Notes.{isExternalKind}
+use Rattle.rows.specs.choose.Choose.{wants}
+use Rattle.waist.specs.substituting.Notes.{isExternalKind}
 use Rattle.waist.specs.Choosing.{isDummyKind, dummy-kind}
 use Rattle.waist.specs.Looks.{pivotable-kind}
 use Rattle.waist.proofs.looks.wanted.Statement.{statement}

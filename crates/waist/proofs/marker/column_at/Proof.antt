@@ -2,7 +2,7 @@
 -- Assumes nothing.
 use native.Mathlib.Omega.{arith}
 use borrow.Author.Needs.{needs}
-use Rattle.substituting.specs.Held.{held-room}
+use Rattle.waist.specs.substituting.Held.{held-room}
 use Rattle.waist.specs.Working.{lines-few}
 use Rattle.waist.specs.Ratios.{columnAt}
 use Rattle.waist.proofs.marker.column_at.Statement.{statement}

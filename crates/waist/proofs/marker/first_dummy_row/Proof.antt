@@ -4,7 +4,7 @@ use Prim.Native.Nat.{_+_, _-_, _≤_}
 use mathlib.Core.Path.{_≡_, refl, sym, _∙_}
 use native.Mathlib.Omega.{arith}
 use borrow.Author.Needs.{needs}
-use Rattle.choose.specs.declared.Found.the-variants.{At, Nothing}
+use Rattle.rows.specs.declared.choose.Found.the-variants.{At, Nothing}
 use Rattle.waist.specs.Working.{sparse}
 use Rattle.laws.specs.Loops.{first, first-next, first-here, first-last}
 use Rattle.waist.specs.MarkerRow.{dummyHeld, dummyRowOf, dummy-held}

@@ -5,9 +5,9 @@ use mathlib.Core.Path.{_≡_, refl, sym, _∙_}
 use native.Mathlib.Omega.{arith}
 use lib.ListN.{getD}
 use borrow.Author.Needs.{needs}
-use Rattle.choose.specs.declared.Found.the-variants.{At, Nothing}
+use Rattle.rows.specs.declared.choose.Found.the-variants.{At, Nothing}
 use Rattle.waist.specs.Working.{sparse}
-use Rattle.choose.specs.Back.{back, back-next, back-here, back-last}
+use Rattle.rows.specs.choose.Back.{back, back-next, back-here, back-last}
 use Rattle.sparse.specs.Places.{rowCountAt}
 use Rattle.waist.specs.MarkerRow.{externalHeld, externalRowOf, external-held}
 use Rattle.waist.proofs.marker.last_external_row.Statement.{statement}

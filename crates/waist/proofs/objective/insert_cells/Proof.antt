@@ -6,7 +6,7 @@ use native.Mathlib.Omega.{arith}
 use borrow.Author.Needs.{needs}
 use Rattle.laws.specs.Loops.{run, run-next, run-last}
 use Rattle.rows.specs.Marks.{markOf, mark-clean}
-use Rattle.substituting.specs.Objective.{aim, aimTurn, aim-turn}
+use Rattle.waist.specs.substituting.Objective.{aim, aimTurn, aim-turn}
 use Rattle.waist.specs.Goals.{rowGoal}
 use Rattle.waist.proofs.objective.insert_cells.Statement.{statement}
 use Rattle.waist.proofs.objective.insert_cells.Tie as tie

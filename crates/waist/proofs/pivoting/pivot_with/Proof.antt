@@ -4,7 +4,7 @@ use mathlib.Core.Path.{refl}
 use native.Mathlib.Omega.{arith}
 use borrow.Author.Needs.{needs}
 use Rattle.rows.specs.Marks.{joined-mark}
-use Rattle.substituting.specs.Held.{held-room}
+use Rattle.waist.specs.substituting.Held.{held-room}
 use Rattle.waist.specs.Working.{lines-few}
 use Rattle.waist.specs.Pivoting.{narrow-held, loaded-set, placed-row, placed-mark, enter-ready, pivot-calls}
 use Rattle.waist.proofs.pivoting.pivot_with.Statement.{statement}

@@ -1,7 +1,7 @@
 -- `waist::ratios::better` meets its contract.
 -- Assumes nothing.
 use lib.Ieee.{neg, ofBits, div}
-use Rattle.choose.specs.Choose.{betterOf}
+use Rattle.rows.specs.choose.Choose.{betterOf}
 use Rattle.waist.proofs.ratios.better.Statement.{statement}
 use Rattle.waist.proofs.ratios.better.Tie as tie
 

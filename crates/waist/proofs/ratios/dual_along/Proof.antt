@@ -5,7 +5,7 @@ use mathlib.Core.Path.{_≡_, ap, _∙_}
 use native.Mathlib.Omega.{arith}
 use borrow.Author.Needs.{needs}
 use Rattle.laws.specs.Loops.{run, run-next, run-last}
-use Rattle.choose.specs.Choose.{noBest, foundOf}
+use Rattle.rows.specs.choose.Choose.{noBest, foundOf}
 use Rattle.waist.specs.Ratios.{dualTurn, dualEnteringOf, dual-turn}
 use Rattle.waist.proofs.ratios.dual_along.Statement.{statement}
 use Rattle.waist.proofs.ratios.dual_along.Tie as tie

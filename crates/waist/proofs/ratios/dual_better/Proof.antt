@@ -2,7 +2,7 @@
 -- Assumes nothing.
 use borrow.Author.Needs.{needs}
 use Rattle.steps.specs.Number.{zero64}
-use Rattle.choose.specs.Better.{better-on, better-off}
+use Rattle.rows.specs.choose.Better.{better-on, better-off}
 use Rattle.waist.specs.Choosing.{dummy-kind}
 use Rattle.waist.proofs.ratios.dual_better.Statement.{statement}
 use Rattle.waist.proofs.ratios.dual_better.Tie as tie

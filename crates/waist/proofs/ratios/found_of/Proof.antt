@@ -2,7 +2,7 @@
 -- Assumes nothing.
 use native.Mathlib.Omega.{arith}
 use borrow.Author.Tests.{le-leb, lt-leb}
-use Rattle.choose.specs.Choose.{foundOf}
+use Rattle.rows.specs.choose.Choose.{foundOf}
 use Rattle.waist.proofs.ratios.found_of.Statement.{statement}
 use Rattle.waist.proofs.ratios.found_of.Tie as tie
 

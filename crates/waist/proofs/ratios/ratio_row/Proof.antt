@@ -5,8 +5,8 @@ use mathlib.Core.Path.{_≡_, ap, _∙_}
 use native.Mathlib.Omega.{arith}
 use borrow.Author.Needs.{needs}
 use Rattle.laws.specs.Loops.{run, run-next, run-last}
-use Rattle.choose.specs.Choose.{noBest, foundOf}
-use Rattle.substituting.specs.Held.{held-room}
+use Rattle.rows.specs.choose.Choose.{noBest, foundOf}
+use Rattle.waist.specs.substituting.Held.{held-room}
 use Rattle.waist.specs.Working.{sparse, lines-few}
 use Rattle.waist.specs.Ratios.{ratioTurn, ratioRowOf, ratio-turn}
 use Rattle.waist.proofs.ratios.ratio_row.Statement.{statement}

@@ -1,7 +1,7 @@
 -- `waist::ratios::row_better` meets its contract.
 -- Assumes nothing.
 use borrow.Author.Needs.{needs}
-use Rattle.choose.specs.Better.{better-on, better-off}
+use Rattle.rows.specs.choose.Better.{better-on, better-off}
 use Rattle.waist.proofs.ratios.row_better.Statement.{statement}
 use Rattle.waist.proofs.ratios.row_better.Tie as tie
 

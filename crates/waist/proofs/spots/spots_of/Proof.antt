@@ -2,7 +2,7 @@
 -- Assumes nothing.
 use native.Mathlib.Omega.{arith}
 use borrow.Author.Needs.{needs}
-use Rattle.substituting.specs.Held.{held-room, held-lined}
+use Rattle.waist.specs.substituting.Held.{held-room, held-lined}
 use Rattle.waist.specs.Working.{lines-few}
 use Rattle.waist.proofs.spots.spots_of.Statement.{statement}
 use Rattle.waist.proofs.spots.spots_of.Tie as tie

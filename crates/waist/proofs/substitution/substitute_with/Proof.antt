@@ -4,8 +4,8 @@ use mathlib.Core.Path.{refl}
 use native.Mathlib.Omega.{arith}
 use borrow.Author.Needs.{needs}
 use Rattle.rows.specs.Marks.{joined-mark}
-use Rattle.substituting.specs.Held.{held-room, held-lined}
-use Rattle.substituting.specs.Loose.{loose-run}
+use Rattle.waist.specs.substituting.Held.{held-room, held-lined}
+use Rattle.waist.specs.substituting.Loose.{loose-run}
 use Rattle.waist.specs.Working.{lines-by}
 use Rattle.waist.specs.Substitutes.{substitute-calls}
 use Rattle.waist.proofs.substitution.substitute_with.Statement.{statement}

@@ -3,7 +3,7 @@
 use mathlib.Core.Bool.{false}
 use native.Mathlib.Omega.{arith}
 use borrow.Author.Needs.{needs}
-use Rattle.substituting.specs.Held.{held-room}
+use Rattle.waist.specs.substituting.Held.{held-room}
 use Rattle.waist.specs.Working.{lines-few}
 use Rattle.waist.specs.PurgeCalls.{close-calls}
 use Rattle.waist.proofs.symbols.close_symbol.Statement.{statement}

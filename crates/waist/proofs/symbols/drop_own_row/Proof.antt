@@ -2,7 +2,7 @@
 -- Assumes nothing.
 use native.Mathlib.Omega.{arith}
 use borrow.Author.Needs.{needs}
-use Rattle.choose.specs.Better.{within}
+use Rattle.rows.specs.choose.Better.{within}
 use Rattle.waist.specs.PurgeCalls.{bares-found, bares-none}
 use Rattle.waist.proofs.symbols.drop_own_row.Statement.{statement}
 use Rattle.waist.proofs.symbols.drop_own_row.Tie as tie

@@ -3,7 +3,7 @@
 use Prim.Native.Nat.{_+_, _-_, _/_, _%_}
 use mathlib.Core.List.{[], _∷_}
 use Rattle.writing.specs.Buffer.{adds-as, adds-nothing, adds-then, decimal-none, decimal-one, decimal-more}
-use Rattle.plain.specs.Decimal.{decimalIn}
+use Rattle.grammar.specs.plain.Decimal.{decimalIn}
 use borrow.Author.Needs.{needs}
 use Prim.Native.Nat.{ℕ, _<_}
 use borrow.Fn.Kinds.{In}

@@ -1,6 +1,6 @@
 -- `writing::buffer::put_number` meets its contract. Assumes nothing.
 use borrow.Author.Needs.{needs}
-use Rattle.plain.specs.Decimal.{decimal}
+use Rattle.grammar.specs.plain.Decimal.{decimal}
 use Rattle.writing.proofs.buffer.put_number.Statement.{statement}
 use Rattle.writing.proofs.buffer.put_number.Tie as tie
 

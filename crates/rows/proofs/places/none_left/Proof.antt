@@ -1,0 +1,42 @@
+-- `rows::places::none_left` meets its contract.
+-- Assumes nothing.
+use Prim.Native.Nat.{_-_}
+use mathlib.Core.Path.{_≡_, refl}
+use native.Mathlib.Omega.{arith}
+use lib.Dec.{eqb}
+use lib.ListN.{getD}
+use Rattle.laws.specs.Lists.{allOn, all-next, all-last}
+use Rattle.rows.specs.places.Shares.{noneLeft}
+use borrow.Author.Needs.{needs}
+use Rattle.rows.proofs.places.none_left.Statement.{statement}
+use Rattle.rows.proofs.places.none_left.Tie as tie
+
+abbrev Inv-loop : tie.InvT-loop
+Inv-loop left n ok₀ i₀ ok i = (allOn (λ j. eqb (getD left j 0) 0) i n ok ≡ noneLeft left n)
+
+abbrev μ-loop : tie.MeasureT-loop
+μ-loop left n ok₀ i₀ ok i = n - i
+
+loop-holds : tie.Need-loop-holds Inv-loop μ-loop
+unfolding allOn noneLeft
+loop-holds c = (refl)
+
+loop-again : tie.Need-loop-again Inv-loop μ-loop
+loop-again c = (all-next _ _ _ _ (omega arith) refl (c .before .before .loop .inv))
+
+returns : tie.Need-returns Inv-loop μ-loop
+returns c = all-last _ _ _ _ (omega arith) (c .before .loop .inv)
+
+pub none-left-spec : {M : Type 1} → statement M
+none-left-spec =
+    tie.close
+    (tie.spec
+    Inv-loop
+    μ-loop
+    loop-holds
+    (λ c. search needs)
+    (λ c. search needs)
+    (λ c. search needs)
+    (λ c. search needs)
+    loop-again
+    returns)

@@ -1,0 +1,2 @@
+-- Whether each table is lent once.
+pub mod Lengths
