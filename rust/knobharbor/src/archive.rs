@@ -3,10 +3,6 @@
 use crate::{RelationalOperator, Term};
 
 #[cfg(feature = "alloc")]
-mod held;
-mod lines;
-
-#[cfg(feature = "alloc")]
 pub use held::Held;
 pub use lines::{cable_close, cable_take, read_line, show, strength_clip, strength_create, write_line, Handed};
 
@@ -82,17 +78,22 @@ impl Tables {
 /// The places of an answer: the number, the pivots, the mark as 0 or 1.
 type Places = [u32; 3];
 
-macro_rules! declare_changing {
-    ($($name:ident($($arg:ident: $ty:ty),*);)*) => {
+// One changing call; its tables are lent to it as `&mut`, or as `&` where it only reads them.
+macro_rules! declare_change {
+    ([$($m:tt)?] $name:ident($($arg:ident: $ty:ty),*)) => {
         extern "C" {
-            $(fn $name(
-                words: &mut [u64; WORDS], keys: &mut [u16; CELLS], bytes: &mut [u8; BYTES], reals: &mut [f64; REALS],
-                values: &mut [f64; CELLS], wwords: &mut [u64; WORDS], wkeys: &mut [u16; CELLS], wbytes: &mut [u8; BYTES],
+            fn $name(
+                words: &$($m)? [u64; WORDS], keys: &$($m)? [u16; CELLS], bytes: &$($m)? [u8; BYTES], reals: &$($m)? [f64; REALS],
+                values: &$($m)? [f64; CELLS], wwords: &mut [u64; WORDS], wkeys: &mut [u16; CELLS], wbytes: &mut [u8; BYTES],
                 wreals: &mut [f64; REALS], wvalues: &mut [f64; CELLS],
                 answer: &mut Places $(, $arg: $ty)*
-            );)*
+            );
         }
     };
+}
+
+macro_rules! declare_changing {
+    ($lent:tt $($name:ident($($arg:ident: $ty:ty),*);)*) => { $(declare_change!($lent $name($($arg: $ty),*));)* };
 }
 
 macro_rules! declare_asking {
@@ -106,8 +107,27 @@ macro_rules! declare_asking {
     };
 }
 
+macro_rules! declare_fetching {
+    ($name:ident) => {
+        extern "C" {
+            fn $name(
+                words: &mut [u64; WORDS],
+                keys: &[u16; CELLS],
+                bytes: &mut [u8; BYTES],
+                reals: &mut [f64; REALS],
+                values: &[f64; CELLS],
+                answer: &mut [u32; 2],
+                numbers: &mut [u64; PLACES],
+                moved: &mut [f64; PLACES],
+                gone: &mut [u8; PLACES],
+            );
+        }
+    };
+}
+
 // What has a fixed size crosses as a reference; a list as a pointer and a length of 64 bits.
 declare_changing! {
+    [mut]
     knobharbor_add(
         group: u16, number: u32, terms: *const Term, count: u64, constant: f64, kind: u32, strength: f64, budget: u16
     );
@@ -117,6 +137,10 @@ declare_changing! {
     knobharbor_add_edit(variable: u32, strength: f64, budget: u16);
     knobharbor_remove_edit(variable: u32, budget: u16);
     knobharbor_suggest(variable: u32, value: f64, budget: u16);
+    knobharbor_drag(
+        fetched: &mut [u32; 2], numbers: &mut [u64; PLACES], moved: &mut [f64; PLACES], gone: &mut [u8; PLACES], variable: u32,
+        suggestion: f64, budget: u16
+    );
 }
 
 declare_asking! {
@@ -124,6 +148,8 @@ declare_asking! {
     knobharbor_has_constraint(number: u32) -> bool;
     knobharbor_has_edit(variable: u32) -> bool;
 }
+
+declare_fetching!(knobharbor_fetch);
 
 extern "C" {
     fn knobharbor_reset(
@@ -134,37 +160,6 @@ extern "C" {
         values: &mut [f64; CELLS],
         cutoff: f64,
         answer: &mut Places,
-    );
-    fn knobharbor_drag(
-        words: &mut [u64; WORDS],
-        keys: &mut [u16; CELLS],
-        bytes: &mut [u8; BYTES],
-        reals: &mut [f64; REALS],
-        values: &mut [f64; CELLS],
-        wwords: &mut [u64; WORDS],
-        wkeys: &mut [u16; CELLS],
-        wbytes: &mut [u8; BYTES],
-        wreals: &mut [f64; REALS],
-        wvalues: &mut [f64; CELLS],
-        answer: &mut Places,
-        fetched: &mut [u32; 2],
-        numbers: &mut [u64; PLACES],
-        moved: &mut [f64; PLACES],
-        gone: &mut [u8; PLACES],
-        variable: u32,
-        suggestion: f64,
-        budget: u16,
-    );
-    fn knobharbor_fetch(
-        words: &mut [u64; WORDS],
-        keys: &[u16; CELLS],
-        bytes: &mut [u8; BYTES],
-        reals: &mut [f64; REALS],
-        values: &[f64; CELLS],
-        answer: &mut [u32; 2],
-        numbers: &mut [u64; PLACES],
-        moved: &mut [f64; PLACES],
-        gone: &mut [u8; PLACES],
     );
 }
 
@@ -177,7 +172,8 @@ impl Answer {
 macro_rules! change {
     ($f:ident, $t:expr, $w:expr $(, $arg:expr)*) => {{
         let mut answer: Places = [0; 3];
-        // The references are to whole arrays, and a list's pointer is to as many elements as its length says.
+        // The references are to whole arrays, a list's pointer is to as many elements as its length says, and `Held` keeps what the calls
+        // behind the test take for granted.
         unsafe {
             $f(
                 &mut $t.words, &mut $t.keys, &mut $t.bytes, &mut $t.reals, &mut $t.values, &mut $w.words, &mut $w.keys, &mut $w.bytes,
@@ -190,10 +186,26 @@ macro_rules! change {
 
 macro_rules! ask {
     ($f:ident, $t:expr, $arg:expr) => {
-        // The references are to whole arrays.
+        // The references are to whole arrays, and `Held` keeps what the calls behind the test take for granted.
         unsafe { $f(&$t.words, &$t.keys, &$t.bytes, &$t.reals, &$t.values, $arg) }
     };
 }
+
+macro_rules! fetch_into {
+    ($f:ident, $t:expr, $fetched:expr) => {{
+        let mut answer = [0; 2];
+        let (t, f): (&mut Tables, &mut Fetched) = ($t, $fetched);
+        let Tables { words, keys, bytes, reals, values } = t;
+        // The references are to whole arrays, and `Held` keeps what the calls behind the test take for granted.
+        unsafe { $f(words, keys, bytes, reals, values, &mut answer, &mut f.numbers, &mut f.moved, &mut f.gone) };
+        f.count = answer[1] as usize;
+    }};
+}
+
+// behind the macros, which they use too
+#[cfg(feature = "alloc")]
+mod held;
+mod lines;
 
 pub fn reset(t: &mut Tables, cutoff: f64) -> Answer {
     let mut answer: Places = [0; 3];
@@ -256,11 +268,8 @@ impl Fetched {
 }
 
 pub fn fetch(t: &mut Tables) -> Fetched {
-    let (mut f, mut answer) = (Fetched::NONE, [0; 2]);
-    let Tables { words, keys, bytes, reals, values } = t;
-    // The references are to whole arrays.
-    unsafe { knobharbor_fetch(words, keys, bytes, reals, values, &mut answer, &mut f.numbers, &mut f.moved, &mut f.gone) };
-    f.count = answer[1] as usize;
+    let mut f = Fetched::NONE;
+    fetch_into!(knobharbor_fetch, t, &mut f);
     f
 }
 

@@ -4,30 +4,8 @@ use crate::{Refusal, Term};
 use alloc::alloc::{alloc_zeroed, handle_alloc_error, Layout};
 use alloc::boxed::Box;
 
-macro_rules! declare_changing {
-    ($($name:ident($($arg:ident: $ty:ty),*);)*) => {
-        extern "C" {
-            $(fn $name(
-                words: &[u64; WORDS], keys: &[u16; CELLS], bytes: &[u8; BYTES], reals: &[f64; REALS], values: &[f64; CELLS],
-                wwords: &mut [u64; WORDS], wkeys: &mut [u16; CELLS], wbytes: &mut [u8; BYTES], wreals: &mut [f64; REALS],
-                wvalues: &mut [f64; CELLS], answer: &mut Places $(, $arg: $ty)*
-            );)*
-        }
-    };
-}
-
-macro_rules! declare_asking {
-    ($($name:ident($arg:ident: $ty:ty) -> $out:ty;)*) => {
-        extern "C" {
-            $(fn $name(
-                words: &[u64; WORDS], keys: &[u16; CELLS], bytes: &[u8; BYTES], reals: &[f64; REALS], values: &[f64; CELLS],
-                $arg: $ty
-            ) -> $out;)*
-        }
-    };
-}
-
 declare_changing! {
+    []
     knobharbor_held_add(
         group: u16, number: u32, terms: *const Term, count: u64, constant: f64, kind: u32, strength: f64, budget: u16
     );
@@ -43,35 +21,13 @@ declare_asking! {
     knobharbor_held_has_edit(variable: u32) -> bool;
 }
 
-extern "C" {
-    fn knobharbor_held_suggest(
-        words: &mut [u64; WORDS],
-        keys: &mut [u16; CELLS],
-        bytes: &mut [u8; BYTES],
-        reals: &mut [f64; REALS],
-        values: &mut [f64; CELLS],
-        wwords: &mut [u64; WORDS],
-        wkeys: &mut [u16; CELLS],
-        wbytes: &mut [u8; BYTES],
-        wreals: &mut [f64; REALS],
-        wvalues: &mut [f64; CELLS],
-        answer: &mut Places,
-        variable: u32,
-        value: f64,
-        budget: u16,
-    );
-    fn knobharbor_held_fetch(
-        words: &mut [u64; WORDS],
-        keys: &[u16; CELLS],
-        bytes: &mut [u8; BYTES],
-        reals: &mut [f64; REALS],
-        values: &[f64; CELLS],
-        answer: &mut [u32; 2],
-        numbers: &mut [u64; PLACES],
-        moved: &mut [f64; PLACES],
-        gone: &mut [u8; PLACES],
-    );
+// written where the state stands
+declare_changing! {
+    [mut]
+    knobharbor_held_suggest(variable: u32, value: f64, budget: u16);
 }
+
+declare_fetching!(knobharbor_held_fetch);
 
 /// Two sets of tables, and the lists of the last fetch.
 #[repr(C)]
@@ -110,7 +66,8 @@ pub struct Held {
     second: bool,
 }
 
-macro_rules! change {
+// Made in the room; where it is accepted, the two sets change places.
+macro_rules! change_places {
     ($f:ident, $held:expr $(, $arg:expr)*) => {{
         let mut answer: Places = [0; 3];
         let (t, w) = $held.sets();
@@ -123,14 +80,6 @@ macro_rules! change {
         };
         $held.second ^= answer[0] == 0;
         Answer::of(answer)
-    }};
-}
-
-macro_rules! ask {
-    ($f:ident, $held:expr, $arg:expr) => {{
-        let t = $held.tables();
-        // The references are to whole arrays, and t reads as a state.
-        unsafe { $f(&t.words, &t.keys, &t.bytes, &t.reals, &t.values, $arg) }
     }};
 }
 
@@ -172,82 +121,46 @@ impl Held {
 
     pub fn add(&mut self, a: Added, budget: u16) -> Answer {
         let (terms, count) = (a.terms.as_ptr(), a.terms.len() as u64);
-        change!(knobharbor_held_add, self, a.group, a.number, terms, count, a.constant, a.op.kind(), a.strength, budget)
+        change_places!(knobharbor_held_add, self, a.group, a.number, terms, count, a.constant, a.op.kind(), a.strength, budget)
     }
 
     pub fn remove(&mut self, number: u32, budget: u16) -> Answer {
-        change!(knobharbor_held_remove, self, number, budget)
+        change_places!(knobharbor_held_remove, self, number, budget)
     }
 
     pub fn drop_group(&mut self, group: u16, budget: u16) -> Answer {
-        change!(knobharbor_held_drop, self, group, budget)
+        change_places!(knobharbor_held_drop, self, group, budget)
     }
 
     pub fn add_edit(&mut self, variable: u32, strength: f64, budget: u16) -> Answer {
-        change!(knobharbor_held_add_edit, self, variable, strength, budget)
+        change_places!(knobharbor_held_add_edit, self, variable, strength, budget)
     }
 
     pub fn remove_edit(&mut self, variable: u32, budget: u16) -> Answer {
-        change!(knobharbor_held_remove_edit, self, variable, budget)
+        change_places!(knobharbor_held_remove_edit, self, variable, budget)
     }
 
     pub fn suggest(&mut self, variable: u32, value: f64, budget: u16) -> Answer {
-        let mut answer: Places = [0; 3];
         let (t, w) = self.sets();
-        // The references are to whole arrays, and t reads as a state.
-        unsafe {
-            knobharbor_held_suggest(
-                &mut t.words,
-                &mut t.keys,
-                &mut t.bytes,
-                &mut t.reals,
-                &mut t.values,
-                &mut w.words,
-                &mut w.keys,
-                &mut w.bytes,
-                &mut w.reals,
-                &mut w.values,
-                &mut answer,
-                variable,
-                value,
-                budget,
-            )
-        };
-        Answer::of(answer)
+        change!(knobharbor_held_suggest, t, w, variable, value, budget)
     }
 
     pub fn fetch(&mut self) -> &Fetched {
         let Piece { sets, fetched } = &mut *self.piece;
-        let t = &mut sets[usize::from(self.second)];
-        let mut answer = [0; 2];
-        // The references are to whole arrays, and t reads as a state.
-        unsafe {
-            knobharbor_held_fetch(
-                &mut t.words,
-                &t.keys,
-                &mut t.bytes,
-                &mut t.reals,
-                &t.values,
-                &mut answer,
-                &mut fetched.numbers,
-                &mut fetched.moved,
-                &mut fetched.gone,
-            )
-        };
-        fetched.count = answer[1] as usize;
+        fetch_into!(knobharbor_held_fetch, &mut sets[usize::from(self.second)], fetched);
         fetched
     }
 
     pub fn value(&self, variable: u32) -> f64 {
-        ask!(knobharbor_held_value, self, variable)
+        ask!(knobharbor_held_value, self.tables(), variable)
     }
 
     pub fn has_constraint(&self, number: u32) -> bool {
-        ask!(knobharbor_held_has_constraint, self, number)
+        ask!(knobharbor_held_has_constraint, self.tables(), number)
     }
 
     pub fn has_edit(&self, variable: u32) -> bool {
-        ask!(knobharbor_held_has_edit, self, variable)
+        ask!(knobharbor_held_has_edit, self.tables(), variable)
     }
 }
 
