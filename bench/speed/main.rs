@@ -182,8 +182,8 @@ fn workings(l: &Layout, rounds: usize) {
     let [tested_value, tested_refused, tested_suggest, _] = parts::<Lent>(l, rounds);
     let test = tested_value - value;
     let clear = tested_refused - refused - test;
-    let back = tested_suggest - suggest - test - clear;
-    let us = [refused, suggest - refused, fetch, test, clear, back].map(|ns| format!("{:.2}", ns / 1000.0));
+    let rest = tested_suggest - suggest - test - clear;
+    let us = [refused, suggest - refused, fetch, test, clear, rest].map(|ns| format!("{:.2}", ns / 1000.0));
     println!("| {} | {} |", l.name, us.join(" | "));
 }
 
@@ -205,7 +205,7 @@ fn main() {
         None => println!("kiwi was not timed: no Python here has python3-kiwisolver."),
     }
     println!();
-    println!("| layout | the copy into the room, us | a drag's steps and records, us | a fetch, us | the test that the tables read, us | the room cleared, us | copied back, us |");
+    println!("| layout | the copy into the room, us | a drag's steps, and what it changes written back, us | a fetch, us | the test that the tables read, us | the room cleared, us | what is left of a public suggestion, us |");
     println!("|---|---|---|---|---|---|---|");
     for l in &layouts {
         workings(l, rounds);
