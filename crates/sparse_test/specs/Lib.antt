@@ -11,6 +11,7 @@ pub mod Injective
 pub mod Owners
 pub mod Claimed
 pub mod Kept
+pub mod Tally
 pub mod Uses
 pub mod Records
 pub mod Open

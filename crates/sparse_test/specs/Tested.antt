@@ -18,7 +18,7 @@ use Rattle.steps.specs.Readable.{tagKinds, markerFits}
 use Rattle.layout.specs.cells.Names.{rowSpan, placeRoom}
 use Rattle.layout.specs.cells.Cells.{ascendsOf}
 use Rattle.rows.specs.places.Finding.{placeIn}
-use Rattle.rows.specs.places.Shares.{Shares, shares, take, noneLeft, stock, finiteIn}
+use Rattle.rows.specs.places.Shares.{Shares, shares, finiteIn}
 use Rattle.sparse.specs.Places.{nextIdAt, idsAt, variableNumbersAt, variableUsesAt, constraintNumbersAt, constraintGroupsAt, goneNumbersAt, kindsAt, rowPlacesAt, variablePlacesAt, changedAt, constraintMarkersAt, constraintOthersAt, termCountsAt, editVariablesAt, editMarkersAt, editOthersAt, termsAt, relationsAt, constantsAt, oldValuesAt, objectiveAt, cutoffAt, constraintStrengthsAt, editStrengthsAt, suggestionsAt, coefficientsAt, constraintConstantsAt}
 use Rattle.sparse.specs.Lookup.{placeFrom}
 use Rattle.sparse.specs.Sparse.{Sparse, symbolCount, rowCount, cellCount, variableCount, constraintCount, editCount, goneCount}
@@ -167,20 +167,26 @@ numberIn w b v p = cond (ltb (indexIn b v p) v) (getD w (variableNumbersAt + ind
 unfoldable pub editsUp : List ℕ → List ℕ → ℕ → ℕ → Bool
 editsUp w b v e = allIn (λ i. ltb (numberIn w b v (getD b (editVariablesAt + (i - 1)) 0)) (numberIn w b v (getD b (editVariablesAt + i) 0))) 1 e
 
--- uses: each variable has as many shares as it has uses, and each term and each edit takes one
+-- uses: each variable has as many as terms and edits name it; names that are none's are counted last
+
+unfoldable pub tally : ℕ → List ℕ → List ℕ
+tally p l = set l p (getD l p 0 + 1)
 
 -- n of them from place a on
-unfoldable pub takeUses : List ℕ → ℕ → ℕ → ℕ → Shares → Shares
-takeUses b v a n s = run (λ j z. take (indexIn b v (getD b (a + j) 0)) z) 0 n s
+unfoldable pub countUses : List ℕ → ℕ → ℕ → ℕ → List ℕ → List ℕ
+countUses b v a n l = run (λ j z. tally (indexIn b v (getD b (a + j) 0)) z) 0 n l
 
 unfoldable pub noUses : List ℕ
 noUses = replicate 33 0
 
-unfoldable pub allUses : List ℕ → List ℕ → ℕ → ℕ → ℕ → Shares
-allUses w b v e m = takeUses b v editVariablesAt e (takeUses b v termsAt m (shares (stock (λ i. getD w (variableUsesAt + i) 0) v noUses) true))
+unfoldable pub allUses : List ℕ → ℕ → ℕ → ℕ → List ℕ
+allUses b v e m = countUses b v editVariablesAt e (countUses b v termsAt m noUses)
+
+unfoldable pub usesAre : List ℕ → List ℕ → ℕ → Bool
+usesAre w l v = allIn (λ i. eqb (getD w (variableUsesAt + i) 0) (getD l i 0)) 0 v && eqb (getD l v 0) 0
 
 unfoldable pub usesFit : List ℕ → List ℕ → ℕ → ℕ → ℕ → Bool
-usesFit w b v e m = allUses w b v e m .ok && noneLeft (allUses w b v e m .left) v
+usesFit w b v e m = usesAre w (allUses b v e m) v
 
 -- ---- the tableau
 

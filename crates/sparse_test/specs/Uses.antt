@@ -1,36 +1,31 @@
 -- The uses' test over places is the state's: "use counts are those of the stored terms".
 -- Assumes nothing.
-use Prim.Native.Nat.{ℕ, zero, suc, _+_, _≤_, _<_}
+use Prim.Native.Nat.{ℕ, _+_, _≤_, _<_}
 use mathlib.Core.Path.{_≡_, refl, sym, ap, _∙_}
-use mathlib.Core.Bool.{Bool, true, false, _&&_, cond}
-use mathlib.Core.List.{List, [], _∷_, _++_, map}
+use mathlib.Core.Bool.{Bool, true, false, cond}
+use mathlib.Core.List.{List, [], _∷_, map}
+use native.Mathlib.Nat.{zero-add}
 use native.Mathlib.Omega.{arith}
 use lib.Dec.{eqb, ltb}
-use lib.ListN.{length, getD, replicate}
-use borrow.Author.Tests.{eqb-true, eq-eqb, ltb-true, ltb-false, lt-ltb}
-use Rattle.laws.specs.Lists.{listOf}
+use lib.ListN.{getD, replicate, getD-replicate}
+use borrow.Author.Tests.{eqb-true, eqb-false, eq-eqb, ne-eqb, ltb-true, ltb-false, lt-ltb}
+use Rattle.laws.specs.Lists.{listOf, allIn}
 use Rattle.layout.specs.Rooms.{both}
 use Rattle.steps.specs.State.{Term, Variable}
 use Rattle.steps.specs.Tests.{member}
 use Rattle.steps.specs.Readable as steps
-use Rattle.keeps.specs.Lists.{All, all-in, all-out, all-to}
+use Rattle.keeps.specs.Lists.{All, all-out}
 use Rattle.layout.specs.cells.Seek.{first-elim, first-at}
-use Rattle.rows.specs.places.Finding.{placeIn, place-live, place-at, Apart}
+use Rattle.rows.specs.places.Finding.{placeIn, place-le, place-live, place-at, Apart, all-at, at-all}
 use Rattle.rows.specs.places.Listed.{join, map-list, member-list, at-listed, listed-at}
-use Rattle.rows.specs.places.Shares.{Shares, shares, stock}
-use Rattle.rows.specs.places.Spent.{countOf, takeEach, each-append, run-each}
-use Rattle.rows.specs.places.Owned.{shared-counts, counts-shared}
-use Rattle.sparse.specs.Places.{variableNumbersAt, variableUsesAt, variablePlacesAt, editVariablesAt, termsAt, mostVariables}
+use Rattle.rows.specs.places.Spent.{countOf}
+use Rattle.sparse.specs.Places.{mostVariables, variableNumbersAt, variableUsesAt, variablePlacesAt, editVariablesAt, termsAt}
 use Rattle.sparse.specs.Sparse.{Sparse, variableCount, constraintCount, editCount, numberAt, variableOf, termsFrom, read}
 use Rattle.sparse.specs.Form.{indexAt, index-named}
-use Rattle.sparse_test.specs.Views.{asked, variableOfTerm, stored-are, numbers-are}
-use Rattle.sparse_test.specs.Tested.{indexIn, numberIn, takeUses, noUses, allUses, usesFit, termCount}
+use Rattle.sparse_test.specs.Views.{map-append, asked, variableOfTerm, stored-are, numbers-are}
+use Rattle.sparse_test.specs.Tested.{indexIn, numberIn, countUses, noUses, allUses, usesAre, usesFit, termCount}
+use Rattle.sparse_test.specs.Tally.{tallyEach, tally-append, run-tally, tally-at}
 use Rattle.sparse_test.specs.Injective.{count-map}
-
-zeros : (n j : ℕ) → _≡_ {A = ℕ} (getD (replicate n 0) j 0) 0
-zeros zero j = refl
-zeros (suc n) zero = refl
-zeros (suc n) (suc j) = zeros n j
 
 uses-count : (x : ℕ) (ts : List Term) → steps.usesIn x ts ≡ countOf x (map variableOfTerm ts)
 unfolding steps.usesIn countOf
@@ -57,22 +52,25 @@ module _ (t : Sparse) where
   abbrev Named : ℕ → Type 0
   Named p = indexAt t p < variableCount t
 
-  -- ---- the loops take a share for each term and each edit
+  -- ---- the loops count each term and each edit
 
-  abbrev stocked : Shares
-  stocked = shares (stock (λ i. word (variableUsesAt + i)) v noUses) true
+  abbrev indexes : List ℕ
+  indexes = map (indexAt t) (asked t)
 
-  uses-taken : allUses (t .words) (t .bytes) v (editCount t) (termCount (t .bytes) (constraintCount t)) ≡ takeEach (placeIn placeAt v) (asked t) stocked
-  unfolding allUses takeUses indexIn termCount termsFrom
-  uses-taken =
+  uses-tallied : allUses (t .bytes) v (editCount t) (termCount (t .bytes) (constraintCount t)) ≡ tallyEach indexes noUses
+  unfolding allUses countUses indexAt indexIn placeIn termCount termsFrom
+  uses-tallied =
       let m : ℕ = termCount (t .bytes) (constraintCount t) in
-      run-each (placeIn placeAt v) (λ i. byte (editVariablesAt + i)) (editCount t) _
-      ∙ ap (takeEach (placeIn placeAt v) (listOf (editCount t) λ i. byte (editVariablesAt + i))) (run-each (placeIn placeAt v) (λ j. byte (termsAt + j)) (termCount (t .bytes) (constraintCount t)) stocked)
-      ∙ sym (each-append (placeIn placeAt v) (listOf (termCount (t .bytes) (constraintCount t)) λ j. byte (termsAt + j)) (listOf (editCount t) λ i. byte (editVariablesAt + i)) stocked)
+      let ts : ℕ → ℕ = λ j. byte (termsAt + j) in
+      let es : ℕ → ℕ = λ i. byte (editVariablesAt + i) in
+      run-tally (λ i. indexAt t (es i)) (editCount t) _
+      ∙ ap (tallyEach (listOf (editCount t) λ i. indexAt t (es i))) (run-tally (λ j. indexAt t (ts j)) m noUses)
+      ∙ sym (tally-append (listOf m λ j. indexAt t (ts j)) (listOf (editCount t) λ i. indexAt t (es i)) noUses)
+      ∙ ap (λ (l : List ℕ). tallyEach l noUses) (sym (map-append (indexAt t) (listOf m ts) (listOf (editCount t) es) ∙ (rw (map-list (indexAt t) m ts, map-list (indexAt t) (editCount t) es) refl)))
 
-  room : v ≤ mostVariables → (v < length noUses) × (getD noUses v 0 ≡ 0)
+  tallied-at : v ≤ mostVariables → (j : ℕ) → j ≤ v → getD (tallyEach indexes noUses) j 0 ≡ countOf j indexes
   unfolding noUses
-  room h = (omega arith, zeros 33 v)
+  tallied-at few j h = tally-at indexes (replicate 33 0) j (omega (arith, few, h)) ∙ (rw (getD-replicate {A = ℕ} 33 j 0 0 (omega (arith, few, h)), zero-add (countOf j indexes)) refl)
 
   abbrev fit : Bool
   fit = usesFit (t .words) (t .bytes) v (editCount t) (termCount (t .bytes) (constraintCount t))
@@ -80,26 +78,53 @@ module _ (t : Sparse) where
   abbrev Spent : Type 0
   Spent = ((j : ℕ) → j < v → word (variableUsesAt + j) ≡ countOf (placeAt j) (asked t)) × All Named (asked t)
 
-  all-named : steps.all (λ x. ltb (placeIn placeAt v x) v) (asked t) ≡ true → All Named (asked t)
+  index-le : (p : ℕ) → indexAt t p ≤ v
   unfolding indexAt placeIn
-  all-named h = all-to _ _ (λ x q. ltb-true _ _ q) (asked t) (all-in (λ x. ltb (placeIn placeAt v x) v) (asked t) h)
+  index-le p = place-le placeAt v p
 
-  named-all : All Named (asked t) → steps.all (λ x. ltb (placeIn placeAt v x) v) (asked t) ≡ true
+  none-last : (l : List ℕ) → countOf v (map (indexAt t) l) ≡ 0 → All Named l
+  unfolding countOf
+  none-last [] h = tt
+  none-last (x ∷ l) h = go (eqb v (indexAt t x)) refl h (λ q. none-last l q)
+    where
+      go : (b : Bool) → eqb v (indexAt t x) ≡ b → cond b 1 0 + countOf v (map (indexAt t) l) ≡ 0 → (countOf v (map (indexAt t) l) ≡ 0 → All Named l) → All Named (x ∷ l)
+      go true q r f = absurd (omega (arith, r))
+      go false q r f = let n = eqb-false v (indexAt t x) q in let le = index-le x in (omega (arith, n, le), f (omega (arith, r)))
+
+  last-none : (l : List ℕ) → All Named l → countOf v (map (indexAt t) l) ≡ 0
+  unfolding countOf
+  last-none [] h = refl
+  last-none (x ∷ l) h =
+      let u = h .0 in
+      rw (ne-eqb v (indexAt t x) (λ e. omega (arith, e, u))) (zero-add _ ∙ last-none l (h .1))
+
+  one-index : (x y : ℕ) → Named x → Named y → indexAt t x ≡ indexAt t y → x ≡ y
+  one-index x y p q e = sym (index-named t x p .0) ∙ ap placeAt e ∙ index-named t y q .0
+
+  own-index : Apart placeAt v → (j : ℕ) → j < v → indexAt t (placeAt j) ≡ j
   unfolding indexAt placeIn
-  named-all h = all-out (λ x. ltb (placeIn placeAt v x) v) (asked t) (all-to _ _ (λ x q. lt-ltb _ _ q) (asked t) h)
+  own-index apart j h = place-at placeAt v j apart h
+
+  -- a variable is counted as often as its place is named
+  counted-at : Apart placeAt v → All Named (asked t) → (j : ℕ) → j < v → countOf j indexes ≡ countOf (placeAt j) (asked t)
+  counted-at apart all j h =
+      let o = own-index apart j h in
+      ap (λ (i : ℕ). countOf i indexes) (sym o) ∙ count-map (indexAt t) Named one-index (placeAt j) (asked t) (rw o h) all
 
   fit-spent : Apart placeAt v → v ≤ mostVariables → fit ≡ true → Spent
-  unfolding usesFit
+  unfolding usesFit usesAre
   fit-spent apart few h =
-      let r = room few in
-      let q = shared-counts placeAt v apart (λ i. word (variableUsesAt + i)) noUses (r .0) (r .1) (asked t) (rw uses-taken at h) in
-      (q .0, all-named (q .1))
+      let q : usesAre (t .words) (tallyEach indexes noUses) v ≡ true = rw uses-tallied at h in
+      let f = both (allIn (λ i. eqb (word (variableUsesAt + i)) (getD (tallyEach indexes noUses) i 0)) 0 v) _ q in
+      let all = none-last (asked t) (sym (tallied-at few v (omega arith)) ∙ eqb-true _ _ (f .1)) in
+      (λ j u. eqb-true _ _ (all-at (λ i. eqb (word (variableUsesAt + i)) (getD (tallyEach indexes noUses) i 0)) 0 v (f .0) j (omega arith) u) ∙ tallied-at few j (omega (arith, u)) ∙ counted-at apart all j u, all)
 
   spent-fit : Apart placeAt v → v ≤ mostVariables → Spent → fit ≡ true
-  unfolding usesFit
+  unfolding usesFit usesAre
   spent-fit apart few q =
-      let r = room few in
-      rw uses-taken (counts-shared placeAt v apart (λ i. word (variableUsesAt + i)) noUses (r .0) (r .1) (asked t) (q .0) (named-all (q .1)))
+      rw uses-tallied (join
+      (at-all _ 0 v λ j a u. eq-eqb _ _ (q .0 j u ∙ sym (tallied-at few j (omega (arith, u)) ∙ counted-at apart (q .1) j u)))
+      (eq-eqb _ _ (tallied-at few v (omega arith) ∙ last-none (asked t) (q .1))))
 
   -- ---- a variable's number has one place
 
@@ -120,10 +145,6 @@ module _ (t : Sparse) where
       let b = index-named t y q in
       let i : indexAt t x ≡ indexAt t y = same-index up (indexAt t x) (indexAt t y) p q (sym (a .1) ∙ e ∙ b .1) in
       sym (a .0) ∙ ap placeAt i ∙ b .0
-
-  own-index : Apart placeAt v → (j : ℕ) → j < v → indexAt t (placeAt j) ≡ j
-  unfolding indexAt placeIn
-  own-index apart j h = place-at placeAt v j apart h
 
   own-number : Apart placeAt v → (j : ℕ) → j < v → numberAt t (placeAt j) ≡ word (variableNumbersAt + j)
   own-number apart j h =

@@ -1,12 +1,13 @@
 // Variables by the places of their symbols: the edits' order, and the uses.
 ghost use mathlib.Core.Path.{_≡_};
-ghost use Prim.Native.Nat.{_+_, _-_, _<_, _≤_};
+ghost use Prim.Native.Nat.{_+_, _<_, _≤_};
 ghost use lib.ListN.{getD, replicate};
 ghost use Rattle.layout.specs.cells.Names.{placeRoom};
-ghost use Rattle.sparse.specs.Places.{mostVariables, mostConstraints, mostTerms, bytesSize, variableUsesAt};
-ghost use Rattle.rows.specs.places.Shares.{shares, take, noneLeft, stock};
-ghost use Rattle.sparse_test.specs.Tested.{indexIn, numberIn, editsUp, takeUses, noUses, usesFit};
+ghost use Rattle.sparse.specs.Places.{mostVariables, mostConstraints, mostTerms, bytesSize};
+ghost use Rattle.sparse_test.specs.Tally.{Most};
+ghost use Rattle.sparse_test.specs.Tested.{indexIn, numberIn, editsUp, countUses, noUses, usesAre, usesFit};
 ghost use Rattle.sparse_test.specs.Index.{near, Indexed};
+use crate::stretch::one_unless;
 use crate::stretch::wide;
 use layout::cells::PLACE_ROOM;
 use sparse::Bytes;
@@ -80,7 +81,7 @@ pub fn edits_up(words: &Words, index: &[u8; PLACE_ROOM], bytes: &Bytes, v: usize
     ok
 }
 
-// ---- uses: each variable has as many shares as it has uses, and each term and each edit takes one
+// ---- uses: each variable has as many as terms and edits name it
 
 fn no_uses() -> [u64; 33]
     ensures { λ r. ⌜ r ≡ noUses ⌝ }
@@ -88,68 +89,41 @@ fn no_uses() -> [u64; 33]
     [0; 33]
 }
 
-fn stock_uses(left: &mut [u64; 33], words: &Words, v: usize)
-    requires { ⌜ v ≤ mostVariables ⌝ }
-    ensures { λ _. ⌜ now (left .exit) ≡ stock (λ i. getD (now (words .entry)) (variableUsesAt + i) 0) v (now (left .entry)) ⌝ }
-{
-    let mut i = 0;
-    while i < v {
-        left[i] = words[sparse::VARIABLE_USES + i];
-        i += 1;
-    }
-}
-
-fn less_one(x: u64) -> u64
-    ensures { λ r. ⌜ r ≡ x - 1 ⌝ }
-{
-    if x == 0 { 0 } else { x - 1 }
-}
-
-fn take_use(left: &mut [u64; 33], i: usize, ok: bool) -> bool
-    requires { ⌜ i ≤ mostVariables ⌝ }
-    ensures { λ r. ⌜ shares (now (left .exit)) r ≡ take i (shares (now (left .entry)) ok) ⌝ }
-{
-    let x = left[i];
-    left[i] = less_one(x);
-    ok & (0 < x)
-}
-
-// n of them from place a on.
-fn take_uses(
-    left: &mut [u64; 33],
+// Counts n names from place a on, each with its variable; those that are none's last.
+fn count_uses(
+    counts: &mut [u64; 33],
     index: &[u8; PLACE_ROOM],
     bytes: &Bytes,
     v: usize,
     a: usize,
     n: usize,
-    start: bool,
-) -> bool
+)
     requires { ⌜ v ≤ mostVariables ⌝ }
+    requires { ⌜ n ≤ mostTerms ⌝ }
     requires { ⌜ a + n ≤ bytesSize ⌝ }
     requires { ⌜ Indexed (now index) (now bytes) v ⌝ }
-    ensures { λ r. ⌜ shares (now (left .exit)) r ≡ takeUses (now (bytes .entry)) v a n (shares (now (left .entry)) start) ⌝ }
+    requires { ⌜ Most (now counts) mostTerms ⌝ }
+    ensures { λ _. ⌜ now (counts .exit) ≡ countUses (now (bytes .entry)) v a n (now (counts .entry)) ⌝ }
 {
-    let mut ok = start;
     let mut j = 0;
     while j < n {
         let i = index_at(index, bytes, v, a + j);
-        ok = take_use(left, i, ok);
+        counts[i] += 1;
         j += 1;
     }
-    ok
 }
 
-fn none_left(left: &[u64; 33], v: usize) -> bool
+fn uses_are(counts: &[u64; 33], words: &Words, v: usize) -> bool
     requires { ⌜ v ≤ mostVariables ⌝ }
-    ensures { λ r. ⌜ r ≡ noneLeft (now (left .entry)) v ⌝ }
+    ensures { λ r. ⌜ r ≡ usesAre (now (words .entry)) (now (counts .entry)) v ⌝ }
 {
-    let mut ok = true;
+    let mut misses = 0;
     let mut i = 0;
     while i < v {
-        ok = ok & (left[i] == 0);
+        misses += one_unless(words[sparse::VARIABLE_USES + i] == counts[i]);
         i += 1;
     }
-    ok
+    (misses == 0) & (counts[v] == 0)
 }
 
 // m terms.
@@ -167,9 +141,8 @@ pub fn uses_fit(
     requires { ⌜ Indexed (now index) (now bytes) v ⌝ }
     ensures { λ r. ⌜ r ≡ usesFit (now (words .entry)) (now (bytes .entry)) v e m ⌝ }
 {
-    let mut left = no_uses();
-    stock_uses(&mut left, words, v);
-    let ok1 = take_uses(&mut left, index, bytes, v, sparse::TERMS, m, true);
-    let ok2 = take_uses(&mut left, index, bytes, v, sparse::EDIT_VARIABLES, e, ok1);
-    ok2 & none_left(&left, v)
+    let mut counts = no_uses();
+    count_uses(&mut counts, index, bytes, v, sparse::TERMS, m);
+    count_uses(&mut counts, index, bytes, v, sparse::EDIT_VARIABLES, e);
+    uses_are(&counts, words, v)
 }
