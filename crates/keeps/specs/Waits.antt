@@ -229,7 +229,7 @@ entries-fall i gone t ts (v ∷ vs) g u = go (same? n v.number) (eqb v.uses 1) r
     rest e = up_none (suc v.number) n (map var_number vs) (omega (arith, e)) u.1
 
     used : (e : n ≡ v.number) → uses_in v.number (t ∷ ts) ≡ 1 + uses_in v.number ts
-    used e = unfold uses_in in rw (← e, truly (eqb n n) (eqb_refl n)) refl
+    used e = unfold uses_in in ap {B = ℕ} (λ (b : Bool). cond b 1 0 + uses_in v.number ts) (subst (λ (k : ℕ). eqb k n ≡ true) e (truly (eqb n n) (eqb_refl n)))
 
     entry : (e : n ≡ v.number) → v.uses ≡ 1 → goes_with (t ∷ ts) v ≡ true
     entry e q = unfold goes_with in goes-out v.uses (uses_in v.number (t ∷ ts)) (omega (arith, q)) (omega (arith, q, used e))

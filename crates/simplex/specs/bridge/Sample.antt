@@ -285,6 +285,7 @@ cover (suc (suc (suc j))) h = absurd (slack≢external (sym h))
 inside : (j : ℕ) → Mem j ids → j < 3
 inside j (inl e) = omega arith
 inside j (inr (inl e)) = omega arith
+inside j (inr (inr x'')) = elim x'' [ ]
 
 -- so the theorem speaks of this pass
 sample : Ran 3 kind ids asc cover inside the_objective 5 work (record { B = B; R = R; o = goal }) (λ _. 0ℤ) (optimise 5 the_objective work)
