@@ -202,7 +202,7 @@ module _ (n : ℕ) (kind : ℕ → KindZ) (ids : List ℕ) (asc : Asc ids) (cove
           → Traced r (elim t as (λ x. ℕ) [ none ↦ 0 | some v ↦ suc (pivots_from left r v) ]) (cons (some w) (rest t)) S
       go t o Step.rests m ih = alone r w S z G H
       go t o (Step.stays k d) m ih = alone r w S z G H
-      go t o (Step.not-Finite p e k q) m ih = alone r w S z G H
+      go t o (Step.broken_write p e k q) m ih = alone r w S z G H
       go t o (Step.pivots l e c) m ih =
           let v : Work = count_pivot (pivot l.id e w) in
           let M : Moved r v S z l.id e.id = moved r w S z G H l e c (counted-mark (pivot l.id e w) (pass-mark r left v m)) in
@@ -223,7 +223,7 @@ symbols-stay (suc i) (suc left) r w u q = go (turn r w) (outcome_by r (suc left)
         → ((v : Work) → later i left r v ≡ some u → u.tableau.symbols ≡ v.tableau.symbols) → u.tableau.symbols ≡ w.tableau.symbols
     go t o Step.rests q ih = absurd (none≢some q)
     go t o (Step.stays k d) q ih = absurd (none≢some q)
-    go t o (Step.not-Finite p e k x) q ih = absurd (none≢some q)
+    go t o (Step.broken_write p e k x) q ih = absurd (none≢some q)
     go t o (Step.pivots l e c) q ih = ih (count_pivot (pivot l.id e w)) q ∙ counted-symbols l.id e w
 
 -- nor the number of rows
@@ -237,5 +237,5 @@ rows_stay (suc i) (suc left) r w u q = go (turn r w) (outcome_by r (suc left) w)
         → ((v : Work) → later i left r v ≡ some u → length u.tableau.rows ≡ length v.tableau.rows) → length u.tableau.rows ≡ length w.tableau.rows
     go t o Step.rests q ih = absurd (none≢some q)
     go t o (Step.stays k d) q ih = absurd (none≢some q)
-    go t o (Step.not-Finite p e k x) q ih = absurd (none≢some q)
+    go t o (Step.broken_write p e k x) q ih = absurd (none≢some q)
     go t o (Step.pivots l e c) q ih = ih (count_pivot (pivot l.id e w)) q ∙ pivot-rows l.id e w
