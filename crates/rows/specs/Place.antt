@@ -68,7 +68,7 @@ pub insert-marks : (cutoff : Float) (s : ℕ) (k bound : Float) (xs : List Symbo
 unfolding PlaceOf insert_symbol cell_marks cell_mark worse
 insert-marks cutoff s k bound [] j cs d p q = absurd p
 insert-marks cutoff s k bound (x ∷ xs) j [] d p q = absurd (suc-ne-zero (length xs) (sym q))
-insert-marks cutoff s k bound (x ∷ xs) zero (c ∷ cs) d p q = rw (p.0, insert-none cutoff s k xs cs p.1 (suc_inj q), kept-marks) (worse-unit (cell_mark bound (insert_cell cutoff c k)))
+insert-marks cutoff s k bound (x ∷ xs) zero (c ∷ cs) d p q = rw (p.0, insert-none cutoff s k xs cs p.1 (suc_inj q), kept-marks bound) (worse-unit (cell_mark bound (insert_cell cutoff c k)))
 insert-marks cutoff s k bound (x ∷ xs) (suc j) (c ∷ cs) d p q = rw p.0 (insert-marks cutoff s k bound xs j cs d p.1 (suc_inj q))
 
 -- ---- a place from what stands at each place

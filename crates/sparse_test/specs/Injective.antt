@@ -3,7 +3,7 @@
 use Prim.Native.Nat.{ℕ, zero, suc, ◌+◌, ◌-◌, ◌≤◌, ◌<◌}
 use Rattle.std.specs.Prelude.{◌≡◌, Bool, true, false, not, ◌&&◌, ◌||◌, cond, eqb, ltb, length, get_or}
 use Rattle.std.proofs.Math.Path.{refl}
-use Rattle.std.proofs.Common.{sym, ap, ◌∙◌, not-suc-le-zero, eqb-true, eq-eqb, ltb-true, ltb-false, lt-ltb}
+use Rattle.std.proofs.Common.{sym, ap, subst, ◌∙◌, not-suc-le-zero, eqb-true, eq-eqb, ltb-true, ltb-false, lt-ltb}
 use mathlib.Core.List.{List, [], ◌∷◌, ◌++◌, map}
 use native.Mathlib.Omega.{arith}
 use Rattle.std.proofs.lemmas.Bool.{not-true}
@@ -124,7 +124,10 @@ stands g a (suc n) zero m h =
     rw (o, eq-eqb (g a) (g a) refl) refl
 stands g a (suc n) (suc j) m h =
     let o : a + suc j ≡ suc a + j = omega arith in
-    rw (o, stands g (suc a) n j m (omega (arith, h))) (or-true (eqb (g (suc a + j)) (g a)))
+    subst
+    (λ (x : ℕ). member (g x) (tab g a (suc n) ++ m) ≡ true)
+    (sym o)
+    (ap (λ (b : Bool). eqb (g (suc a + j)) (g a) || b) (stands g (suc a) n j m (omega (arith, h))) ∙ or-true (eqb (g (suc a + j)) (g a)))
   where
     or-true : (b : Bool) → b || true ≡ true
     or-true true = refl

@@ -2,7 +2,7 @@
 -- Assumes nothing.
 use Prim.Native.Nat.{ℕ, zero, suc, ◌+◌, ◌-◌, ◌≤◌, ◌<◌}
 use Rattle.std.specs.Prelude.{◌≡◌, refl, Bool, false, List, [], ◌∷◌}
-use Rattle.std.proofs.Math.Path.{sym, ap}
+use Rattle.std.proofs.Math.Path.{sym, ap, subst}
 use Rattle.std.proofs.Common.{◌∙◌}
 use Rattle.std.proofs.Math.Bool.{true}
 use Rattle.std.proofs.Math.Nat.{add-zero, zero-add}
@@ -32,7 +32,8 @@ module _ {A : Type 0} where
         let z : a + suc j ≡ suc a + j = omega arith in
         let r = dropped-tab f j (suc a) m (λ i b c. g i (omega (arith, b)) (omega (arith, c))) (rw z at h) in
         let y : suc j + m ≡ suc (j + m) = omega arith in
-        rw (y, z) (on (f a) (tab f (suc a) (suc (j + m))) (g a (omega arith) (omega arith)) ∙ rw r (ap (λ (x : A). x ∷ tab (λ k. f (past (suc a + j) 1 k)) (suc a) (j + m)) (ap f (sym (past-low (suc a + j) 1 a (omega arith))))))
+        let at_place = λ (q : ℕ). d (tab f a (suc (suc (j + m)))) ≡ tab (λ k. f (past q 1 k)) a (suc (j + m)) in
+        rw y (subst at_place (sym z) (on (f a) (tab f (suc a) (suc (j + m))) (g a (omega arith) (omega arith)) ∙ rw r (ap (λ (x : A). x ∷ tab (λ k. f (past (suc a + j) 1 k)) (suc a) (j + m)) (ap f (sym (past-low (suc a + j) 1 a (omega arith)))))))
 
     pub dropped-listed : (f : ℕ → A) (j n : ℕ) → j < n → ((i : ℕ) → i < j → p (f i) ≡ false) → p (f j) ≡ true → d (list_of n f) ≡ list_of (j + 0 + (n - (j + 1))) (λ k. f (past j 1 k))
     unfolding list_of
