@@ -24,7 +24,7 @@ use sparse::{Bytes, Keys, Reals, Values, Words};
 use waist::ending::Ended;
 
 // How the steps end, and the places of the constraint's symbols, other 0 if there is none.
-#[derive(Drop)]
+#[derive(Clone, Copy)]
 pub struct Added {
     pub ended: Ended,
     pub marker: u8,

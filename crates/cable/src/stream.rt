@@ -7,7 +7,7 @@ use cable_lines::state::State;
 use text::replies::{Out, put_second};
 
 // How many bytes of the buffer wait to be written, and whether every write went through.
-#[derive(Drop)]
+#[derive(Clone, Copy)]
 pub struct Place {
     pub at: usize,
     pub open: bool,

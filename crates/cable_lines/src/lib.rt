@@ -14,7 +14,7 @@ pub mod state;
 mod tidy;
 
 // Whether a line was answered, its answer (to be passed over if none was), and how many bytes were taken.
-#[derive(Drop)]
+#[derive(Clone, Copy)]
 pub struct Taken {
     pub answered: bool,
     pub answer: Reply,

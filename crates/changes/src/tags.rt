@@ -1,5 +1,5 @@
 // A relation carries its strength.
-#[derive(Drop)]
+#[derive(Clone, Copy)]
 pub enum Relation {
     AtMost(f64),
     Equal(f64),

@@ -8,14 +8,14 @@ use layout::TERM_ROOM;
 
 // "A term is one record, a variable number and an f64 coefficient, and the terms of a constraint come as a lent list of such records."
 #[repr(C)]
-#[derive(Drop)]
+#[derive(Clone, Copy)]
 pub struct Term {
     pub variable: u32,
     pub coefficient: f64,
 }
 
 // The first sixteen terms of a list; how many there are, 17 for more than 16; and whether every coefficient is finite, those past the sixteenth too.
-#[derive(Drop)]
+#[derive(Clone, Copy)]
 pub struct Pack {
     pub count: usize,
     pub finite: bool,

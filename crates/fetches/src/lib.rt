@@ -27,7 +27,7 @@ pub type Flags = [u8; PLACES];
 
 // 0 or 18, and how many places of the three lists are filled.
 #[repr(C)]
-#[derive(Drop)]
+#[derive(Clone, Copy)]
 pub struct Fetched {
     pub number: u32,
     pub count: u32,

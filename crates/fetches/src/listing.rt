@@ -15,7 +15,7 @@ use sparse::{
 };
 
 // How many places of the lists are filled, and how many of the gone ones are told.
-#[derive(Drop)]
+#[derive(Clone, Copy)]
 pub struct Told {
     pub count: u32,
     pub gone: usize,

@@ -1,4 +1,6 @@
 // The places of the lent tables. specs/Layout.antt says what stands there; what else this crate says stands in specs/.
+#![tactic(auto)]
+
 pub mod cells;
 
 // ---- lengths of the tables

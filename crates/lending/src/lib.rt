@@ -19,7 +19,7 @@ use sparse::{Bytes, Keys, Reals, Values, Words};
 
 // "Each changing call answers: accepted or a number below, pivots made, whole mark." 0 is accepted.
 #[repr(C)]
-#[derive(Drop)]
+#[derive(Clone, Copy)]
 pub struct Answer {
     pub number: u32,
     pub pivots: u32,

@@ -8,7 +8,7 @@ use text::replies::{Out, put_line};
 use text::stream::keep_byte;
 
 // How many bytes of the line that has begun are held, how many of the buffer wait to be written, and whether every write went through.
-#[derive(Drop)]
+#[derive(Clone, Copy)]
 pub struct Place {
     pub held: usize,
     pub at: usize,

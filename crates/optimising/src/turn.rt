@@ -6,7 +6,7 @@ use rows::number::Wrote;
 use waist::ending::Ended;
 
 // `more` says that the pass goes on, after the pivots and with the marks of `ended`.
-#[derive(Drop)]
+#[derive(Clone, Copy)]
 pub struct Turn {
     pub more: bool,
     pub ended: Ended,

@@ -16,7 +16,7 @@ use crate::sums::{Numbers, Sums, ZERO, long_numbers, long_sums};
 
 // number is 0 for a line that reads, else the refusal's, with the offset of 20. The constant and the coefficients stand as what they
 // are above ZERO, as in the tables; past the count the variables are 0 and the coefficients 0, that is ZERO.
-#[derive(Drop)]
+#[derive(Clone, Copy)]
 pub struct Reading {
     pub number: u32,
     pub offset: usize,
@@ -28,7 +28,7 @@ pub struct Reading {
 }
 
 // The terms that are not zero, the first 16 of them, and whether one is too large.
-#[derive(Drop)]
+#[derive(Clone, Copy)]
 pub struct Kept {
     pub big: bool,
     pub count: usize,

@@ -8,7 +8,7 @@ use crate::scan::{Whole, byte_at, number_at, skip};
 
 // What a part comes to, with the place behind it and its spaces, and whether none stand there; a bracket's place; a refusal and
 // where it is met; or a minus or a multiplier, and the part goes on.
-#[derive(Drop)]
+#[derive(Clone, Copy)]
 pub enum Kind {
     Number(u64, usize, bool),
     Variable(u32, usize, bool),
@@ -18,7 +18,7 @@ pub enum Kind {
 }
 
 // The sign and the product of the multipliers that stand over it.
-#[derive(Drop)]
+#[derive(Clone, Copy)]
 pub struct Head {
     pub minus: bool,
     pub product: u64,

@@ -11,7 +11,7 @@ use crate::scan::{byte_at, skip};
 use crate::sums::{Numbers, Sums, add_term, with};
 
 // How far the line is read, whether it may end there (no space behind a digit), the places in use of the tables, and the constant so far.
-#[derive(Drop)]
+#[derive(Clone, Copy)]
 pub struct Place {
     pub at: usize,
     pub bare: bool,
@@ -20,14 +20,14 @@ pub struct Place {
 }
 
 // A refusal, and where it is met.
-#[derive(Drop)]
+#[derive(Clone, Copy)]
 pub enum Step {
     Read(Place),
     Halted(u32, usize),
 }
 
 // What stands over a part: the sign, the product of multipliers, and the brackets that may still be opened.
-#[derive(Drop)]
+#[derive(Clone, Copy)]
 pub struct Over {
     pub minus: bool,
     pub product: u64,
@@ -35,7 +35,7 @@ pub struct Over {
 }
 
 // The mark that joins the next part: the place behind it, and the part's sign; or the place where the sum ends.
-#[derive(Drop)]
+#[derive(Clone, Copy)]
 pub enum Joint {
     On(usize, bool),
     Last(usize),

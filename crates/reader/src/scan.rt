@@ -3,7 +3,7 @@ ghost use Rattle.std.specs.Prelude.{◌≡◌, ◌≤◌, ◌<◌, get_or, lengt
 ghost use Rattle.reader.specs.Scan.{Skips, digit_at, WholeIs};
 
 // A whole number and the place behind it; no digit at all; the place of the digit that passes the bound.
-#[derive(Drop)]
+#[derive(Clone, Copy)]
 pub enum Whole {
     Is(u64, usize),
     NoDigit,

@@ -13,7 +13,7 @@ use crate::second::endings::{MOST_GROUP, REQUIRED};
 use crate::second::ends::{Second, second_line};
 
 // What the first edition's reader hands over, with the strength and the group; both are 0 where the line is refused.
-#[derive(Drop)]
+#[derive(Clone, Copy)]
 pub struct Reply {
     pub reading: Reading,
     pub strength: u32,

@@ -11,7 +11,7 @@ use crate::parts::{Over, Place, Step, sum};
 use crate::scan::{byte_at, skip};
 use crate::sums::{Numbers, Sums, ZERO};
 
-#[derive(Drop)]
+#[derive(Clone, Copy)]
 pub enum Mark {
     AtMost,
     Equal,
@@ -19,14 +19,14 @@ pub enum Mark {
 }
 
 // Where a line's first part begins, or where it is refused.
-#[derive(Drop)]
+#[derive(Clone, Copy)]
 pub enum Start {
     At(usize),
     Bad(usize),
 }
 
 // The relation and the place behind it, or where it is refused.
-#[derive(Drop)]
+#[derive(Clone, Copy)]
 pub enum Related {
     By(Mark, usize),
     NoMark(usize),
@@ -34,14 +34,14 @@ pub enum Related {
 
 // Both sides read: the relation, and the sums of the left side less those of the right, up to what stands behind them; or a refusal
 // and where it is met.
-#[derive(Drop)]
+#[derive(Clone, Copy)]
 pub enum Sides {
     Both(Mark, Place),
     Neither(u32, usize),
 }
 
 // A line read to its end: the relation and the sums of the left side less those of the right; or a refusal and where it is met.
-#[derive(Drop)]
+#[derive(Clone, Copy)]
 pub enum Line {
     Whole(Mark, Place),
     Refused(u32, usize),

@@ -11,7 +11,7 @@ use sparse::{Bytes, Reals, Words};
 use sparse_test::stretch::wide;
 
 // What a removal takes, as the call names it: the constraint of a number, the edit of a variable, the constraints of a group.
-#[derive(Drop)]
+#[derive(Clone, Copy)]
 pub enum Taken {
     Constraint(u32),
     Edit(u32),

@@ -7,7 +7,7 @@ ghost use Rattle.rows.specs.Marks.{mark_of, cell_of};
 use crate::number::{Wrote, is_finite, joined, magnitude, near_zero, within};
 
 // What an operation leaves at a cell's place: a cell written, or the cell as it was.
-#[derive(Drop)]
+#[derive(Clone, Copy)]
 pub struct Left {
     pub wrote: bool,
     pub value: f64,

@@ -55,7 +55,7 @@ pub fn whole_within(bound: f64, x: f64) -> bool
 
 // What was written: all of it finite, all of it whole and within its bound.
 #[repr(C)]
-#[derive(Drop)]
+#[derive(Clone, Copy)]
 pub struct Wrote {
     pub finite: bool,
     pub whole: bool,

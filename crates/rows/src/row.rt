@@ -23,7 +23,7 @@ pub fn wide(row: &[f64; ROW_ROOM])
 }
 
 // What an insertion wrote, and whether it changed the constant.
-#[derive(Drop)]
+#[derive(Clone, Copy)]
 pub struct Inserted {
     pub changed: bool,
     pub wrote: Wrote,

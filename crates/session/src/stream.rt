@@ -12,7 +12,7 @@ pub type Line = [u8; 4096];
 
 // The bytes from `next` to `end` of the piece that was read last are still to be taken; `held` bytes of a line are kept, and
 // it has ended if `whole`; `at` bytes of answers wait to be written. good: every write went through; more: nothing ended the input.
-#[derive(Drop)]
+#[derive(Clone, Copy)]
 pub struct Place {
     pub next: usize,
     pub end: usize,

@@ -1,5 +1,6 @@
 // The places of the sparse tables. specs/Sparse.antt says what stands there.
 // A symbol is named by its place, from 1 by ascending id, and 0 is none; rows are counted from 1, and row 0's keys are a loose row's.
+#![tactic(auto)]
 
 pub mod lengths;
 pub mod lookup;

@@ -8,7 +8,7 @@ use layout::cells::PLACE_ROOM;
 use sparse::{Bytes, Reals, Words};
 
 // The first `at` records stay; `drop` are left out after them, and `free` places are left for others; `rest` more follow.
-#[derive(Drop)]
+#[derive(Clone, Copy)]
 pub struct Plan {
     pub at: usize,
     pub drop: usize,

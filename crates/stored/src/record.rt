@@ -6,7 +6,7 @@ ghost use Rattle.stored.specs.Suggested.{edit_record_at, with_suggestion};
 use sparse::{Bytes, Reals};
 
 // Symbols by their places; 0 is no other symbol.
-#[derive(Drop)]
+#[derive(Clone, Copy)]
 pub struct EditRecord {
     pub marker: u8,
     pub other: u8,

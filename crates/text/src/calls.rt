@@ -13,14 +13,14 @@ use changes::terms::Pack;
 // 1E-8: what `reset` alone takes.
 pub const USUAL_CUTOFF: f64 = 0.00000001;
 
-#[derive(Drop)]
+#[derive(Clone, Copy)]
 pub enum Related {
     By(Relation),
     NoRelation,
 }
 
 // A call that changes nothing.
-#[derive(Drop)]
+#[derive(Clone, Copy)]
 pub enum Query {
     Value(u32),
     HasCon(u32),
@@ -30,7 +30,7 @@ pub enum Query {
 }
 
 // Every call of document 01. Bad is a line that is no call.
-#[derive(Drop)]
+#[derive(Clone, Copy)]
 pub enum Call {
     // the cutoff
     Reset(f64),
@@ -42,14 +42,14 @@ pub enum Call {
 }
 
 // An add without its terms, and its budget.
-#[derive(Drop)]
+#[derive(Clone, Copy)]
 pub enum Head {
     Of(Change, u16),
     NoHead,
 }
 
 // A call, and beside it the terms of an add.
-#[derive(Drop)]
+#[derive(Clone, Copy)]
 pub struct Line {
     pub call: Call,
     pub terms: Pack,

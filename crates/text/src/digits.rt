@@ -2,7 +2,7 @@
 ghost use Rattle.std.specs.Prelude.{◌≡◌, ◌^◌, ◌≤◌};
 ghost use Rattle.text.specs.Digits.{is_from, digit_of, digits_of, up_to, same_bytes, starts_with};
 
-#[derive(Drop)]
+#[derive(Clone, Copy)]
 pub enum Whole {
     Is(u64),
     NoWhole,

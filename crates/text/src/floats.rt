@@ -8,19 +8,19 @@ use crate::digits;
 use crate::digits::Whole;
 
 // The number of a variable or a constraint.
-#[derive(Drop)]
+#[derive(Clone, Copy)]
 pub enum Id {
     Is32(u32),
     No32,
 }
 
-#[derive(Drop)]
+#[derive(Clone, Copy)]
 pub enum Budget {
     Is16(u16),
     No16,
 }
 
-#[derive(Drop)]
+#[derive(Clone, Copy)]
 pub enum Real {
     Number(f64),
     NoReal,

@@ -10,7 +10,7 @@ use crate::{floats, words};
 use changes::terms::{Pack, Term};
 
 // Terms, if all could be read.
-#[derive(Drop)]
+#[derive(Clone, Copy)]
 pub struct Packed {
     pub ok: bool,
     pub terms: Pack,

@@ -47,7 +47,7 @@ fn differs(old: f64) -> bool
 }
 
 // The place of the symbol whose variable went, and whether that was never reported.
-#[derive(Drop)]
+#[derive(Clone, Copy)]
 pub enum Gone {
     Place(u8, bool),
     Stays,

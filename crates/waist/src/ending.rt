@@ -5,7 +5,7 @@ ghost use Rattle.waist.specs.Ending.{checked_of};
 use rows::number::Wrote;
 
 // 0 goes on; any other number is a refusal, with the pivots made and what was written so far.
-#[derive(Drop)]
+#[derive(Clone, Copy)]
 pub struct Ended {
     pub number: u32,
     pub pivots: u32,

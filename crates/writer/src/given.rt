@@ -10,14 +10,14 @@ use text::floats::{Budget, Real};
 use text::{calls, digits, floats, packing, words};
 
 // The words before the terms: a relation with its strength, a group, a constant.
-#[derive(Drop)]
+#[derive(Clone, Copy)]
 pub enum Head {
     Of(Relation, u16, f64),
     NoHead,
 }
 
 // The terms are to be passed over where there is no head.
-#[derive(Drop)]
+#[derive(Clone, Copy)]
 pub struct Given {
     pub head: Head,
     pub terms: Pack,

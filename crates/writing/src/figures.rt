@@ -5,7 +5,7 @@ ghost use Rattle.writing.specs.Figures.{figure_of};
 // "a whole strength up to 1,001,001,000 (required)"
 pub const REQUIRED: u64 = 1001001000;
 
-#[derive(Drop)]
+#[derive(Clone, Copy)]
 pub struct Figure {
     pub whole: bool,
     pub negative: bool,

@@ -19,7 +19,7 @@ const MOST_GROUP: u16 = 65535;
 const MOST_TERMS: usize = 16;
 
 // The first byte of a relation's mark, and its strength.
-#[derive(Drop)]
+#[derive(Clone, Copy)]
 pub struct Related {
     pub mark: u8,
     pub strength: f64,

@@ -25,7 +25,7 @@ use waist::objective::insert_in_objective;
 use waist::symbols::append_symbol;
 
 // The places of a constraint's symbols, other 0 if there is none, and what was written so far.
-#[derive(Drop)]
+#[derive(Clone, Copy)]
 pub struct Tagged {
     pub marker: u8,
     pub other: u8,

@@ -12,7 +12,7 @@ use sparse::{Bytes, Keys, Reals, Values, Words};
 
 // A changing call's answer, and beside 20 where the line leaves the grammar; else the offset is 0.
 #[repr(C)]
-#[derive(Drop)]
+#[derive(Clone, Copy)]
 pub struct TextAnswer {
     pub number: u32,
     pub pivots: u32,

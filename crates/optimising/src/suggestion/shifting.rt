@@ -24,7 +24,7 @@ use waist::choices::row_of;
 use waist::substituting::notes::{is_external, kind_at, var_changed_if};
 
 // The row of the symbol at place `own` gets `by`; or else, where that is 0, each row gets `by` times its cell at place `at`.
-#[derive(Drop)]
+#[derive(Clone, Copy)]
 pub struct Drag {
     pub own: u8,
     pub at: u8,
@@ -32,7 +32,7 @@ pub struct Drag {
 }
 
 // What one row gets, if it gets anything.
-#[derive(Drop)]
+#[derive(Clone, Copy)]
 pub struct Shift {
     pub on: bool,
     pub by: f64,

@@ -13,20 +13,20 @@ pub const REQUIRED: u64 = 1001001000;
 pub const MOST_GROUP: u64 = 65535;
 
 // A number and the place behind its digits; or no digit.
-#[derive(Drop)]
+#[derive(Clone, Copy)]
 pub enum Digits {
     Are(u64, usize),
     Missing,
 }
 
-#[derive(Drop)]
+#[derive(Clone, Copy)]
 pub enum Group {
     Is(u64),
     Bad(usize),
 }
 
 // A strength and a group, or the place where the line leaves the grammar.
-#[derive(Drop)]
+#[derive(Clone, Copy)]
 pub enum Ending {
     Is(u64, u64),
     Bad(usize),

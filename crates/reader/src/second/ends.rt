@@ -13,7 +13,7 @@ use crate::sides::{Mark, Sides, both_sides};
 use crate::sums::{Numbers, Sums};
 
 // A line read to its end, with its strength and its group; or a refusal and where it is met.
-#[derive(Drop)]
+#[derive(Clone, Copy)]
 pub enum Second {
     Whole(Mark, Place, u64, u64),
     Refused(u32, usize),

@@ -12,7 +12,7 @@ use rows::cell::{Left, cell_value, insert_cell, mark_cell};
 use rows::number::{Wrote, nothing};
 
 // How many cells a run has, and what was written of them.
-#[derive(Drop)]
+#[derive(Clone, Copy)]
 pub struct Merged {
     pub size: usize,
     pub wrote: Wrote,

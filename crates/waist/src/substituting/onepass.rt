@@ -22,7 +22,7 @@ use rows::row::wide;
 use sparse::{CONSTANTS, Keys, Reals, Values};
 
 // How many cells have come down, where those still at the far end begin, and what was written.
-#[derive(Drop)]
+#[derive(Clone, Copy)]
 pub struct Passed {
     pub front: usize,
     pub back: usize,
