@@ -1,4 +1,6 @@
 // T-01: one line of text read into a constraint.
+#![tactic(auto)]
+
 pub mod answers;
 pub mod heads;
 pub mod parts;
