@@ -1,5 +1,5 @@
 -- A line that reads names no variable above 4,294,967,295.
-use Rattle.std.specs.Prelude.{ℕ, suc, pred, ◌+◌, ◌-◌, ◌*◌, ◌≤◌, ◌<◌, ◌≡◌, Bool, true, false, cond, List, [], ◌∷◌, leb, ℤ, pos, ◌+ℤ◌, ◌-ℤ◌, ◌*ℤ◌}
+use Rattle.std.specs.Prelude.{ℕ, suc, pred, ◌+◌, ◌-◌, ◌*◌, ◌≤◌, ◌<◌, ◌≡◌, Bool, true, false, cond, List, [], ◌∷◌, leb, pos, ◌+ℤ◌, ◌-ℤ◌}
 use Rattle.std.proofs.Math.Path.{refl, ap, ap₂}
 use Rattle.std.proofs.Common.{sym, ◌∙◌, arith, leb-true, leb-false, eq-eqb, ne_eqb}
 use Rattle.std.proofs.Math.Option.{Option, none, some}
@@ -8,7 +8,7 @@ use Rattle.std.proofs.Math.IntN.{neg_ℤ}
 use Rattle.laws.specs.Ring.{ring, v, k, ◌⊠◌}
 use Rattle.grammar.specs.Sums.{Term, Reading, reads, most, most_name}
 use Rattle.grammar.specs.Trees.{Sort, Tree, amount, variable, multiple, negated, bracketed, single, added, subtracted, Line, Fault, fault, else, passes, multiplier_fault, depth_fault, past, fault_of, line_fault, worth, worth_from, bytes_of, mark_of, coefficient_of}
-use Rattle.grammar.specs.Says.{coefficient_in, Ascending, NoneZero, IsReading}
+use Rattle.grammar.specs.Says.{coefficient_in, NoneZero, IsReading}
 use Rattle.grammar.specs.Reader.{read_line}
 use Rattle.grammar.specs.Facts.{never}
 use Rattle.grammar.specs.Theorems.{accepts}

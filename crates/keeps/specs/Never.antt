@@ -1,13 +1,13 @@
 -- 25 is given by no call of a run: "every fetch empties the entries, and between two fetches only variables that were live at the first can make one". Assumes nothing.
-use Rattle.std.specs.Prelude.{◌≡◌, ◌≢◌, List, [], ◌∷◌, map, Bool, true, false, not, cond, ◌&&◌, ℕ, ◌+◌, ◌≤◌, T, length, Float}
+use Rattle.std.specs.Prelude.{◌≡◌, ◌≢◌, List, [], ◌∷◌, Bool, true, false, not, cond, ◌&&◌, ℕ, ◌+◌, ◌≤◌, T, length, Float}
 use Rattle.std.proofs.Math.Path.{refl}
-use Rattle.std.proofs.Common.{sym, ap, ◌∙◌, subst, true≢false, arith}
-use Rattle.std.proofs.Math.Option.{Option, none, some}
+use Rattle.std.proofs.Common.{sym, ap, ◌∙◌, subst, arith}
+use Rattle.std.proofs.Math.Option.{some}
 use Rattle.steps.specs.Number.{cutoff_fits}
 use Rattle.steps.specs.State.{Term, Variable, Changes, State}
 use Rattle.steps.specs.Changes.{member, never_reported, fetch_changes}
 use Rattle.steps.specs.Tests.{◌if◌, first_refusal, goes_with, makes_entry, entries_made, gone_full, remove_tests, remove_edit_tests, drop_tests}
-use Rattle.steps.specs.Calls.{Result, empty, reset, refused_by, add}
+use Rattle.steps.specs.Calls.{empty, reset, refused_by}
 use Rattle.steps.specs.Changing as changing
 use Rattle.steps.proofs.Told.{reported_count}
 use Rattle.steps.proofs.Stands.{told-stands}
@@ -15,7 +15,7 @@ use Rattle.steps.proofs.Cutoff.{reset-refused, reset-taken}
 use Rattle.steps.proofs.Numbers.{of_steps, test-listed, given-by-test}
 use Rattle.keeps.specs.Lists.{none≢some, some-injective, no_both}
 use Rattle.keeps.specs.Tested.{reads_in}
-use Rattle.keeps.specs.Waits.{entries_by, has_room}
+use Rattle.keeps.specs.Waits.{has_room}
 use Rattle.keeps.specs.Keeps.{Run, starts, resets, adds, removes, drops, adds_edit, removes_edit, suggests, fetches, run-reads, fetch-reads}
 
 -- the gone entries, and the live variables that could make one

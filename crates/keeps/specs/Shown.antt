@@ -7,7 +7,7 @@ use Rattle.std.proofs.Math.Option.{Option, none, some}
 use Prim.Native.Nat.{ℕ, zero, suc, ◌≤◌}
 use Rattle.steps.specs.State.{Term, Relation, at_most, equal, at_least, strength_of, comparison_of, related, Tag, Constraint, Edit, State}
 use Rattle.steps.specs.Changes.{member, fetch_changes}
-use Rattle.steps.specs.Tests.{first_refusal, add_tests, group_of, kept_terms, has_constraint, find_constraint, keep_constraint, drop_constraint}
+use Rattle.steps.specs.Tests.{add_tests, group_of, kept_terms, has_constraint, find_constraint, keep_constraint, drop_constraint}
 use Rattle.steps.specs.Calls.{Result, finish, refused_by, accepted_as, add, remove, drop_group}
 use Rattle.steps.specs.Changing.{Changing, adds, removes, drops, adds_edit, removes_edit, suggests, made, drop_each, Stores}
 use Rattle.steps.specs.Shown.{Given, given_of, shown}
@@ -17,7 +17,7 @@ use Rattle.steps.proofs.Refusals.{refusal-keeps}
 use Rattle.steps.proofs.Stored.{accepted-stores}
 use Rattle.steps.proofs.Queries.{fetch-keeps}
 use Rattle.keeps.specs.Lists.{All, all-to, Up, none≢some, some-injective}
-use Rattle.keeps.specs.Keys.{drop-up, find-some, keep_constraint-is, drop_constraint-is, find_constraint-is}
+use Rattle.keeps.specs.Keys.{drop-up, keep_constraint-is, drop_constraint-is, find_constraint-is}
 use Rattle.keeps.specs.Lookup.{eq_no, eq_yes, find-keep-same, find-keep-other, find-drop-other, find-drop-same}
 use Rattle.keeps.specs.Reads.{Reads, con_number}
 use Rattle.keeps.specs.Addition.{passed}

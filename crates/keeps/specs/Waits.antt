@@ -4,14 +4,13 @@ use Rattle.std.proofs.Math.Path.{refl, sym, ap}
 use Rattle.std.proofs.Common.{ap₂, ◌∙◌, subst, inl, inr, true≢false, arith, eq-or-lt_of_le, ltb→lt, lt→ltb, nltb→le, leb→le, le→leb, eqb→eq}
 use Rattle.std.proofs.Math.Option.{Option, none, some}
 use Rattle.std.proofs.Math.Bool.{false, not}
-use Prim.Native.Nat.{ℕ, zero, suc, ◌+◌, ◌-◌, ◌≤◌, ◌<◌}
+use Prim.Native.Nat.{ℕ, suc, ◌+◌, ◌-◌, ◌≤◌, ◌<◌}
 use Rattle.std.proofs.Math.Dec.{leb, ltb, eqb_refl}
 use Rattle.steps.specs.State.{Term, Variable, Changes, State}
 use Rattle.steps.specs.Changes.{with_flag, clear_changed, member, keep_number, never_reported}
 use Rattle.steps.specs.Remove.{Fallen, use_less}
 use Rattle.steps.specs.Tests.{uses_in, goes_with, makes_entry, entries_made, gone_full}
-use Rattle.keeps.specs.Lists.{All, all-to, all-zip, Same?, is, isnt, same, same?, times, Up, up_from, up_none, member-out, member-in, truly, so, so-not, none≢some, some-injective, none_of, no_both, both, left, right}
-use Rattle.keeps.specs.Keys.{keepBy, keep_all}
+use Rattle.keeps.specs.Lists.{All, Same?, is, isnt, same?, times, Up, up_none, member-in, truly, so, so-not, none≢some, some-injective, no_both, both, left, right}
 use Rattle.keeps.specs.Uses.{var_number, uses-append}
 
 -- ---- a number kept in its place

@@ -7,7 +7,7 @@ use Rattle.std.proofs.Math.Option.{Option, none, some}
 use Rattle.std.proofs.Math.Bool.{true, false}
 use Rattle.std.proofs.Math.Dec.{eqb, eqb-suc-zero}
 use Rattle.steps.specs.State.{Constraint, State}
-use Rattle.steps.specs.Tests.{first_refusal, drop_tests, group_of, has_constraint, find_constraint, member}
+use Rattle.steps.specs.Tests.{first_refusal, drop_tests, group_of, member}
 use Rattle.steps.specs.Calls.{Result, refused_by, remove, remove_stored, onward, remove_all, all_or_none, drop_group}
 use Rattle.steps.specs.Changing as changing
 use Rattle.steps.proofs.Numbers.{test-listed, past-the-tests}
@@ -16,7 +16,7 @@ use Rattle.steps.specs.Readable.{readable}
 use Rattle.keeps.specs.Lists as keeps
 use Rattle.keeps.specs.Reads.{con_number}
 use Rattle.keeps.specs.Tested.{reads_in, reads-out}
-use Rattle.keeps.specs.Groups.{Removable, group-removable, first_found, first-tested, remove-found, removed-kept, others-removable}
+use Rattle.keeps.specs.Groups.{Removable, group-removable, first-tested, remove-found, removed-kept, others-removable}
 use Rattle.run.specs.Demand.{of_constraint, Demand, without, without_group, removes, drops, make, accepted, live_after, Moment, next}
 use Rattle.run.specs.Inv.{Inv}
 use Rattle.run.specs.Suggest.{unchanged}

@@ -3,7 +3,7 @@ use Rattle.std.specs.Prelude.{◌≡◌, refl, List, [], ◌∷◌, ℕ, ◌^◌
 use Rattle.std.proofs.Common.{sym, ◌∙◌, subst, arith, leb→le}
 use Rattle.std.specs.Int.Signed.{lt_z_yes, lt_z_no}
 use Rattle.std.specs.Float.{nan, inf, fin}
-use Rattle.std.specs.Float.Ieee.{le, lt, of_bits}
+use Rattle.std.specs.Float.Ieee.{lt, of_bits}
 use Rattle.laws.specs.Z.{◌≼◌, ◌≺◌, lt→N}
 use Rattle.laws.specs.exact.Whole.{IsZ, Zb, val, int, lit-z}
 use Rattle.laws.specs.exact.Compare.{le-z, lt-z}

@@ -4,7 +4,6 @@ use Rattle.std.proofs.Math.Path.{refl, sym, ap, subst}
 use Rattle.std.proofs.Common.{◌∙◌, inl, inr, true≢false}
 use Rattle.std.proofs.Math.Option.{Option, none, some}
 use Rattle.std.proofs.Math.Bool.{false}
-use Rattle.std.proofs.Math.Dec.{T}
 use Rattle.simplex.specs.Ord.{0ℤ}
 use Rattle.simplex.specs.At.{at}
 use Rattle.simplex.specs.Choose.{all-zip}

@@ -17,7 +17,6 @@ use Rattle.simplex.specs.Problem.{Sounds}
 use Rattle.simplex.specs.Pass.{State as StateZ}
 use Rattle.simplex.specs.Run.{Foreign}
 use Rattle.simplex.specs.Gone.{tag-kind, not-variable}
-use Rattle.steps.specs.Symbol.{Symbol}
 use Rattle.steps.specs.State.{Term, Variable, Changes}
 use Rattle.steps.specs.Work.{Work, with_changes, purge}
 use Rattle.steps.specs.Changes.{find_variable, tell_gone}

@@ -1,21 +1,20 @@
 -- Tables that agree on the live part read as the same state, and have the sparse form together; a copy of the live part agrees.
 -- Assumes nothing.
 use Prim.Native.Nat.{ℕ, zero, suc, ◌+◌, ◌*◌, ◌≤◌, ◌<◌}
-use Rattle.std.specs.Prelude.{◌≡◌, cond, List, [], Float, length}
+use Rattle.std.specs.Prelude.{◌≡◌}
 use Rattle.std.proofs.Math.Path.{refl, sym, ap}
-use Rattle.std.proofs.Common.{◌∙◌, zero-add}
-use Rattle.std.proofs.Math.Option.{none, some}
+use Rattle.std.proofs.Common.{◌∙◌}
 use native.Mathlib.Omega.{arith}
 use Rattle.std.proofs.Math.Dec.{eqb}
 use Rattle.std.specs.Float.{nan}
 use Rattle.std.proofs.Math.ListN.{get_or}
-use Rattle.laws.specs.Lists.{tab, tab-ext, getD-tab, length-tab, list_of, sum_in}
+use Rattle.laws.specs.Lists.{tab, tab-ext, list_of}
 use Rattle.layout.specs.Laying.{list_ext}
 use Rattle.layout.specs.cells.Names.{row_span}
 use Rattle.layout.specs.cells.Cells.{Ascending, cell_at, row_of}
 use Rattle.layout.specs.cells.Seek.{first-within}
 use Rattle.layout.specs.cells.Reads.{cell-within}
-use Rattle.sparse.specs.Places.{ids_at, variable_numbers_at, variable_uses_at, constraint_numbers_at, constraint_groups_at, gone_numbers_at, kinds_at, row_places_at, variable_places_at, changed_at, constraint_markers_at, constraint_others_at, term_counts_at, edit_variables_at, edit_markers_at, edit_others_at, terms_at, relations_at, constants_at, old_values_at, objective_at, cutoff_at, constraint_strengths_at, edit_strengths_at, suggestions_at, coefficients_at, constraint_constants_at, words_size, bytes_size, reals_size}
+use Rattle.sparse.specs.Places.{ids_at, variable_numbers_at, variable_uses_at, constraint_numbers_at, constraint_groups_at, gone_numbers_at, kinds_at, row_places_at, variable_places_at, changed_at, constraint_markers_at, constraint_others_at, term_counts_at, edit_variables_at, edit_markers_at, edit_others_at, terms_at, relations_at, constants_at, old_values_at, objective_at, cutoff_at, constraint_strengths_at, edit_strengths_at, suggestions_at, coefficients_at, constraint_constants_at}
 use Rattle.sparse.specs.Sparse.{Sparse, symbol_count, row_count, cell_count, variable_count, constraint_count, edit_count, gone_count, symbol_at, other_at, number_at, variable_of, terms_from, term_of, constraint_of, edit_of, basic_of, symbols_of, basics_of, objective_of, gone_of, read}
 use Rattle.sparse.specs.Concat.{sum-ext, sum-in, sum-le}
 use Rattle.sparse.specs.Repack.{Held}

@@ -3,13 +3,13 @@
 use Prim.Native.Nat.{ℕ, ◌+◌, ◌-◌, ◌≤◌, ◌<◌}
 use Rattle.std.specs.Prelude.{◌≡◌, List, []}
 use Rattle.std.proofs.Math.Path.{refl}
-use Rattle.std.proofs.Common.{sym, ap, ◌∙◌, zero-add, arith}
+use Rattle.std.proofs.Common.{◌∙◌, zero-add, arith}
 use Rattle.std.specs.Float.Ieee.{Float, nan}
 use Rattle.std.proofs.Math.ListN.{length, get_or}
 use Rattle.laws.specs.Lists.{tab, getD-tab, length-tab}
 use Rattle.sparse.specs.Places.{next_id_at, ids_at, variable_numbers_at, variable_uses_at, constraint_numbers_at, constraint_groups_at, gone_numbers_at, kinds_at, row_places_at, variable_places_at, changed_at, constraint_markers_at, constraint_others_at, term_counts_at, edit_variables_at, edit_markers_at, edit_others_at, terms_at, relations_at, constants_at, old_values_at, objective_at, cutoff_at, constraint_strengths_at, edit_strengths_at, suggestions_at, coefficients_at, constraint_constants_at, words_size, bytes_size, reals_size}
 use Rattle.sparse.specs.Sparse.{Sparse, symbol_count, row_count, cell_count, variable_count, constraint_count, edit_count, gone_count, terms_from, read}
-use Rattle.sparse.specs.Stretches.{Stretch, Within, lay, lay-in, length-lay, copied_at, length-copied}
+use Rattle.sparse.specs.Stretches.{Stretch, Within, lay-in, length-lay, copied_at, length-copied}
 use Rattle.sparse.specs.Fits.{Lengths}
 use Rattle.sparse.specs.Form.{Counts, Form}
 use Rattle.sparse.specs.Copy.{heading_end, live_words, live_bytes, live_reals, put_over}

@@ -1,28 +1,21 @@
 -- Each element of a state that was written stands at its place of the tables.
 -- Assumes nothing.
-use Rattle.std.specs.Prelude.{ℕ, ◌+◌, ◌-◌, ◌≤◌, ◌<◌, ◌≡◌, refl, cond, List, [], ◌∷◌, map, eqb, Float, get_or}
-use Rattle.std.proofs.Common.{sym, ap, ◌∙◌, zero-add, eqb-true, eq-eqb, ne_eqb}
-use Rattle.std.proofs.Math.Option.{Option, none, some}
+use Rattle.std.specs.Prelude.{ℕ, ◌+◌, ◌<◌, ◌≡◌, List, [], map, get_or}
+use Rattle.std.proofs.Common.{ap, ◌∙◌, zero-add}
 use native.Mathlib.Omega.{arith}
 use Rattle.std.specs.Float.Ieee.{nan}
 use Rattle.std.proofs.Math.ListN.{length, length-map}
-use Rattle.laws.specs.Loops.{first}
-use Rattle.laws.specs.Lists.{tab, tab-ext, tab-getD, list_of, listOf-is, sum_in}
-use Rattle.steps.specs.Symbol.{Kind, External, Slack, Error, Dummy, Symbol}
+use Rattle.steps.specs.Symbol.{Symbol}
 use Rattle.steps.specs.State.{Term, Basic, Variable, Constraint, Edit, State}
 use Rattle.steps.specs.Readable.{kind_code}
-use Rattle.layout.specs.Layout.{kind_of, bit_of, comparison_in, comparison_code}
-use Rattle.layout.specs.Laying.{get_d_map, tab-from}
-use Rattle.layout.specs.Back.{bit-back, comparison-back}
-use Rattle.layout.specs.cells.Cells.{row_of}
-use Rattle.layout.specs.cells.Seek.{first-elim, first-at}
+use Rattle.layout.specs.Layout.{bit_of, comparison_in, comparison_code}
+use Rattle.layout.specs.Laying.{get_d_map}
+use Rattle.layout.specs.Back.{comparison-back}
 use Rattle.sparse.specs.Places.{ids_at, variable_numbers_at, variable_uses_at, constraint_numbers_at, constraint_groups_at, gone_numbers_at, kinds_at, row_places_at, variable_places_at, changed_at, constraint_markers_at, constraint_others_at, term_counts_at, edit_variables_at, edit_markers_at, edit_others_at, terms_at, relations_at, constants_at, old_values_at, objective_at, cutoff_at, constraint_strengths_at, edit_strengths_at, suggestions_at, coefficients_at, constraint_constants_at, words_size, bytes_size, reals_size}
-use Rattle.sparse.specs.Sparse.{Sparse, symbol_at, other_at, number_at, variable_of, terms_from, term_of, constraint_of, edit_of, basic_of, symbols_of, basics_of, objective_of, read}
-use Rattle.sparse.specs.Stretches.{Stretch, Within, lay-in}
-use Rattle.sparse.specs.Concat.{sum-ext, sum-in, before, concat-at}
-use Rattle.sparse.specs.Laying.{rows_back}
-use Rattle.sparse.specs.Write.{no_symbol, no_basic, no_variable, no_term, no_constraint, no_edit, place_of, other_place, index_of, number_place, all_terms, cells_of, laid_of, heading_of, words_of, bytes_of, reals_of, write}
-use Rattle.sparse.specs.Fits.{Lengths, Live, LiveOther, Fits}
+use Rattle.sparse.specs.Sparse.{Sparse}
+use Rattle.sparse.specs.Stretches.{Within, lay-in}
+use Rattle.sparse.specs.Write.{no_symbol, no_basic, no_variable, no_term, no_constraint, no_edit, place_of, other_place, number_place, all_terms, laid_of, heading_of, words_of, bytes_of, reals_of, write}
+use Rattle.sparse.specs.Fits.{Lengths, Fits}
 
 -- what stands where a mapped list was laid
 through : {A B : Type 0} (f : B → A) (l : List B) (j : ℕ) (d : A) (e : B) {x : A} → j < length l → (j < length (map f l) → x ≡ get_or (map f l) j d) → x ≡ f (get_or l j e)

@@ -1,6 +1,6 @@
 -- The sparse form that tables have where they hold a state: counts within the room, each symbol named by a live place, ids, numbers and keys ascending, no cell 0.0, flags 0 or 1, relations one of three.
 -- Tables of this form are what the state that they read as writes into them: there is one form only.
-use Rattle.std.specs.Prelude.{ℕ, ◌+◌, ◌/◌, ◌%◌, ◌≤◌, ◌<◌, ◌≡◌, eqb, get_or}
+use Rattle.std.specs.Prelude.{ℕ, ◌+◌, ◌≤◌, ◌<◌, ◌≡◌, eqb, get_or}
 use Rattle.std.proofs.Common.{sym, arith, eqb-true}
 use Rattle.laws.specs.Loops.{first}
 use Rattle.layout.specs.cells.Names.{last_place, cell_room}

@@ -3,24 +3,24 @@
 use Prim.Native.Nat.{ℕ, ◌+◌, ◌-◌, ◌≤◌, ◌<◌}
 use Rattle.std.specs.Prelude.{◌≡◌}
 use Rattle.std.proofs.Math.Path.{refl, sym}
-use Rattle.std.proofs.Common.{ap, ◌∙◌}
-use mathlib.Core.List.{List, [], map}
+use Rattle.std.proofs.Common.{◌∙◌}
+use mathlib.Core.List.{List, []}
 use Rattle.std.proofs.Math.Option.{Option, none, some}
 use native.Mathlib.Omega.{arith}
 use Rattle.std.proofs.Math.Dec.{eqb}
 use Rattle.std.specs.Float.Ieee.{nan}
 use Rattle.std.proofs.Math.ListN.{length, get_or, length-map}
 use borrow.Author.Tests.{eqb-true, eq-eqb, ne_eqb}
-use Rattle.laws.specs.Lists.{tab, tab-ext, tab-getD, list_of, listOf-is, sum_from, sum_in}
+use Rattle.laws.specs.Lists.{tab, tab-ext, tab-getD, list_of, listOf-is}
 use Rattle.steps.specs.Symbol.{Kind, External, Slack, Error, Dummy, Symbol}
-use Rattle.steps.specs.State.{Term, Basic, Variable, Constraint, Edit, State}
-use Rattle.steps.specs.Readable.{concat, kind_code}
-use Rattle.layout.specs.Layout.{kind_of, bit_of}
+use Rattle.steps.specs.State.{Basic, Variable, Constraint, Edit, State}
+use Rattle.steps.specs.Readable.{kind_code}
+use Rattle.layout.specs.Layout.{kind_of}
 use Rattle.layout.specs.Laying.{get_d_map, tab-from}
 use Rattle.layout.specs.Back.{bit-back}
 use Rattle.layout.specs.cells.Cells.{row_of}
 use Rattle.layout.specs.cells.Seek.{first-elim, first-at}
-use Rattle.sparse.specs.Places.{ids_at, variable_numbers_at, gone_numbers_at, kinds_at, row_places_at, variable_places_at, term_counts_at, terms_at, constants_at, objective_at, cutoff_at, coefficients_at}
+use Rattle.sparse.specs.Places.{ids_at, variable_numbers_at, gone_numbers_at, kinds_at, row_places_at, variable_places_at, constants_at, objective_at}
 use Rattle.sparse.specs.Sparse.{Sparse, variable_count, symbol_at, other_at, number_at, variable_of, terms_from, term_of, constraint_of, edit_of, basic_of, symbols_of, basics_of, objective_of, gone_of, read}
 use Rattle.sparse.specs.Concat.{sum-ext, sum-in, sum-le, before, concat-at, concat-length}
 use Rattle.sparse.specs.Laying.{rows_back}

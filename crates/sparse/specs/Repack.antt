@@ -1,7 +1,7 @@
 -- The cells of tables whose keys ascend, read as dense rows and laid down again, are those cells.
 -- Assumes nothing.
 use Prim.Native.Nat.{ℕ, zero, suc, ◌+◌, ◌*◌, ◌/◌, ◌%◌, ◌≤◌, ◌<◌}
-use Rattle.std.specs.Prelude.{◌≡◌, Bool, not, eqb, Float, set}
+use Rattle.std.specs.Prelude.{◌≡◌, Bool, eqb, Float, set}
 use Rattle.std.proofs.Math.Path.{refl, ap}
 use Rattle.std.proofs.Common.{sym, ◌∙◌, subst, add-zero, zero-add}
 use Rattle.std.proofs.Math.Bool.{true, false}

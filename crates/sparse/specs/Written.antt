@@ -1,33 +1,31 @@
 -- The live part of tables of the sparse form, put over others, is what the state that they read as writes; over themselves it changes nothing.
 -- Assumes nothing.
 use Prim.Native.Nat.{ℕ, zero, suc, ◌+◌, ◌-◌, ◌≤◌, ◌<◌}
-use Rattle.std.specs.Prelude.{◌≡◌, Bool, true, false, cond, List, [], ◌∷◌, map, Float}
+use Rattle.std.specs.Prelude.{◌≡◌, List, [], ◌∷◌, map, Float}
 use Rattle.std.proofs.Math.Path.{refl, ap}
 use Rattle.std.proofs.Common.{sym, ◌∙◌, add-zero, zero-add, not-suc-le-zero, le_of_suc-le-suc}
-use Rattle.std.proofs.Math.Option.{none, some}
 use native.Mathlib.Omega.{arith}
 use Rattle.std.proofs.Math.Dec.{eqb}
 use Rattle.std.specs.Float.{nan}
 use Rattle.std.proofs.Math.ListN.{length, get_or}
-use Rattle.std.proofs.lemmas.List.{length-map}
-use borrow.Author.Tests.{eqb-true, eq-eqb, ne_eqb}
+use borrow.Author.Tests.{eq-eqb, ne_eqb}
 use Rattle.laws.specs.Lists.{tab, list_of, map-tab, getD-tab, length-tab}
 use Rattle.steps.specs.Symbol.{Symbol}
-use Rattle.steps.specs.State.{Term, Basic, Variable, Constraint, Edit, State}
+use Rattle.steps.specs.State.{Term, Basic, Variable, Constraint, Edit}
 use Rattle.steps.specs.Readable.{concat, kind_code}
 use Rattle.layout.specs.Layout.{kind_of, bit_of, comparison_code, over}
 use Rattle.layout.specs.Laying.{tab-from}
 use Rattle.layout.specs.Written.{comparison-read}
 use Rattle.layout.specs.Copied.{length-listOf, getD-listOf}
-use Rattle.layout.specs.cells.Cells.{Cells, cells, row_of}
-use Rattle.layout.specs.cells.Seek.{first-elim, first-at}
+use Rattle.layout.specs.cells.Cells.{cells, row_of}
+use Rattle.layout.specs.cells.Seek.{first-at}
 use Rattle.sparse.specs.Places.{ids_at, variable_numbers_at, variable_uses_at, constraint_numbers_at, constraint_groups_at, gone_numbers_at, kinds_at, row_places_at, variable_places_at, changed_at, constraint_markers_at, constraint_others_at, term_counts_at, edit_variables_at, edit_markers_at, edit_others_at, terms_at, relations_at, constants_at, old_values_at, objective_at, cutoff_at, constraint_strengths_at, edit_strengths_at, suggestions_at, coefficients_at, constraint_constants_at}
 use Rattle.sparse.specs.Sparse.{Sparse, symbol_count, row_count, cell_count, variable_count, constraint_count, edit_count, gone_count, symbol_at, other_at, number_at, variable_of, terms_from, term_of, constraint_of, edit_of, basic_of, symbols_of, basics_of, objective_of, gone_of, read}
-use Rattle.sparse.specs.Stretches.{Stretch, part, lay, copied, over-itself, lay-itself, copied-itself}
+use Rattle.sparse.specs.Stretches.{copied, over-itself, lay-itself, copied-itself}
 use Rattle.sparse.specs.Concat.{listed-concat}
 use Rattle.sparse.specs.Repack.{repacked}
 use Rattle.sparse.specs.Write.{no_symbol, no_variable, place_of, other_place, index_of, number_place, all_terms, cells_of, laid_of, heading_of, words_of, bytes_of, reals_of, write}
-use Rattle.sparse.specs.Form.{index_at, index-named, Counts, At, Form}
+use Rattle.sparse.specs.Form.{index_at, index-named, At, Form}
 use Rattle.sparse.specs.Copy.{live_words, live_bytes, live_reals, put_over}
 
 kind-read : (k : ℕ) → k ≤ 3 → kind_code (kind_of k) ≡ k

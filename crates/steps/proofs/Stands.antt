@@ -1,5 +1,4 @@
 -- What was told of the variables stands after every changing call, accepted or refused. Assumes nothing.
-use mathlib.Core.Path.{◌≡◌}
 use Rattle.steps.specs.State.{State}
 use Rattle.steps.specs.Calls.{Result, finish, refused_by, accepted_as}
 use Rattle.steps.specs.Changing.{Changing, made}

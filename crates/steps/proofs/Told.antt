@@ -1,16 +1,16 @@
 -- What has been told of the variables: each one's old value, until it goes and waits among the gone. No step but a fetch's tells anything, and none forgets. Assumes nothing.
-use Prim.Native.Nat.{ℕ, zero, suc, ◌+◌, ◌-◌, ◌≤◌}
+use Prim.Native.Nat.{ℕ, suc, ◌+◌, ◌-◌, ◌≤◌}
 use native.Mathlib.Omega.{arith}
 use mathlib.Core.Path.{◌≡◌, refl, sym, ap, ap₂, ◌∙◌, subst}
 use mathlib.Core.Bool.{Bool, true, false, not, ◌&&◌, ◌||◌, cond, true≢false}
 use mathlib.Core.List.{List, [], ◌∷◌, map}
-use mathlib.Core.Option.{Option, none, some, some-injective, none-ne-some}
+use mathlib.Core.Option.{Option, none, some}
 use lib.Dec.{T, eqb, ltb, eqb→eq, eqb_refl}
 use lib.ListN.{length}
 use lib.Ieee.{Float, ne}
 use Rattle.steps.specs.State.{Variable, Changes}
 use Rattle.steps.specs.Changes.{with_flag, clear_changed, flag_symbol, var_changed, all_changed, member, keep_number, never_reported, tell_gone}
-use Rattle.steps.specs.CreateRow.{keep_variable, use_once}
+use Rattle.steps.specs.CreateRow.{keep_variable}
 use Rattle.steps.specs.Remove.{Fallen, use_less}
 
 -- the value last told of the number n, if it is live and was reported

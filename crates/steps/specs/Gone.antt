@@ -4,7 +4,7 @@ use Rattle.std.specs.Float.Ieee.{neg}
 use Rattle.steps.specs.Strength.{required}
 use Rattle.steps.specs.State.{Changes, State, at_least, equal}
 use Rattle.steps.specs.Changes.{Change, gone_entry}
-use Rattle.steps.specs.Session.{Call, adds, removes, drops, adds_edit, removes_edit, suggests, fetches, reads, answer, list, says, Expected, ◌gives◌, turn, first_bad_from, all_pass}
+use Rattle.steps.specs.Session.{adds, removes, drops, adds_edit, removes_edit, suggests, fetches, reads, answer, list, says, Expected, ◌gives◌, turn, first_bad_from, all_pass}
 use Rattle.steps.specs.Number.{usual_cutoff}
 use Rattle.steps.specs.Calls.{empty}
 use Rattle.steps.specs.Twelve.{num, minus, x_is, accepted, open_twelve}

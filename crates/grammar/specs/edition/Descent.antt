@@ -5,12 +5,12 @@ use Rattle.std.proofs.Common.{sym, ◌∙◌, add-one, eqb-true, drop_of_length-
 use Rattle.std.proofs.Math.Bool.{true, false}
 use mathlib.Core.List.{List, [], ◌∷◌}
 use Rattle.std.proofs.Math.Dec.{eqb}
-use Rattle.grammar.specs.Bytes.{Kind, strange, kind_of}
+use Rattle.grammar.specs.Bytes.{strange, kind_of}
 use Rattle.grammar.specs.Sums.{Relation, Sums, one, turned}
-use Rattle.grammar.specs.Reader.{Mode, first, spaced, wanted, lettered, number, numbered, named, closed, apart, half, Around, part, sum, inside, left, right, room_of, Next, go, ends, stop, halts, step, Outcome, read, halted, whole, flushed, is_bare, is_read, finished, follow, run, read_sum}
+use Rattle.grammar.specs.Reader.{Mode, first, spaced, wanted, lettered, number, numbered, named, closed, apart, half, Around, part, sum, inside, left, right, room_of, Next, stop, halts, step, Outcome, read, halted, whole, flushed, is_bare, is_read, finished, follow, run, read_sum}
 use Rattle.grammar.specs.Descent.{over, Fits, rested, Inner, Alike, goes, ended, stops, alike, behindRest, Behind, behind-is, unread, drop-tail}
 use Rattle.grammar.specs.edition.Endings.{required}
-use Rattle.grammar.specs.edition.Steps.{State, head, Move, on, halt, stepped, closing, move, Found, met, found, unended, last, onward, pass}
+use Rattle.grammar.specs.edition.Steps.{State, head, stepped, closing, move, Found, met, found, unended, last, onward, pass}
 
 -- a line's bytes from a place on
 abbrev pub pass_from : List ℕ → ℕ → State → Found

@@ -1,6 +1,6 @@
 -- "the writer gives 36 for terms not ascending or anything a line can't say": for that and for nothing else.
 use Rattle.std.specs.Prelude.{ℕ, zero, suc, ◌+◌, ◌*◌, ◌≤◌, ◌/◌, ◌%◌, ◌≡◌, refl, Bool, cond, not, ◌&&◌, List, [], ◌∷◌, ◌++◌, ◌↔◌, leb, ltb, eqb, length, ℤ, pos, nat_abs}
-use Rattle.std.proofs.Common.{sym, ap, ◌∙◌, arith, leb→le, le→leb, length-append}
+use Rattle.std.proofs.Common.{arith, leb→le, le→leb, length-append}
 use Rattle.std.proofs.Math.Bool.{true, false}
 use Rattle.std.proofs.Math.Dec.{T}
 use Rattle.laws.specs.Z.{eq_zb, eq_zb→}
@@ -10,12 +10,12 @@ use Rattle.grammar.specs.Says.{NoneZero}
 use Rattle.grammar.specs.Pieces.{both}
 use Rattle.grammar.specs.Facts.{never}
 use Rattle.grammar.specs.Names.{Named}
-use Rattle.grammar.specs.edition.Endings.{required, is_group, Constraint, Reply, taken, denied, ranged, behind}
+use Rattle.grammar.specs.edition.Endings.{required, is_group, Constraint, taken, denied, ranged, behind}
 use Rattle.grammar.specs.edition.Free.{and_both}
 use Rattle.grammar.specs.edition.Steps.{read_second}
 use Rattle.grammar.specs.edition.Theorems.{accepts, second-named}
 use Rattle.grammar.specs.plain.Decimal.{decimal_in, decimal}
-use Rattle.grammar.specs.plain.Plain.{is_negative, first_sign, next_sign, size_text, term_text, next_text, constant_text, sum_text, ending_text, plain_text, term_said, terms_said, sayable, Written, wrote, refused, room, write_line}
+use Rattle.grammar.specs.plain.Plain.{is_negative, first_sign, next_sign, term_text, next_text, constant_text, sum_text, ending_text, plain_text, term_said, terms_said, sayable, wrote, refused, room, write_line}
 use Rattle.grammar.specs.plain.Said.{ascended}
 use Rattle.grammar.specs.plain.Theorems.{Says, says, said, plain-reads}
 

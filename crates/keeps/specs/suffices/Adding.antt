@@ -1,7 +1,7 @@
 -- Add's steps tell. Assumes nothing.
 use Rattle.std.specs.Prelude.{◌≡◌, refl, ◌≢◌, Bool, true, false, ℕ, ◌+◌, ◌-◌, ◌<◌, length, Float}
-use Rattle.std.proofs.Common.{sym, ap, ◌∙◌, subst, inl, inr, true≢false, arith}
-use mathlib.Core.List.{List, [], ◌∷◌, ◌++◌, map}
+use Rattle.std.proofs.Common.{sym, ◌∙◌, subst, inl, inr, arith}
+use mathlib.Core.List.{List, [], ◌∷◌}
 use Rattle.std.proofs.Math.Option.{Option, none, some}
 use Rattle.steps.specs.Number.{is_finite, near_zero, Mark, whole_if}
 use Rattle.steps.specs.Symbol.{Slack, Symbol, is_external, is_pivotable, holds}
@@ -10,7 +10,7 @@ use Rattle.steps.specs.State.{Term, Relation, Basic, Variable}
 use Rattle.steps.specs.Work.{Work, Outcome, refused, going, ◌>>=◌, refuse, check_finite, with_tableau, with_rows, with_artificial, marking, find_row, keep_row, new_symbol, append_symbol, purge}
 use Rattle.steps.specs.Substitute.{enter_basis, pivot}
 use Rattle.steps.specs.Optimise.{optimise, the_objective, the_artificial}
-use Rattle.steps.specs.CreateRow.{Building, Created, append_to, create_row, choose_subject, all_dummies}
+use Rattle.steps.specs.CreateRow.{Created, append_to, create_row, choose_subject, all_dummies}
 use Rattle.steps.specs.Artificial.{any_pivotable_symbol, is_empty_row, stand_temporary, remove_temporary, artificial_constant_near_zero, add_with_artificial_variable}
 use Rattle.steps.specs.Add.{whole_inputs, Added, add_with_subject, add_created, add_steps}
 use Rattle.steps.specs.Tests.{kept_terms, new_variables}
@@ -18,19 +18,19 @@ use Rattle.steps.specs.Readable.{uses_in}
 use Rattle.keeps.specs.Lists.{All, all-to, all-zip, no_both}
 use Rattle.keeps.specs.Along.{Mem, first-chosen}
 use Rattle.keeps.specs.Keys.{row_id, keep_all, keep_row-is, find-all, Row?, no_row, a-row, row?}
-use Rattle.keeps.specs.Cells.{Fine, fine-l, holds-held}
+use Rattle.keeps.specs.Cells.{Fine, holds-held}
 use Rattle.keeps.specs.RowOps.{RowOk}
-use Rattle.keeps.specs.Fits.{IsBasic, FitsW, fits-plain, fits-worse, mem-append, mem-last, all_map}
+use Rattle.keeps.specs.Fits.{IsBasic, fits-plain, fits-worse, mem-append, mem-last, all_map}
 use Rattle.keeps.specs.Frame.{Frame, frame-trans, mark-frame, enter-frame, pivot-frame}
 use Rattle.keeps.specs.Good.{Good, good-frame}
-use Rattle.keeps.specs.Passes.{Ends, ends-bind, ends-to, check-ends, Free, held-free, After, optimise-ends}
+use Rattle.keeps.specs.Passes.{Ends, ends-bind, check-ends, Free, held-free, After, optimise-ends}
 use Rattle.keeps.specs.Creating.{Tagged, create_row-tagged, subject-free}
 use Rattle.keeps.specs.Adding.{subject-fits, temporary-fits}
 use Rattle.keeps.specs.suffices.Fresh.{Fresh}
 use Rattle.keeps.specs.suffices.Values.{RoundedAt, value-keep}
-use Rattle.keeps.specs.suffices.Placed.{var_id, Named, Placed, placed-flags, good_placed, apart}
-use Rattle.keeps.specs.suffices.Pivoting.{Told, Sees, sees-ready, mark-ready, fresh-same, enter-told, solved-rounded, pivot-sees}
-use Rattle.keeps.specs.suffices.Passing.{ends-both, others-spare, optimise-sees, mark-sees}
+use Rattle.keeps.specs.suffices.Placed.{var_id, Named, placed-flags, good_placed, apart}
+use Rattle.keeps.specs.suffices.Pivoting.{Sees, sees-ready, mark-ready, fresh-same, enter-told, solved-rounded, pivot-sees}
+use Rattle.keeps.specs.suffices.Passing.{ends-both, others-spare, optimise-sees}
 use Rattle.keeps.specs.suffices.Removing.{Other, purge-sees}
 use Rattle.keeps.specs.suffices.Building.{Begun, mark-begun, create_row-begun, place_more, place-value}
 

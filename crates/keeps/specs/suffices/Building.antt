@@ -1,23 +1,23 @@
 -- Add's steps 1 to 3 change no value: the variables that come are at 0, and nothing has been told of them. Assumes nothing.
-use Rattle.std.specs.Prelude.{◌≡◌, refl, ◌≢◌, List, [], ◌∷◌, ◌++◌, map, Bool, true, false, cond, ℕ, suc, ◌<◌, Float}
-use Rattle.std.proofs.Common.{sym, ap, ◌∙◌, subst, inl, inr, arith}
+use Rattle.std.specs.Prelude.{◌≡◌, refl, List, [], ◌∷◌, map, Bool, true, false, ℕ, suc, ◌<◌, Float}
+use Rattle.std.proofs.Common.{sym, ◌∙◌, subst, inr, arith}
 use Rattle.std.proofs.Math.Option.{Option, none, some}
 use Rattle.std.specs.Float.{nan}
 use Rattle.std.specs.Float.Ieee.{lt, eq, ne, neg}
 use Rattle.steps.specs.Number.{zero64, one64, minus_one64, near_zero, below_zero, Mark}
 use Rattle.steps.specs.Strength.{required}
 use Rattle.steps.specs.Symbol.{External, Slack, Error, Symbol}
-use Rattle.steps.specs.Row.{Row, Written, reverse_sign, insert_row, append_cell}
+use Rattle.steps.specs.Row.{Row, reverse_sign, insert_row, append_cell}
 use Rattle.steps.specs.State.{Term, Relation, at_most, equal, at_least, Basic, Variable}
 use Rattle.steps.specs.Work.{Work, with_tableau, with_changes, with_objective, marking, find_row, new_symbol, append_symbol}
 use Rattle.steps.specs.Changes.{find_variable, never_reported, value_of}
-use Rattle.steps.specs.CreateRow.{Building, Created, written, append_to, insert_into, keep_variable, with_variables, add_variable, use_once, count_use, insert_variable, insert_term, insert_terms, tagged, add_symbol, insert_in_objective, add_error, inequality, soft_equality, required_equality, add_tag, create_row}
+use Rattle.steps.specs.CreateRow.{Building, Created, written, append_to, insert_into, with_variables, add_variable, use_once, count_use, insert_variable, insert_term, insert_terms, tagged, add_symbol, insert_in_objective, add_error, inequality, soft_equality, required_equality, add_tag, create_row}
 use Rattle.keeps.specs.Lists.{All, all-to, all_append, times}
 use Rattle.keeps.specs.Along.{Mem}
 use Rattle.keeps.specs.Keys.{keep_all, keep_variable-is}
 use Rattle.keeps.specs.Cells.{zero-finite}
 use Rattle.keeps.specs.Uses.{var_number}
-use Rattle.keeps.specs.Fits.{bids, bids-rerow, fresh-row, mem-append, all_map}
+use Rattle.keeps.specs.Fits.{bids, fresh-row, mem-append, all_map}
 use Rattle.keeps.specs.suffices.Numbers.{Is, is-refl}
 use Rattle.keeps.specs.suffices.Fresh.{held, Fresh, Aware}
 use Rattle.keeps.specs.suffices.Values.{value_at, RoundedAt, Rounded, value_none, value-rerow}

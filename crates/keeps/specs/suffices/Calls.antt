@@ -1,7 +1,7 @@
 -- Every changing call tells: after it each live variable is in the changed set, or has the value that was told of it. Assumes nothing.
 use Rattle.std.proofs.Math.Path.{◌≡◌, sym}
-use Rattle.std.specs.Prelude.{refl, ◌≢◌, List, [], ◌∷◌, map, Bool, not, cond, ◌&&◌, ℕ, zero, suc, ◌+◌, ◌-◌, ◌≤◌, eqb, Float}
-use Rattle.std.proofs.Common.{ap, ◌∙◌, subst, inl, inr, true≢false, arith}
+use Rattle.std.specs.Prelude.{refl, List, [], ◌∷◌, Bool, not, cond, ◌&&◌, ℕ, zero, suc, ◌-◌, ◌≤◌, eqb, Float}
+use Rattle.std.proofs.Common.{◌∙◌, true≢false, arith}
 use Rattle.std.proofs.Math.Option.{Option, none, some}
 use Rattle.std.proofs.Math.Bool.{true, false}
 use Rattle.std.proofs.Math.Dec.{eqb-suc-zero}
@@ -19,12 +19,11 @@ use Rattle.steps.specs.Calls.{Result, begin, finish, refused_by, accepted_as, co
 use Rattle.steps.specs.Changing.{Changing, adds, removes, drops, adds_edit, removes_edit, suggests, made}
 use Rattle.steps.specs.Readable.{code, tag_symbols, tag_kinds, edit_kinds}
 use Rattle.keeps.specs.Lists.{All, all-zip, times, left, right}
-use Rattle.keeps.specs.Along.{Mem}
 use Rattle.keeps.specs.Keys.{findBy, find-all, drop-total, find_constraint-is, find_edit-is}
 use Rattle.keeps.specs.Cells.{Fine, zero-finite}
 use Rattle.keeps.specs.Codes.{codes, codes-mem}
 use Rattle.keeps.specs.Places.{times-all}
-use Rattle.keeps.specs.Passes.{Ends, ends-to}
+use Rattle.keeps.specs.Passes.{Ends}
 use Rattle.keeps.specs.Reads.{Reads, unmap, con_number, edit_number, tag_code}
 use Rattle.keeps.specs.Good.{tags_by, begin-good}
 use Rattle.keeps.specs.Addition.{passed}

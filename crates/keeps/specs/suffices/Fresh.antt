@@ -1,17 +1,15 @@
 -- A live variable is in the changed set, or has the value that was told of it; and what a note does for it. Assumes nothing.
-use Rattle.std.specs.Prelude.{◌≡◌, ◌⊎◌, ◌≢◌, List, [], ◌∷◌, map, Bool, cond, ◌||◌, ℕ, T, Float}
+use Rattle.std.specs.Prelude.{◌≡◌, ◌⊎◌, List, [], ◌∷◌, map, Bool, cond, ◌||◌, ℕ, Float}
 use Rattle.std.proofs.Math.Path.{refl}
 use Rattle.std.proofs.Common.{sym, ap, ◌∙◌, subst, inl, inr, true≢false, eqb→eq}
-use Rattle.std.proofs.Math.Option.{Option, none, some}
 use Rattle.std.proofs.Math.Bool.{true, false}
 use Rattle.std.proofs.Math.Dec.{eqb, eqb_refl}
 use Rattle.steps.specs.Number.{zero64}
 use Rattle.steps.specs.State.{Basic, Variable, Changes}
-use Rattle.steps.specs.Work.{Work, with_changes}
-use Rattle.steps.specs.Changes.{with_flag, clear_changed, flag_symbol, var_changed, all_changed, note, member, never_reported, value_of}
-use Rattle.keeps.specs.Lists.{All, all-to, Same?, is, isnt, same?, truly, so}
+use Rattle.steps.specs.Changes.{with_flag, clear_changed, flag_symbol, var_changed, all_changed, member, never_reported, value_of}
+use Rattle.keeps.specs.Lists.{All, all-to, truly, so}
 use Rattle.keeps.specs.Fits.{all_map}
-use Rattle.keeps.specs.suffices.Numbers.{Is, is-trans}
+use Rattle.keeps.specs.suffices.Numbers.{Is}
 
 -- what a reader holds of a live variable: the value last told, 0.0 if none was
 abbrev pub held : Variable → Float

@@ -1,17 +1,16 @@
 -- What a reader makes of a fetch's list, number by number: the value if one is listed, nothing if it is listed gone alone, else what it held. Assumes nothing.
-use Rattle.std.specs.Prelude.{◌≡◌, ◌≢◌, Bool, not, cond, ◌&&◌, ◌||◌, T, eqb, leb, Float}
+use Rattle.std.specs.Prelude.{◌≡◌, Bool, not, cond, ◌&&◌, ◌||◌, T, eqb, leb, Float}
 use Rattle.std.proofs.Math.Path.{refl}
-use Rattle.std.proofs.Common.{sym, ap, ◌∙◌, subst, arith, leb→le}
+use Rattle.std.proofs.Common.{sym, ◌∙◌, subst, arith, leb→le}
 use mathlib.Core.List.{List, [], ◌∷◌, map}
 use Rattle.std.proofs.Math.Option.{Option, none, some}
 use Rattle.std.proofs.Math.Bool.{true, false}
 use Prim.Native.Nat.{ℕ, suc, ◌≤◌, ◌<◌}
 use Rattle.std.proofs.Math.Dec.{nleb→lt}
-use Rattle.std.specs.Float.Ieee.{ne}
 use Rattle.steps.specs.State.{Basic, Variable}
 use Rattle.steps.specs.Changes.{member, never_reported, find_variable, value_of, Change, is_listed, news_of, gone_entry, merged}
 use Rattle.steps.proofs.Told.{told_as}
-use Rattle.keeps.specs.Lists.{All, Same?, is, isnt, same?, times, Up, up_none, member-in, none_of}
+use Rattle.keeps.specs.Lists.{All, Same?, is, isnt, same?, Up, up_none, member-in}
 use Rattle.keeps.specs.Uses.{var_number}
 use Rattle.keeps.specs.Listed.{entry_number, news-up}
 use Rattle.keeps.specs.suffices.Reader.{Reader, takes, takes_all}

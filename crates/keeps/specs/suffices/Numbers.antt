@@ -5,11 +5,10 @@ use Rattle.std.specs.Bool.{beq}
 use Rattle.std.proofs.Math.Nat.{eq_of_mul-eq-mul_right}
 use Rattle.std.proofs.Math.Dec.{eqb_refl, nleb→lt}
 use Rattle.std.proofs.Math.Pow.{pow-lt}
-use Rattle.std.specs.Float.{nan, inf, fin, Format, binary64}
-use Rattle.std.specs.Float.Ieee.{prec, emax, low, up, down, round, sum, add, eq, ne, fits, of_bits, level}
-use Rattle.std.specs.Float.Ieee.Fits.{and_l, and_r, up_pos, down_pos}
+use Rattle.std.specs.Float.{nan, inf, fin, binary64}
+use Rattle.std.specs.Float.Ieee.{prec, emax, low, up, down, round, sum, add, eq, fits, of_bits, level}
+use Rattle.std.specs.Float.Ieee.Fits.{and_l, and_r, down_pos}
 use Rattle.std.specs.Float.Ieee.Exact.{HasValue, round_exact}
-use Rattle.std.specs.Float.Ieee.Scale.{round_same}
 use Rattle.steps.specs.Number.{zero64, is_finite, ◌+₆₄◌}
 use Rattle.keeps.specs.Lists.{so, truly, both, left, right}
 

@@ -1,6 +1,6 @@
 -- The two passes and a suggestion tell. Assumes nothing.
-use Rattle.std.specs.Prelude.{◌≡◌, refl, ◌≢◌, Bool, true, false, not, cond, ◌&&◌, ℕ, zero, suc, Float}
-use Rattle.std.proofs.Common.{sym, ap, ◌∙◌, inl, inr, true≢false}
+use Rattle.std.specs.Prelude.{◌≡◌, refl, ◌≢◌, Bool, true, false, not, ◌&&◌, ℕ, zero, suc, Float}
+use Rattle.std.proofs.Common.{sym, ap, ◌∙◌, inl, true≢false}
 use Rattle.std.proofs.Math.Path.{subst}
 use mathlib.Core.List.{List, [], ◌∷◌}
 use Rattle.std.proofs.Math.Option.{Option, none, some}
@@ -8,18 +8,17 @@ use Rattle.std.specs.Float.Ieee.{neg}
 use Rattle.steps.specs.Number.{constant_bound, Mark, below_zero, whole_if, ◌-₆₄◌, ◌/₆₄◌}
 use Rattle.steps.specs.Symbol.{Symbol, is_external, is_restricted, coefficient_for}
 use Rattle.steps.specs.Row.{Written}
-use Rattle.steps.specs.State.{Tag, Basic, Variable, Edit}
+use Rattle.steps.specs.State.{Tag, Basic, Edit}
 use Rattle.steps.specs.Work.{Work, Outcome, refused, going, ◌>>=◌, refuse, check_finite, with_tableau, with_changes, with_rows, marking, count_pivot}
 use Rattle.steps.specs.Changes.{all_changed}
 use Rattle.steps.specs.Substitute.{Substituted, rows_of, noted_of, pivot}
-use Rattle.steps.specs.Optimise.{Candidate, smallest_ratio, negative_ratios, Goal, get_entering_symbol, get_leaving_row, Choice, ended, stuck, pivot_on, choose_pivot, counted_pivot, optimise, get_dual_leaving_row, get_dual_entering_symbol, choose_dual_pivot, dual_optimise}
+use Rattle.steps.specs.Optimise.{Candidate, negative_ratios, Goal, get_entering_symbol, get_leaving_row, Choice, ended, stuck, pivot_on, choose_pivot, counted_pivot, optimise, get_dual_leaving_row, get_dual_entering_symbol, choose_dual_pivot, dual_optimise}
 use Rattle.steps.specs.Add.{whole_within}
-use Rattle.steps.specs.Edit.{shift_of, shift_rows, shift_constants, suggest_steps}
+use Rattle.steps.specs.Edit.{shift_of, shift_constants, suggest_steps}
 use Rattle.keeps.specs.Lists.{All, all-to, all-zip, left, none≢some, some-injective}
 use Rattle.keeps.specs.Along.{Mem}
 use Rattle.keeps.specs.Cells.{Fine, fine-l}
 use Rattle.keeps.specs.Fits.{fits-worse}
-use Rattle.keeps.specs.Frame.{clear-all}
 use Rattle.keeps.specs.Passes.{Ends, ends-bind, check-ends, Free, entering-free, smallest-all, dual-leaving, dual-entering}
 use Rattle.keeps.specs.Suggest.{shift_fits, shift-frame}
 use Rattle.keeps.specs.suffices.Fresh.{Fresh, Aware, Owing, all_noted}

@@ -1,32 +1,32 @@
 -- A pivot tells: every variable whose value it changes is noted. Assumes nothing.
-use Rattle.std.specs.Prelude.{◌≡◌, ◌⊎◌, ◌≢◌, Bool, cond, ◌&&◌, ◌||◌, ℕ, ◌+◌, ◌≤◌, T, eqb, Float}
+use Rattle.std.specs.Prelude.{◌≡◌, ◌⊎◌, ◌≢◌, Bool, cond, ◌&&◌, ◌||◌, ℕ, ◌≤◌, Float}
 use Rattle.std.proofs.Math.Path.{refl, ap, subst}
 use Rattle.std.proofs.Common.{sym, ◌∙◌, true≢false, arith}
 use Rattle.std.proofs.Math.Logic.{inl, inr}
-use mathlib.Core.List.{List, [], ◌∷◌, map}
+use mathlib.Core.List.{List, [], ◌∷◌}
 use Rattle.std.proofs.Math.Option.{Option, none, some}
 use Rattle.std.proofs.Math.Bool.{true, false, not}
-use Rattle.std.specs.Float.Ieee.{eq, ne, fits}
+use Rattle.std.specs.Float.Ieee.{eq, ne}
 use Rattle.std.specs.Float.{binary64}
 use Rattle.std.specs.Float.Ieee.Fits.{mul-fits}
-use Rattle.steps.specs.Number.{zero64, minus_one64, is_finite, Mark, ◌*₆₄◌, ◌/₆₄◌}
+use Rattle.steps.specs.Number.{zero64, minus_one64, Mark, ◌/₆₄◌}
 use Rattle.steps.specs.Symbol.{Symbol, is_external, coefficient_for}
 use Rattle.steps.specs.Row.{Row, Written, solve_for_symbol, solve_for_symbols}
 use Rattle.steps.specs.State.{Basic, Variable, Changes}
 use Rattle.steps.specs.Work.{Work, with_tableau, with_rows, with_objective, with_changes, with_artificial, marking, find_row, drop_row, keep_row}
-use Rattle.steps.specs.Changes.{with_flag, clear_changed, all_changed, var_changed, note, member, value_of}
+use Rattle.steps.specs.Changes.{all_changed, var_changed, note, member, value_of}
 use Rattle.steps.specs.Substitute.{Substituted, substitute_in_rows, rows_of, noted_of, substitute, enter_basis, pivot}
-use Rattle.keeps.specs.Lists.{All, all-to, all-zip, Same?, is, isnt, same?, times, Up, truly, no_both}
+use Rattle.keeps.specs.Lists.{All, all-to, all-zip, Same?, is, isnt, same?, times, Up}
 use Rattle.keeps.specs.Along.{ids, Mem}
-use Rattle.keeps.specs.Keys.{row_id, drop_row-is, drop_all, drop-gone, drop-times, keep_all, keep_row-is, Row?, no_row, a-row, row?}
+use Rattle.keeps.specs.Keys.{row_id, drop_row-is, drop_all, drop-gone, drop-times, keep_all, keep_row-is}
 use Rattle.keeps.specs.Cells.{Fine}
 use Rattle.keeps.specs.Fits.{bids, FitsW}
 use Rattle.keeps.specs.Frame.{clear-all, pivot-frame}
-use Rattle.keeps.specs.Pivots.{bids-sub, live-sub, pivot-fits}
+use Rattle.keeps.specs.Pivots.{bids-sub, pivot-fits}
 use Rattle.keeps.specs.Passes.{Free}
 use Rattle.keeps.specs.suffices.Numbers.{Is, is-sym, is-trans}
 use Rattle.keeps.specs.suffices.Fresh.{held, Flagged, Fresh, Aware, Owing, all_noted}
-use Rattle.keeps.specs.suffices.Values.{value_at, ExternalAt, Numbered, RoundedAt, Rounded, NotedOr, written, written-noted, written-rounded, substituted, substituted-is, substituted-writes, substituted-rounded, value_none, value-drop, value-keep, value-kept}
+use Rattle.keeps.specs.suffices.Values.{value_at, Numbered, RoundedAt, Rounded, NotedOr, written, written-noted, written-rounded, substituted, substituted-is, substituted-writes, substituted-rounded, value_none, value-drop, value-keep, value-kept}
 use Rattle.keeps.specs.suffices.Placed.{var_id, Named, Placed, placed-flags, external-at, mem_unique}
 
 -- what the steps find before them

@@ -8,7 +8,6 @@ use Rattle.steps.specs.Changes.{with_flag, clear_changed}
 use Rattle.steps.specs.Readable.{kind_code, code}
 use Rattle.keeps.specs.Lists.{All, all-to, all-zip, Same?, is, isnt, same, same?, total, times, times-map, Up, up_none, no_both}
 use Rattle.keeps.specs.Along.{ids, Mem}
-use Rattle.keeps.specs.Keys.{row_id}
 use Rattle.keeps.specs.Codes.{codes, codes-mem, codes-once, mem-ids}
 use Rattle.keeps.specs.Places.{times-all}
 use Rattle.keeps.specs.Reads.{var_code, unmap}

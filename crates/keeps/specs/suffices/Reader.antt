@@ -1,10 +1,10 @@
 -- The reader and the claim: "a reader that starts empty at reset, takes each fetched list in order, forgets what is listed gone and takes anything unknown as 0.0, holds after each fetch the same numbers, compared as numbers, as asking every live variable one by one."
-use Rattle.std.specs.Prelude.{◌≡◌, List, [], ◌∷◌, Bool, true, false, cond, ℕ, eqb, Float}
+use Rattle.std.specs.Prelude.{◌≡◌, List, [], ◌∷◌, true, false, cond, ℕ, eqb, Float}
 use Rattle.std.proofs.Math.Option.{Option, none, some}
 use Rattle.std.specs.Float.Ieee.{eq}
 use Rattle.steps.specs.Number.{zero64, cutoff_fits}
 use Rattle.steps.specs.State.{State}
-use Rattle.steps.specs.Changes.{Change, Fetched, find_variable, value, fetch_changes}
+use Rattle.steps.specs.Changes.{Change, find_variable, value, fetch_changes}
 use Rattle.steps.specs.Calls.{empty, reset}
 use Rattle.steps.specs.Changing.{Changing, made}
 

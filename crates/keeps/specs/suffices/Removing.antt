@@ -1,14 +1,14 @@
 -- Remove's steps tell, and a variable that goes leaves the others as they were. Assumes nothing.
-use Rattle.std.specs.Prelude.{◌≡◌, ◌⊎◌, ◌≢◌, List, [], ◌∷◌, map, Bool, cond, ◌&&◌, ◌||◌, ℕ, ◌+◌, ◌-◌, ◌≤◌, eqb, Float}
+use Rattle.std.specs.Prelude.{◌≡◌, ◌⊎◌, ◌≢◌, List, [], ◌∷◌, map, Bool, cond, ◌&&◌, ◌||◌, ℕ, ◌+◌, ◌-◌, eqb, Float}
 use Rattle.std.proofs.Math.Path.{refl, ap, subst}
 use Rattle.std.proofs.Common.{sym, ◌∙◌, inl, inr, true≢false, arith}
 use Rattle.std.proofs.Math.Option.{Option, none, some}
 use Rattle.std.proofs.Math.Bool.{true, false, not}
 use Rattle.std.specs.Float.Ieee.{eq, ne, neg}
 use Rattle.steps.specs.Number.{zero64}
-use Rattle.steps.specs.Symbol.{Symbol, is_external, is_error, delete_symbol, delete_cell}
+use Rattle.steps.specs.Symbol.{Symbol, is_external, is_error, delete_cell}
 use Rattle.steps.specs.Row.{Row}
-use Rattle.steps.specs.State.{Term, Tag, Basic, Variable, Changes, Tableau}
+use Rattle.steps.specs.State.{Term, Tag, Basic, Variable, Tableau}
 use Rattle.steps.specs.Work.{Work, Outcome, refused, going, ◌>>=◌, refuse, check_finite, with_tableau, with_changes, with_rows, with_objective, marking, find_row, drop_row, purge}
 use Rattle.steps.specs.Changes.{with_flag, clear_changed, flag_symbol, var_changed, all_changed, note, tell_gone, value_of}
 use Rattle.steps.specs.Substitute.{pivot}
@@ -16,18 +16,18 @@ use Rattle.steps.specs.Optimise.{optimise, the_objective}
 use Rattle.steps.specs.CreateRow.{insert_in_objective, with_variables}
 use Rattle.steps.specs.Remove.{insert_row_in_objective, remove_marker_effects, remove_constraint_effects, get_marker_leaving_row, note_leaving, drop_marker, purge_tag, Fallen, use_less, lose, drop_use, drop_uses, remove_steps}
 use Rattle.steps.specs.Readable.{tag_symbols}
-use Rattle.keeps.specs.Lists.{All, all-to, all-zip, Same?, is, isnt, same, same?, times, Up, no_both}
+use Rattle.keeps.specs.Lists.{All, all-to, all-zip, Same?, is, isnt, same, same?, times}
 use Rattle.keeps.specs.Along.{Mem}
-use Rattle.keeps.specs.Keys.{row_id, findBy, find_none, find-some, drop_row-is, drop_all, none_has, Row?, no_row, a-row, row?}
+use Rattle.keeps.specs.Keys.{row_id, find_none, drop_row-is, drop_all, none_has, Row?, no_row, a-row, row?}
 use Rattle.keeps.specs.Cells.{Fine, zero-finite}
 use Rattle.keeps.specs.Fits.{bids, delete-mem, all_map}
-use Rattle.keeps.specs.Frame.{Frame, frame-refl, frame-trans, clear-changed, pivot-frame}
-use Rattle.keeps.specs.Passes.{Ends, ends-bind, ends-to, check-ends, Free, After, optimise-ends}
+use Rattle.keeps.specs.Frame.{Frame, frame-trans, clear-changed, pivot-frame}
+use Rattle.keeps.specs.Passes.{Ends, ends-bind, ends-to, check-ends, After, optimise-ends}
 use Rattle.keeps.specs.Fallen.{purge-fits, purge-shrunk}
 use Rattle.keeps.specs.Leaving.{OnlyGoal, effects, leaving-all, Dropped, drop_marker-ends}
 use Rattle.keeps.specs.suffices.Numbers.{Is, is-refl}
-use Rattle.keeps.specs.suffices.Fresh.{Flagged, Fresh, Aware, Owing, all_noted}
-use Rattle.keeps.specs.suffices.Values.{value_at, value-by, RoundedAt, Rounded, value_none, value-drop, value-rerow}
+use Rattle.keeps.specs.suffices.Fresh.{Flagged, Fresh, all_noted}
+use Rattle.keeps.specs.suffices.Values.{value_at, value-by, RoundedAt, value-drop, value-rerow}
 use Rattle.keeps.specs.suffices.Placed.{var_id, Named, Placed, placed-flags, mem_unique, apart}
 use Rattle.keeps.specs.suffices.Pivoting.{Ready, Told, Sees, sees-ready, value-at, fresh-same, Spare, drop-ready, pivot-sees}
 use Rattle.keeps.specs.suffices.Passing.{ends-both, others-spare, optimise-sees}

@@ -1,11 +1,10 @@
 -- What the claim needs: without gone entries it is false, and compared by their bits the numbers differ. Computed.
-use Rattle.std.specs.Prelude.{◌≡◌, refl, List, [], ◌∷◌, Bool, true, false, not, ◌&&◌, ℕ, T, eqb}
-use Rattle.std.proofs.Math.Option.{some, none}
+use Rattle.std.specs.Prelude.{◌≡◌, refl, [], ◌∷◌, Bool, true, false, ℕ, eqb}
 use Rattle.std.specs.Float.Ieee.{eq}
 use Rattle.steps.specs.Number.{usual_cutoff}
 use Rattle.steps.specs.Strength.{required}
 use Rattle.steps.specs.State.{equal, State}
-use Rattle.steps.specs.Changes.{Fetched, value, find_variable, fetch_changes}
+use Rattle.steps.specs.Changes.{Fetched, value, fetch_changes}
 use Rattle.steps.specs.Calls.{empty}
 use Rattle.steps.specs.Changing.{Changing, adds, removes, made}
 use Rattle.steps.specs.Dump.{bits_of}

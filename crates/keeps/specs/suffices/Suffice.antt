@@ -1,5 +1,5 @@
 -- "Changes suffice.": the claim of Reader holds. Between fetches the reader holds what was last told of every number that doesn't wait among the gone; a fetch tells the rest. Assumes nothing.
-use Rattle.std.specs.Prelude.{◌≡◌, ◌⊎◌, ◌≢◌, List, [], ◌∷◌, map, Bool, ◌&&◌, ◌||◌, ℕ, Float}
+use Rattle.std.specs.Prelude.{◌≡◌, List, map, Bool, ◌&&◌, ◌||◌, ℕ, Float}
 use Rattle.std.proofs.Math.Path.{refl, sym, ap, subst}
 use Rattle.std.proofs.Common.{◌∙◌, inl, true≢false}
 use Rattle.std.proofs.Math.Logic.{inr}
@@ -18,7 +18,7 @@ use Rattle.steps.proofs.Told.{told_as, told-map}
 use Rattle.steps.proofs.Stands.{told-stands}
 use Rattle.steps.proofs.Cutoff.{reset-refused, reset-taken}
 use Rattle.keeps.specs.Lists.{All, all-to, Up, none≢some, no_both}
-use Rattle.keeps.specs.Keys.{row_id, findBy, find-all, find-some, find_variable-is, Row?, no_row, a-row, row?}
+use Rattle.keeps.specs.Keys.{row_id, find-all, find-some, find_variable-is, Row?, no_row, a-row, row?}
 use Rattle.keeps.specs.Cells.{zero-finite}
 use Rattle.keeps.specs.RowOps.{RowOk}
 use Rattle.keeps.specs.Fits.{IsBasic, all_map}
@@ -26,12 +26,12 @@ use Rattle.keeps.specs.Uses.{var_number}
 use Rattle.keeps.specs.Good.{numbers-map}
 use Rattle.keeps.specs.Reads.{Reads}
 use Rattle.keeps.specs.Tested.{reads_in}
-use Rattle.keeps.specs.Listed.{entry_number, news-up, news-values}
+use Rattle.keeps.specs.Listed.{news-up, news-values}
 use Rattle.keeps.specs.Keeps.{empty-reads, reset-reads, add_reads, remove-reads, drop-reads, add_edit-reads, remove_edit-reads, suggest-reads, fetch-reads}
 use Rattle.keeps.specs.suffices.Numbers.{Is, is-refl, is-sym, is-trans}
-use Rattle.keeps.specs.suffices.Fresh.{held, Fresh, Aware}
+use Rattle.keeps.specs.suffices.Fresh.{held, Fresh}
 use Rattle.keeps.specs.suffices.Calls.{Informed, made-informed}
-use Rattle.keeps.specs.suffices.Listing.{listed, outcome, Values, takes-merged, news_at, listed-news, told_by, told-found, mapped, find-map}
+use Rattle.keeps.specs.suffices.Listing.{outcome, takes-merged, news_at, listed-news, told_by, told-found, mapped, find-map}
 use Rattle.keeps.specs.suffices.Reader.{Reader, nothing, takes_all, holds, Follows, starts, resets, calls, fetches, Agrees, Suffices}
 
 -- what holds between calls

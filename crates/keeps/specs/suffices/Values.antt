@@ -1,7 +1,7 @@
 -- A variable's value in the rows, as rows are dropped, kept, cut, substituted into and shifted: it is the same number, or is noted. Assumes nothing.
-use Rattle.std.specs.Prelude.{◌≡◌, ◌⊎◌, ◌≢◌, Bool, not, cond, ◌&&◌, ◌||◌, ℕ, suc, ◌+◌, ◌≤◌, eqb, ltb}
+use Rattle.std.specs.Prelude.{◌≡◌, ◌⊎◌, ◌≢◌, Bool, not, cond, ◌&&◌, ◌||◌, ℕ, eqb, ltb}
 use Rattle.std.proofs.Math.Path.{refl, ap}
-use Rattle.std.proofs.Common.{sym, ◌∙◌, subst, true≢false, arith}
+use Rattle.std.proofs.Common.{sym, ◌∙◌, arith}
 use Rattle.std.proofs.Math.Logic.{inl, inr}
 use mathlib.Core.List.{List, [], ◌∷◌, map}
 use Rattle.std.proofs.Math.Option.{Option, none, some}
@@ -17,7 +17,7 @@ use Rattle.steps.specs.Work.{find_row, drop_row, keep_row}
 use Rattle.steps.specs.Changes.{member}
 use Rattle.steps.specs.Substitute.{Substituted, substitute_in_row, substitute_in_rows, rows_of, noted_of}
 use Rattle.steps.specs.Edit.{shift_row, shift_rows}
-use Rattle.keeps.specs.Lists.{All, Same?, is, isnt, same, same?, times, Up, up_none, no_both}
+use Rattle.keeps.specs.Lists.{All, Same?, is, isnt, same, same?, times, no_both}
 use Rattle.keeps.specs.Keys.{row_id}
 use Rattle.keeps.specs.Cells.{zero-finite}
 use Rattle.keeps.specs.Fits.{bids}

@@ -19,7 +19,6 @@ use Rattle.steps.specs.Remove.{purge_tag, remove_steps}
 use Rattle.steps.specs.Tests.{first_refusal, drop_tests, group_of}
 use Rattle.steps.specs.Calls.{Result, refused_by, conclude, remove_stored}
 use Rattle.steps.specs.Readable.{readable}
-use Rattle.steps.specs.Changing as changing
 use Rattle.simplex.specs.bridge.Rows.{Sym?, is, isnt, sym?}
 use Rattle.simplex.specs.bridge.Finds.{UpRows, find-hit, find-miss, find_none, find-drop-other}
 use Rattle.keeps.specs.Tested.{reads_in}
