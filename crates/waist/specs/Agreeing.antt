@@ -1,24 +1,23 @@
 -- Tables that differ past their cells alone: the one may stand for the other.
 -- Assumes nothing.
-use Rattle.std.specs.Prelude.{ℕ, ◌+◌, ◌*◌, ◌%◌, ◌≤◌, ◌<◌, ◌≡◌, Bool, true, false, Float, length}
+use Rattle.std.specs.Prelude.{ℕ, ◌+◌, ◌*◌, ◌<◌, ◌≡◌, Bool, Float, length}
 use Rattle.std.proofs.Math.Path.{refl, ap}
-use Rattle.std.proofs.Common.{sym, ◌∙◌, subst, arith}
+use Rattle.std.proofs.Common.{arith}
 use mathlib.Core.List.{List}
 use Rattle.std.specs.Float.{nan}
 use Rattle.std.proofs.Math.ListN.{get_or}
 use Rattle.laws.specs.Lists.{tab-ext}
 use Rattle.steps.specs.Number.{Mark}
-use Rattle.steps.specs.Symbol.{absent}
 use Rattle.steps.specs.State.{Basic}
 use Rattle.sparse.specs.Places.{cell_count_at, row_places_at, constants_at}
-use Rattle.sparse.specs.Sparse.{Sparse, symbol_count, row_count, cell_count, symbol_at, variable_of, basic_of, symbols_of, basics_of, objective_of, gone_of, read}
+use Rattle.sparse.specs.Sparse.{Sparse, symbol_count, row_count, symbol_at, variable_of, basic_of, symbols_of, basics_of, objective_of, gone_of, read}
 use Rattle.layout.specs.cells.Names.{row_span, cell_room}
-use Rattle.layout.specs.cells.Cells.{Ascending, Present, cell_in, cell_at, row_of}
+use Rattle.layout.specs.cells.Cells.{Ascending, Present, cell_at, row_of}
 use Rattle.layout.specs.cells.Reads.{cell-within}
 use Rattle.waist.specs.merging.Merge.{Placed}
 use Rattle.waist.specs.substituting.Held.{Held}
 use Rattle.waist.specs.Working.{sparse, artificial_of, work_of, lines_of, Sound}
-use Rattle.waist.specs.Owning.{Inside, Owners, Kept}
+use Rattle.waist.specs.Owning.{Kept}
 
 module _ (w k k' b : List ℕ) (r v v' : List Float) (same : (j : ℕ) → j < get_or w cell_count_at 0 → get_or k' j 0 ≡ get_or k j 0) (sames : (j : ℕ) → j < get_or w cell_count_at 0 → get_or v' j nan ≡ get_or v j nan) where
   abbrev t : Sparse

@@ -1,9 +1,8 @@
 -- A symbol that is chosen is not basic: the cells of basic symbols are absent where the tables stand. And a line of tables that stand reads.
 -- Assumes nothing.
-use Rattle.std.specs.Prelude.{ℕ, zero, suc, ◌+◌, ◌≤◌, ◌<◌, ◌≡◌, refl, Bool, true, false, ◌∷◌, eqb, get_or}
+use Rattle.std.specs.Prelude.{ℕ, zero, suc, ◌+◌, ◌≤◌, ◌<◌, ◌≡◌, refl, Bool, true, false, eqb}
 use Rattle.std.proofs.Common.{sym, ◌∙◌, arith, eqb-true}
 use Rattle.std.proofs.Math.Path.{ap}
-use Rattle.std.proofs.Math.Option.{none, some}
 use Rattle.std.proofs.lemmas.Bool.{eqb-false}
 use Rattle.laws.specs.Lists.{tab}
 use Rattle.steps.specs.Number.{Mark}
@@ -19,8 +18,6 @@ use Rattle.keeps.specs.Fits.{bids, IsBasic}
 use Rattle.keeps.specs.Passes.{entering-free, dual-entering, held-free}
 use Rattle.rows.specs.declared.choose.Found.{Found}
 use Rattle.rows.specs.declared.choose.Found.TheVariants.{At}
-use Rattle.rows.specs.choose.Choose.{on_found}
-use Rattle.sparse.specs.Places.{row_places_at}
 use Rattle.sparse.specs.Sparse.{Sparse, symbol_count, row_count, symbol_at, basic_of, symbols_of, basics_of, read}
 use Rattle.waist.specs.Working.{work_of, basic-symbol}
 use Rattle.waist.specs.Standing.{Standing, Chooses}

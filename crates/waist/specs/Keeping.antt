@@ -21,7 +21,6 @@ use Rattle.layout.specs.Layout.{cells_of}
 use Rattle.layout.specs.Laying.{tab-from}
 use Rattle.rows.specs.Reading as dense
 use Rattle.rows.specs.choose.Chosen.{as-cond}
-use Rattle.rows.specs.moves.Close as place
 use Rattle.rows.specs.moves.Moved as moved
 use Rattle.rows.specs.moves.Walk.{keep-walk}
 use Rattle.sparse.specs.Places.{most_rows, row_count_at, cell_count_at, row_places_at, constants_at, reals_size}
@@ -33,7 +32,7 @@ use Rattle.layout.specs.cells.Open.{opened-before, opened_after}
 use Rattle.layout.specs.cells.Replaced.{replaced-own, replaced-other}
 use Rattle.waist.specs.substituting.Held.{Held, held-room, held-replaced}
 use Rattle.waist.specs.substituting.Loose.{SettledRow}
-use Rattle.waist.specs.Working.{sparse, artificial_of, work_of, lines_of, dense-cells, Sound, lines-few, id-at, basic-symbol}
+use Rattle.waist.specs.Working.{artificial_of, work_of, lines_of, dense-cells, Sound, lines-few, id-at, basic-symbol}
 use Rattle.waist.specs.Owning.{Inside, Kept}
 use Rattle.waist.specs.Within.{within-replaced}
 use Rattle.waist.specs.Alone.{RowsAlone, symbols-count, symbol-alone, named-alone, owners-alone, work-alone}

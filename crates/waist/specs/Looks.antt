@@ -1,8 +1,8 @@
 -- Looks along a dense row: the first symbol of a kind whose cell is below 0, or is there. What they find is what the steps find on what the tables read as.
 -- Assumes nothing.
 use Prim.Native.Nat.{ℕ, suc, ◌+◌, ◌≤◌}
-use Rattle.std.specs.Prelude.{◌≡◌, refl, Bool, true, false, not, ◌&&◌, ◌||◌, cond, List, eqb, Float, length}
-use Rattle.std.proofs.Common.{sym, ◌∙◌}
+use Rattle.std.specs.Prelude.{◌≡◌, refl, Bool, true, false, ◌&&◌, ◌||◌, cond, List, eqb, Float, length}
+use Rattle.std.proofs.Common.{◌∙◌}
 use Rattle.std.proofs.Math.Path.{ap, fun_ext}
 use Rattle.std.proofs.Math.Option.{Option, none, some}
 use native.Mathlib.Omega.{arith}
@@ -20,7 +20,7 @@ use Rattle.rows.specs.declared.choose.Want.{Want}
 use Rattle.rows.specs.declared.choose.Want.TheVariants as want
 use Rattle.rows.specs.choose.Choose.{on_found, wants}
 use Rattle.rows.specs.choose.Walk.{first_walk}
-use Rattle.sparse.specs.Places.{most_rows, symbol_count_at, kinds_at}
+use Rattle.sparse.specs.Places.{symbol_count_at, kinds_at}
 use Rattle.sparse.specs.Sparse.{Sparse, symbol_count, cell_count, symbol_at, basic_of, symbols_of}
 use Rattle.layout.specs.cells.Names.{row_room, cell_room, last_place}
 use Rattle.layout.specs.cells.Cells.{Ascending, Narrow, loaded}

@@ -1,17 +1,17 @@
 -- Ratio tests over the sparse tables: down a column, and along a dense row. What they find is what the steps find on what the tables read as.
 -- Assumes nothing.
-use Prim.Native.Nat.{ℕ, suc, ◌+◌, ◌-◌, ◌*◌, ◌≤◌, ◌<◌}
-use Rattle.std.specs.Prelude.{◌≡◌, refl, Bool, true, false, not, ◌&&◌, cond, length}
-use Rattle.std.proofs.Common.{sym, ap, ◌∙◌}
+use Prim.Native.Nat.{ℕ, suc, ◌+◌, ◌-◌, ◌*◌, ◌≤◌}
+use Rattle.std.specs.Prelude.{◌≡◌, refl, Bool, true, false, not, ◌&&◌}
+use Rattle.std.proofs.Common.{sym, ◌∙◌}
 use mathlib.Core.List.{List, ◌∷◌}
-use Rattle.std.proofs.Math.Option.{Option, none, some}
+use Rattle.std.proofs.Math.Option.{none, some}
 use native.Mathlib.Omega.{arith}
 use Rattle.std.specs.Float.Ieee.{Float, nan, lt, neg}
 use Rattle.std.proofs.Math.ListN.{get_or}
 use Rattle.laws.specs.Loops.{run}
 use Rattle.laws.specs.Lists.{tab, length-tab, getD-tab}
-use Rattle.steps.specs.Number.{zero64, ◌/₆₄◌, below_zero, Mark}
-use Rattle.steps.specs.Symbol.{Symbol, is_external, is_restricted, is_dummy, coefficient_for}
+use Rattle.steps.specs.Number.{zero64, ◌/₆₄◌, below_zero}
+use Rattle.steps.specs.Symbol.{is_external, is_restricted, is_dummy, coefficient_for}
 use Rattle.steps.specs.State.{Basic}
 use Rattle.steps.specs.Optimise.{Candidate, smallest_ratio, negative_ratios, dual_ratios}
 use Rattle.steps.specs.Remove.{cell_in, positive_ratios}

@@ -1,6 +1,6 @@
 -- Where a row comes into the sparse tables, what they are then, and what that promises.
 -- Assumes nothing.
-use Rattle.std.specs.Prelude.{ℕ, ◌+◌, ◌-◌, ◌≤◌, ◌<◌, ◌≡◌, refl, Bool, true, false, List, eqb, ltb, Float, get_or, set}
+use Rattle.std.specs.Prelude.{ℕ, ◌+◌, ◌≤◌, ◌<◌, ◌≡◌, refl, Bool, true, false, List, eqb, ltb, Float, get_or, set}
 use Rattle.std.proofs.Common.{sym, subst, arith, ltb-true, ltb-false, lt-ltb, eqb-true}
 use Rattle.std.specs.Float.{nan}
 use Rattle.std.proofs.lemmas.Bool.{eqb-false}
@@ -11,7 +11,7 @@ use Rattle.rows.specs.Reading as dense
 use Rattle.rows.specs.moves.Close as place
 use Rattle.sparse.specs.Places.{symbol_count_at, row_count_at, cell_count_at, ids_at, row_places_at, constants_at}
 use Rattle.sparse.specs.Sparse.{Sparse, symbol_count, row_count, cell_count, symbol_at}
-use Rattle.layout.specs.cells.Cells.{Cells, row_of, opened, replaced}
+use Rattle.layout.specs.cells.Cells.{Cells, opened, replaced}
 use Rattle.layout.specs.cells.Seek.{first-elim}
 use Rattle.waist.specs.substituting.Named.{Named}
 use Rattle.waist.specs.Working.{sparse, work_of, lines_of, Sound}

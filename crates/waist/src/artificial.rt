@@ -12,7 +12,7 @@ ghost use Rattle.layout.specs.cells.Names.{last_place};
 ghost use Rattle.sparse.specs.Places.{most_rows, row_count_at, constants_at};
 ghost use Rattle.sparse.specs.Sparse.{symbol_count, row_count};
 ghost use Rattle.waist.specs.substituting.Loose.{SettledRow};
-ghost use Rattle.waist.specs.Working.{work_of, lent, Sound};
+ghost use Rattle.waist.specs.Working.{work_of, Sound, sparse};
 ghost use Rattle.waist.specs.Standing.{Standing, Makes};
 ghost use Rattle.waist.specs.Growing.{next_id};
 ghost use Rattle.waist.specs.ArtificialCopy.{Copies};
@@ -36,9 +36,9 @@ fn copy_row(
     values: &mut Values,
     row: &[f64; ROW_ROOM],
 )
-    requires sound { Sound false (lent words keys bytes reals values) }
-    requires settled_row { SettledRow (symbol_count (lent words keys bytes reals values)) row.now }
-    ensures { Copies row.now (lent words.entry keys.entry bytes.entry reals.entry values.entry) (lent words.exit keys.exit bytes.entry reals.exit values.exit) }
+    requires sound { Sound false (sparse words.old keys.old bytes.now reals.old values.old) }
+    requires settled_row { SettledRow (symbol_count (sparse words.old keys.old bytes.now reals.old values.old)) row.now }
+    ensures { Copies row.now (sparse words.old keys.old bytes.now reals.old values.old) (sparse words.new keys.new bytes.now reals.new values.new) }
 {
     let line = 1 + words[ROW_COUNT];
     let n = words[CELL_COUNT] as usize;
@@ -58,14 +58,14 @@ pub fn stand_temporary(
     row: &mut [f64; ROW_ROOM],
     before: Wrote,
 ) -> u8
-    requires standing { Standing false (mark_of before) (lent words keys bytes reals values) }
-    requires values_bound { symbol_count (lent words keys bytes reals values) < last_place }
-    requires values_bound_2 { row_count (lent words keys bytes reals values) + 2 < most_rows }
-    requires values_bound_3 { next_id (lent words keys bytes reals values) < 9223372036854775808 }
-    requires settled_row { SettledRow (symbol_count (lent words keys bytes reals values)) row.old }
-    requires holds { Holds (work_of false (mark_of before) 0 (lent words keys bytes reals values)) (row_of (symbol_count (lent words keys bytes reals values)) row.old) }
-    ensures value { result ≡ 1 + symbol_count (lent words.entry keys.entry bytes.entry reals.entry values.entry) }
-    ensures makes { Makes false true (mark_of before) (mark_of before) (λ w. stand_temporary (new_symbol Slack w) (record { work = w; row = row_of (symbol_count (lent words.entry keys.entry bytes.entry reals.entry values.entry)) row.old })) (lent words.entry keys.entry bytes.entry reals.entry values.entry) (lent words.exit keys.exit bytes.exit reals.exit values.exit) }
+    requires standing { Standing false (mark_of before) (sparse words.old keys.old bytes.old reals.old values.old) }
+    requires values_bound { symbol_count (sparse words.old keys.old bytes.old reals.old values.old) < last_place }
+    requires values_bound_2 { row_count (sparse words.old keys.old bytes.old reals.old values.old) + 2 < most_rows }
+    requires values_bound_3 { next_id (sparse words.old keys.old bytes.old reals.old values.old) < 9223372036854775808 }
+    requires settled_row { SettledRow (symbol_count (sparse words.old keys.old bytes.old reals.old values.old)) row.old }
+    requires holds { Holds (work_of false (mark_of before) 0 (sparse words.old keys.old bytes.old reals.old values.old)) (row_of (symbol_count (sparse words.old keys.old bytes.old reals.old values.old)) row.old) }
+    ensures value { result ≡ 1 + symbol_count (sparse words.old keys.old bytes.old reals.old values.old) }
+    ensures makes { Makes false true (mark_of before) (mark_of before) (λ w. stand_temporary (new_symbol Slack w) (record { work = w; row = row_of (symbol_count (sparse words.old keys.old bytes.old reals.old values.old)) row.old })) (sparse words.old keys.old bytes.old reals.old values.old) (sparse words.new keys.new bytes.new reals.new values.new) }
 {
     wide(row);
     let p = append_symbol(words, keys, bytes, reals, values, 1);
@@ -83,8 +83,8 @@ pub fn close_artificial(
     reals: &Reals,
     values: &Values,
 )
-    requires { Sound true (lent words keys bytes reals values) }
-    ensures { (a : Mark) → Standing true a (lent words.entry keys.entry bytes.entry reals.entry values.entry) → Makes true false a a (with_artificial none) (lent words.entry keys.entry bytes.entry reals.entry values.entry) (lent words.exit keys.entry bytes.entry reals.entry values.entry) }
+    requires { Sound true (sparse words.old keys.now bytes.now reals.now values.now) }
+    ensures { (a : Mark) → Standing true a (sparse words.old keys.now bytes.now reals.now values.now) → Makes true false a a (with_artificial none) (sparse words.old keys.now bytes.now reals.now values.now) (sparse words.new keys.now bytes.now reals.now values.now) }
 {
     let line = 1 + words[ROW_COUNT];
     let n = words[CELL_COUNT] as usize;

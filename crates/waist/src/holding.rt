@@ -10,7 +10,7 @@ ghost use Rattle.sparse.specs.Places.{most_rows, most_variables, symbol_count_at
 ghost use Rattle.sparse.specs.Sparse.{symbol_at};
 ghost use Rattle.waist.specs.substituting.Loose.{SettledRow};
 ghost use Rattle.waist.specs.substituting.Notes.{noted, var_changed_if};
-ghost use Rattle.waist.specs.Working.{work_of, lent, Sound};
+ghost use Rattle.waist.specs.Working.{work_of, Sound, sparse};
 ghost use Rattle.waist.specs.Alone.{RowsAlone};
 ghost use Rattle.waist.specs.Dropping.{Free};
 ghost use Rattle.waist.specs.Entering.{Later};
@@ -35,14 +35,14 @@ pub fn pivot_on(
     p: u8,
     before: Wrote,
 ) -> Wrote
-    requires standing { Standing art (mark_of before) (lent words keys bytes reals values) }
+    requires standing { Standing art (mark_of before) (sparse words.old keys.old bytes.old reals.old values.old) }
     requires le_i { 1 ≤ i }
     requires i_bound { i ≤ get_or words.old row_count_at 0 }
     requires le_p { 1 ≤ p }
     requires p_bound { p ≤ get_or words.old symbol_count_at 0 }
-    requires free { Free p (lent words keys bytes reals values) }
-    ensures makes { Makes art art (mark_of before) (mark_of result) (pivot (row_symbol (lent words.entry keys.entry bytes.entry reals.entry values.entry) i).id (symbol_at (lent words.entry keys.entry bytes.entry reals.entry values.entry) p)) (lent words.entry keys.entry bytes.entry reals.entry values.entry) (lent words.exit keys.exit bytes.exit reals.exit values.exit) }
-    ensures later { Later (lent words.entry keys.entry bytes.entry reals.entry values.entry) (lent words.exit keys.exit bytes.exit reals.exit values.exit) }
+    requires free { Free p (sparse words.old keys.old bytes.old reals.old values.old) }
+    ensures makes { Makes art art (mark_of before) (mark_of result) (pivot (row_symbol (sparse words.old keys.old bytes.old reals.old values.old) i).id (symbol_at (sparse words.old keys.old bytes.old reals.old values.old) p)) (sparse words.old keys.old bytes.old reals.old values.old) (sparse words.new keys.new bytes.new reals.new values.new) }
+    ensures later { Later (sparse words.old keys.old bytes.old reals.old values.old) (sparse words.new keys.new bytes.new reals.new values.new) }
     ensures row_count_at_unchanged { get_or words.new row_count_at 0 ≡ get_or words.old row_count_at 0 }
 {
     let w = pivot(art, words, keys, bytes, reals, values, i, p);
@@ -59,11 +59,11 @@ pub fn drop_on(
     values: &mut Values,
     i: u8,
 )
-    requires sound { Sound art (lent words keys bytes reals values) }
+    requires sound { Sound art (sparse words.old keys.old bytes.old reals.old values.old) }
     requires le_i { 1 ≤ i }
     requires i_bound { i ≤ get_or words.old row_count_at 0 }
-    ensures makes { (a : Mark) → Standing art a (lent words.entry keys.entry bytes.entry reals.entry values.entry) → Makes art art a a (λ w. with_rows (drop_row (row_symbol (lent words.entry keys.entry bytes.entry reals.entry values.entry) i).id w.tableau.rows) w) (lent words.entry keys.entry bytes.entry reals.entry values.entry) (lent words.exit keys.exit bytes.exit reals.exit values.exit) }
-    ensures rows_alone { RowsAlone (lent words.entry keys.entry bytes.entry reals.entry values.entry) (lent words.exit keys.exit bytes.exit reals.exit values.exit) }
+    ensures makes { (a : Mark) → Standing art a (sparse words.old keys.old bytes.old reals.old values.old) → Makes art art a a (λ w. with_rows (drop_row (row_symbol (sparse words.old keys.old bytes.old reals.old values.old) i).id w.tableau.rows) w) (sparse words.old keys.old bytes.old reals.old values.old) (sparse words.new keys.new bytes.new reals.new values.new) }
+    ensures rows_alone { RowsAlone (sparse words.old keys.old bytes.old reals.old values.old) (sparse words.new keys.new bytes.new reals.new values.new) }
     ensures row_count_at_after { get_or words.new row_count_at 0 ≡ get_or words.old row_count_at 0 - 1 }
 {
     drop_row(art, words, keys, bytes, reals, values, i);
@@ -88,15 +88,15 @@ pub fn enter_on(
     row: &[f64; ROW_ROOM],
     before: Wrote,
 ) -> Wrote
-    requires standing { Standing false (mark_of before) (lent words keys bytes reals values) }
+    requires standing { Standing false (mark_of before) (sparse words.old keys.old bytes.old reals.old values.old) }
     requires le_p { 1 ≤ p }
     requires p_bound { p ≤ get_or words.old symbol_count_at 0 }
-    requires free { Free p (lent words keys bytes reals values) }
+    requires free { Free p (sparse words.old keys.old bytes.old reals.old values.old) }
     requires row_count_at_bound { get_or words.old row_count_at 0 + 1 < most_rows }
     requires settled_row { SettledRow (get_or words.old symbol_count_at 0) row.now }
-    requires fits_w { FitsW (enter_basis (symbol_at (lent words keys bytes reals values) p) (row_of (get_or words.old symbol_count_at 0) row.now) (work_of false (mark_of before) 0 (lent words keys bytes reals values))) }
-    ensures makes { Makes false false (mark_of before) (mark_of result) (enter_basis (symbol_at (lent words.entry keys.entry bytes.entry reals.entry values.entry) p) (row_of (get_or words.old symbol_count_at 0) row.now)) (lent words.entry keys.entry bytes.entry reals.entry values.entry) (lent words.exit keys.exit bytes.exit reals.exit values.exit) }
-    ensures later { Later (lent words.entry keys.entry bytes.entry reals.entry values.entry) (lent words.exit keys.exit bytes.exit reals.exit values.exit) }
+    requires fits_w { FitsW (enter_basis (symbol_at (sparse words.old keys.old bytes.old reals.old values.old) p) (row_of (get_or words.old symbol_count_at 0) row.now) (work_of false (mark_of before) 0 (sparse words.old keys.old bytes.old reals.old values.old))) }
+    ensures makes { Makes false false (mark_of before) (mark_of result) (enter_basis (symbol_at (sparse words.old keys.old bytes.old reals.old values.old) p) (row_of (get_or words.old symbol_count_at 0) row.now)) (sparse words.old keys.old bytes.old reals.old values.old) (sparse words.new keys.new bytes.new reals.new values.new) }
+    ensures later { Later (sparse words.old keys.old bytes.old reals.old values.old) (sparse words.new keys.new bytes.new reals.new values.new) }
     ensures row_count_at_after { get_or words.new row_count_at 0 ≡ get_or words.old row_count_at 0 + 1 }
 {
     let w = enter_basis(false, words, keys, bytes, reals, values, p, row);

@@ -1,4 +1,6 @@
 // The waist: the tableau over the five sparse tables, by symbol.
+#![tactic(auto)]
+
 pub mod artificial;
 pub mod basis;
 pub mod choices;

@@ -8,7 +8,7 @@ ghost use Rattle.sparse.specs.Places.{symbol_count_at, row_count_at};
 ghost use Rattle.sparse.specs.Sparse.{symbol_at, basic_of};
 ghost use Rattle.layout.specs.cells.Names.{last_place};
 ghost use Rattle.waist.specs.substituting.Objective.{aim};
-ghost use Rattle.waist.specs.Working.{lent};
+ghost use Rattle.waist.specs.Working.{sparse};
 ghost use Rattle.waist.specs.Dropping.{Free};
 ghost use Rattle.waist.specs.Standing.{Standing, Makes};
 ghost use Rattle.waist.specs.Goals.{symbol_goal, symbol_goal_mark, row_goal};
@@ -44,11 +44,11 @@ pub fn insert_in_objective(
     k: f64,
     before: Wrote,
 ) -> Wrote
-    requires standing { Standing false (mark_of before) (lent words keys bytes reals values) }
+    requires standing { Standing false (mark_of before) (sparse words.now keys.now bytes.now reals.old values.now) }
     requires le_p { 1 ≤ p }
     requires p_bound { p ≤ get_or words.now symbol_count_at 0 }
-    requires free { Free p (lent words keys bytes reals values) }
-    ensures { Makes false false (mark_of before) (mark_of result) (insert_in_objective (symbol_at (lent words.entry keys.entry bytes.entry reals.entry values.entry) p).id k) (lent words.entry keys.entry bytes.entry reals.entry values.entry) (lent words.entry keys.entry bytes.entry reals.exit values.entry) }
+    requires free { Free p (sparse words.now keys.now bytes.now reals.old values.now) }
+    ensures { Makes false false (mark_of before) (mark_of result) (insert_in_objective (symbol_at (sparse words.now keys.now bytes.now reals.old values.now) p).id k) (sparse words.now keys.now bytes.now reals.old values.now) (sparse words.now keys.now bytes.now reals.new values.now) }
 {
     insert_symbol(reals, p, k, before)
 }
@@ -79,10 +79,10 @@ pub fn insert_row_in_objective(
     k: f64,
     before: Wrote,
 ) -> Wrote
-    requires standing { Standing false (mark_of before) (lent words keys bytes reals values) }
+    requires standing { Standing false (mark_of before) (sparse words.now keys.now bytes.now reals.old values.now) }
     requires le_i { 1 ≤ i }
     requires i_bound { i ≤ get_or words.now row_count_at 0 }
-    ensures { Makes false false (mark_of before) (mark_of result) (insert_row_in_objective (basic_of (lent words.entry keys.entry bytes.entry reals.entry values.entry) i).row k) (lent words.entry keys.entry bytes.entry reals.entry values.entry) (lent words.entry keys.entry bytes.entry reals.exit values.entry) }
+    ensures { Makes false false (mark_of before) (mark_of result) (insert_row_in_objective (basic_of (sparse words.now keys.now bytes.now reals.old values.now) i).row k) (sparse words.now keys.now bytes.now reals.old values.now) (sparse words.now keys.now bytes.now reals.new values.now) }
 {
     let mut row: [f64; ROW_ROOM] = [0.0; ROW_ROOM];
     wide(&row);

@@ -6,7 +6,7 @@ ghost use Rattle.layout.specs.Layout.{kind_of};
 ghost use Rattle.layout.specs.cells.Names.{last_place};
 ghost use Rattle.sparse.specs.Places.{symbol_count_at};
 ghost use Rattle.sparse.specs.Sparse.{symbol_count, symbol_at};
-ghost use Rattle.waist.specs.Working.{lent, Sound};
+ghost use Rattle.waist.specs.Working.{Sound, sparse};
 ghost use Rattle.waist.specs.Dropping.{Free};
 ghost use Rattle.waist.specs.Standing.{Standing, Makes, Unowned};
 ghost use Rattle.waist.specs.Growing.{next_id, Grown};
@@ -31,13 +31,13 @@ pub fn append_symbol(
     values: &Values,
     kind: u8,
 ) -> u8
-    requires sound { Sound false (lent words keys bytes reals values) }
-    requires values_bound { symbol_count (lent words keys bytes reals values) < last_place }
-    requires values_bound_2 { next_id (lent words keys bytes reals values) < 9223372036854775808 }
+    requires sound { Sound false (sparse words.old keys.now bytes.old reals.old values.now) }
+    requires values_bound { symbol_count (sparse words.old keys.now bytes.old reals.old values.now) < last_place }
+    requires values_bound_2 { next_id (sparse words.old keys.now bytes.old reals.old values.now) < 9223372036854775808 }
     requires kind_bound { kind ≤ 3 }
-    ensures value { result ≡ 1 + symbol_count (lent words.entry keys.entry bytes.entry reals.entry values.entry) }
-    ensures grown { Grown kind (lent words.entry keys.entry bytes.entry reals.entry values.entry) (lent words.exit keys.entry bytes.exit reals.exit values.entry) }
-    ensures makes { (a : Mark) → Standing false a (lent words.entry keys.entry bytes.entry reals.entry values.entry) → Makes false false a a (λ w. append_symbol (new_symbol (kind_of kind) w) w) (lent words.entry keys.entry bytes.entry reals.entry values.entry) (lent words.exit keys.entry bytes.exit reals.exit values.entry) }
+    ensures value { result ≡ 1 + symbol_count (sparse words.old keys.now bytes.old reals.old values.now) }
+    ensures grown { Grown kind (sparse words.old keys.now bytes.old reals.old values.now) (sparse words.new keys.now bytes.new reals.new values.now) }
+    ensures makes { (a : Mark) → Standing false a (sparse words.old keys.now bytes.old reals.old values.now) → Makes false false a a (λ w. append_symbol (new_symbol (kind_of kind) w) w) (sparse words.old keys.now bytes.old reals.old values.now) (sparse words.new keys.now bytes.new reals.new values.now) }
 {
     let id = words[NEXT_ID];
     let k = words[SYMBOL_COUNT];
@@ -59,10 +59,10 @@ fn drop_own_row(
     values: &mut Values,
     p: u8,
 )
-    requires sound { Sound false (lent words keys bytes reals values) }
+    requires sound { Sound false (sparse words.old keys.old bytes.old reals.old values.old) }
     requires le_p { 1 ≤ p }
     requires p_bound { p ≤ get_or words.old symbol_count_at 0 }
-    ensures { Bares p (lent words.entry keys.entry bytes.entry reals.entry values.entry) (lent words.exit keys.exit bytes.exit reals.exit values.exit) }
+    ensures { Bares p (sparse words.old keys.old bytes.old reals.old values.old) (sparse words.new keys.new bytes.new reals.new values.new) }
 {
     let f = row_of(words, bytes, p);
     let Found::At(i) = f else {
@@ -80,12 +80,12 @@ fn close_symbol(
     values: &mut Values,
     p: u8,
 )
-    requires sound { Sound false (lent words keys bytes reals values) }
+    requires sound { Sound false (sparse words.old keys.old bytes.old reals.old values.old) }
     requires le_p { 1 ≤ p }
     requires p_bound { p ≤ get_or words.old symbol_count_at 0 }
-    requires free { Free p (lent words keys bytes reals values) }
-    requires unowned { Unowned p (lent words keys bytes reals values) }
-    ensures { Closes p (lent words.entry keys.entry bytes.entry reals.entry values.entry) (lent words.exit keys.exit bytes.exit reals.exit values.exit) }
+    requires free { Free p (sparse words.old keys.old bytes.old reals.old values.old) }
+    requires unowned { Unowned p (sparse words.old keys.old bytes.old reals.old values.old) }
+    ensures { Closes p (sparse words.old keys.old bytes.old reals.old values.old) (sparse words.new keys.new bytes.new reals.new values.new) }
 {
     let k = words[SYMBOL_COUNT];
     let r = words[ROW_COUNT] as usize;
@@ -110,12 +110,12 @@ pub fn purge(
     values: &mut Values,
     p: u8,
 )
-    requires sound { Sound false (lent words keys bytes reals values) }
+    requires sound { Sound false (sparse words.old keys.old bytes.old reals.old values.old) }
     requires le_p { 1 ≤ p }
     requires p_bound { p ≤ get_or words.old symbol_count_at 0 }
-    requires unowned { Unowned p (lent words keys bytes reals values) }
-    ensures purged { Purged p (lent words.entry keys.entry bytes.entry reals.entry values.entry) (lent words.exit keys.exit bytes.exit reals.exit values.exit) }
-    ensures makes { (a : Mark) → Standing false a (lent words.entry keys.entry bytes.entry reals.entry values.entry) → Makes false false a a (purge (symbol_at (lent words.entry keys.entry bytes.entry reals.entry values.entry) p).id) (lent words.entry keys.entry bytes.entry reals.entry values.entry) (lent words.exit keys.exit bytes.exit reals.exit values.exit) }
+    requires unowned { Unowned p (sparse words.old keys.old bytes.old reals.old values.old) }
+    ensures purged { Purged p (sparse words.old keys.old bytes.old reals.old values.old) (sparse words.new keys.new bytes.new reals.new values.new) }
+    ensures makes { (a : Mark) → Standing false a (sparse words.old keys.old bytes.old reals.old values.old) → Makes false false a a (purge (symbol_at (sparse words.old keys.old bytes.old reals.old values.old) p).id) (sparse words.old keys.old bytes.old reals.old values.old) (sparse words.new keys.new bytes.new reals.new values.new) }
 {
     drop_own_row(words, keys, bytes, reals, values, p);
     close_symbol(words, keys, bytes, reals, values, p);

@@ -1,7 +1,7 @@
 -- The lines on the way through one pass: what has come down stands in front, what is still to be read at the far end; together they are the lines so far.
 -- Assumes nothing.
-use Rattle.std.specs.Prelude.{ℕ, suc, ◌+◌, ◌-◌, ◌*◌, ◌%◌, ◌≤◌, ◌<◌, ◌≡◌, refl, Bool, true, false, List, ltb, Float, length, get_or}
-use Rattle.std.proofs.Common.{sym, ap, ◌∙◌, arith, ltb-true, ltb-false}
+use Rattle.std.specs.Prelude.{ℕ, ◌+◌, ◌-◌, ◌*◌, ◌%◌, ◌≤◌, ◌<◌, ◌≡◌, refl, Bool, true, false, List, ltb, length, get_or}
+use Rattle.std.proofs.Common.{sym, ◌∙◌, arith, ltb-true, ltb-false}
 use Rattle.std.proofs.Math.Path.{subst}
 use Rattle.std.specs.Float.{nan}
 use Rattle.sparse.specs.Places.{most_rows}
@@ -10,7 +10,7 @@ use Rattle.layout.specs.cells.Reads.{ascending-lt}
 use Rattle.layout.specs.cells.Edges.{Begins, Ends}
 use Rattle.waist.specs.merging.Merge.{RunOf, Placed}
 use Rattle.waist.specs.substituting.Held.{held-room}
-use Rattle.waist.specs.substituting.Lines.{Lines, lines, line_in, HeldIn}
+use Rattle.waist.specs.substituting.Lines.{Lines, HeldIn}
 
 -- how far the cells at the far end, n in all, stand from where they stood
 abbrev pub far : ℕ → ℕ

@@ -1,6 +1,6 @@
 -- One line of the pass: its run, merged, comes down behind what stood before it, and the tables stand for the lines with that line substituted.
 -- Assumes nothing.
-use Rattle.std.specs.Prelude.{ℕ, suc, ◌+◌, ◌-◌, ◌*◌, ◌≤◌, ◌<◌, ◌≡◌, Bool, true, false, cond, List, ltb, Float, length, set}
+use Rattle.std.specs.Prelude.{ℕ, ◌+◌, ◌-◌, ◌*◌, ◌≤◌, ◌<◌, ◌≡◌, Bool, true, false, List, ltb, Float, length, set}
 use Rattle.std.proofs.Math.Path.{refl, sym, ap, subst, fun_ext}
 use Rattle.std.proofs.Common.{◌∙◌, arith, ltb-true, ltb-false}
 use Rattle.std.specs.Float.{nan}
@@ -11,18 +11,18 @@ use Rattle.sparse.specs.Places.{most_rows, constants_at}
 use Rattle.layout.specs.cells.Names.{row_span, cell_room, row_room, last_place}
 use Rattle.layout.specs.cells.Cells.{Cells, cells, Present, lower_in, cell_in, cell_at, moved, packed, counted, replaced_at, replaced}
 use Rattle.layout.specs.cells.Search.{Bound, lower-is}
-use Rattle.layout.specs.cells.Slide.{length_moved, moved_before, moved_in, moved-after}
-use Rattle.layout.specs.cells.Reads.{cell-here, cell-moved, RowRun}
+use Rattle.layout.specs.cells.Slide.{length_moved}
+use Rattle.layout.specs.cells.Reads.{cell-here, cell-moved}
 use Rattle.layout.specs.cells.Replace.{Replacing, replacing}
 use Rattle.layout.specs.cells.Replaced.{counted-le}
 use Rattle.layout.specs.cells.Edges.{Begins, Ends}
 use Rattle.waist.specs.merging.Merge.{pasted, own_value, own_cell, own_in, other_cell, merged_row, merged_mark, merged_into, merged_into_mark}
 use Rattle.waist.specs.merging.Paste.{Pasting, packed-pasted, packed-few}
-use Rattle.waist.specs.substituting.Held.{Held, held-room, held-few}
+use Rattle.waist.specs.substituting.Held.{held-room}
 use Rattle.waist.specs.substituting.Lines.{Lines, lines, total_of, line_with, held_by, line_in, HeldIn, held-line}
-use Rattle.waist.specs.substituting.Pasted.{Stands, pasted-stands}
+use Rattle.waist.specs.substituting.Pasted.{pasted-stands}
 use Rattle.waist.specs.substituting.Descent.{came-long, stayed, front-now, back-now}
-use Rattle.waist.specs.substituting.Apart.{far, Apart, Ready, at-far, at-fars, inside, apart-room, past-cell, run-under, run-over, run-from}
+use Rattle.waist.specs.substituting.Apart.{far, Apart, Ready, at-far, at-fars, inside, past-cell, run-under, run-over, run-from}
 
 -- whatever lines the tables stand for, they then stand for those with line i substituted
 unfoldable pub Carries : (cutoff : Float) (at m : ℕ) (y : Float) (cols : List ℕ) (others : List Float) (i s : ℕ) (u : Lines) (s' : ℕ) (u' : Lines) → Type 0

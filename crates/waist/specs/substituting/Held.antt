@@ -11,7 +11,6 @@ use Rattle.std.proofs.Math.Dec.{ltb}
 use Rattle.std.specs.Float.Ieee.{nan, ne}
 use Rattle.std.proofs.Math.ListN.{get_or}
 use borrow.Author.Tests.{ltb-true, ltb-false}
-use Rattle.laws.specs.Loops.{run}
 use Rattle.steps.specs.Number.{zero64}
 use Rattle.steps.specs.Symbol.{absent}
 use Rattle.sparse.specs.Places.{most_rows}

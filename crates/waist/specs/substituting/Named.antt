@@ -1,22 +1,18 @@
 -- Words and bytes that name what they should: ids ascend, and each variable's byte is the place of a live symbol. A note changes flags alone.
 -- Assumes nothing.
-use Rattle.std.specs.Prelude.{ℕ, suc, ◌+◌, ◌≤◌, ◌<◌, ◌≡◌, Bool, ◌&&◌, ◌||◌, List, map, eqb, ltb, Float, set}
+use Rattle.std.specs.Prelude.{ℕ, suc, ◌+◌, ◌≤◌, ◌<◌, ◌≡◌, Bool, List, eqb, ltb, set}
 use Rattle.std.proofs.Math.Path.{refl, sym}
 use Rattle.std.proofs.Common.{ap, ◌∙◌, subst, arith, get_or-set_same, ltb-true, ltb-false, eqb-true, eq-eqb, ne_eqb}
 use Rattle.std.proofs.Math.Bool.{true, false, cond}
 use Rattle.std.proofs.Math.ListN.{length, get_or, length-set}
 use Rattle.std.proofs.Math.Seq.{get_or-set_other}
 use Rattle.std.proofs.lemmas.Bool.{eqb-false}
-use Rattle.laws.specs.Loops.{run, mapIn}
-use Rattle.laws.specs.Lists.{tab, list_of, tab-ext, map-tab}
+use Rattle.laws.specs.Loops.{mapIn}
 use Rattle.laws.specs.Places.{length-mapIn, mapIn-at, mapIn-before, mapIn-after}
-use Rattle.steps.specs.State.{Variable, Changes}
-use Rattle.steps.specs.Changes.{with_flag, clear_changed, flag_symbol, var_changed}
-use Rattle.sparse.specs.Places.{most_variables, symbol_count_at, variable_count_at, should_clear_at, ids_at, variable_numbers_at, variable_uses_at, kinds_at, variable_places_at, changed_at, words_size, bytes_size}
-use Rattle.sparse.specs.Sparse.{Sparse, symbol_count, variable_count, symbol_at, variable_of, read}
+use Rattle.sparse.specs.Places.{most_variables, symbol_count_at, variable_count_at, should_clear_at, ids_at, variable_places_at, changed_at, words_size, bytes_size}
 use Rattle.layout.specs.cells.Names.{last_place}
 use Rattle.layout.specs.cells.Seek.{run-inv}
-use Rattle.waist.specs.substituting.Notes.{Noted, noted, flag_turn, flagged_in, cleared_if, var_changed_at, var_changed_if}
+use Rattle.waist.specs.substituting.Notes.{Noted, flag_turn, flagged_in, cleared_if, var_changed_at, var_changed_if}
 
 pub record Named (words bytes : List ℕ) : Type 0 where
   pub long : length words ≡ words_size

@@ -3,12 +3,11 @@
 use Prim.Native.Nat.{ℕ, zero, suc, ◌+◌, ◌*◌, ◌≤◌, ◌<◌}
 use Rattle.std.specs.Prelude.{◌≡◌, Bool, ◌&&◌, ◌||◌, Float}
 use Rattle.std.proofs.Math.Path.{refl, sym, ap}
-use Rattle.std.proofs.Common.{◌∙◌, subst}
+use Rattle.std.proofs.Common.{◌∙◌}
 use Rattle.std.proofs.Math.Bool.{true, false, cond}
-use mathlib.Core.List.{List, [], ◌∷◌, map}
+use mathlib.Core.List.{List, ◌∷◌, map}
 use native.Mathlib.Omega.{arith}
 use Rattle.std.proofs.Math.Dec.{eqb}
-use Rattle.std.specs.Float.{nan}
 use Rattle.std.proofs.Math.ListN.{get_or}
 use Rattle.std.proofs.Math.Seq.{get_or-set_same}
 use Rattle.laws.specs.Loops.{run, run-next, run-last}
@@ -18,8 +17,7 @@ use Rattle.steps.specs.Row.{Written}
 use Rattle.steps.specs.State.{Variable, Changes}
 use Rattle.steps.specs.Changes.{with_flag, clear_changed, flag_symbol, var_changed, all_changed}
 use Rattle.steps.specs.Substitute.{Substituted, noted_of}
-use Rattle.layout.specs.Layout.{kind_of}
-use Rattle.sparse.specs.Places.{most_variables, symbol_count_at, variable_count_at, should_clear_at, gone_count_at, ids_at, variable_numbers_at, variable_uses_at, gone_numbers_at, kinds_at, row_places_at, variable_places_at, changed_at, old_values_at}
+use Rattle.sparse.specs.Places.{symbol_count_at, variable_count_at, should_clear_at, gone_count_at, ids_at, variable_numbers_at, variable_uses_at, gone_numbers_at, kinds_at, row_places_at, variable_places_at, changed_at}
 use Rattle.sparse.specs.Sparse.{Sparse, symbol_at, variable_of, gone_of, read}
 use Rattle.layout.specs.cells.Names.{row_span, last_place}
 use Rattle.layout.specs.cells.Cells.{cell_at}

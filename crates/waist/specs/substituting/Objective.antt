@@ -13,11 +13,10 @@ use Rattle.std.proofs.Math.Seq.{get_or-set_other}
 use borrow.Author.Tests.{ltb-true, ltb-false, eqb-true, eqb-false}
 use Rattle.laws.specs.Loops.{run, run-next, run-last}
 use Rattle.laws.specs.Lists.{tab, tab-ext, length-tab, getD-tab}
-use Rattle.steps.specs.Number.{zero64, objective_bound, Mark, all_whole, worse}
+use Rattle.steps.specs.Number.{zero64, objective_bound, Mark, all_whole}
 use Rattle.steps.specs.Symbol.{Symbol, absent, coefficient_for, clear_cell}
-use Rattle.steps.specs.Row.{Cell, kept, cell_values, cell_marks, insert_times, insert_cells}
+use Rattle.steps.specs.Row.{kept, cell_values, cell_marks, insert_times, insert_cells}
 use Rattle.steps.specs.Substitute.{substitute_in_cells}
-use Rattle.rows.specs.Marks.{mark_of}
 use Rattle.rows.specs.Place.{PlaceOf, place-below, coefficient-at, clear_at, kept-values, kept-marks}
 use Rattle.rows.specs.Table.{inserted_value, inserted_mark}
 use Rattle.rows.specs.Cells.{values-tab, insert-tab}

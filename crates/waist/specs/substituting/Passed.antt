@@ -1,7 +1,7 @@
 -- All lines in one pass: how it begins, a line that does not hold the symbol, and how it ends.
 -- Assumes nothing.
-use Prim.Native.Nat.{ℕ, suc, ◌+◌, ◌-◌, ◌*◌, ◌≤◌, ◌<◌}
-use Rattle.std.specs.Prelude.{◌≡◌, Bool, cond, List, Float, length}
+use Prim.Native.Nat.{ℕ, ◌+◌, ◌-◌, ◌*◌, ◌≤◌, ◌<◌}
+use Rattle.std.specs.Prelude.{◌≡◌, Bool, List, Float, length}
 use Rattle.std.proofs.Math.Path.{refl, sym, ap}
 use Rattle.std.proofs.Common.{◌∙◌, subst, arith}
 use Rattle.std.proofs.Math.Bool.{true, false}
@@ -12,7 +12,7 @@ use borrow.Author.Tests.{ltb-true, ltb-false}
 use Rattle.laws.specs.Loops.{run, run-next, run-last}
 use Rattle.steps.specs.Number.{zero64, Mark, all_whole}
 use Rattle.sparse.specs.Places.{most_rows}
-use Rattle.layout.specs.cells.Names.{row_span, cell_room, lines_room, last_place}
+use Rattle.layout.specs.cells.Names.{row_span, cell_room, last_place}
 use Rattle.layout.specs.cells.Cells.{cell_at, moved}
 use Rattle.layout.specs.cells.Column.{zero-absent}
 use Rattle.layout.specs.cells.Slide.{length_moved, moved_before, moved_in}

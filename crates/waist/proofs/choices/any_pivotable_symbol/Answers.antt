@@ -1,0 +1,10 @@
+use native.Mathlib.Omega.{arith}
+use Rattle.waist.specs.Looks.{loadable}
+use Rattle.waist.specs.Choices.{pivotable-chooses}
+use Rattle.waist.proofs.choices.any_pivotable_symbol.Goals as goal
+
+pub load_line-requires : goal.load_line-requires
+load_line-requires c = record { loadable = loadable _ _ c.requires.sound; i_le_most_rows = omega (arith, c.requires.sound.few, c.requires.i_bound) }
+
+pub returns : goal.returns
+returns c = pivotable-chooses _ _ _ c.load_line.ensures c.first_along.ensures.within c.first_along.ensures.value

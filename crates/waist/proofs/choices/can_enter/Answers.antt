@@ -1,0 +1,8 @@
+use mathlib.Core.Path.{refl}
+use Rattle.steps.specs.Number.{zero64, below_zero}
+use Rattle.waist.specs.Choosing.{dummy-kind}
+use Rattle.waist.proofs.choices.can_enter.Goals as goal
+
+pub returns : goal.returns
+unfolding below_zero zero64
+returns c = rw (dummy-kind) refl

@@ -1,0 +1,7 @@
+use Rattle.steps.specs.Number.{zero64, below_zero}
+use Rattle.waist.specs.Looks.{pivotable-kind}
+use Rattle.waist.proofs.subject.negative_pivotable.Goals as goal
+
+pub returns : goal.returns
+unfolding below_zero zero64
+returns c = rw (pivotable-kind _)
