@@ -22,19 +22,17 @@ import time
 ROOT = os.path.dirname(os.path.dirname(os.path.abspath(__file__)))
 CRATE = 'steps'
 
-HEAD = """use mathlib.Core.Bool.{Bool, true, false}
-use mathlib.Core.List.{List, [], _∷_}
-use mathlib.Core.Option.{Option, none, some}
-use Prim.Native.Nat.{ℕ}
-use lib.Dec.{T}
-use lib.Ieee.{binary64, ofBits}
-use Rattle·steps·specs.specs.Number.{usualCutoff}
-use Rattle·steps·specs.specs.State.{Term, State, atMost, equal, atLeast}
-use Rattle·steps·specs.specs.Changes.{Change}
-use Rattle·steps·specs.specs.Calls.{empty}
-use Rattle·steps·specs.specs.Session.{resets, adds, removes, drops, addsEdit, removesEdit, suggests, valueOf, fetches, hasConstraints, hasEdits, creates, clips, reads, dumps, setsNext, answer, is, list, says, numbers, Expected, _gives_, Turn, turn, replyNumbers, sameNumbers}
-use Rattle·steps·specs.specs.Shown.{Given, shown}
-use Rattle·steps·specs.specs.ReadBack.{givenNumbers, openReadBack}
+HEAD = """use Rattle.std.specs.Prelude.{ℕ, Bool, true, false, List, [], ◌∷◌, T, Float}
+use Rattle.std.proofs.Math.Option.{Option, none, some}
+use Rattle.std.specs.Float.{binary64}
+use Rattle.std.specs.Float.Ieee.{of_bits}
+use Rattle.steps.specs.Number.{usual_cutoff}
+use Rattle.steps.specs.State.{Term, State, at_most, equal, at_least}
+use Rattle.steps.specs.Changes.{Change}
+use Rattle.steps.specs.Calls.{empty}
+use Rattle.steps.specs.Session.{resets, adds, removes, drops, adds_edit, removes_edit, suggests, value_of, fetches, has_constraints, has_edits, creates, clips, reads, dumps, sets_next, answer, is, list, says, numbers, Expected, ◌gives◌, Turn, turn, reply_numbers, same_numbers}
+use Rattle.steps.specs.Shown.{Given, shown}
+use Rattle.steps.specs.ReadBack.{given_numbers, open_read_back}
 
 data Item : Type 0 where
   -- a call with its reply
@@ -47,22 +45,22 @@ data Item : Type 0 where
 unfoldable waits : List ℕ → State → State
 waits ns s =
     record {
-      tableau = s .tableau;
-      changes = record { variables = s .changes .variables; gone = ns; shouldClear = s .changes .shouldClear };
-      constraints = s .constraints;
-      edits = s .edits;
-      whole = s .whole;
+      tableau = s.tableau;
+      changes = record { variables = s.changes.variables; gone = ns; should_clear = s.changes.should_clear };
+      constraints = s.constraints;
+      edits = s.edits;
+      whole = s.whole;
     }
 
 unfoldable holds : State → List Item → Bool
 holds s [] = true
 holds s (calls e ∷ xs) =
-    let t : Turn = turn (e .call) s in
-    elim (sameNumbers (replyNumbers (t .reply)) (replyNumbers (e .reply))) [ true ↦ holds (t .state) xs | false ↦ false ]
-holds s (shows n g ∷ xs) = elim (sameNumbers (givenNumbers (shown n s)) (givenNumbers g)) [ true ↦ holds s xs | false ↦ false ]
+    let t : Turn = turn e.call s in
+    elim (same_numbers (reply_numbers t.reply) (reply_numbers e.reply)) [ true ↦ holds t.state xs | false ↦ false ]
+holds s (shows n g ∷ xs) = elim (same_numbers (given_numbers (shown n s)) (given_numbers g)) [ true ↦ holds s xs | false ↦ false ]
 holds s (sets ns ∷ xs) = holds (waits ns s) xs
 """
-RELATION = {'le': 'atMost', 'eq': 'equal', 'ge': 'atLeast'}
+RELATION = {'le': 'at_most', 'eq': 'equal', 'ge': 'at_least'}
 USUAL_CUTOFF = '1e-8'
 KIND = {'x': '1', 's': '2', 'e': '3', 'd': '4'}
 
@@ -76,7 +74,7 @@ def number(text):
         bits = int(text, 16)
     else:
         bits = struct.unpack('>Q', struct.pack('>d', float(text)))[0]
-    return '(ofBits binary64 0x%016x)' % bits
+    return '(of_bits binary64 0x%016x)' % bits
 
 
 def listed(items):
@@ -95,15 +93,15 @@ def call(w):
     if op == 'add':
         return adds('1', w)
     if op in ('addedit', 'suggest'):
-        return '%s %s %s %s' % ({'addedit': 'addsEdit', 'suggest': 'suggests'}[op], w[1], number(w[2]), w[3])
+        return '%s %s %s %s' % ({'addedit': 'adds_edit', 'suggest': 'suggests'}[op], w[1], number(w[2]), w[3])
     if op in ('reset', 'create', 'clip'):
         w = w if len(w) > 1 else w + [USUAL_CUTOFF]
         return ' '.join([{'reset': 'resets', 'create': 'creates', 'clip': 'clips'}[op]] + [number(x) for x in w[1:]])
     return ' '.join([PLAIN[op]] + w[1:])
 
 
-PLAIN = {'remove': 'removes', 'drop': 'drops', 'removeedit': 'removesEdit', 'value': 'valueOf', 'fetch': 'fetches',
-         'hascon': 'hasConstraints', 'hasedit': 'hasEdits', 'check': 'reads', 'dump': 'dumps', 'setnext': 'setsNext'}
+PLAIN = {'remove': 'removes', 'drop': 'drops', 'removeedit': 'removes_edit', 'value': 'value_of', 'fetch': 'fetches',
+         'hascon': 'has_constraints', 'hasedit': 'has_edits', 'check': 'reads', 'dump': 'dumps', 'setnext': 'sets_next'}
 
 
 def symbol(text):
@@ -179,7 +177,7 @@ def item(line, a):
 
 def theorem(name, session):
     items = '\n    ∷ '.join([item(line, a) for line, a in session] + ['[]'])
-    return '%s-items : List Item\n%s-items =\n    %s\n\n%s-passes : T (holds (empty usualCutoff) %s-items)\nunfolding openReadBack waits holds %s-items\n%s-passes = tt\n' % (name, name, items, name, name, name, name)
+    return '%s-items : List Item\n%s-items =\n    %s\n\n%s-passes : T (holds (empty usual_cutoff) %s-items)\nunfolding open_read_back waits holds %s-items\n%s-passes = tt\n' % (name, name, items, name, name, name, name)
 
 
 # ---- a copy of the definitions, with the theorems in a module of their own
@@ -197,7 +195,7 @@ class Repository:
         with open(self.dir + '/crates.txt', 'w') as f:
             f.write(''.join(l + '\n' for l in lines if l.split(':')[0] in wanted))
         for c in wanted:
-            shutil.copytree('%s/crates/%s' % (ROOT, c), '%s/crates/%s' % (self.dir, c))
+            shutil.copytree('%s/crates/%s' % (ROOT, c), '%s/crates/%s' % (self.dir, c), ignore=shutil.ignore_patterns('out', 'must-fail'))
         self.specs = '%s/crates/%s/specs' % (self.dir, CRATE)
         with open(self.specs + '/Lib.antt', 'a') as f:
             f.write('pub mod Run\n')
@@ -207,7 +205,7 @@ class Repository:
         with open(self.specs + '/Run.antt', 'w') as f:
             f.write(HEAD + '\n' + '\n'.join(theorems))
         t = time.time()
-        p = subprocess.run(['rt', 'dev', CRATE], cwd=self.dir, capture_output=True, text=True, env=dict(os.environ, RT_CUT='0', RT_JOBS='1'))
+        p = subprocess.run(['rt', 'check', '--jobs', '1'], cwd=os.path.dirname(self.specs), capture_output=True, text=True)
         out = p.stdout + p.stderr
         bad, steps = set(), set()
         for m in re.finditer(r'Run\.antt:\d+:\d+: error: `(\S+)-passes`(.*)', out):

@@ -1,4 +1,4 @@
-/* The solver's calls, as libknobharbor.a has them (`rt staticlib knobharbor` for x86-64, `tools/cross TARGET` for others). Everything
+/* The solver's calls, as libknobharbor.a has them (`tools/archive` for x86-64, `tools/cross TARGET` for others). Everything
    that a call answers and leaves is proved of the code behind it (crates/knobharbor, docs/CLAIMS.md); that this header says the same
    as that code is not proved.
 

@@ -1,10 +1,14 @@
-"""What the tools share: the repository, the kit, the archive's crate, and the target of this machine."""
-import hashlib, os, platform, shutil, sys
+"""What the tools share: the repository, the kit, the archive's crate and its build, and this machine."""
+import hashlib, os, platform, shutil, subprocess, sys
 
 ROOT = os.path.dirname(os.path.dirname(os.path.realpath(__file__)))
 MACHINE = platform.machine()
-# the crate that the firmware links: target/staticlib/libCRATE.a
+# the library, and the static library of its C names, which the firmware links as target/staticlib/libCRATE.a
 CRATE = "knobharbor"
+ARCHIVED = "knobharbor_c"
+ARCHIVE = f"{ROOT}/target/staticlib/lib{CRATE}.a"
+# as rt is asked for the archive: code that every x86-64 processor runs
+BUILD = ["lib", "--cpu", "x86-64"]
 
 
 def fail(words):
@@ -13,8 +17,6 @@ def fail(words):
 
 
 def kit():
-    if "RATTLE_HOME" in os.environ:
-        return os.environ["RATTLE_HOME"]
     rt = shutil.which("rt")
     if not rt:
         fail("the Rattle kit is missing: `rt` is not on the path")
@@ -24,7 +26,7 @@ def kit():
 def reached(crate):
     """The crate and those of the repository that it depends on, each with its line of crates.txt."""
     with open(f"{ROOT}/crates.txt") as f:
-        lines = {line.split(":")[0].strip(): line.split("#")[0] for line in f if ":" in line.split("#")[0]}
+        lines = {line.split()[0].rstrip(":"): line.split("#")[0] for line in f if ":" in line.split("#")[0]}
     found, todo = {}, [crate]
     while todo:
         name = todo.pop()
@@ -34,11 +36,11 @@ def reached(crate):
     return sorted(found.items())
 
 
-def sources(crate):
-    """A digest of all that the archive of a crate is made from, as rt's own stamps are."""
+def sources():
+    """A digest of all that the archive is made from, as rt's own stamps are."""
     with open(f"{kit()}/KIT-ID", "rb") as f:
         digest = hashlib.sha256(f.read())
-    for name, line in reached(crate):
+    for name, line in reached(ARCHIVED):
         digest.update(line.encode())
         for part in ("src", "specs", "proofs"):
             for at, folders, files in os.walk(f"{ROOT}/crates/{name}/{part}"):
@@ -49,14 +51,22 @@ def sources(crate):
     return digest.hexdigest()
 
 
-def is_built(crate, archive):
-    """Whether the archive was made from what stands in crates/ now: `rt staticlib` proves its crate anew each time."""
-    if not (os.path.exists(archive) and os.path.exists(archive + ".made-from")):
+def is_built():
+    """Whether the archive was made from what stands in crates/ now: `rt lib` reads all of its proof each time."""
+    if not (os.path.exists(ARCHIVE) and os.path.exists(ARCHIVE + ".made-from")):
         return False
-    with open(archive + ".made-from") as f:
-        return f.read() == sources(crate)
+    with open(ARCHIVE + ".made-from") as f:
+        return f.read() == sources()
 
 
-def mark_built(crate, archive):
-    with open(archive + ".made-from", "w") as f:
-        f.write(sources(crate))
+def build():
+    """Proves and builds the archive, unless it was made from what stands in crates/ now. What rt says goes to standard error."""
+    if is_built():
+        return
+    at = f"{ROOT}/crates/{ARCHIVED}"
+    if subprocess.run([f"{kit()}/bin/rt", *BUILD], cwd=at, stdout=sys.stderr).returncode:
+        fail(f"`rt {' '.join(BUILD)}` in crates/{ARCHIVED} did not build the archive; what it said is above")
+    os.makedirs(os.path.dirname(ARCHIVE), exist_ok=True)
+    shutil.copyfile(f"{at}/out/lib{ARCHIVED}.a", ARCHIVE)
+    with open(ARCHIVE + ".made-from", "w") as f:
+        f.write(sources())

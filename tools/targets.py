@@ -10,8 +10,11 @@ def arm(triple, cpu, *words, sums=False):
     return Target(triple, cpu, [f"-mcpu={cpu}", "-mthumb", *words], "-Os", sums)
 
 
+# as the kit has it for aarch64
+RENAMED = ["-mllvm", "-aarch64-load-store-renaming=false"]
+
 TARGETS = {
-    "aarch64-unknown-linux-gnu": Target("aarch64-unknown-linux-gnu", "generic", ["-mcpu=generic", "-fPIC"], "-O3"),
+    "aarch64-unknown-linux-gnu": Target("aarch64-unknown-linux-gnu", "generic", ["-mcpu=generic", "-fPIC", *RENAMED], "-O3"),
     # Cortex-M4F: a float unit for f32 alone, so that f64 is computed by the C library and tools/sums.c; floats cross in its registers
     "thumbv7em-none-eabihf": arm("thumbv7em-none-eabihf", "cortex-m4", "-mfpu=fpv4-sp-d16", "-mfloat-abi=hard", sums=True),
     # Cortex-M7 with a float unit for f64

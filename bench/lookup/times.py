@@ -9,7 +9,7 @@ ROOT = os.path.dirname(os.path.dirname(HERE))
 sys.path.insert(0, f"{ROOT}/tools")
 from kit import MACHINE, fail, kit
 
-CLANG = f"{kit()}/on/{MACHINE}/toolchain/bin/clang"
+CLANG = f"{kit()}/toolchain/bin/clang"
 TRIPLE = f"{MACHINE}-unknown-linux-gnu"
 
 
@@ -38,7 +38,7 @@ def alone(folder, function, name, out):
     text = text.replace(f'@"{function}"', f"@{name}")
     text = re.sub(r"^target (?:datalayout|triple) = .*\n", "", text, flags=re.M)
     text = re.sub(r'"target-cpu"="[^"]*"', "", text)
-    text = re.sub(r' ?"probe-stack"="[^"]*"', "", text)
+    text = re.sub(r' ?"(?:probe-stack|stack-probe-size)"="[^"]*"', "", text)
     with open(f"{out}/{name}.ll", "w") as f:
         f.write(text)
     run([CLANG, f"--target={TRIPLE}", "--no-default-config", "-O3", "-ffp-contract=off", "-Wno-override-module", "-c", "-x", "ir", f"{out}/{name}.ll", "-o", f"{out}/{name}.o"])

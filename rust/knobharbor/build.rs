@@ -1,5 +1,5 @@
 //! Finds the proved archive: in the folder that KNOBHARBOR_ARCHIVE names (by an absolute path: cargo runs this in the crate's own
-//! folder), or where `rt staticlib` leaves it for x86-64 Linux and `tools/cross TARGET` for another target. To check and to
+//! folder), or where `tools/archive` leaves it for x86-64 Linux and `tools/cross TARGET` for another target. To check and to
 //! document the crate it is not needed, so that its absence is a warning here; a build that has none stops at the link.
 use std::env;
 use std::path::PathBuf;
@@ -27,7 +27,7 @@ fn main() {
     if !file.exists() {
         let cure = match (&given, native) {
             (Some(folder), _) => format!("KNOBHARBOR_ARCHIVE is {folder:?}: let it name, by an absolute path, a folder that has it"),
-            (None, true) => format!("`rt staticlib {NAME}` in the repository's root proves and builds it"),
+            (None, true) => "`tools/archive` in the repository's root proves and builds it".to_string(),
             (None, false) => format!("`tools/cross {target}` in the repository's root proves and builds it"),
         };
         println!("cargo:warning=the proved archive for {target} is missing, {}: {cure}. Nothing can be linked without it.", file.display());

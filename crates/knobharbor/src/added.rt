@@ -67,8 +67,7 @@ fn add_packed(
 }
 
 // "A thin entry over a slice of term structs that hands variable and coefficient to covered functions.": `collect` gathers the terms, and `add_packed` makes the call of their list.
-#[unsafe(no_mangle)]
-pub extern "C" fn knobharbor_add(
+pub fn knobharbor_add(
     words: &mut Words,
     keys: &mut Keys,
     bytes: &mut Bytes,
@@ -98,8 +97,7 @@ pub extern "C" fn knobharbor_add(
     )
 }
 
-#[unsafe(no_mangle)]
-pub extern "C" fn knobharbor_add_lists(
+pub fn knobharbor_add_lists(
     words: &mut Words,
     keys: &mut Keys,
     bytes: &mut Bytes,

@@ -14,8 +14,7 @@ use crate::places::{put, put_fetched};
 use fetches::{Flags, Moved, Numbers};
 use sparse::{Bytes, Keys, Reals, Values, Words};
 
-#[unsafe(no_mangle)]
-pub extern "C" fn knobharbor_reset(
+pub fn knobharbor_reset(
     words: &mut Words,
     keys: &mut Keys,
     bytes: &mut Bytes,
@@ -30,8 +29,7 @@ pub extern "C" fn knobharbor_reset(
     put(answer, a);
 }
 
-#[unsafe(no_mangle)]
-pub extern "C" fn knobharbor_has_constraint(
+pub fn knobharbor_has_constraint(
     words: &Words,
     keys: &Keys,
     bytes: &Bytes,
@@ -44,8 +42,7 @@ pub extern "C" fn knobharbor_has_constraint(
     sparse_test::asking::has_constraint(words, keys, bytes, reals, values, number)
 }
 
-#[unsafe(no_mangle)]
-pub extern "C" fn knobharbor_has_edit(
+pub fn knobharbor_has_edit(
     words: &Words,
     keys: &Keys,
     bytes: &Bytes,
@@ -58,8 +55,7 @@ pub extern "C" fn knobharbor_has_edit(
     sparse_test::asking::has_edit(words, keys, bytes, reals, values, variable)
 }
 
-#[unsafe(no_mangle)]
-pub extern "C" fn knobharbor_value(
+pub fn knobharbor_value(
     words: &Words,
     keys: &Keys,
     bytes: &Bytes,
@@ -72,8 +68,7 @@ pub extern "C" fn knobharbor_value(
     sparse_test::asking::get_value(words, keys, bytes, reals, values, variable)
 }
 
-#[unsafe(no_mangle)]
-pub extern "C" fn knobharbor_fetch(
+pub fn knobharbor_fetch(
     words: &mut Words,
     keys: &Keys,
     bytes: &mut Bytes,
@@ -90,15 +85,13 @@ pub extern "C" fn knobharbor_fetch(
     put_fetched(answer, f);
 }
 
-#[unsafe(no_mangle)]
-pub extern "C" fn knobharbor_strength_create(a: f64, b: f64, c: f64, w: f64) -> f64
+pub fn knobharbor_strength_create(a: f64, b: f64, c: f64, w: f64) -> f64
     ensures { result ≡ create a b c w }
 {
     rows::strength::create(a, b, c, w)
 }
 
-#[unsafe(no_mangle)]
-pub extern "C" fn knobharbor_strength_clip(s: f64) -> f64
+pub fn knobharbor_strength_clip(s: f64) -> f64
     ensures { result ≡ clip s }
 {
     rows::strength::clip(s)

@@ -39,8 +39,7 @@ pub fn change(
     put(answer, a);
 }
 
-#[unsafe(no_mangle)]
-pub extern "C" fn knobharbor_remove(
+pub fn knobharbor_remove(
     words: &mut Words,
     keys: &mut Keys,
     bytes: &mut Bytes,
@@ -67,8 +66,7 @@ pub extern "C" fn knobharbor_remove(
 }
 
 // "Dropping a group removes its constraints by ascending number, all or none, under one budget."
-#[unsafe(no_mangle)]
-pub extern "C" fn knobharbor_drop(
+pub fn knobharbor_drop(
     words: &mut Words,
     keys: &mut Keys,
     bytes: &mut Bytes,
@@ -94,8 +92,7 @@ pub extern "C" fn knobharbor_drop(
     )
 }
 
-#[unsafe(no_mangle)]
-pub extern "C" fn knobharbor_add_edit(
+pub fn knobharbor_add_edit(
     words: &mut Words,
     keys: &mut Keys,
     bytes: &mut Bytes,
@@ -122,8 +119,7 @@ pub extern "C" fn knobharbor_add_edit(
     )
 }
 
-#[unsafe(no_mangle)]
-pub extern "C" fn knobharbor_remove_edit(
+pub fn knobharbor_remove_edit(
     words: &mut Words,
     keys: &mut Keys,
     bytes: &mut Bytes,
@@ -149,8 +145,7 @@ pub extern "C" fn knobharbor_remove_edit(
     )
 }
 
-#[unsafe(no_mangle)]
-pub extern "C" fn knobharbor_suggest(
+pub fn knobharbor_suggest(
     words: &mut Words,
     keys: &mut Keys,
     bytes: &mut Bytes,

@@ -39,8 +39,7 @@ fn fetch_after(
     }
 }
 
-#[unsafe(no_mangle)]
-pub extern "C" fn knobharbor_drag(
+pub fn knobharbor_drag(
     words: &mut Words,
     keys: &mut Keys,
     bytes: &mut Bytes,

@@ -39,8 +39,7 @@ pub fn change(
     put(answer, a);
 }
 
-#[unsafe(no_mangle)]
-pub extern "C" fn knobharbor_held_remove(
+pub fn knobharbor_held_remove(
     words: &Words,
     keys: &Keys,
     bytes: &Bytes,
@@ -66,8 +65,7 @@ pub extern "C" fn knobharbor_held_remove(
     )
 }
 
-#[unsafe(no_mangle)]
-pub extern "C" fn knobharbor_held_drop(
+pub fn knobharbor_held_drop(
     words: &Words,
     keys: &Keys,
     bytes: &Bytes,
@@ -93,8 +91,7 @@ pub extern "C" fn knobharbor_held_drop(
     )
 }
 
-#[unsafe(no_mangle)]
-pub extern "C" fn knobharbor_held_add_edit(
+pub fn knobharbor_held_add_edit(
     words: &Words,
     keys: &Keys,
     bytes: &Bytes,
@@ -121,8 +118,7 @@ pub extern "C" fn knobharbor_held_add_edit(
     )
 }
 
-#[unsafe(no_mangle)]
-pub extern "C" fn knobharbor_held_remove_edit(
+pub fn knobharbor_held_remove_edit(
     words: &Words,
     keys: &Keys,
     bytes: &Bytes,
@@ -148,8 +144,7 @@ pub extern "C" fn knobharbor_held_remove_edit(
     )
 }
 
-#[unsafe(no_mangle)]
-pub extern "C" fn knobharbor_held_suggest(
+pub fn knobharbor_held_suggest(
     words: &mut Words,
     keys: &mut Keys,
     bytes: &mut Bytes,

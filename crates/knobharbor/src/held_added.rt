@@ -41,8 +41,7 @@ fn add_packed(
     )
 }
 
-#[unsafe(no_mangle)]
-pub extern "C" fn knobharbor_held_add(
+pub fn knobharbor_held_add(
     words: &Words,
     keys: &Keys,
     bytes: &Bytes,

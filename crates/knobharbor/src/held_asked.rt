@@ -12,8 +12,7 @@ use crate::places::put_fetched;
 use fetches::{Fetched, Flags, Moved, Numbers};
 use sparse::{Bytes, Keys, Reals, Values, Words};
 
-#[unsafe(no_mangle)]
-pub extern "C" fn knobharbor_held_fetch(
+pub fn knobharbor_held_fetch(
     words: &mut Words,
     keys: &Keys,
     bytes: &mut Bytes,
@@ -32,8 +31,7 @@ pub extern "C" fn knobharbor_held_fetch(
     put_fetched(answer, f);
 }
 
-#[unsafe(no_mangle)]
-pub extern "C" fn knobharbor_held_has_constraint(
+pub fn knobharbor_held_has_constraint(
     words: &Words,
     keys: &Keys,
     bytes: &Bytes,
@@ -47,8 +45,7 @@ pub extern "C" fn knobharbor_held_has_constraint(
     sparse_test::asking::has_constraint_held(words, keys, bytes, reals, values, number)
 }
 
-#[unsafe(no_mangle)]
-pub extern "C" fn knobharbor_held_has_edit(
+pub fn knobharbor_held_has_edit(
     words: &Words,
     keys: &Keys,
     bytes: &Bytes,
@@ -62,8 +59,7 @@ pub extern "C" fn knobharbor_held_has_edit(
     sparse_test::asking::has_edit_held(words, keys, bytes, reals, values, variable)
 }
 
-#[unsafe(no_mangle)]
-pub extern "C" fn knobharbor_held_value(
+pub fn knobharbor_held_value(
     words: &Words,
     keys: &Keys,
     bytes: &Bytes,

@@ -1,4 +1,4 @@
-// What a firmware links: the public calls under their C names, and those behind the test, named held, for tables that safe Rust keeps private. A table crosses as a pointer to as many elements as its type has, a list as a pointer and a length of 64 bits; an answer of more than one word goes into a lent place. So the C conventions of every target pass them as they stand. include/knobharbor.h declares the public ones.
+// The public calls as a firmware makes them, and those behind the test, named held, for tables that safe Rust keeps private. What has a fixed size is lent as a whole, a list as a slice; an answer of more than one word goes into a lent place. The static library knobharbor_c has them under their C names.
 pub mod added;
 pub mod asked;
 pub mod changed;

@@ -9,8 +9,7 @@ use crate::places::put;
 use lending::Answer;
 use sparse::{Bytes, Keys, Reals, Values, Words};
 
-#[unsafe(no_mangle)]
-pub extern "C" fn knobharbor_add_text(
+pub fn knobharbor_add_text(
     words: &mut Words,
     keys: &mut Keys,
     bytes: &mut Bytes,

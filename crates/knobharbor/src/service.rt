@@ -8,8 +8,7 @@ ghost use Rattle.knobharbor.specs.handed.Handed.{handed, handed_by, read_by};
 use crate::handed::{Coefficients, Reals, Variables, Words};
 use cable_lines::state::State;
 
-#[unsafe(no_mangle)]
-pub extern "C" fn knobharbor_read_line(
+pub fn knobharbor_read_line(
     line: &[u8],
     words: &mut Words,
     reals: &mut Reals,
@@ -21,8 +20,7 @@ pub extern "C" fn knobharbor_read_line(
     crate::handed::read(line, words, reals, variables, coefficients)
 }
 
-#[unsafe(no_mangle)]
-pub extern "C" fn knobharbor_cable_take(
+pub fn knobharbor_cable_take(
     cable: &mut State,
     piece: &[u8],
     words: &mut Words,
@@ -35,8 +33,7 @@ pub extern "C" fn knobharbor_cable_take(
     crate::handed::take(cable, piece, words, reals, variables, coefficients)
 }
 
-#[unsafe(no_mangle)]
-pub extern "C" fn knobharbor_cable_close(
+pub fn knobharbor_cable_close(
     cable: &mut State,
     words: &mut Words,
     reals: &mut Reals,

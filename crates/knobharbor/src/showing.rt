@@ -5,8 +5,7 @@ ghost use Rattle.fetches.specs.shown.Shown.{line, show_of};
 
 use sparse::{Bytes, Keys, Reals, Values, Words};
 
-#[unsafe(no_mangle)]
-pub extern "C" fn knobharbor_show(
+pub fn knobharbor_show(
     words: &Words,
     keys: &Keys,
     bytes: &Bytes,

@@ -19,8 +19,7 @@ fn unsaid(buffer: &mut [u8]) -> u32
     18
 }
 
-#[unsafe(no_mangle)]
-pub extern "C" fn knobharbor_write_line(
+pub fn knobharbor_write_line(
     buffer: &mut [u8],
     kind: u32,
     strength: f64,

@@ -1,0 +1,104 @@
+// C names of the library's calls, written by tools/exports: each is the library's function of that name, its clauses again.
+ghost use Rattle.std.specs.Prelude.{◌≡◌, false};
+ghost use Rattle.steps.specs.Number.{zero64};
+ghost use Rattle.steps.specs.Strength.{create, clip};
+ghost use Rattle.steps.specs.Changes.{value};
+ghost use Rattle.steps.specs.Tests.{has_constraint, has_edit};
+ghost use Rattle.waist.specs.Working.{lent};
+ghost use Rattle.sparse_test.specs.Asked.{asked};
+ghost use Rattle.lending.specs.Reset.{reset_of};
+ghost use Rattle.fetches.specs.Fetch.{fetch_of};
+ghost use Rattle.knobharbor.specs.Places.{placed, placed_by, placed_list, placed_fetch};
+
+use fetches::{Flags, Moved, Numbers};
+use sparse::{Bytes, Keys, Reals, Values, Words};
+
+#[unsafe(no_mangle)]
+pub extern "C" fn knobharbor_reset(
+    words: &mut Words,
+    keys: &mut Keys,
+    bytes: &mut Bytes,
+    reals: &mut Reals,
+    values: &mut Values,
+    cutoff: f64,
+    answer: &mut [u32; 3],
+)
+    ensures { placed answer.new (lent words.exit keys.exit bytes.exit reals.exit values.exit) ≡ placed_by (reset_of cutoff (lent words.entry keys.entry bytes.entry reals.entry values.entry)) }
+{
+    knobharbor::asked::knobharbor_reset(words, keys, bytes, reals, values, cutoff, answer)
+}
+
+#[unsafe(no_mangle)]
+pub extern "C" fn knobharbor_has_constraint(
+    words: &Words,
+    keys: &Keys,
+    bytes: &Bytes,
+    reals: &Reals,
+    values: &Values,
+    number: u32,
+) -> bool
+    ensures { result ≡ asked (has_constraint number) false (lent words.entry keys.entry bytes.entry reals.entry values.entry) }
+{
+    knobharbor::asked::knobharbor_has_constraint(words, keys, bytes, reals, values, number)
+}
+
+#[unsafe(no_mangle)]
+pub extern "C" fn knobharbor_has_edit(
+    words: &Words,
+    keys: &Keys,
+    bytes: &Bytes,
+    reals: &Reals,
+    values: &Values,
+    variable: u32,
+) -> bool
+    ensures { result ≡ asked (has_edit variable) false (lent words.entry keys.entry bytes.entry reals.entry values.entry) }
+{
+    knobharbor::asked::knobharbor_has_edit(words, keys, bytes, reals, values, variable)
+}
+
+#[unsafe(no_mangle)]
+pub extern "C" fn knobharbor_value(
+    words: &Words,
+    keys: &Keys,
+    bytes: &Bytes,
+    reals: &Reals,
+    values: &Values,
+    variable: u32,
+) -> f64
+    ensures { result ≡ asked (value variable) zero64 (lent words.entry keys.entry bytes.entry reals.entry values.entry) }
+{
+    knobharbor::asked::knobharbor_value(words, keys, bytes, reals, values, variable)
+}
+
+#[unsafe(no_mangle)]
+pub extern "C" fn knobharbor_fetch(
+    words: &mut Words,
+    keys: &Keys,
+    bytes: &mut Bytes,
+    reals: &mut Reals,
+    values: &Values,
+    answer: &mut [u32; 2],
+    numbers: &mut Numbers,
+    moved: &mut Moved,
+    gone: &mut Flags,
+)
+    ensures { placed_list answer.new numbers.new moved.new gone.new (lent words.exit keys.entry bytes.exit reals.exit values.entry) ≡ placed_fetch (fetch_of (lent words.entry keys.entry bytes.entry reals.entry values.entry)) }
+{
+    knobharbor::asked::knobharbor_fetch(
+        words, keys, bytes, reals, values, answer, numbers, moved, gone,
+    )
+}
+
+#[unsafe(no_mangle)]
+pub extern "C" fn knobharbor_strength_create(a: f64, b: f64, c: f64, w: f64) -> f64
+    ensures { result ≡ create a b c w }
+{
+    knobharbor::asked::knobharbor_strength_create(a, b, c, w)
+}
+
+#[unsafe(no_mangle)]
+pub extern "C" fn knobharbor_strength_clip(s: f64) -> f64
+    ensures { result ≡ clip s }
+{
+    knobharbor::asked::knobharbor_strength_clip(s)
+}

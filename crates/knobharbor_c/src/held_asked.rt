@@ -1,0 +1,79 @@
+// C names of the library's calls, written by tools/exports: each is the library's function of that name, its clauses again.
+ghost use Rattle.std.specs.Prelude.{◌≡◌, true};
+ghost use Rattle.steps.specs.Changes.{value};
+ghost use Rattle.steps.specs.Tests.{has_constraint, has_edit};
+ghost use Rattle.sparse.specs.Sparse.{read};
+ghost use Rattle.sparse_test.specs.Reads.{reads};
+ghost use Rattle.waist.specs.Working.{lent};
+ghost use Rattle.fetches.specs.Fetch.{fetch_in};
+ghost use Rattle.knobharbor.specs.Places.{placed_list, placed_fetch};
+
+use fetches::{Flags, Moved, Numbers};
+use sparse::{Bytes, Keys, Reals, Values, Words};
+
+#[unsafe(no_mangle)]
+pub extern "C" fn knobharbor_held_fetch(
+    words: &mut Words,
+    keys: &Keys,
+    bytes: &mut Bytes,
+    reals: &mut Reals,
+    values: &Values,
+    answer: &mut [u32; 2],
+    numbers: &mut Numbers,
+    moved: &mut Moved,
+    gone: &mut Flags,
+)
+    requires { reads (lent words keys bytes reals values) ≡ true }
+    ensures { placed_list answer.new numbers.new moved.new gone.new (lent words.exit keys.entry bytes.exit reals.exit values.entry) ≡ placed_fetch (fetch_in (lent words.entry keys.entry bytes.entry reals.entry values.entry)) }
+{
+    knobharbor::held_asked::knobharbor_held_fetch(
+        words, keys, bytes, reals, values, answer, numbers, moved, gone,
+    )
+}
+
+#[unsafe(no_mangle)]
+pub extern "C" fn knobharbor_held_has_constraint(
+    words: &Words,
+    keys: &Keys,
+    bytes: &Bytes,
+    reals: &Reals,
+    values: &Values,
+    number: u32,
+) -> bool
+    requires { reads (lent words keys bytes reals values) ≡ true }
+    ensures { result ≡ has_constraint number (read (lent words.entry keys.entry bytes.entry reals.entry values.entry)) }
+{
+    knobharbor::held_asked::knobharbor_held_has_constraint(
+        words, keys, bytes, reals, values, number,
+    )
+}
+
+#[unsafe(no_mangle)]
+pub extern "C" fn knobharbor_held_has_edit(
+    words: &Words,
+    keys: &Keys,
+    bytes: &Bytes,
+    reals: &Reals,
+    values: &Values,
+    variable: u32,
+) -> bool
+    requires { reads (lent words keys bytes reals values) ≡ true }
+    ensures { result ≡ has_edit variable (read (lent words.entry keys.entry bytes.entry reals.entry values.entry)) }
+{
+    knobharbor::held_asked::knobharbor_held_has_edit(words, keys, bytes, reals, values, variable)
+}
+
+#[unsafe(no_mangle)]
+pub extern "C" fn knobharbor_held_value(
+    words: &Words,
+    keys: &Keys,
+    bytes: &Bytes,
+    reals: &Reals,
+    values: &Values,
+    variable: u32,
+) -> f64
+    requires { reads (lent words keys bytes reals values) ≡ true }
+    ensures { result ≡ value variable (read (lent words.entry keys.entry bytes.entry reals.entry values.entry)) }
+{
+    knobharbor::held_asked::knobharbor_held_value(words, keys, bytes, reals, values, variable)
+}
