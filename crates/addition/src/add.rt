@@ -6,7 +6,7 @@ ghost use Rattle.steps.specs.Add.{add_steps};
 ghost use Rattle.rows.specs.Marks.{mark_of};
 ghost use Rattle.layout.specs.cells.Names.{row_room};
 ghost use Rattle.sparse.specs.Sparse.{symbol_count};
-ghost use Rattle.waist.specs.Working.{lent, work_of};
+ghost use Rattle.waist.specs.Working.{work_of, sparse};
 ghost use Rattle.waist.specs.Ending.{Goes};
 ghost use Rattle.changes.specs.tags.Tags.{relation_of};
 ghost use Rattle.changes.specs.terms.Terms.{terms_of};
@@ -51,11 +51,11 @@ pub fn add_steps(
     budget: u32,
     before: Wrote,
 ) -> Added
-    requires opening { Opening (mark_of before) (terms_of p) constant (lent words keys bytes reals values) }
-    requires spare { Spare (lent words keys bytes reals values) }
-    ensures values_value { added_of result (lent words.exit keys.exit bytes.exit reals.exit values.exit) ≡ add_steps budget (terms_of p) constant (relation_of relation) (work_of false (mark_of before) 0 (lent words.entry keys.entry bytes.entry reals.entry values.entry)) }
-    ensures goes { Goes false result.ended (lent words.exit keys.exit bytes.exit reals.exit values.exit) }
-    ensures then { Then (eqb result.ended.number 0) ((1 ≤ result.marker) × (result.marker ≤ symbol_count (lent words.exit keys.exit bytes.exit reals.exit values.exit)) × (result.other ≤ symbol_count (lent words.exit keys.exit bytes.exit reals.exit values.exit))) }
+    requires opening { Opening (mark_of before) (terms_of p) constant (sparse words.old keys.old bytes.old reals.old values.old) }
+    requires spare { Spare (sparse words.old keys.old bytes.old reals.old values.old) }
+    ensures values_value { added_of result (sparse words.new keys.new bytes.new reals.new values.new) ≡ add_steps budget (terms_of p) constant (relation_of relation) (work_of false (mark_of before) 0 (sparse words.old keys.old bytes.old reals.old values.old)) }
+    ensures goes { Goes false result.ended (sparse words.new keys.new bytes.new reals.new values.new) }
+    ensures then { Then (eqb result.ended.number 0) ((1 ≤ result.marker) × (result.marker ≤ symbol_count (sparse words.new keys.new bytes.new reals.new values.new)) × (result.other ≤ symbol_count (sparse words.new keys.new bytes.new reals.new values.new))) }
 {
     let first = mark_inputs(p, constant, relation, before);
     let mut row = zero_row();

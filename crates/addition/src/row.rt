@@ -3,7 +3,7 @@ ghost use Rattle.std.specs.Prelude.{◌≡◌, false};
 ghost use Rattle.steps.specs.Add.{add_created};
 ghost use Rattle.rows.specs.Marks.{mark_of};
 ghost use Rattle.sparse.specs.Sparse.{symbol_at};
-ghost use Rattle.waist.specs.Working.{lent};
+ghost use Rattle.waist.specs.Working.{sparse};
 ghost use Rattle.waist.specs.Ending.{outcome_of, Goes};
 ghost use Rattle.addition.specs.Adding.{created_by, Fitting, Open, Made};
 ghost use Rattle.addition.specs.Chosen.{dummies_of, unchosen_of};
@@ -31,10 +31,10 @@ fn add_dummies(
     other: u8,
     before: Wrote,
 ) -> Ended
-    requires fitting { Fitting (mark_of before) (lent words keys bytes reals values) row.old }
-    requires fact { Open marker (lent words keys bytes reals values) }
-    ensures values_value { outcome_of false result (lent words.exit keys.exit bytes.exit reals.exit values.exit) ≡ dummies_of (symbol_at (lent words.entry keys.entry bytes.entry reals.entry values.entry) marker) (created_by (mark_of before) marker other (lent words.entry keys.entry bytes.entry reals.entry values.entry) row.old) }
-    ensures goes { Goes false result (lent words.exit keys.exit bytes.exit reals.exit values.exit) }
+    requires fitting { Fitting (mark_of before) (sparse words.old keys.old bytes.old reals.old values.old) row.old }
+    requires fact { Open marker (sparse words.old keys.old bytes.old reals.old values.old) }
+    ensures values_value { outcome_of false result (sparse words.new keys.new bytes.new reals.new values.new) ≡ dummies_of (symbol_at (sparse words.old keys.old bytes.old reals.old values.old) marker) (created_by (mark_of before) marker other (sparse words.old keys.old bytes.old reals.old values.old) row.old) }
+    ensures goes { Goes false result (sparse words.new keys.new bytes.new reals.new values.new) }
 {
     if near_zero(reals[CUTOFF], row[0]) {
         return add_with_subject(words, keys, bytes, reals, values, row, marker, before);
@@ -58,10 +58,10 @@ fn add_without_subject(
     budget: u32,
     before: Wrote,
 ) -> Ended
-    requires fitting { Fitting (mark_of before) (lent words keys bytes reals values) row.old }
-    requires fact { Open marker (lent words keys bytes reals values) }
-    ensures values_value { outcome_of false result (lent words.exit keys.exit bytes.exit reals.exit values.exit) ≡ unchosen_of budget (created_by (mark_of before) marker other (lent words.entry keys.entry bytes.entry reals.entry values.entry) row.old) }
-    ensures goes { Goes false result (lent words.exit keys.exit bytes.exit reals.exit values.exit) }
+    requires fitting { Fitting (mark_of before) (sparse words.old keys.old bytes.old reals.old values.old) row.old }
+    requires fact { Open marker (sparse words.old keys.old bytes.old reals.old values.old) }
+    ensures values_value { outcome_of false result (sparse words.new keys.new bytes.new reals.new values.new) ≡ unchosen_of budget (created_by (mark_of before) marker other (sparse words.old keys.old bytes.old reals.old values.old) row.old) }
+    ensures goes { Goes false result (sparse words.new keys.new bytes.new reals.new values.new) }
 {
     if all_dummies(words, bytes, row) {
         return add_dummies(
@@ -84,9 +84,9 @@ fn add_created(
     budget: u32,
     before: Wrote,
 ) -> Ended
-    requires { Made (mark_of before) marker other (lent words keys bytes reals values) row.old }
-    ensures values_value { outcome_of false result (lent words.exit keys.exit bytes.exit reals.exit values.exit) ≡ add_created budget (created_by (mark_of before) marker other (lent words.entry keys.entry bytes.entry reals.entry values.entry) row.old) }
-    ensures goes { Goes false result (lent words.exit keys.exit bytes.exit reals.exit values.exit) }
+    requires { Made (mark_of before) marker other (sparse words.old keys.old bytes.old reals.old values.old) row.old }
+    ensures values_value { outcome_of false result (sparse words.new keys.new bytes.new reals.new values.new) ≡ add_created budget (created_by (mark_of before) marker other (sparse words.old keys.old bytes.old reals.old values.old) row.old) }
+    ensures goes { Goes false result (sparse words.new keys.new bytes.new reals.new values.new) }
 {
     let f = choose_subject(words, bytes, row, marker, other);
     let Found::At(p) = f else {
@@ -110,9 +110,9 @@ pub fn add_row(
     budget: u32,
     before: Wrote,
 ) -> Ended
-    requires { Made (mark_of before) marker other (lent words keys bytes reals values) row.old }
-    ensures values_value { outcome_of false result (lent words.exit keys.exit bytes.exit reals.exit values.exit) ≡ added_row budget (created_by (mark_of before) marker other (lent words.entry keys.entry bytes.entry reals.entry values.entry) row.old) }
-    ensures goes { Goes false result (lent words.exit keys.exit bytes.exit reals.exit values.exit) }
+    requires { Made (mark_of before) marker other (sparse words.old keys.old bytes.old reals.old values.old) row.old }
+    ensures values_value { outcome_of false result (sparse words.new keys.new bytes.new reals.new values.new) ≡ added_row budget (created_by (mark_of before) marker other (sparse words.old keys.old bytes.old reals.old values.old) row.old) }
+    ensures goes { Goes false result (sparse words.new keys.new bytes.new reals.new values.new) }
 {
     let c = check_finite(0, before);
     if c.number != 0 {

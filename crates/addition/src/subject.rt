@@ -3,7 +3,7 @@ ghost use Rattle.std.specs.Prelude.{◌≡◌, false, ℕ};
 ghost use Rattle.steps.specs.Add.{add_with_subject};
 ghost use Rattle.rows.specs.Marks.{mark_of};
 ghost use Rattle.sparse.specs.Sparse.{symbol_at};
-ghost use Rattle.waist.specs.Working.{lent};
+ghost use Rattle.waist.specs.Working.{sparse};
 ghost use Rattle.waist.specs.Ending.{outcome_of, Goes};
 ghost use Rattle.addition.specs.Adding.{created_by, Fitting, Open};
 
@@ -32,10 +32,10 @@ pub fn add_with_subject(
     p: u8,
     before: Wrote,
 ) -> Ended
-    requires fitting { Fitting (mark_of before) (lent words keys bytes reals values) row.old }
-    requires fact { Open p (lent words keys bytes reals values) }
-    ensures by_index { (marker other : ℕ) → outcome_of false result (lent words.exit keys.exit bytes.exit reals.exit values.exit) ≡ add_with_subject (symbol_at (lent words.entry keys.entry bytes.entry reals.entry values.entry) p) (created_by (mark_of before) marker other (lent words.entry keys.entry bytes.entry reals.entry values.entry) row.old) }
-    ensures goes { Goes false result (lent words.exit keys.exit bytes.exit reals.exit values.exit) }
+    requires fitting { Fitting (mark_of before) (sparse words.old keys.old bytes.old reals.old values.old) row.old }
+    requires fact { Open p (sparse words.old keys.old bytes.old reals.old values.old) }
+    ensures by_index { (marker other : ℕ) → outcome_of false result (sparse words.new keys.new bytes.new reals.new values.new) ≡ add_with_subject (symbol_at (sparse words.old keys.old bytes.old reals.old values.old) p) (created_by (mark_of before) marker other (sparse words.old keys.old bytes.old reals.old values.old) row.old) }
+    ensures goes { Goes false result (sparse words.new keys.new bytes.new reals.new values.new) }
 {
     wide(row);
     let width = words[SYMBOL_COUNT] as usize;

@@ -6,7 +6,7 @@ ghost use Rattle.steps.specs.Artificial.{remove_temporary, add_with_artificial_v
 ghost use Rattle.rows.specs.Marks.{mark_of};
 ghost use Rattle.rows.specs.declared.choose.Found.TheVariants.{At};
 ghost use Rattle.sparse.specs.Sparse.{row_count, symbol_at};
-ghost use Rattle.waist.specs.Working.{lent, work_of};
+ghost use Rattle.waist.specs.Working.{work_of, sparse};
 ghost use Rattle.waist.specs.Standing.{Standing};
 ghost use Rattle.waist.specs.Ending.{outcome_of, Goes};
 ghost use Rattle.addition.specs.Adding.{created_by, Fitting, Temporary};
@@ -34,10 +34,10 @@ fn purge_temporary(
     pivots: u32,
     before: Wrote,
 ) -> Ended
-    requires standing { Standing false (mark_of before) (lent words keys bytes reals values) }
-    requires temporary { Temporary p (lent words keys bytes reals values) }
-    ensures values_value { outcome_of false result (lent words.exit keys.exit bytes.exit reals.exit values.exit) ≡ going (steps.purge (symbol_at (lent words.entry keys.entry bytes.entry reals.entry values.entry) p).id (work_of false (mark_of before) pivots (lent words.entry keys.entry bytes.entry reals.entry values.entry))) }
-    ensures goes { Goes false result (lent words.exit keys.exit bytes.exit reals.exit values.exit) }
+    requires standing { Standing false (mark_of before) (sparse words.old keys.old bytes.old reals.old values.old) }
+    requires temporary { Temporary p (sparse words.old keys.old bytes.old reals.old values.old) }
+    ensures values_value { outcome_of false result (sparse words.new keys.new bytes.new reals.new values.new) ≡ going (steps.purge (symbol_at (sparse words.old keys.old bytes.old reals.old values.old) p).id (work_of false (mark_of before) pivots (sparse words.old keys.old bytes.old reals.old values.old))) }
+    ensures goes { Goes false result (sparse words.new keys.new bytes.new reals.new values.new) }
 {
     purge(words, keys, bytes, reals, values, p);
     Ended {
@@ -59,13 +59,13 @@ fn pivot_temporary(
     pivots: u32,
     before: Wrote,
 ) -> Ended
-    requires standing { Standing false (mark_of before) (lent words keys bytes reals values) }
-    requires temporary { Temporary p (lent words keys bytes reals values) }
-    requires looked { Looked p (lent words keys bytes reals values) (At i) }
+    requires standing { Standing false (mark_of before) (sparse words.old keys.old bytes.old reals.old values.old) }
+    requires temporary { Temporary p (sparse words.old keys.old bytes.old reals.old values.old) }
+    requires looked { Looked p (sparse words.old keys.old bytes.old reals.old values.old) (At i) }
     requires le_i { 1 ≤ i }
-    requires i_bound { i ≤ row_count (lent words keys bytes reals values) }
-    ensures values_value { outcome_of false result (lent words.exit keys.exit bytes.exit reals.exit values.exit) ≡ out_of before pivots (lent words.entry keys.entry bytes.entry reals.entry values.entry) (symbol_at (lent words.entry keys.entry bytes.entry reals.entry values.entry) p).id i }
-    ensures goes { Goes false result (lent words.exit keys.exit bytes.exit reals.exit values.exit) }
+    requires i_bound { i ≤ row_count (sparse words.old keys.old bytes.old reals.old values.old) }
+    ensures values_value { outcome_of false result (sparse words.new keys.new bytes.new reals.new values.new) ≡ out_of before pivots (sparse words.old keys.old bytes.old reals.old values.old) (symbol_at (sparse words.old keys.old bytes.old reals.old values.old) p).id i }
+    ensures goes { Goes false result (sparse words.new keys.new bytes.new reals.new values.new) }
 {
     let f = any_pivotable_symbol(words, keys, bytes, reals, values, i);
     let Found::At(q) = f else {
@@ -94,10 +94,10 @@ fn remove_temporary(
     pivots: u32,
     before: Wrote,
 ) -> Ended
-    requires standing { Standing false (mark_of before) (lent words keys bytes reals values) }
-    requires temporary { Temporary p (lent words keys bytes reals values) }
-    ensures values_value { outcome_of false result (lent words.exit keys.exit bytes.exit reals.exit values.exit) ≡ remove_temporary (symbol_at (lent words.entry keys.entry bytes.entry reals.entry values.entry) p) (work_of false (mark_of before) pivots (lent words.entry keys.entry bytes.entry reals.entry values.entry)) }
-    ensures goes { Goes false result (lent words.exit keys.exit bytes.exit reals.exit values.exit) }
+    requires standing { Standing false (mark_of before) (sparse words.old keys.old bytes.old reals.old values.old) }
+    requires temporary { Temporary p (sparse words.old keys.old bytes.old reals.old values.old) }
+    ensures values_value { outcome_of false result (sparse words.new keys.new bytes.new reals.new values.new) ≡ remove_temporary (symbol_at (sparse words.old keys.old bytes.old reals.old values.old) p) (work_of false (mark_of before) pivots (sparse words.old keys.old bytes.old reals.old values.old)) }
+    ensures goes { Goes false result (sparse words.new keys.new bytes.new reals.new values.new) }
 {
     let f = row_of(words, bytes, p);
     let Found::At(at) = f else {
@@ -121,10 +121,10 @@ fn close_temporary(
     pivots: u32,
     before: Wrote,
 ) -> Ended
-    requires standing { Standing true (mark_of before) (lent words keys bytes reals values) }
-    requires temporary { Temporary p (lent words keys bytes reals values) }
-    ensures values_value { outcome_of false result (lent words.exit keys.exit bytes.exit reals.exit values.exit) ≡ closing_of (symbol_at (lent words.entry keys.entry bytes.entry reals.entry values.entry) p) (work_of true (mark_of before) pivots (lent words.entry keys.entry bytes.entry reals.entry values.entry)) }
-    ensures goes { Goes false result (lent words.exit keys.exit bytes.exit reals.exit values.exit) }
+    requires standing { Standing true (mark_of before) (sparse words.old keys.old bytes.old reals.old values.old) }
+    requires temporary { Temporary p (sparse words.old keys.old bytes.old reals.old values.old) }
+    ensures values_value { outcome_of false result (sparse words.new keys.new bytes.new reals.new values.new) ≡ closing_of (symbol_at (sparse words.old keys.old bytes.old reals.old values.old) p) (work_of true (mark_of before) pivots (sparse words.old keys.old bytes.old reals.old values.old)) }
+    ensures goes { Goes false result (sparse words.new keys.new bytes.new reals.new values.new) }
 {
     let x = artificial_constant(words, reals);
     if near_zero(reals[CUTOFF], x) {
@@ -149,9 +149,9 @@ pub fn add_with_artificial(
     budget: u32,
     before: Wrote,
 ) -> Ended
-    requires { Fitting (mark_of before) (lent words keys bytes reals values) row.old }
-    ensures by_index { (marker other : ℕ) → outcome_of false result (lent words.exit keys.exit bytes.exit reals.exit values.exit) ≡ add_with_artificial_variable budget (created_by (mark_of before) marker other (lent words.entry keys.entry bytes.entry reals.entry values.entry) row.old) }
-    ensures goes { Goes false result (lent words.exit keys.exit bytes.exit reals.exit values.exit) }
+    requires { Fitting (mark_of before) (sparse words.old keys.old bytes.old reals.old values.old) row.old }
+    ensures by_index { (marker other : ℕ) → outcome_of false result (sparse words.new keys.new bytes.new reals.new values.new) ≡ add_with_artificial_variable budget (created_by (mark_of before) marker other (sparse words.old keys.old bytes.old reals.old values.old) row.old) }
+    ensures goes { Goes false result (sparse words.new keys.new bytes.new reals.new values.new) }
 {
     let p = stand_temporary(words, keys, bytes, reals, values, row, before);
     let e = optimise(true, words, keys, bytes, reals, values, budget, 0, before);

@@ -5,7 +5,7 @@ ghost use Rattle.steps.specs.Number.{zero64};
 ghost use Rattle.steps.specs.Changing.{made};
 ghost use Rattle.layout.specs.cells.Names.{cell_room};
 ghost use Rattle.sparse.specs.Places.{words_size, bytes_size, reals_size};
-ghost use Rattle.waist.specs.Working.{lent};
+ghost use Rattle.waist.specs.Working.{sparse};
 ghost use Rattle.lending.specs.Lending.{answer_of, called, call_of};
 ghost use Rattle.lending.specs.Entered.{zero_room};
 ghost use Rattle.changes.specs.Change.{changing_of};
@@ -107,8 +107,8 @@ fn change_once(
     p: Pack,
     budget: u16,
 ) -> Answer
-    ensures values_value { called (answer_of result) (lent words.exit keys.exit bytes.exit reals.exit values.exit) ≡ call_of (made (changing_of c p budget)) (lent wwords.entry wkeys.entry wbytes.entry wreals.entry wvalues.entry) (lent words.entry keys.entry bytes.entry reals.entry values.entry) }
-    ensures wvalues_value { lent wwords.exit wkeys.exit wbytes.exit wreals.exit wvalues.exit ≡ zero_room }
+    ensures values_value { called (answer_of result) (sparse words.new keys.new bytes.new reals.new values.new) ≡ call_of (made (changing_of c p budget)) (sparse wwords.old wkeys.old wbytes.old wreals.old wvalues.old) (sparse words.old keys.old bytes.old reals.old values.old) }
+    ensures wvalues_value { sparse wwords.new wkeys.new wbytes.new wreals.new wvalues.new ≡ zero_room }
 {
     lending::room::long(wwords, wkeys, wbytes, wreals, wvalues);
     solver::change(

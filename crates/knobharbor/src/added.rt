@@ -1,6 +1,6 @@
 // Add. The terms come as a lent list of records; or as two lists, the i-th term the i-th variable times the i-th coefficient. The kind is 0 for at most, 1 for equal, 2 for at least.
 ghost use Rattle.std.specs.Prelude.{◌≡◌};
-ghost use Rattle.waist.specs.Working.{lent};
+ghost use Rattle.waist.specs.Working.{sparse};
 ghost use Rattle.lending.specs.sparse_copy.Over.{cleared};
 ghost use Rattle.lending.specs.Lending.{answer_of, called, refused18};
 ghost use Rattle.knobharbor.specs.Adding.{add_of, add_lists_of, packed_of};
@@ -23,7 +23,7 @@ fn refuse(
     wvalues: &mut Values,
 ) -> Answer
     ensures result_value { answer_of result ≡ refused18 }
-    ensures wvalues_value { lent wwords.exit wkeys.exit wbytes.exit wreals.exit wvalues.exit ≡ cleared (lent wwords.entry wkeys.entry wbytes.entry wreals.entry wvalues.entry) }
+    ensures wvalues_value { sparse wwords.new wkeys.new wbytes.new wreals.new wvalues.new ≡ cleared (sparse wwords.old wkeys.old wbytes.old wreals.old wvalues.old) }
 {
     lending::clearing::clear_room(wwords, wkeys, wbytes, wreals, wvalues);
     lending::refuse18()
@@ -49,8 +49,8 @@ fn add_packed(
     strength: f64,
     budget: u16,
 )
-    ensures values_after { placed answer.new (lent words.exit keys.exit bytes.exit reals.exit values.exit) ≡ placed_by (packed_of group number p constant kind strength budget (lent wwords.entry wkeys.entry wbytes.entry wreals.entry wvalues.entry) (lent words.entry keys.entry bytes.entry reals.entry values.entry)) }
-    ensures wvalues_value { lent wwords.exit wkeys.exit wbytes.exit wreals.exit wvalues.exit ≡ cleared (lent wwords.entry wkeys.entry wbytes.entry wreals.entry wvalues.entry) }
+    ensures values_after { placed answer.new (sparse words.new keys.new bytes.new reals.new values.new) ≡ placed_by (packed_of group number p constant kind strength budget (sparse wwords.old wkeys.old wbytes.old wreals.old wvalues.old) (sparse words.old keys.old bytes.old reals.old values.old)) }
+    ensures wvalues_value { sparse wwords.new wkeys.new wbytes.new wreals.new wvalues.new ≡ cleared (sparse wwords.old wkeys.old wbytes.old wreals.old wvalues.old) }
 {
     let ok = kind < 3;
     if !ok {
@@ -87,8 +87,8 @@ pub fn knobharbor_add(
     strength: f64,
     budget: u16,
 )
-    ensures values_after { placed answer.new (lent words.exit keys.exit bytes.exit reals.exit values.exit) ≡ placed_by (add_of group number terms.now constant kind strength budget (lent wwords.entry wkeys.entry wbytes.entry wreals.entry wvalues.entry) (lent words.entry keys.entry bytes.entry reals.entry values.entry)) }
-    ensures wvalues_value { lent wwords.exit wkeys.exit wbytes.exit wreals.exit wvalues.exit ≡ cleared (lent wwords.entry wkeys.entry wbytes.entry wreals.entry wvalues.entry) }
+    ensures values_after { placed answer.new (sparse words.new keys.new bytes.new reals.new values.new) ≡ placed_by (add_of group number terms.now constant kind strength budget (sparse wwords.old wkeys.old wbytes.old wreals.old wvalues.old) (sparse words.old keys.old bytes.old reals.old values.old)) }
+    ensures wvalues_value { sparse wwords.new wkeys.new wbytes.new wreals.new wvalues.new ≡ cleared (sparse wwords.old wkeys.old wbytes.old wreals.old wvalues.old) }
 {
     let p = changes::terms::collect(terms);
     add_packed(
@@ -118,8 +118,8 @@ pub fn knobharbor_add_lists(
     strength: f64,
     budget: u16,
 )
-    ensures values_after { placed answer.new (lent words.exit keys.exit bytes.exit reals.exit values.exit) ≡ placed_by (add_lists_of group number vars.now coefs.now constant kind strength budget (lent wwords.entry wkeys.entry wbytes.entry wreals.entry wvalues.entry) (lent words.entry keys.entry bytes.entry reals.entry values.entry)) }
-    ensures wvalues_value { lent wwords.exit wkeys.exit wbytes.exit wreals.exit wvalues.exit ≡ cleared (lent wwords.entry wkeys.entry wbytes.entry wreals.entry wvalues.entry) }
+    ensures values_after { placed answer.new (sparse words.new keys.new bytes.new reals.new values.new) ≡ placed_by (add_lists_of group number vars.now coefs.now constant kind strength budget (sparse wwords.old wkeys.old wbytes.old wreals.old wvalues.old) (sparse words.old keys.old bytes.old reals.old values.old)) }
+    ensures wvalues_value { sparse wwords.new wkeys.new wbytes.new wreals.new wvalues.new ≡ cleared (sparse wwords.old wkeys.old wbytes.old wreals.old wvalues.old) }
 {
     let ok = vars.len() == coefs.len();
     if !ok {

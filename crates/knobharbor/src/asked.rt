@@ -4,7 +4,7 @@ ghost use Rattle.steps.specs.Number.{zero64};
 ghost use Rattle.steps.specs.Strength.{create, clip};
 ghost use Rattle.steps.specs.Changes.{value};
 ghost use Rattle.steps.specs.Tests.{has_constraint, has_edit};
-ghost use Rattle.waist.specs.Working.{lent};
+ghost use Rattle.waist.specs.Working.{lent, sparse};
 ghost use Rattle.sparse_test.specs.Asked.{asked};
 ghost use Rattle.lending.specs.Reset.{reset_of};
 ghost use Rattle.fetches.specs.Fetch.{fetch_of};
@@ -23,7 +23,7 @@ pub fn knobharbor_reset(
     cutoff: f64,
     answer: &mut [u32; 3],
 )
-    ensures { placed answer.new (lent words.exit keys.exit bytes.exit reals.exit values.exit) ≡ placed_by (reset_of cutoff (lent words.entry keys.entry bytes.entry reals.entry values.entry)) }
+    ensures { placed answer.new (sparse words.new keys.new bytes.new reals.new values.new) ≡ placed_by (reset_of cutoff (sparse words.old keys.old bytes.old reals.old values.old)) }
 {
     let a = lending::reset(words, keys, bytes, reals, values, cutoff);
     put(answer, a);
@@ -79,7 +79,7 @@ pub fn knobharbor_fetch(
     moved: &mut Moved,
     gone: &mut Flags,
 )
-    ensures { placed_list answer.new numbers.new moved.new gone.new (lent words.exit keys.entry bytes.exit reals.exit values.entry) ≡ placed_fetch (fetch_of (lent words.entry keys.entry bytes.entry reals.entry values.entry)) }
+    ensures { placed_list answer.new numbers.new moved.new gone.new (sparse words.new keys.now bytes.new reals.new values.now) ≡ placed_fetch (fetch_of (sparse words.old keys.now bytes.old reals.old values.now)) }
 {
     let f = fetches::fetch_changes(words, keys, bytes, reals, values, numbers, moved, gone);
     put_fetched(answer, f);

@@ -4,7 +4,7 @@ ghost use Rattle.laws.specs.Given.{Then};
 ghost use Rattle.steps.specs.Calls.{suggest};
 ghost use Rattle.sparse_test.specs.Reads.{reads};
 ghost use Rattle.lending.specs.sparse_copy.Over.{cleared};
-ghost use Rattle.waist.specs.Working.{lent};
+ghost use Rattle.waist.specs.Working.{sparse};
 ghost use Rattle.lending.specs.Lending.{call_of};
 ghost use Rattle.fetches.specs.Fetch.{fetch_by, fetch_of};
 ghost use Rattle.knobharbor.specs.Places.{in_places, placed_list, placed_fetch};
@@ -26,8 +26,8 @@ fn fetch_after(
     moved: &mut Moved,
     gone: &mut Flags,
 ) -> Fetched
-    requires { Then known (reads (lent words keys bytes reals values) ≡ true) }
-    ensures { fetch_by result numbers.new moved.new gone.new (lent words.exit keys.entry bytes.exit reals.exit values.entry) ≡ fetch_of (lent words.entry keys.entry bytes.entry reals.entry values.entry) }
+    requires { Then known (reads (sparse words.old keys.now bytes.old reals.old values.now) ≡ true) }
+    ensures { fetch_by result numbers.new moved.new gone.new (sparse words.new keys.now bytes.new reals.new values.now) ≡ fetch_of (sparse words.old keys.now bytes.old reals.old values.now) }
 {
     if !known {
         return fetches::fetch_changes(words, keys, bytes, reals, values, numbers, moved, gone);
@@ -59,9 +59,9 @@ pub fn knobharbor_drag(
     suggestion: f64,
     budget: u16,
 )
-    ensures answer_after { answer.new ≡ in_places (call_of (suggest variable suggestion budget) (lent wwords.entry wkeys.entry wbytes.entry wreals.entry wvalues.entry) (lent words.entry keys.entry bytes.entry reals.entry values.entry)).answer }
-    ensures values_after { placed_list fetched.new numbers.new moved.new gone.new (lent words.exit keys.exit bytes.exit reals.exit values.exit) ≡ placed_fetch (fetch_of (call_of (suggest variable suggestion budget) (lent wwords.entry wkeys.entry wbytes.entry wreals.entry wvalues.entry) (lent words.entry keys.entry bytes.entry reals.entry values.entry)).tables) }
-    ensures wvalues_value { lent wwords.exit wkeys.exit wbytes.exit wreals.exit wvalues.exit ≡ cleared (lent wwords.entry wkeys.entry wbytes.entry wreals.entry wvalues.entry) }
+    ensures answer_after { answer.new ≡ in_places (call_of (suggest variable suggestion budget) (sparse wwords.old wkeys.old wbytes.old wreals.old wvalues.old) (sparse words.old keys.old bytes.old reals.old values.old)).answer }
+    ensures values_after { placed_list fetched.new numbers.new moved.new gone.new (sparse words.new keys.new bytes.new reals.new values.new) ≡ placed_fetch (fetch_of (call_of (suggest variable suggestion budget) (sparse wwords.old wkeys.old wbytes.old wreals.old wvalues.old) (sparse words.old keys.old bytes.old reals.old values.old)).tables) }
+    ensures wvalues_value { sparse wwords.new wkeys.new wbytes.new wreals.new wvalues.new ≡ cleared (sparse wwords.old wkeys.old wbytes.old wreals.old wvalues.old) }
 {
     lending::room::long(words, keys, bytes, reals, values);
     let c = Change::Suggest(variable, suggestion);

@@ -3,7 +3,7 @@ ghost use Rattle.std.specs.Prelude.{◌≡◌, true};
 ghost use Rattle.steps.specs.Calls.{remove, drop_group, add_edit, remove_edit, suggest};
 ghost use Rattle.steps.specs.Changing.{made};
 ghost use Rattle.sparse_test.specs.Reads.{reads};
-ghost use Rattle.waist.specs.Working.{lent};
+ghost use Rattle.waist.specs.Working.{lent, sparse};
 ghost use Rattle.lending.specs.Lending.{call_in};
 ghost use Rattle.changes.specs.Change.{changing_of};
 ghost use Rattle.knobharbor.specs.Held.{HeldBy};
@@ -31,7 +31,7 @@ pub fn change(
     budget: u16,
 )
     requires { reads (lent words keys bytes reals values) ≡ true }
-    ensures { HeldBy (made (changing_of c p budget)) answer.new (lent words.entry keys.entry bytes.entry reals.entry values.entry) (lent wwords.exit wkeys.exit wbytes.exit wreals.exit wvalues.exit) }
+    ensures { HeldBy (made (changing_of c p budget)) answer.new (lent words.entry keys.entry bytes.entry reals.entry values.entry) (sparse wwords.new wkeys.new wbytes.new wreals.new wvalues.new) }
 {
     let a = solver::change_held(
         words, keys, bytes, reals, values, wwords, wkeys, wbytes, wreals, wvalues, c, p, budget,
@@ -55,7 +55,7 @@ pub fn knobharbor_held_remove(
     budget: u16,
 )
     requires { reads (lent words keys bytes reals values) ≡ true }
-    ensures { HeldBy (remove number budget) answer.new (lent words.entry keys.entry bytes.entry reals.entry values.entry) (lent wwords.exit wkeys.exit wbytes.exit wreals.exit wvalues.exit) }
+    ensures { HeldBy (remove number budget) answer.new (lent words.entry keys.entry bytes.entry reals.entry values.entry) (sparse wwords.new wkeys.new wbytes.new wreals.new wvalues.new) }
 {
     let c = Change::Remove(number);
     let p = changes::terms::none();
@@ -81,7 +81,7 @@ pub fn knobharbor_held_drop(
     budget: u16,
 )
     requires { reads (lent words keys bytes reals values) ≡ true }
-    ensures { HeldBy (drop_group group budget) answer.new (lent words.entry keys.entry bytes.entry reals.entry values.entry) (lent wwords.exit wkeys.exit wbytes.exit wreals.exit wvalues.exit) }
+    ensures { HeldBy (drop_group group budget) answer.new (lent words.entry keys.entry bytes.entry reals.entry values.entry) (sparse wwords.new wkeys.new wbytes.new wreals.new wvalues.new) }
 {
     let c = Change::Drop(group);
     let p = changes::terms::none();
@@ -108,7 +108,7 @@ pub fn knobharbor_held_add_edit(
     budget: u16,
 )
     requires { reads (lent words keys bytes reals values) ≡ true }
-    ensures { HeldBy (add_edit variable strength budget) answer.new (lent words.entry keys.entry bytes.entry reals.entry values.entry) (lent wwords.exit wkeys.exit wbytes.exit wreals.exit wvalues.exit) }
+    ensures { HeldBy (add_edit variable strength budget) answer.new (lent words.entry keys.entry bytes.entry reals.entry values.entry) (sparse wwords.new wkeys.new wbytes.new wreals.new wvalues.new) }
 {
     let c = Change::AddEdit(variable, strength);
     let p = changes::terms::none();
@@ -134,7 +134,7 @@ pub fn knobharbor_held_remove_edit(
     budget: u16,
 )
     requires { reads (lent words keys bytes reals values) ≡ true }
-    ensures { HeldBy (remove_edit variable budget) answer.new (lent words.entry keys.entry bytes.entry reals.entry values.entry) (lent wwords.exit wkeys.exit wbytes.exit wreals.exit wvalues.exit) }
+    ensures { HeldBy (remove_edit variable budget) answer.new (lent words.entry keys.entry bytes.entry reals.entry values.entry) (sparse wwords.new wkeys.new wbytes.new wreals.new wvalues.new) }
 {
     let c = Change::RemoveEdit(variable);
     let p = changes::terms::none();
@@ -160,10 +160,10 @@ pub fn knobharbor_held_suggest(
     suggestion: f64,
     budget: u16,
 )
-    requires { reads (lent words keys bytes reals values) ≡ true }
-    ensures answer_after { answer.new ≡ in_places (call_in (suggest variable suggestion budget) (lent words.entry keys.entry bytes.entry reals.entry values.entry)).answer }
-    ensures values_value { lent words.exit keys.exit bytes.exit reals.exit values.exit ≡ (call_in (suggest variable suggestion budget) (lent words.entry keys.entry bytes.entry reals.entry values.entry)).tables }
-    ensures values_value_2 { reads (lent words.exit keys.exit bytes.exit reals.exit values.exit) ≡ true }
+    requires { reads (sparse words.old keys.old bytes.old reals.old values.old) ≡ true }
+    ensures answer_after { answer.new ≡ in_places (call_in (suggest variable suggestion budget) (sparse words.old keys.old bytes.old reals.old values.old)).answer }
+    ensures values_value { sparse words.new keys.new bytes.new reals.new values.new ≡ (call_in (suggest variable suggestion budget) (sparse words.old keys.old bytes.old reals.old values.old)).tables }
+    ensures values_value_2 { reads (sparse words.new keys.new bytes.new reals.new values.new) ≡ true }
 {
     let a = solver::back::suggest_held(
         words, keys, bytes, reals, values, wwords, wkeys, wbytes, wreals, wvalues, variable,

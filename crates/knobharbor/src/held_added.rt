@@ -1,7 +1,7 @@
 // Behind the test: add. A list of terms is gathered into a pack by a function that is proved by hand.
 ghost use Rattle.std.specs.Prelude.{◌≡◌, true};
 ghost use Rattle.sparse_test.specs.Reads.{reads};
-ghost use Rattle.waist.specs.Working.{lent};
+ghost use Rattle.waist.specs.Working.{lent, sparse};
 ghost use Rattle.knobharbor.specs.Held.{HeldBy, held_add, held_packed};
 
 use crate::given::relation;
@@ -31,7 +31,7 @@ fn add_packed(
     budget: u16,
 )
     requires { reads (lent words keys bytes reals values) ≡ true }
-    ensures { HeldBy (held_packed group number p constant kind strength budget) answer.new (lent words.entry keys.entry bytes.entry reals.entry values.entry) (lent wwords.exit wkeys.exit wbytes.exit wreals.exit wvalues.exit) }
+    ensures { HeldBy (held_packed group number p constant kind strength budget) answer.new (lent words.entry keys.entry bytes.entry reals.entry values.entry) (sparse wwords.new wkeys.new wbytes.new wreals.new wvalues.new) }
 {
     let r = relation(kind, strength);
     let c = Change::Add(group, number, constant, r);
@@ -62,7 +62,7 @@ pub fn knobharbor_held_add(
     budget: u16,
 )
     requires { reads (lent words keys bytes reals values) ≡ true }
-    ensures { HeldBy (held_add group number terms.now constant kind strength budget) answer.new (lent words.entry keys.entry bytes.entry reals.entry values.entry) (lent wwords.exit wkeys.exit wbytes.exit wreals.exit wvalues.exit) }
+    ensures { HeldBy (held_add group number terms.now constant kind strength budget) answer.new (lent words.entry keys.entry bytes.entry reals.entry values.entry) (sparse wwords.new wkeys.new wbytes.new wreals.new wvalues.new) }
 {
     let p = changes::terms::collect(terms);
     add_packed(

@@ -1,6 +1,6 @@
 // Add a line of text, under its C name. The offset goes into a place of its own.
 ghost use Rattle.std.specs.Prelude.{◌≡◌};
-ghost use Rattle.waist.specs.Working.{lent};
+ghost use Rattle.waist.specs.Working.{sparse};
 ghost use Rattle.lending.specs.sparse_copy.Over.{cleared};
 ghost use Rattle.entry.specs.typed.Adding.{text_of};
 ghost use Rattle.knobharbor.specs.Places.{placed, placed_text, placed_line};
@@ -26,8 +26,8 @@ pub fn knobharbor_add_text(
     line: &[u8],
     budget: u16,
 )
-    ensures values_after { placed_text offset.new (placed answer.new (lent words.exit keys.exit bytes.exit reals.exit values.exit)) ≡ placed_line (text_of number line.now budget (lent wwords.entry wkeys.entry wbytes.entry wreals.entry wvalues.entry) (lent words.entry keys.entry bytes.entry reals.entry values.entry)) }
-    ensures wvalues_value { lent wwords.exit wkeys.exit wbytes.exit wreals.exit wvalues.exit ≡ cleared (lent wwords.entry wkeys.entry wbytes.entry wreals.entry wvalues.entry) }
+    ensures values_after { placed_text offset.new (placed answer.new (sparse words.new keys.new bytes.new reals.new values.new)) ≡ placed_line (text_of number line.now budget (sparse wwords.old wkeys.old wbytes.old wreals.old wvalues.old) (sparse words.old keys.old bytes.old reals.old values.old)) }
+    ensures wvalues_value { sparse wwords.new wkeys.new wbytes.new wreals.new wvalues.new ≡ cleared (sparse wwords.old wkeys.old wbytes.old wreals.old wvalues.old) }
 {
     let r = entry::typed::add::add_text(
         words, keys, bytes, reals, values, wwords, wkeys, wbytes, wreals, wvalues, number, line,

@@ -1,6 +1,6 @@
 // C names of the library's calls, written by tools/exports: each is the library's function of that name, its clauses again.
 ghost use Rattle.std.specs.Prelude.{◌≡◌};
-ghost use Rattle.waist.specs.Working.{lent};
+ghost use Rattle.waist.specs.Working.{sparse};
 ghost use Rattle.lending.specs.sparse_copy.Over.{cleared};
 ghost use Rattle.knobharbor.specs.Adding.{add_of, add_lists_of};
 ghost use Rattle.knobharbor.specs.Places.{placed, placed_by};
@@ -29,8 +29,8 @@ pub extern "C" fn knobharbor_add(
     strength: f64,
     budget: u16,
 )
-    ensures values_after { placed answer.new (lent words.exit keys.exit bytes.exit reals.exit values.exit) ≡ placed_by (add_of group number terms.now constant kind strength budget (lent wwords.entry wkeys.entry wbytes.entry wreals.entry wvalues.entry) (lent words.entry keys.entry bytes.entry reals.entry values.entry)) }
-    ensures wvalues_value { lent wwords.exit wkeys.exit wbytes.exit wreals.exit wvalues.exit ≡ cleared (lent wwords.entry wkeys.entry wbytes.entry wreals.entry wvalues.entry) }
+    ensures values_after { placed answer.new (sparse words.new keys.new bytes.new reals.new values.new) ≡ placed_by (add_of group number terms.now constant kind strength budget (sparse wwords.old wkeys.old wbytes.old wreals.old wvalues.old) (sparse words.old keys.old bytes.old reals.old values.old)) }
+    ensures wvalues_value { sparse wwords.new wkeys.new wbytes.new wreals.new wvalues.new ≡ cleared (sparse wwords.old wkeys.old wbytes.old wreals.old wvalues.old) }
 {
     knobharbor::added::knobharbor_add(
         words, keys, bytes, reals, values, wwords, wkeys, wbytes, wreals, wvalues, answer, group,
@@ -60,8 +60,8 @@ pub extern "C" fn knobharbor_add_lists(
     strength: f64,
     budget: u16,
 )
-    ensures values_after { placed answer.new (lent words.exit keys.exit bytes.exit reals.exit values.exit) ≡ placed_by (add_lists_of group number vars.now coefs.now constant kind strength budget (lent wwords.entry wkeys.entry wbytes.entry wreals.entry wvalues.entry) (lent words.entry keys.entry bytes.entry reals.entry values.entry)) }
-    ensures wvalues_value { lent wwords.exit wkeys.exit wbytes.exit wreals.exit wvalues.exit ≡ cleared (lent wwords.entry wkeys.entry wbytes.entry wreals.entry wvalues.entry) }
+    ensures values_after { placed answer.new (sparse words.new keys.new bytes.new reals.new values.new) ≡ placed_by (add_lists_of group number vars.now coefs.now constant kind strength budget (sparse wwords.old wkeys.old wbytes.old wreals.old wvalues.old) (sparse words.old keys.old bytes.old reals.old values.old)) }
+    ensures wvalues_value { sparse wwords.new wkeys.new wbytes.new wreals.new wvalues.new ≡ cleared (sparse wwords.old wkeys.old wbytes.old wreals.old wvalues.old) }
 {
     knobharbor::added::knobharbor_add_lists(
         words, keys, bytes, reals, values, wwords, wkeys, wbytes, wreals, wvalues, answer, group,

@@ -1,7 +1,7 @@
 // C names of the library's calls, written by tools/exports: each is the library's function of that name, its clauses again.
 ghost use Rattle.std.specs.Prelude.{◌≡◌};
 ghost use Rattle.steps.specs.Calls.{remove, drop_group, add_edit, remove_edit, suggest};
-ghost use Rattle.waist.specs.Working.{lent};
+ghost use Rattle.waist.specs.Working.{sparse};
 ghost use Rattle.lending.specs.sparse_copy.Over.{cleared};
 ghost use Rattle.lending.specs.Lending.{call_of};
 ghost use Rattle.knobharbor.specs.Places.{placed, placed_by};
@@ -24,8 +24,8 @@ pub extern "C" fn knobharbor_remove(
     number: u32,
     budget: u16,
 )
-    ensures values_after { placed answer.new (lent words.exit keys.exit bytes.exit reals.exit values.exit) ≡ placed_by (call_of (remove number budget) (lent wwords.entry wkeys.entry wbytes.entry wreals.entry wvalues.entry) (lent words.entry keys.entry bytes.entry reals.entry values.entry)) }
-    ensures wvalues_value { lent wwords.exit wkeys.exit wbytes.exit wreals.exit wvalues.exit ≡ cleared (lent wwords.entry wkeys.entry wbytes.entry wreals.entry wvalues.entry) }
+    ensures values_after { placed answer.new (sparse words.new keys.new bytes.new reals.new values.new) ≡ placed_by (call_of (remove number budget) (sparse wwords.old wkeys.old wbytes.old wreals.old wvalues.old) (sparse words.old keys.old bytes.old reals.old values.old)) }
+    ensures wvalues_value { sparse wwords.new wkeys.new wbytes.new wreals.new wvalues.new ≡ cleared (sparse wwords.old wkeys.old wbytes.old wreals.old wvalues.old) }
 {
     knobharbor::changed::knobharbor_remove(
         words, keys, bytes, reals, values, wwords, wkeys, wbytes, wreals, wvalues, answer, number,
@@ -49,8 +49,8 @@ pub extern "C" fn knobharbor_drop(
     group: u16,
     budget: u16,
 )
-    ensures values_after { placed answer.new (lent words.exit keys.exit bytes.exit reals.exit values.exit) ≡ placed_by (call_of (drop_group group budget) (lent wwords.entry wkeys.entry wbytes.entry wreals.entry wvalues.entry) (lent words.entry keys.entry bytes.entry reals.entry values.entry)) }
-    ensures wvalues_value { lent wwords.exit wkeys.exit wbytes.exit wreals.exit wvalues.exit ≡ cleared (lent wwords.entry wkeys.entry wbytes.entry wreals.entry wvalues.entry) }
+    ensures values_after { placed answer.new (sparse words.new keys.new bytes.new reals.new values.new) ≡ placed_by (call_of (drop_group group budget) (sparse wwords.old wkeys.old wbytes.old wreals.old wvalues.old) (sparse words.old keys.old bytes.old reals.old values.old)) }
+    ensures wvalues_value { sparse wwords.new wkeys.new wbytes.new wreals.new wvalues.new ≡ cleared (sparse wwords.old wkeys.old wbytes.old wreals.old wvalues.old) }
 {
     knobharbor::changed::knobharbor_drop(
         words, keys, bytes, reals, values, wwords, wkeys, wbytes, wreals, wvalues, answer, group,
@@ -75,8 +75,8 @@ pub extern "C" fn knobharbor_add_edit(
     strength: f64,
     budget: u16,
 )
-    ensures values_after { placed answer.new (lent words.exit keys.exit bytes.exit reals.exit values.exit) ≡ placed_by (call_of (add_edit variable strength budget) (lent wwords.entry wkeys.entry wbytes.entry wreals.entry wvalues.entry) (lent words.entry keys.entry bytes.entry reals.entry values.entry)) }
-    ensures wvalues_value { lent wwords.exit wkeys.exit wbytes.exit wreals.exit wvalues.exit ≡ cleared (lent wwords.entry wkeys.entry wbytes.entry wreals.entry wvalues.entry) }
+    ensures values_after { placed answer.new (sparse words.new keys.new bytes.new reals.new values.new) ≡ placed_by (call_of (add_edit variable strength budget) (sparse wwords.old wkeys.old wbytes.old wreals.old wvalues.old) (sparse words.old keys.old bytes.old reals.old values.old)) }
+    ensures wvalues_value { sparse wwords.new wkeys.new wbytes.new wreals.new wvalues.new ≡ cleared (sparse wwords.old wkeys.old wbytes.old wreals.old wvalues.old) }
 {
     knobharbor::changed::knobharbor_add_edit(
         words, keys, bytes, reals, values, wwords, wkeys, wbytes, wreals, wvalues, answer,
@@ -100,8 +100,8 @@ pub extern "C" fn knobharbor_remove_edit(
     variable: u32,
     budget: u16,
 )
-    ensures values_after { placed answer.new (lent words.exit keys.exit bytes.exit reals.exit values.exit) ≡ placed_by (call_of (remove_edit variable budget) (lent wwords.entry wkeys.entry wbytes.entry wreals.entry wvalues.entry) (lent words.entry keys.entry bytes.entry reals.entry values.entry)) }
-    ensures wvalues_value { lent wwords.exit wkeys.exit wbytes.exit wreals.exit wvalues.exit ≡ cleared (lent wwords.entry wkeys.entry wbytes.entry wreals.entry wvalues.entry) }
+    ensures values_after { placed answer.new (sparse words.new keys.new bytes.new reals.new values.new) ≡ placed_by (call_of (remove_edit variable budget) (sparse wwords.old wkeys.old wbytes.old wreals.old wvalues.old) (sparse words.old keys.old bytes.old reals.old values.old)) }
+    ensures wvalues_value { sparse wwords.new wkeys.new wbytes.new wreals.new wvalues.new ≡ cleared (sparse wwords.old wkeys.old wbytes.old wreals.old wvalues.old) }
 {
     knobharbor::changed::knobharbor_remove_edit(
         words, keys, bytes, reals, values, wwords, wkeys, wbytes, wreals, wvalues, answer,
@@ -126,8 +126,8 @@ pub extern "C" fn knobharbor_suggest(
     suggestion: f64,
     budget: u16,
 )
-    ensures values_after { placed answer.new (lent words.exit keys.exit bytes.exit reals.exit values.exit) ≡ placed_by (call_of (suggest variable suggestion budget) (lent wwords.entry wkeys.entry wbytes.entry wreals.entry wvalues.entry) (lent words.entry keys.entry bytes.entry reals.entry values.entry)) }
-    ensures wvalues_value { lent wwords.exit wkeys.exit wbytes.exit wreals.exit wvalues.exit ≡ cleared (lent wwords.entry wkeys.entry wbytes.entry wreals.entry wvalues.entry) }
+    ensures values_after { placed answer.new (sparse words.new keys.new bytes.new reals.new values.new) ≡ placed_by (call_of (suggest variable suggestion budget) (sparse wwords.old wkeys.old wbytes.old wreals.old wvalues.old) (sparse words.old keys.old bytes.old reals.old values.old)) }
+    ensures wvalues_value { sparse wwords.new wkeys.new wbytes.new wreals.new wvalues.new ≡ cleared (sparse wwords.old wkeys.old wbytes.old wreals.old wvalues.old) }
 {
     knobharbor::changed::knobharbor_suggest(
         words, keys, bytes, reals, values, wwords, wkeys, wbytes, wreals, wvalues, answer,

@@ -2,7 +2,7 @@
 ghost use Rattle.std.specs.Prelude.{◌≡◌};
 ghost use Rattle.steps.specs.Calls.{suggest};
 ghost use Rattle.lending.specs.sparse_copy.Over.{cleared};
-ghost use Rattle.waist.specs.Working.{lent};
+ghost use Rattle.waist.specs.Working.{sparse};
 ghost use Rattle.lending.specs.Lending.{call_of};
 ghost use Rattle.fetches.specs.Fetch.{fetch_of};
 ghost use Rattle.knobharbor.specs.Places.{in_places, placed_list, placed_fetch};
@@ -31,9 +31,9 @@ pub extern "C" fn knobharbor_drag(
     suggestion: f64,
     budget: u16,
 )
-    ensures answer_after { answer.new ≡ in_places (call_of (suggest variable suggestion budget) (lent wwords.entry wkeys.entry wbytes.entry wreals.entry wvalues.entry) (lent words.entry keys.entry bytes.entry reals.entry values.entry)).answer }
-    ensures values_after { placed_list fetched.new numbers.new moved.new gone.new (lent words.exit keys.exit bytes.exit reals.exit values.exit) ≡ placed_fetch (fetch_of (call_of (suggest variable suggestion budget) (lent wwords.entry wkeys.entry wbytes.entry wreals.entry wvalues.entry) (lent words.entry keys.entry bytes.entry reals.entry values.entry)).tables) }
-    ensures wvalues_value { lent wwords.exit wkeys.exit wbytes.exit wreals.exit wvalues.exit ≡ cleared (lent wwords.entry wkeys.entry wbytes.entry wreals.entry wvalues.entry) }
+    ensures answer_after { answer.new ≡ in_places (call_of (suggest variable suggestion budget) (sparse wwords.old wkeys.old wbytes.old wreals.old wvalues.old) (sparse words.old keys.old bytes.old reals.old values.old)).answer }
+    ensures values_after { placed_list fetched.new numbers.new moved.new gone.new (sparse words.new keys.new bytes.new reals.new values.new) ≡ placed_fetch (fetch_of (call_of (suggest variable suggestion budget) (sparse wwords.old wkeys.old wbytes.old wreals.old wvalues.old) (sparse words.old keys.old bytes.old reals.old values.old)).tables) }
+    ensures wvalues_value { sparse wwords.new wkeys.new wbytes.new wreals.new wvalues.new ≡ cleared (sparse wwords.old wkeys.old wbytes.old wreals.old wvalues.old) }
 {
     knobharbor::dragged::knobharbor_drag(
         words, keys, bytes, reals, values, wwords, wkeys, wbytes, wreals, wvalues, answer, fetched,

@@ -2,7 +2,7 @@
 ghost use Rattle.std.specs.Prelude.{◌≡◌, true};
 ghost use Rattle.steps.specs.Calls.{remove, drop_group, add_edit, remove_edit, suggest};
 ghost use Rattle.sparse_test.specs.Reads.{reads};
-ghost use Rattle.waist.specs.Working.{lent};
+ghost use Rattle.waist.specs.Working.{lent, sparse};
 ghost use Rattle.lending.specs.Lending.{call_in};
 ghost use Rattle.knobharbor.specs.Held.{HeldBy};
 ghost use Rattle.knobharbor.specs.Places.{in_places};
@@ -26,7 +26,7 @@ pub extern "C" fn knobharbor_held_remove(
     budget: u16,
 )
     requires { reads (lent words keys bytes reals values) ≡ true }
-    ensures { HeldBy (remove number budget) answer.new (lent words.entry keys.entry bytes.entry reals.entry values.entry) (lent wwords.exit wkeys.exit wbytes.exit wreals.exit wvalues.exit) }
+    ensures { HeldBy (remove number budget) answer.new (lent words.entry keys.entry bytes.entry reals.entry values.entry) (sparse wwords.new wkeys.new wbytes.new wreals.new wvalues.new) }
 {
     knobharbor::held::knobharbor_held_remove(
         words, keys, bytes, reals, values, wwords, wkeys, wbytes, wreals, wvalues, answer, number,
@@ -51,7 +51,7 @@ pub extern "C" fn knobharbor_held_drop(
     budget: u16,
 )
     requires { reads (lent words keys bytes reals values) ≡ true }
-    ensures { HeldBy (drop_group group budget) answer.new (lent words.entry keys.entry bytes.entry reals.entry values.entry) (lent wwords.exit wkeys.exit wbytes.exit wreals.exit wvalues.exit) }
+    ensures { HeldBy (drop_group group budget) answer.new (lent words.entry keys.entry bytes.entry reals.entry values.entry) (sparse wwords.new wkeys.new wbytes.new wreals.new wvalues.new) }
 {
     knobharbor::held::knobharbor_held_drop(
         words, keys, bytes, reals, values, wwords, wkeys, wbytes, wreals, wvalues, answer, group,
@@ -77,7 +77,7 @@ pub extern "C" fn knobharbor_held_add_edit(
     budget: u16,
 )
     requires { reads (lent words keys bytes reals values) ≡ true }
-    ensures { HeldBy (add_edit variable strength budget) answer.new (lent words.entry keys.entry bytes.entry reals.entry values.entry) (lent wwords.exit wkeys.exit wbytes.exit wreals.exit wvalues.exit) }
+    ensures { HeldBy (add_edit variable strength budget) answer.new (lent words.entry keys.entry bytes.entry reals.entry values.entry) (sparse wwords.new wkeys.new wbytes.new wreals.new wvalues.new) }
 {
     knobharbor::held::knobharbor_held_add_edit(
         words, keys, bytes, reals, values, wwords, wkeys, wbytes, wreals, wvalues, answer,
@@ -102,7 +102,7 @@ pub extern "C" fn knobharbor_held_remove_edit(
     budget: u16,
 )
     requires { reads (lent words keys bytes reals values) ≡ true }
-    ensures { HeldBy (remove_edit variable budget) answer.new (lent words.entry keys.entry bytes.entry reals.entry values.entry) (lent wwords.exit wkeys.exit wbytes.exit wreals.exit wvalues.exit) }
+    ensures { HeldBy (remove_edit variable budget) answer.new (lent words.entry keys.entry bytes.entry reals.entry values.entry) (sparse wwords.new wkeys.new wbytes.new wreals.new wvalues.new) }
 {
     knobharbor::held::knobharbor_held_remove_edit(
         words, keys, bytes, reals, values, wwords, wkeys, wbytes, wreals, wvalues, answer,
@@ -127,10 +127,10 @@ pub extern "C" fn knobharbor_held_suggest(
     suggestion: f64,
     budget: u16,
 )
-    requires { reads (lent words keys bytes reals values) ≡ true }
-    ensures answer_after { answer.new ≡ in_places (call_in (suggest variable suggestion budget) (lent words.entry keys.entry bytes.entry reals.entry values.entry)).answer }
-    ensures values_value { lent words.exit keys.exit bytes.exit reals.exit values.exit ≡ (call_in (suggest variable suggestion budget) (lent words.entry keys.entry bytes.entry reals.entry values.entry)).tables }
-    ensures values_value_2 { reads (lent words.exit keys.exit bytes.exit reals.exit values.exit) ≡ true }
+    requires { reads (sparse words.old keys.old bytes.old reals.old values.old) ≡ true }
+    ensures answer_after { answer.new ≡ in_places (call_in (suggest variable suggestion budget) (sparse words.old keys.old bytes.old reals.old values.old)).answer }
+    ensures values_value { sparse words.new keys.new bytes.new reals.new values.new ≡ (call_in (suggest variable suggestion budget) (sparse words.old keys.old bytes.old reals.old values.old)).tables }
+    ensures values_value_2 { reads (sparse words.new keys.new bytes.new reals.new values.new) ≡ true }
 {
     knobharbor::held::knobharbor_held_suggest(
         words, keys, bytes, reals, values, wwords, wkeys, wbytes, wreals, wvalues, answer,

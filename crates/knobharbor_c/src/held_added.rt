@@ -1,7 +1,7 @@
 // C names of the library's calls, written by tools/exports: each is the library's function of that name, its clauses again.
 ghost use Rattle.std.specs.Prelude.{◌≡◌, true};
 ghost use Rattle.sparse_test.specs.Reads.{reads};
-ghost use Rattle.waist.specs.Working.{lent};
+ghost use Rattle.waist.specs.Working.{lent, sparse};
 ghost use Rattle.knobharbor.specs.Held.{HeldBy, held_add};
 
 use changes::terms::Term;
@@ -29,7 +29,7 @@ pub extern "C" fn knobharbor_held_add(
     budget: u16,
 )
     requires { reads (lent words keys bytes reals values) ≡ true }
-    ensures { HeldBy (held_add group number terms.now constant kind strength budget) answer.new (lent words.entry keys.entry bytes.entry reals.entry values.entry) (lent wwords.exit wkeys.exit wbytes.exit wreals.exit wvalues.exit) }
+    ensures { HeldBy (held_add group number terms.now constant kind strength budget) answer.new (lent words.entry keys.entry bytes.entry reals.entry values.entry) (sparse wwords.new wkeys.new wbytes.new wreals.new wvalues.new) }
 {
     knobharbor::held_added::knobharbor_held_add(
         words, keys, bytes, reals, values, wwords, wkeys, wbytes, wreals, wvalues, answer, group,

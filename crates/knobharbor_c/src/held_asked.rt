@@ -4,7 +4,7 @@ ghost use Rattle.steps.specs.Changes.{value};
 ghost use Rattle.steps.specs.Tests.{has_constraint, has_edit};
 ghost use Rattle.sparse.specs.Sparse.{read};
 ghost use Rattle.sparse_test.specs.Reads.{reads};
-ghost use Rattle.waist.specs.Working.{lent};
+ghost use Rattle.waist.specs.Working.{lent, sparse};
 ghost use Rattle.fetches.specs.Fetch.{fetch_in};
 ghost use Rattle.knobharbor.specs.Places.{placed_list, placed_fetch};
 
@@ -23,8 +23,8 @@ pub extern "C" fn knobharbor_held_fetch(
     moved: &mut Moved,
     gone: &mut Flags,
 )
-    requires { reads (lent words keys bytes reals values) ≡ true }
-    ensures { placed_list answer.new numbers.new moved.new gone.new (lent words.exit keys.entry bytes.exit reals.exit values.entry) ≡ placed_fetch (fetch_in (lent words.entry keys.entry bytes.entry reals.entry values.entry)) }
+    requires { reads (sparse words.old keys.now bytes.old reals.old values.now) ≡ true }
+    ensures { placed_list answer.new numbers.new moved.new gone.new (sparse words.new keys.now bytes.new reals.new values.now) ≡ placed_fetch (fetch_in (sparse words.old keys.now bytes.old reals.old values.now)) }
 {
     knobharbor::held_asked::knobharbor_held_fetch(
         words, keys, bytes, reals, values, answer, numbers, moved, gone,

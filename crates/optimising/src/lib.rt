@@ -6,7 +6,7 @@ ghost use Rattle.std.specs.Prelude.{◌≡◌, false, ◌-◌, ◌≤◌, get_or
 ghost use Rattle.steps.specs.Optimise as steps;
 ghost use Rattle.rows.specs.Marks.{mark_of};
 ghost use Rattle.sparse.specs.Places.{symbol_count_at, row_count_at};
-ghost use Rattle.waist.specs.Working.{work_of, lent};
+ghost use Rattle.waist.specs.Working.{work_of, sparse};
 ghost use Rattle.waist.specs.Dropping.{Free};
 ghost use Rattle.waist.specs.Standing.{Standing};
 ghost use Rattle.waist.specs.Ending.{outcome_of, Goes};
@@ -38,13 +38,13 @@ fn pivot_within(
     pivots: u32,
     before: Wrote,
 ) -> Turn
-    requires standing { Standing art (mark_of before) (lent words keys bytes reals values) }
+    requires standing { Standing art (mark_of before) (sparse words.old keys.old bytes.old reals.old values.old) }
     requires le_i { 1 ≤ i }
     requires i_bound { i ≤ get_or words.old row_count_at 0 }
     requires le_p { 1 ≤ p }
     requires p_bound { p ≤ get_or words.old symbol_count_at 0 }
-    requires free { Free p (lent words keys bytes reals values) }
-    ensures { TurnedOn art i p budget pivots before (lent words.entry keys.entry bytes.entry reals.entry values.entry) result (lent words.exit keys.exit bytes.exit reals.exit values.exit) }
+    requires free { Free p (sparse words.old keys.old bytes.old reals.old values.old) }
+    ensures { TurnedOn art i p budget pivots before (sparse words.old keys.old bytes.old reals.old values.old) result (sparse words.new keys.new bytes.new reals.new values.new) }
 {
     if budget <= pivots {
         return stopped(14, pivots, before);
@@ -64,8 +64,8 @@ fn optimise_turn(
     pivots: u32,
     before: Wrote,
 ) -> Turn
-    requires { Standing art (mark_of before) (lent words keys bytes reals values) }
-    ensures { Turned art (optimise_on art) budget pivots before (lent words.entry keys.entry bytes.entry reals.entry values.entry) result (lent words.exit keys.exit bytes.exit reals.exit values.exit) }
+    requires { Standing art (mark_of before) (sparse words.old keys.old bytes.old reals.old values.old) }
+    ensures { Turned art (optimise_on art) budget pivots before (sparse words.old keys.old bytes.old reals.old values.old) result (sparse words.new keys.new bytes.new reals.new values.new) }
 {
     let f = get_goal_entering_symbol(art, words, keys, bytes, reals, values);
     let Found::At(p) = f else {
@@ -92,9 +92,9 @@ pub fn optimise(
     pivots: u32,
     before: Wrote,
 ) -> Ended
-    requires { Standing art (mark_of before) (lent words keys bytes reals values) }
-    ensures values_value { outcome_of art result (lent words.exit keys.exit bytes.exit reals.exit values.exit) ≡ steps.optimise (budget - pivots) (goal_of art) (work_of art (mark_of before) pivots (lent words.entry keys.entry bytes.entry reals.entry values.entry)) }
-    ensures goes { Goes art result (lent words.exit keys.exit bytes.exit reals.exit values.exit) }
+    requires { Standing art (mark_of before) (sparse words.old keys.old bytes.old reals.old values.old) }
+    ensures values_value { outcome_of art result (sparse words.new keys.new bytes.new reals.new values.new) ≡ steps.optimise (budget - pivots) (goal_of art) (work_of art (mark_of before) pivots (sparse words.old keys.old bytes.old reals.old values.old)) }
+    ensures goes { Goes art result (sparse words.new keys.new bytes.new reals.new values.new) }
 {
     let mut turn = Turn {
         more: true,
@@ -130,8 +130,8 @@ fn dual_turn(
     pivots: u32,
     before: Wrote,
 ) -> Turn
-    requires { Standing false (mark_of before) (lent words keys bytes reals values) }
-    ensures { Turned false steps.dual_optimise budget pivots before (lent words.entry keys.entry bytes.entry reals.entry values.entry) result (lent words.exit keys.exit bytes.exit reals.exit values.exit) }
+    requires { Standing false (mark_of before) (sparse words.old keys.old bytes.old reals.old values.old) }
+    ensures { Turned false steps.dual_optimise budget pivots before (sparse words.old keys.old bytes.old reals.old values.old) result (sparse words.new keys.new bytes.new reals.new values.new) }
 {
     let f = get_dual_leaving_row(words, bytes, reals);
     let Found::At(i) = f else {
@@ -157,9 +157,9 @@ pub fn dual_optimise(
     pivots: u32,
     before: Wrote,
 ) -> Ended
-    requires { Standing false (mark_of before) (lent words keys bytes reals values) }
-    ensures values_value { outcome_of false result (lent words.exit keys.exit bytes.exit reals.exit values.exit) ≡ steps.dual_optimise (budget - pivots) (work_of false (mark_of before) pivots (lent words.entry keys.entry bytes.entry reals.entry values.entry)) }
-    ensures goes { Goes false result (lent words.exit keys.exit bytes.exit reals.exit values.exit) }
+    requires { Standing false (mark_of before) (sparse words.old keys.old bytes.old reals.old values.old) }
+    ensures values_value { outcome_of false result (sparse words.new keys.new bytes.new reals.new values.new) ≡ steps.dual_optimise (budget - pivots) (work_of false (mark_of before) pivots (sparse words.old keys.old bytes.old reals.old values.old)) }
+    ensures goes { Goes false result (sparse words.new keys.new bytes.new reals.new values.new) }
 {
     let mut turn = Turn {
         more: true,

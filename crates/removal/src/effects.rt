@@ -4,7 +4,7 @@ ghost use Rattle.steps.specs.Remove.{remove_marker_effects, remove_constraint_ef
 ghost use Rattle.rows.specs.Marks.{mark_of};
 ghost use Rattle.sparse.specs.Places.{symbol_count_at};
 ghost use Rattle.sparse.specs.Sparse.{symbol_at};
-ghost use Rattle.waist.specs.Working.{lent};
+ghost use Rattle.waist.specs.Working.{sparse};
 ghost use Rattle.waist.specs.Standing.{Standing, Makes};
 ghost use Rattle.waist.specs.Tags.{tag_at};
 
@@ -26,10 +26,10 @@ fn remove_marker_effects(
     strength: f64,
     before: Wrote,
 ) -> Wrote
-    requires standing { Standing false (mark_of before) (lent words keys bytes reals values) }
+    requires standing { Standing false (mark_of before) (sparse words.now keys.now bytes.now reals.old values.now) }
     requires le_p { 1 ≤ p }
     requires p_bound { p ≤ get_or words.now symbol_count_at 0 }
-    ensures { Makes false false (mark_of before) (mark_of result) (remove_marker_effects (symbol_at (lent words.entry keys.entry bytes.entry reals.entry values.entry) p) strength) (lent words.entry keys.entry bytes.entry reals.entry values.entry) (lent words.entry keys.entry bytes.entry reals.exit values.entry) }
+    ensures { Makes false false (mark_of before) (mark_of result) (remove_marker_effects (symbol_at (sparse words.now keys.now bytes.now reals.old values.now) p) strength) (sparse words.now keys.now bytes.now reals.old values.now) (sparse words.now keys.now bytes.now reals.new values.now) }
 {
     let kind = kind_at(bytes, p);
     if kind != 2 {
@@ -56,11 +56,11 @@ pub fn remove_constraint_effects(
     strength: f64,
     before: Wrote,
 ) -> Wrote
-    requires standing { Standing false (mark_of before) (lent words keys bytes reals values) }
+    requires standing { Standing false (mark_of before) (sparse words.now keys.now bytes.now reals.old values.now) }
     requires le_marker { 1 ≤ marker }
     requires marker_bound { marker ≤ get_or words.now symbol_count_at 0 }
     requires other_bound { other ≤ get_or words.now symbol_count_at 0 }
-    ensures { Makes false false (mark_of before) (mark_of result) (remove_constraint_effects (tag_at (lent words.entry keys.entry bytes.entry reals.entry values.entry) marker other) strength) (lent words.entry keys.entry bytes.entry reals.entry values.entry) (lent words.entry keys.entry bytes.entry reals.exit values.entry) }
+    ensures { Makes false false (mark_of before) (mark_of result) (remove_constraint_effects (tag_at (sparse words.now keys.now bytes.now reals.old values.now) marker other) strength) (sparse words.now keys.now bytes.now reals.old values.now) (sparse words.now keys.now bytes.now reals.new values.now) }
 {
     let w = remove_marker_effects(words, keys, bytes, reals, values, marker, strength, before);
     if other == 0 {

@@ -11,7 +11,7 @@ ghost use Rattle.layout.specs.Layout.{term_room};
 ghost use Rattle.rows.specs.Marks.{mark_of};
 ghost use Rattle.sparse.specs.Sparse.{read};
 ghost use Rattle.changes.specs.terms.Terms.{terms_of};
-ghost use Rattle.waist.specs.Working.{lent, work_of};
+ghost use Rattle.waist.specs.Working.{work_of, sparse};
 ghost use Rattle.waist.specs.Standing.{Standing, Makes};
 ghost use Rattle.waist.specs.Ending.{outcome_of, Goes};
 ghost use Rattle.waist.specs.Tags.{tag_at};
@@ -44,10 +44,10 @@ fn take_effects(
     strength: f64,
     before: Wrote,
 ) -> Ended
-    requires standing { Standing false (mark_of before) (lent words keys bytes reals values) }
-    requires tag_lives { TagLives marker other (lent words keys bytes reals values) }
-    ensures values_value { outcome_of false result (lent words.entry keys.entry bytes.entry reals.exit values.entry) ≡ check_finite (remove_constraint_effects (tag_at (lent words.entry keys.entry bytes.entry reals.entry values.entry) marker other) strength (work_of false (mark_of before) 0 (lent words.entry keys.entry bytes.entry reals.entry values.entry))) }
-    ensures goes { Goes false result (lent words.entry keys.entry bytes.entry reals.exit values.entry) }
+    requires standing { Standing false (mark_of before) (sparse words.now keys.now bytes.now reals.old values.now) }
+    requires tag_lives { TagLives marker other (sparse words.now keys.now bytes.now reals.old values.now) }
+    ensures values_value { outcome_of false result (sparse words.now keys.now bytes.now reals.new values.now) ≡ check_finite (remove_constraint_effects (tag_at (sparse words.now keys.now bytes.now reals.old values.now) marker other) strength (work_of false (mark_of before) 0 (sparse words.now keys.now bytes.now reals.old values.now))) }
+    ensures goes { Goes false result (sparse words.now keys.now bytes.now reals.new values.now) }
 {
     let w = remove_constraint_effects(
         words, keys, bytes, reals, values, marker, other, strength, before,
@@ -72,9 +72,9 @@ fn purge_tag(
     marker: u8,
     other: u8,
 )
-    requires stands { Stands (lent words keys bytes reals values) }
-    requires tag_lives { TagLives marker other (lent words keys bytes reals values) }
-    ensures { (a : Mark) → Standing false a (lent words.entry keys.entry bytes.entry reals.entry values.entry) → Makes false false a a (purge_tag (tag_at (lent words.entry keys.entry bytes.entry reals.entry values.entry) marker other)) (lent words.entry keys.entry bytes.entry reals.entry values.entry) (lent words.exit keys.exit bytes.exit reals.exit values.exit) }
+    requires stands { Stands (sparse words.old keys.old bytes.old reals.old values.old) }
+    requires tag_lives { TagLives marker other (sparse words.old keys.old bytes.old reals.old values.old) }
+    ensures { (a : Mark) → Standing false a (sparse words.old keys.old bytes.old reals.old values.old) → Makes false false a a (purge_tag (tag_at (sparse words.old keys.old bytes.old reals.old values.old) marker other)) (sparse words.old keys.old bytes.old reals.old values.old) (sparse words.new keys.new bytes.new reals.new values.new) }
 {
     if other == 0 {
         purge(words, keys, bytes, reals, values, marker);
@@ -100,11 +100,11 @@ fn remove_by(
     budget: u32,
     before: Wrote,
 ) -> Ended
-    requires standing { Standing false (mark_of before) (lent words keys bytes reals values) }
-    requires tag_lives { TagLives marker other (lent words keys bytes reals values) }
+    requires standing { Standing false (mark_of before) (sparse words.old keys.old bytes.old reals.old values.old) }
+    requires tag_lives { TagLives marker other (sparse words.old keys.old bytes.old reals.old values.old) }
     requires count_le_term_room { count ≤ term_room }
-    requires room { Room (uses_from numbers.now count 0) (read (lent words keys bytes reals values)).changes }
-    ensures { Removes budget (tag_at (lent words.entry keys.entry bytes.entry reals.entry values.entry) marker other) strength numbers.now count (work_of false (mark_of before) 0 (lent words.entry keys.entry bytes.entry reals.entry values.entry)) result (lent words.exit keys.exit bytes.exit reals.exit values.exit) }
+    requires room { Room (uses_from numbers.now count 0) (read (sparse words.old keys.old bytes.old reals.old values.old)).changes }
+    ensures { Removes budget (tag_at (sparse words.old keys.old bytes.old reals.old values.old) marker other) strength numbers.now count (work_of false (mark_of before) 0 (sparse words.old keys.old bytes.old reals.old values.old)) result (sparse words.new keys.new bytes.new reals.new values.new) }
 {
     let taken = take_effects(
         words, keys, bytes, reals, values, marker, other, strength, before,
@@ -158,11 +158,11 @@ pub fn remove_steps(
     budget: u32,
     before: Wrote,
 ) -> Ended
-    requires standing { Standing false (mark_of before) (lent words keys bytes reals values) }
-    requires tag_lives { TagLives marker other (lent words keys bytes reals values) }
-    requires room { Room (terms_of p) (read (lent words keys bytes reals values)).changes }
-    ensures values_value { outcome_of false result (lent words.exit keys.exit bytes.exit reals.exit values.exit) ≡ remove_steps budget (tag_at (lent words.entry keys.entry bytes.entry reals.entry values.entry) marker other) strength (terms_of p) (work_of false (mark_of before) 0 (lent words.entry keys.entry bytes.entry reals.entry values.entry)) }
-    ensures goes { Goes false result (lent words.exit keys.exit bytes.exit reals.exit values.exit) }
+    requires standing { Standing false (mark_of before) (sparse words.old keys.old bytes.old reals.old values.old) }
+    requires tag_lives { TagLives marker other (sparse words.old keys.old bytes.old reals.old values.old) }
+    requires room { Room (terms_of p) (read (sparse words.old keys.old bytes.old reals.old values.old)).changes }
+    ensures values_value { outcome_of false result (sparse words.new keys.new bytes.new reals.new values.new) ≡ remove_steps budget (tag_at (sparse words.old keys.old bytes.old reals.old values.old) marker other) strength (terms_of p) (work_of false (mark_of before) 0 (sparse words.old keys.old bytes.old reals.old values.old)) }
+    ensures goes { Goes false result (sparse words.new keys.new bytes.new reals.new values.new) }
 {
     let count = shown(p);
     let vars = p.vars;

@@ -10,7 +10,7 @@ ghost use Rattle.rows.specs.Marks.{mark_of};
 ghost use Rattle.sparse.specs.Places.{symbol_count_at, row_count_at};
 ghost use Rattle.sparse.specs.Sparse.{symbol_at};
 ghost use Rattle.waist.specs.substituting.Notes.{is_external_kind};
-ghost use Rattle.waist.specs.Working.{lent, work_of, Sound};
+ghost use Rattle.waist.specs.Working.{work_of, Sound, sparse};
 ghost use Rattle.waist.specs.Dropping.{Free};
 ghost use Rattle.waist.specs.Standing.{Standing, Makes, row_symbol};
 ghost use Rattle.waist.specs.Ending.{outcome_of, Goes, ended};
@@ -40,10 +40,10 @@ fn note_leaving(
     values: &Values,
     i: u8,
 )
-    requires sound { Sound false (lent words keys bytes reals values) }
+    requires sound { Sound false (sparse words.old keys.now bytes.old reals.now values.now) }
     requires le_i { 1 ≤ i }
     requires i_bound { i ≤ get_or words.old row_count_at 0 }
-    ensures { (a : Mark) → Standing false a (lent words.entry keys.entry bytes.entry reals.entry values.entry) → Makes false false a a (note_leaving (row_symbol (lent words.entry keys.entry bytes.entry reals.entry values.entry) i)) (lent words.entry keys.entry bytes.entry reals.entry values.entry) (lent words.exit keys.entry bytes.exit reals.entry values.entry) }
+    ensures { (a : Mark) → Standing false a (sparse words.old keys.now bytes.old reals.now values.now) → Makes false false a a (note_leaving (row_symbol (sparse words.old keys.now bytes.old reals.now values.now) i)) (sparse words.old keys.now bytes.old reals.now values.now) (sparse words.new keys.now bytes.new reals.now values.now) }
 {
     let p = bytes[ROW_PLACES + i as usize];
     let kind = kind_at(bytes, p);
@@ -63,14 +63,14 @@ fn pivot_marker(
     pivots: u32,
     before: Wrote,
 ) -> Ended
-    requires standing { Standing false (mark_of before) (lent words keys bytes reals values) }
+    requires standing { Standing false (mark_of before) (sparse words.old keys.old bytes.old reals.old values.old) }
     requires le_i { 1 ≤ i }
     requires i_bound { i ≤ get_or words.old row_count_at 0 }
     requires le_p { 1 ≤ p }
     requires p_bound { p ≤ get_or words.old symbol_count_at 0 }
-    requires free { Free p (lent words keys bytes reals values) }
-    ensures values_value { outcome_of false result (lent words.exit keys.exit bytes.exit reals.exit values.exit) ≡ check_finite (pivot (row_symbol (lent words.entry keys.entry bytes.entry reals.entry values.entry) i).id (symbol_at (lent words.entry keys.entry bytes.entry reals.entry values.entry) p) (note_leaving (row_symbol (lent words.entry keys.entry bytes.entry reals.entry values.entry) i) (work_of false (mark_of before) pivots (lent words.entry keys.entry bytes.entry reals.entry values.entry)))) }
-    ensures goes { Goes false result (lent words.exit keys.exit bytes.exit reals.exit values.exit) }
+    requires free { Free p (sparse words.old keys.old bytes.old reals.old values.old) }
+    ensures values_value { outcome_of false result (sparse words.new keys.new bytes.new reals.new values.new) ≡ check_finite (pivot (row_symbol (sparse words.old keys.old bytes.old reals.old values.old) i).id (symbol_at (sparse words.old keys.old bytes.old reals.old values.old) p) (note_leaving (row_symbol (sparse words.old keys.old bytes.old reals.old values.old) i) (work_of false (mark_of before) pivots (sparse words.old keys.old bytes.old reals.old values.old)))) }
+    ensures goes { Goes false result (sparse words.new keys.new bytes.new reals.new values.new) }
 {
     note_leaving(words, keys, bytes, reals, values, i);
     let w = pivot_on(false, words, keys, bytes, reals, values, i, p, before);
@@ -86,10 +86,10 @@ fn drop_row_of(
     values: &mut Values,
     p: u8,
 )
-    requires sound { Sound false (lent words keys bytes reals values) }
+    requires sound { Sound false (sparse words.old keys.old bytes.old reals.old values.old) }
     requires le_p { 1 ≤ p }
     requires p_bound { p ≤ get_or words.old symbol_count_at 0 }
-    ensures { (a : Mark) → Standing false a (lent words.entry keys.entry bytes.entry reals.entry values.entry) → Makes false false a a (without (symbol_at (lent words.entry keys.entry bytes.entry reals.entry values.entry) p).id) (lent words.entry keys.entry bytes.entry reals.entry values.entry) (lent words.exit keys.exit bytes.exit reals.exit values.exit) }
+    ensures { (a : Mark) → Standing false a (sparse words.old keys.old bytes.old reals.old values.old) → Makes false false a a (without (symbol_at (sparse words.old keys.old bytes.old reals.old values.old) p).id) (sparse words.old keys.old bytes.old reals.old values.old) (sparse words.new keys.new bytes.new reals.new values.new) }
 {
     let f = row_of(words, bytes, p);
     let Found::At(i) = f else {
@@ -119,12 +119,12 @@ fn enter_and_drop(
     pivots: u32,
     before: Wrote,
 ) -> Ended
-    requires standing { Standing false (mark_of before) (lent words keys bytes reals values) }
+    requires standing { Standing false (mark_of before) (sparse words.old keys.old bytes.old reals.old values.old) }
     requires le_p { 1 ≤ p }
     requires p_bound { p ≤ get_or words.old symbol_count_at 0 }
     requires bytes_value { row_for p words.old bytes.old ≡ Nothing }
-    ensures values_value { outcome_of false result (lent words.exit keys.exit bytes.exit reals.exit values.exit) ≡ drop_marker (symbol_at (lent words.entry keys.entry bytes.entry reals.entry values.entry) p) (work_of false (mark_of before) pivots (lent words.entry keys.entry bytes.entry reals.entry values.entry)) }
-    ensures goes { Goes false result (lent words.exit keys.exit bytes.exit reals.exit values.exit) }
+    ensures values_value { outcome_of false result (sparse words.new keys.new bytes.new reals.new values.new) ≡ drop_marker (symbol_at (sparse words.old keys.old bytes.old reals.old values.old) p) (work_of false (mark_of before) pivots (sparse words.old keys.old bytes.old reals.old values.old)) }
+    ensures goes { Goes false result (sparse words.new keys.new bytes.new reals.new values.new) }
 {
     let f = get_marker_leaving_row(words, keys, bytes, reals, values, p);
     let Found::At(i) = f else {
@@ -151,11 +151,11 @@ pub fn drop_marker(
     pivots: u32,
     before: Wrote,
 ) -> Ended
-    requires standing { Standing false (mark_of before) (lent words keys bytes reals values) }
+    requires standing { Standing false (mark_of before) (sparse words.old keys.old bytes.old reals.old values.old) }
     requires le_p { 1 ≤ p }
     requires p_bound { p ≤ get_or words.old symbol_count_at 0 }
-    ensures values_value { outcome_of false result (lent words.exit keys.exit bytes.exit reals.exit values.exit) ≡ drop_marker (symbol_at (lent words.entry keys.entry bytes.entry reals.entry values.entry) p) (work_of false (mark_of before) pivots (lent words.entry keys.entry bytes.entry reals.entry values.entry)) }
-    ensures goes { Goes false result (lent words.exit keys.exit bytes.exit reals.exit values.exit) }
+    ensures values_value { outcome_of false result (sparse words.new keys.new bytes.new reals.new values.new) ≡ drop_marker (symbol_at (sparse words.old keys.old bytes.old reals.old values.old) p) (work_of false (mark_of before) pivots (sparse words.old keys.old bytes.old reals.old values.old)) }
+    ensures goes { Goes false result (sparse words.new keys.new bytes.new reals.new values.new) }
 {
     let f = row_of(words, bytes, p);
     let Found::At(i) = f else {

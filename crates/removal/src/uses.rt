@@ -4,7 +4,7 @@ ghost use Rattle.steps.specs.Number.{Mark};
 ghost use Rattle.steps.specs.Remove.{drop_use, drop_uses};
 ghost use Rattle.layout.specs.Layout.{term_room};
 ghost use Rattle.sparse.specs.Sparse.{read};
-ghost use Rattle.waist.specs.Working.{lent};
+ghost use Rattle.waist.specs.Working.{sparse};
 ghost use Rattle.waist.specs.Standing.{Standing, Makes};
 ghost use Rattle.removal.specs.Tag.{Stands};
 ghost use Rattle.removal.specs.Room.{Room};
@@ -25,9 +25,9 @@ fn drop_use(
     values: &mut Values,
     n: u64,
 )
-    requires stands { Stands (lent words keys bytes reals values) }
-    requires room { Room (use_of n ∷ []) (read (lent words keys bytes reals values)).changes }
-    ensures { (a : Mark) → Standing false a (lent words.entry keys.entry bytes.entry reals.entry values.entry) → Makes false false a a (drop_use (use_of n)) (lent words.entry keys.entry bytes.entry reals.entry values.entry) (lent words.exit keys.exit bytes.exit reals.exit values.exit) }
+    requires stands { Stands (sparse words.old keys.old bytes.old reals.old values.old) }
+    requires room { Room (use_of n ∷ []) (read (sparse words.old keys.old bytes.old reals.old values.old)).changes }
+    ensures { (a : Mark) → Standing false a (sparse words.old keys.old bytes.old reals.old values.old) → Makes false false a a (drop_use (use_of n)) (sparse words.old keys.old bytes.old reals.old values.old) (sparse words.new keys.new bytes.new reals.new values.new) }
 {
     let g = use_less(words, bytes, reals, n);
     let Gone::Place(p, unreported) = g else {
@@ -53,10 +53,10 @@ pub fn drop_uses(
     numbers: &[u32; TERM_ROOM],
     count: usize,
 )
-    requires stands { Stands (lent words keys bytes reals values) }
+    requires stands { Stands (sparse words.old keys.old bytes.old reals.old values.old) }
     requires count_le_term_room { count ≤ term_room }
-    requires room { Room (uses_from numbers.now count 0) (read (lent words keys bytes reals values)).changes }
-    ensures { (a : Mark) → Standing false a (lent words.entry keys.entry bytes.entry reals.entry values.entry) → Makes false false a a (drop_uses (uses_from numbers.now count 0)) (lent words.entry keys.entry bytes.entry reals.entry values.entry) (lent words.exit keys.exit bytes.exit reals.exit values.exit) }
+    requires room { Room (uses_from numbers.now count 0) (read (sparse words.old keys.old bytes.old reals.old values.old)).changes }
+    ensures { (a : Mark) → Standing false a (sparse words.old keys.old bytes.old reals.old values.old) → Makes false false a a (drop_uses (uses_from numbers.now count 0)) (sparse words.old keys.old bytes.old reals.old values.old) (sparse words.new keys.new bytes.new reals.new values.new) }
 {
     let mut j = 0;
     while j < count {

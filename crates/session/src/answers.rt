@@ -1,6 +1,6 @@
 // A line answered: the text of the answer, into the lent buffer.
 ghost use Rattle.std.specs.Prelude.{◌≡◌, ◌≤◌, length, take};
-ghost use Rattle.waist.specs.Working.{lent};
+ghost use Rattle.waist.specs.Working.{lent, sparse};
 ghost use Rattle.lending.specs.Lending.{called, answer_of, call_of};
 ghost use Rattle.steps.specs.Changing.{made};
 ghost use Rattle.changes.specs.Change.{changing_of};
@@ -38,7 +38,7 @@ fn change(
     p: Pack,
     budget: u16,
 ) -> Answer
-    ensures { called (answer_of result) (lent words.exit keys.exit bytes.exit reals.exit values.exit) ≡ call_of (made (changing_of c p budget)) room (lent words.entry keys.entry bytes.entry reals.entry values.entry) }
+    ensures { called (answer_of result) (sparse words.new keys.new bytes.new reals.new values.new) ≡ call_of (made (changing_of c p budget)) room (sparse words.old keys.old bytes.old reals.old values.old) }
 {
     let mut w: Words = [0; sparse::WORDS_SIZE];
     let mut k: Keys = [0; layout::cells::CELL_ROOM];
@@ -60,7 +60,7 @@ fn say_fetch(
     at: usize,
 ) -> usize
     requires { at ≤ 5000 }
-    ensures { Spoken (fetch_said (fetch_of (lent words.entry keys.entry bytes.entry reals.entry values.entry))) out.old out.new at result (lent words.exit keys.entry bytes.exit reals.exit values.entry) }
+    ensures { Spoken (fetch_said (fetch_of (sparse words.old keys.now bytes.old reals.old values.now))) out.old out.new at result (sparse words.new keys.now bytes.new reals.new values.now) }
 {
     let mut numbers: fetches::Numbers = [0; fetches::PLACES];
     let mut moved: fetches::Moved = [0.0; fetches::PLACES];
@@ -150,7 +150,7 @@ fn answer(
     at: usize,
 ) -> usize
     requires { at ≤ 5000 }
-    ensures { Spoken (reply_of (call_from call p) (lent words.entry keys.entry bytes.entry reals.entry values.entry)) out.old out.new at result (lent words.exit keys.exit bytes.exit reals.exit values.exit) }
+    ensures { Spoken (reply_of (call_from call p) (sparse words.old keys.old bytes.old reals.old values.old)) out.old out.new at result (sparse words.new keys.new bytes.new reals.new values.new) }
 {
     match call {
         Call::Reset(cutoff) => {
@@ -187,7 +187,7 @@ fn answer_line(
     at: usize,
 ) -> usize
     requires { at ≤ 5000 }
-    ensures spoken { Spoken (held_reply (held_of line.now held) (lent words.entry keys.entry bytes.entry reals.entry values.entry)) out.old out.new at result (lent words.exit keys.exit bytes.exit reals.exit values.exit) }
+    ensures spoken { Spoken (held_reply (held_of line.now held) (sparse words.old keys.old bytes.old reals.old values.old)) out.old out.new at result (sparse words.new keys.new bytes.new reals.new values.new) }
     ensures upper_bound { result ≤ 8000 }
 {
     if 4096 < held {
@@ -219,7 +219,7 @@ pub fn answer_held(
     at: usize,
 ) -> usize
     requires { at ≤ 5000 }
-    ensures spoken { Spoken (held_answer (held_of line.now held) (lent words.entry keys.entry bytes.entry reals.entry values.entry)) out.old out.new at result (lent words.exit keys.exit bytes.exit reals.exit values.exit) }
+    ensures spoken { Spoken (held_answer (held_of line.now held) (sparse words.old keys.old bytes.old reals.old values.old)) out.old out.new at result (sparse words.new keys.new bytes.new reals.new values.new) }
     ensures upper_bound { result ≤ 8000 }
 {
     if 4096 < held {

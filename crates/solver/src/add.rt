@@ -7,7 +7,7 @@ ghost use Rattle.changes.specs.terms.Terms.{terms_in, listed};
 ghost use Rattle.refusals.specs.Refusals.{cutoff_in, add_refusal};
 ghost use Rattle.solver.specs.Adding.{Packed, Adds};
 ghost use Rattle.solver.specs.Concluding.{Done};
-ghost use Rattle.waist.specs.Working.{lent};
+ghost use Rattle.waist.specs.Working.{lent, sparse};
 ghost use Rattle.lending.specs.Entered.{Entered};
 
 use crate::begin::{answer_of, by_test, close, stored_mark};
@@ -37,10 +37,10 @@ fn add_known(
     relation: Relation,
     budget: u32,
 ) -> Answer
-    requires entered { Entered (lent words keys bytes reals values) (lent wwords wkeys wbytes wreals wvalues) }
+    requires entered { Entered (lent words keys bytes reals values) (sparse wwords.old wkeys.old wbytes.old wreals.old wvalues.old) }
     requires packed { Packed p }
     requires words_value { add_refusal (cutoff_in reals.now) g n p constant (strength_of (relation_of relation)) words.now ≡ 0 }
-    ensures { Adds g n p constant (relation_of relation) budget result (lent words.entry keys.entry bytes.entry reals.entry values.entry) (lent wwords.exit wkeys.exit wbytes.exit wreals.exit wvalues.exit) }
+    ensures { Adds g n p constant (relation_of relation) budget result (lent words.entry keys.entry bytes.entry reals.entry values.entry) (sparse wwords.new wkeys.new wbytes.new wreals.new wvalues.new) }
 {
     let before = stored_mark(words);
     let a = add_steps(
@@ -80,8 +80,8 @@ pub fn add(
     relation: Relation,
     budget: u32,
 ) -> Answer
-    requires { Entered (lent words keys bytes reals values) (lent wwords wkeys wbytes wreals wvalues) }
-    ensures { Done (add g n (terms_in (listed p)) constant (relation_of relation) budget) result (lent words.entry keys.entry bytes.entry reals.entry values.entry) (lent wwords.exit wkeys.exit wbytes.exit wreals.exit wvalues.exit) }
+    requires { Entered (lent words keys bytes reals values) (sparse wwords.old wkeys.old wbytes.old wreals.old wvalues.old) }
+    ensures { Done (add g n (terms_in (listed p)) constant (relation_of relation) budget) result (lent words.entry keys.entry bytes.entry reals.entry values.entry) (sparse wwords.new wkeys.new wbytes.new wreals.new wvalues.new) }
 {
     let q = changes::terms::proper(p);
     let strength = strength_of(relation);

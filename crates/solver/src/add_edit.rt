@@ -4,7 +4,7 @@ ghost use Rattle.steps.specs.Strength.{clip};
 ghost use Rattle.steps.specs.Calls.{add_edit};
 ghost use Rattle.refusals.specs.Refusals.{cutoff_in, add_edit_refusal};
 ghost use Rattle.solver.specs.Concluding.{Done};
-ghost use Rattle.waist.specs.Working.{lent};
+ghost use Rattle.waist.specs.Working.{lent, sparse};
 ghost use Rattle.lending.specs.Entered.{Entered};
 
 use crate::begin::{answer_of, by_test, close, stored_mark};
@@ -29,9 +29,9 @@ fn add_edit_known(
     strength: f64,
     budget: u32,
 ) -> Answer
-    requires entered { Entered (lent words keys bytes reals values) (lent wwords wkeys wbytes wreals wvalues) }
+    requires entered { Entered (lent words keys bytes reals values) (sparse wwords.old wkeys.old wbytes.old wreals.old wvalues.old) }
     requires bytes_value { add_edit_refusal (cutoff_in reals.now) n (clip strength) words.now bytes.now ≡ 0 }
-    ensures { Done (add_edit n strength budget) result (lent words.entry keys.entry bytes.entry reals.entry values.entry) (lent wwords.exit wkeys.exit wbytes.exit wreals.exit wvalues.exit) }
+    ensures { Done (add_edit n strength budget) result (lent words.entry keys.entry bytes.entry reals.entry values.entry) (sparse wwords.new wkeys.new wbytes.new wreals.new wvalues.new) }
 {
     let before = stored_mark(words);
     let held = rows::strength::clip(strength);
@@ -69,8 +69,8 @@ pub fn add_edit(
     strength: f64,
     budget: u32,
 ) -> Answer
-    requires { Entered (lent words keys bytes reals values) (lent wwords wkeys wbytes wreals wvalues) }
-    ensures { Done (add_edit n strength budget) result (lent words.entry keys.entry bytes.entry reals.entry values.entry) (lent wwords.exit wkeys.exit wbytes.exit wreals.exit wvalues.exit) }
+    requires { Entered (lent words keys bytes reals values) (sparse wwords.old wkeys.old wbytes.old wreals.old wvalues.old) }
+    ensures { Done (add_edit n strength budget) result (lent words.entry keys.entry bytes.entry reals.entry values.entry) (sparse wwords.new wkeys.new wbytes.new wreals.new wvalues.new) }
 {
     let held = rows::strength::clip(strength);
     let number = refusals::add_edit_tests(words, bytes, reals[CUTOFF], n, held);

@@ -5,7 +5,7 @@ ghost use Rattle.steps.specs.Calls.{remove};
 ghost use Rattle.sparse.specs.Sparse.{read};
 ghost use Rattle.sparse_test.specs.Reads.{reads};
 ghost use Rattle.refusals.specs.Refusals.{remove_refusal};
-ghost use Rattle.waist.specs.Working.{lent};
+ghost use Rattle.waist.specs.Working.{lent, sparse};
 ghost use Rattle.lending.specs.Entered.{bare_words, Entered};
 ghost use Rattle.solver.specs.Concluding.{Done};
 
@@ -28,9 +28,9 @@ pub fn bring_all(
     wreals: &mut Reals,
     wvalues: &mut Values,
 )
-    requires { Entered (lent words keys bytes reals values) (lent wwords wkeys wbytes wreals wvalues) }
-    ensures wvalues_value { read (lent wwords.exit wkeys.exit wbytes.exit wreals.exit wvalues.exit) ≡ read (lent words.entry keys.entry bytes.entry reals.entry values.entry) }
-    ensures wvalues_value_2 { reads (lent wwords.exit wkeys.exit wbytes.exit wreals.exit wvalues.exit) ≡ true }
+    requires { Entered (lent words keys bytes reals values) (sparse wwords.old wkeys.old wbytes.old wreals.old wvalues.old) }
+    ensures wvalues_value { read (sparse wwords.new wkeys.new wbytes.new wreals.new wvalues.new) ≡ read (lent words.entry keys.entry bytes.entry reals.entry values.entry) }
+    ensures wvalues_value_2 { reads (sparse wwords.new wkeys.new wbytes.new wreals.new wvalues.new) ≡ true }
 {
     keep_records(wwords, wbytes, wreals, words, bytes, reals);
     long(wwords, wkeys, wbytes, wreals, wvalues);
@@ -53,10 +53,10 @@ pub fn remove_again(
     n: u32,
     budget: u32,
 ) -> Answer
-    requires values_value { reads (lent words keys bytes reals values) ≡ true }
+    requires values_value { reads (sparse words.old keys.old bytes.old reals.old values.old) ≡ true }
     requires reals_value { remove_refusal n words.old bytes.old reals.old ≡ 0 }
-    ensures done { Done (remove n budget) result (lent words.entry keys.entry bytes.entry reals.entry values.entry) (lent words.exit keys.exit bytes.exit reals.exit values.exit) }
-    ensures then { Then (eqb result.number 0) (reads (lent words.exit keys.exit bytes.exit reals.exit values.exit) ≡ true) }
+    ensures done { Done (remove n budget) result (sparse words.old keys.old bytes.old reals.old values.old) (sparse words.new keys.new bytes.new reals.new values.new) }
+    ensures then { Then (eqb result.number 0) (reads (sparse words.new keys.new bytes.new reals.new values.new) ≡ true) }
 {
     long(words, keys, bytes, reals, values);
     let fwords = *words;

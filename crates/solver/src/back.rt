@@ -11,7 +11,7 @@ ghost use Rattle.sparse_test.specs.Reads.{reads};
 ghost use Rattle.lending.specs.sparse_copy.Over.{cleared};
 ghost use Rattle.stored.specs.Suggested.{with_real};
 ghost use Rattle.refusals.specs.Refusals.{edited_in};
-ghost use Rattle.waist.specs.Working.{lent};
+ghost use Rattle.waist.specs.Working.{lent, sparse};
 ghost use Rattle.lending.specs.Lending.{answer_of, called, refused18, call_in, call_of};
 ghost use Rattle.lending.specs.Entered.{Entered};
 ghost use Rattle.solver.specs.Backed.{back_words, back_bytes, back_reals, back_over};
@@ -67,10 +67,10 @@ fn put_back(
     j: usize,
     new: f64,
 )
-    requires counts { Counts (lent words keys bytes reals values) }
+    requires counts { Counts (sparse words.old keys.old bytes.old reals.old values.old) }
     requires wvalues_bound { cell_count (lent wwords wkeys wbytes wreals wvalues) ≤ cell_room }
     requires j_lt_most_constraints { j < most_constraints }
-    ensures { lent words.exit keys.exit bytes.exit reals.exit values.exit ≡ with_real (back_over wrote (lent wwords.entry wkeys.entry wbytes.entry wreals.entry wvalues.entry) (lent words.entry keys.entry bytes.entry reals.entry values.entry)) (suggestions_at + j) new }
+    ensures { sparse words.new keys.new bytes.new reals.new values.new ≡ with_real (back_over wrote (lent wwords.entry wkeys.entry wbytes.entry wreals.entry wvalues.entry) (sparse words.old keys.old bytes.old reals.old values.old)) (suggestions_at + j) new }
 {
     let k = words[sparse::SYMBOL_COUNT] as usize;
     let r = words[sparse::ROW_COUNT] as usize;
@@ -99,10 +99,10 @@ fn suggest_known(
     new: f64,
     budget: u32,
 ) -> Answer
-    requires entered { Entered (lent words keys bytes reals values) (lent wwords wkeys wbytes wreals wvalues) }
+    requires entered { Entered (sparse words.old keys.old bytes.old reals.old values.old) (sparse wwords.old wkeys.old wbytes.old wreals.old wvalues.old) }
     requires value { is_finite new ≡ true }
     requires n_value { edited_in words.old bytes.old n ≡ true }
-    ensures { called (answer_of result) (lent words.exit keys.exit bytes.exit reals.exit values.exit) ≡ call_in (suggest n new budget) (lent words.entry keys.entry bytes.entry reals.entry values.entry) }
+    ensures { called (answer_of result) (sparse words.new keys.new bytes.new reals.new values.new) ≡ call_in (suggest n new budget) (sparse words.old keys.old bytes.old reals.old values.old) }
 {
     lending::room::long(words, keys, bytes, reals, values);
     let j = crate::looks::edit_place(words, bytes, n as u64);
@@ -135,8 +135,8 @@ pub fn suggest_back(
     new: f64,
     budget: u32,
 ) -> Answer
-    requires { Entered (lent words keys bytes reals values) (lent wwords wkeys wbytes wreals wvalues) }
-    ensures { called (answer_of result) (lent words.exit keys.exit bytes.exit reals.exit values.exit) ≡ call_in (suggest n new budget) (lent words.entry keys.entry bytes.entry reals.entry values.entry) }
+    requires { Entered (sparse words.old keys.old bytes.old reals.old values.old) (sparse wwords.old wkeys.old wbytes.old wreals.old wvalues.old) }
+    ensures { called (answer_of result) (sparse words.new keys.new bytes.new reals.new values.new) ≡ call_in (suggest n new budget) (sparse words.old keys.old bytes.old reals.old values.old) }
 {
     let number = refusals::suggest_tests(words, bytes, n, new);
     if number != 0 {
@@ -163,8 +163,8 @@ fn suggest_if(
     new: f64,
     budget: u32,
 ) -> Answer
-    requires { Then ok (Entered (lent words keys bytes reals values) (lent wwords wkeys wbytes wreals wvalues)) }
-    ensures { called (answer_of result) (lent words.exit keys.exit bytes.exit reals.exit values.exit) ≡ cond ok (call_in (suggest n new budget) (lent words.entry keys.entry bytes.entry reals.entry values.entry)) (called refused18 (lent words.entry keys.entry bytes.entry reals.entry values.entry)) }
+    requires { Then ok (Entered (sparse words.old keys.old bytes.old reals.old values.old) (sparse wwords.old wkeys.old wbytes.old wreals.old wvalues.old)) }
+    ensures { called (answer_of result) (sparse words.new keys.new bytes.new reals.new values.new) ≡ cond ok (call_in (suggest n new budget) (sparse words.old keys.old bytes.old reals.old values.old)) (called refused18 (sparse words.old keys.old bytes.old reals.old values.old)) }
 {
     if !ok {
         return lending::refuse18();
@@ -190,8 +190,8 @@ pub fn suggest_tested(
     new: f64,
     budget: u16,
 ) -> Answer
-    ensures values_value { called (answer_of result) (lent words.exit keys.exit bytes.exit reals.exit values.exit) ≡ call_of (suggest n new budget) (lent wwords.entry wkeys.entry wbytes.entry wreals.entry wvalues.entry) (lent words.entry keys.entry bytes.entry reals.entry values.entry) }
-    ensures wvalues_value { lent wwords.exit wkeys.exit wbytes.exit wreals.exit wvalues.exit ≡ cleared (lent wwords.entry wkeys.entry wbytes.entry wreals.entry wvalues.entry) }
+    ensures values_value { called (answer_of result) (sparse words.new keys.new bytes.new reals.new values.new) ≡ call_of (suggest n new budget) (sparse wwords.old wkeys.old wbytes.old wreals.old wvalues.old) (sparse words.old keys.old bytes.old reals.old values.old) }
+    ensures wvalues_value { sparse wwords.new wkeys.new wbytes.new wreals.new wvalues.new ≡ cleared (sparse wwords.old wkeys.old wbytes.old wreals.old wvalues.old) }
 {
     let ok = lending::enter(
         words, keys, bytes, reals, values, wwords, wkeys, wbytes, wreals, wvalues,
@@ -232,9 +232,9 @@ pub fn suggest_held(
     new: f64,
     budget: u16,
 ) -> Answer
-    requires { reads (lent words keys bytes reals values) ≡ true }
-    ensures values_value { called (answer_of result) (lent words.exit keys.exit bytes.exit reals.exit values.exit) ≡ call_in (suggest n new budget) (lent words.entry keys.entry bytes.entry reals.entry values.entry) }
-    ensures values_value_2 { reads (lent words.exit keys.exit bytes.exit reals.exit values.exit) ≡ true }
+    requires { reads (sparse words.old keys.old bytes.old reals.old values.old) ≡ true }
+    ensures values_value { called (answer_of result) (sparse words.new keys.new bytes.new reals.new values.new) ≡ call_in (suggest n new budget) (sparse words.old keys.old bytes.old reals.old values.old) }
+    ensures values_value_2 { reads (sparse words.new keys.new bytes.new reals.new values.new) ≡ true }
 {
     lending::room::long(words, keys, bytes, reals, values);
     lending::enter_held(

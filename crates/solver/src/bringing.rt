@@ -8,7 +8,7 @@ ghost use Rattle.layout.specs.Layout.{comparison_code, term_room};
 ghost use Rattle.changes.specs.tags.Tags.{relation_of};
 ghost use Rattle.sparse.specs.Places.{most_constraints};
 ghost use Rattle.sparse.specs.Sparse.{symbol_count, constraint_count, edit_count, edit_of, read};
-ghost use Rattle.waist.specs.Working.{lent};
+ghost use Rattle.waist.specs.Working.{lent, sparse};
 ghost use Rattle.changes.specs.terms.Terms.{terms_of};
 ghost use Rattle.waist.specs.Tags.{tag_at};
 ghost use Rattle.solver.specs.Bringing.{brought, Comes, Ends};
@@ -33,10 +33,10 @@ pub fn without_edit(
     wvalues: &mut Values,
     j: usize,
 )
-    requires comes { Comes (lent words keys bytes reals values) (lent wwords wkeys wbytes wreals wvalues) }
+    requires comes { Comes (lent words keys bytes reals values) (sparse wwords.old wkeys.old wbytes.old wreals.old wvalues.old) }
     requires j_bound { j < edit_count (lent words keys bytes reals values) }
-    requires wvalues_value { readable (brought (read (lent words keys bytes reals values)).constraints (drop_edit (edit_of (lent words keys bytes reals values) j).variable (read (lent words keys bytes reals values)).edits) (lent wwords wkeys wbytes wreals wvalues)) ≡ true }
-    ensures { Ends (lent wwords.entry wkeys.entry wbytes.entry wreals.entry wvalues.entry) (read (lent words.entry keys.entry bytes.entry reals.entry values.entry)).constraints (drop_edit (edit_of (lent words.entry keys.entry bytes.entry reals.entry values.entry) j).variable (read (lent words.entry keys.entry bytes.entry reals.entry values.entry)).edits) (lent wwords.exit wkeys.exit wbytes.exit wreals.exit wvalues.exit) }
+    requires wvalues_value { readable (brought (read (lent words keys bytes reals values)).constraints (drop_edit (edit_of (lent words keys bytes reals values) j).variable (read (lent words keys bytes reals values)).edits) (sparse wwords.old wkeys.old wbytes.old wreals.old wvalues.old)) ≡ true }
+    ensures { Ends (sparse wwords.old wkeys.old wbytes.old wreals.old wvalues.old) (read (lent words.entry keys.entry bytes.entry reals.entry values.entry)).constraints (drop_edit (edit_of (lent words.entry keys.entry bytes.entry reals.entry values.entry) j).variable (read (lent words.entry keys.entry bytes.entry reals.entry values.entry)).edits) (sparse wwords.new wkeys.new wbytes.new wreals.new wvalues.new) }
 {
     records::drop_edit(wwords, wbytes, wreals, words, bytes, reals, j);
 }
@@ -73,14 +73,14 @@ pub fn with_constraint(
     other: u8,
     p: Pack,
 )
-    requires comes { Comes (lent words keys bytes reals values) (lent wwords wkeys wbytes wreals wvalues) }
+    requires comes { Comes (lent words keys bytes reals values) (sparse wwords.old wkeys.old wbytes.old wreals.old wvalues.old) }
     requires le_marker { 1 ≤ marker }
-    requires marker_bound { marker ≤ symbol_count (lent wwords wkeys wbytes wreals wvalues) }
-    requires other_bound { other ≤ symbol_count (lent wwords wkeys wbytes wreals wvalues) }
+    requires marker_bound { marker ≤ symbol_count (sparse wwords.old wkeys.old wbytes.old wreals.old wvalues.old) }
+    requires other_bound { other ≤ symbol_count (sparse wwords.old wkeys.old wbytes.old wreals.old wvalues.old) }
     requires values_bound { constraint_count (lent words keys bytes reals values) + edit_count (lent words keys bytes reals values) < most_constraints }
     requires count_le_term_room { p.count ≤ term_room }
-    requires wvalues_value { readable (brought (keep_constraint (record { number = n; group = g; comparison = comparison_of (relation_of relation); strength = strength; constant = constant; terms = terms_of p; tag = tag_at (lent wwords wkeys wbytes wreals wvalues) marker other }) (read (lent words keys bytes reals values)).constraints) (read (lent words keys bytes reals values)).edits (lent wwords wkeys wbytes wreals wvalues)) ≡ true }
-    ensures { Ends (lent wwords.entry wkeys.entry wbytes.entry wreals.entry wvalues.entry) (keep_constraint (record { number = n; group = g; comparison = comparison_of (relation_of relation); strength = strength; constant = constant; terms = terms_of p; tag = tag_at (lent wwords.entry wkeys.entry wbytes.entry wreals.entry wvalues.entry) marker other }) (read (lent words.entry keys.entry bytes.entry reals.entry values.entry)).constraints) (read (lent words.entry keys.entry bytes.entry reals.entry values.entry)).edits (lent wwords.exit wkeys.exit wbytes.exit wreals.exit wvalues.exit) }
+    requires wvalues_value { readable (brought (keep_constraint (record { number = n; group = g; comparison = comparison_of (relation_of relation); strength = strength; constant = constant; terms = terms_of p; tag = tag_at (sparse wwords.old wkeys.old wbytes.old wreals.old wvalues.old) marker other }) (read (lent words keys bytes reals values)).constraints) (read (lent words keys bytes reals values)).edits (sparse wwords.old wkeys.old wbytes.old wreals.old wvalues.old)) ≡ true }
+    ensures { Ends (sparse wwords.old wkeys.old wbytes.old wreals.old wvalues.old) (keep_constraint (record { number = n; group = g; comparison = comparison_of (relation_of relation); strength = strength; constant = constant; terms = terms_of p; tag = tag_at (sparse wwords.old wkeys.old wbytes.old wreals.old wvalues.old) marker other }) (read (lent words.entry keys.entry bytes.entry reals.entry values.entry)).constraints) (read (lent words.entry keys.entry bytes.entry reals.entry values.entry)).edits (sparse wwords.new wkeys.new wbytes.new wreals.new wvalues.new) }
 {
     let kind = kind_of(relation);
     new::keep_constraint(
@@ -106,13 +106,13 @@ pub fn with_edit(
     marker: u8,
     other: u8,
 )
-    requires comes { Comes (lent words keys bytes reals values) (lent wwords wkeys wbytes wreals wvalues) }
+    requires comes { Comes (lent words keys bytes reals values) (sparse wwords.old wkeys.old wbytes.old wreals.old wvalues.old) }
     requires le_marker { 1 ≤ marker }
-    requires marker_bound { marker ≤ symbol_count (lent wwords wkeys wbytes wreals wvalues) }
-    requires other_bound { other ≤ symbol_count (lent wwords wkeys wbytes wreals wvalues) }
+    requires marker_bound { marker ≤ symbol_count (sparse wwords.old wkeys.old wbytes.old wreals.old wvalues.old) }
+    requires other_bound { other ≤ symbol_count (sparse wwords.old wkeys.old wbytes.old wreals.old wvalues.old) }
     requires values_bound { constraint_count (lent words keys bytes reals values) + edit_count (lent words keys bytes reals values) < most_constraints }
-    requires wvalues_value { readable (brought (read (lent words keys bytes reals values)).constraints (keep_edit (record { variable = n; strength = strength; tag = tag_at (lent wwords wkeys wbytes wreals wvalues) marker other; suggestion = zero64 }) (read (lent words keys bytes reals values)).edits) (lent wwords wkeys wbytes wreals wvalues)) ≡ true }
-    ensures { Ends (lent wwords.entry wkeys.entry wbytes.entry wreals.entry wvalues.entry) (read (lent words.entry keys.entry bytes.entry reals.entry values.entry)).constraints (keep_edit (record { variable = n; strength = strength; tag = tag_at (lent wwords.entry wkeys.entry wbytes.entry wreals.entry wvalues.entry) marker other; suggestion = zero64 }) (read (lent words.entry keys.entry bytes.entry reals.entry values.entry)).edits) (lent wwords.exit wkeys.exit wbytes.exit wreals.exit wvalues.exit) }
+    requires wvalues_value { readable (brought (read (lent words keys bytes reals values)).constraints (keep_edit (record { variable = n; strength = strength; tag = tag_at (sparse wwords.old wkeys.old wbytes.old wreals.old wvalues.old) marker other; suggestion = zero64 }) (read (lent words keys bytes reals values)).edits) (sparse wwords.old wkeys.old wbytes.old wreals.old wvalues.old)) ≡ true }
+    ensures { Ends (sparse wwords.old wkeys.old wbytes.old wreals.old wvalues.old) (read (lent words.entry keys.entry bytes.entry reals.entry values.entry)).constraints (keep_edit (record { variable = n; strength = strength; tag = tag_at (sparse wwords.old wkeys.old wbytes.old wreals.old wvalues.old) marker other; suggestion = zero64 }) (read (lent words.entry keys.entry bytes.entry reals.entry values.entry)).edits) (sparse wwords.new wkeys.new wbytes.new wreals.new wvalues.new) }
 {
     new::keep_edit(
         wwords, wbytes, wreals, words, bytes, reals, n, marker, other, strength,
@@ -134,10 +134,10 @@ pub fn with_suggestion(
     j: usize,
     new: f64,
 )
-    requires comes { Comes (lent words keys bytes reals values) (lent wwords wkeys wbytes wreals wvalues) }
+    requires comes { Comes (lent words keys bytes reals values) (sparse wwords.old wkeys.old wbytes.old wreals.old wvalues.old) }
     requires j_bound { j < edit_count (lent words keys bytes reals values) }
-    requires wvalues_value { readable (brought (read (lent words keys bytes reals values)).constraints (keep_edit (suggested new (edit_of (lent words keys bytes reals values) j)) (drop_edit (edit_of (lent words keys bytes reals values) j).variable (read (lent words keys bytes reals values)).edits)) (lent wwords wkeys wbytes wreals wvalues)) ≡ true }
-    ensures { Ends (lent wwords.entry wkeys.entry wbytes.entry wreals.entry wvalues.entry) (read (lent words.entry keys.entry bytes.entry reals.entry values.entry)).constraints (keep_edit (suggested new (edit_of (lent words.entry keys.entry bytes.entry reals.entry values.entry) j)) (drop_edit (edit_of (lent words.entry keys.entry bytes.entry reals.entry values.entry) j).variable (read (lent words.entry keys.entry bytes.entry reals.entry values.entry)).edits)) (lent wwords.exit wkeys.exit wbytes.exit wreals.exit wvalues.exit) }
+    requires wvalues_value { readable (brought (read (lent words keys bytes reals values)).constraints (keep_edit (suggested new (edit_of (lent words keys bytes reals values) j)) (drop_edit (edit_of (lent words keys bytes reals values) j).variable (read (lent words keys bytes reals values)).edits)) (sparse wwords.old wkeys.old wbytes.old wreals.old wvalues.old)) ≡ true }
+    ensures { Ends (sparse wwords.old wkeys.old wbytes.old wreals.old wvalues.old) (read (lent words.entry keys.entry bytes.entry reals.entry values.entry)).constraints (keep_edit (suggested new (edit_of (lent words.entry keys.entry bytes.entry reals.entry values.entry) j)) (drop_edit (edit_of (lent words.entry keys.entry bytes.entry reals.entry values.entry) j).variable (read (lent words.entry keys.entry bytes.entry reals.entry values.entry)).edits)) (sparse wwords.new wkeys.new wbytes.new wreals.new wvalues.new) }
 {
     records::keep_records(wwords, wbytes, wreals, words, bytes, reals);
     records::set_suggestion(wreals, j, new);

@@ -7,7 +7,7 @@ ghost use Rattle.keeps.specs.Groups.{Removable};
 ghost use Rattle.sparse.specs.Sparse.{read};
 ghost use Rattle.sparse_test.specs.Reads.{reads};
 ghost use Rattle.refusals.specs.Refusals.{constraints_in, group_in};
-ghost use Rattle.waist.specs.Working.{lent};
+ghost use Rattle.waist.specs.Working.{lent, sparse};
 ghost use Rattle.lending.specs.Entered.{Entered};
 ghost use Rattle.solver.specs.Concluding.{Done};
 ghost use Rattle.solver.specs.Dropping.{dropping};
@@ -29,11 +29,11 @@ fn drop_first(
     pivots: u32,
     budget: u32,
 ) -> Answer
-    requires values_value { reads (lent words keys bytes reals values) ≡ true }
+    requires values_value { reads (sparse words.old keys.old bytes.old reals.old values.old) ≡ true }
     requires g_value { group_in words.old (constraints_in words.old) g ≡ true }
     requires pivots_le_budget { pivots ≤ budget }
-    requires removable { Removable (group_of g (read (lent words keys bytes reals values)).constraints) (read (lent words keys bytes reals values)) }
-    ensures { Went g budget pivots result (lent words.entry keys.entry bytes.entry reals.entry values.entry) (lent words.exit keys.exit bytes.exit reals.exit values.exit) }
+    requires removable { Removable (group_of g (read (sparse words.old keys.old bytes.old reals.old values.old)).constraints) (read (sparse words.old keys.old bytes.old reals.old values.old)) }
+    ensures { Went g budget pivots result (sparse words.old keys.old bytes.old reals.old values.old) (sparse words.new keys.new bytes.new reals.new values.new) }
 {
     let j = refusals::group_place(words, g);
     let n = words[sparse::CONSTRAINT_NUMBERS + j] as u32;
@@ -55,9 +55,9 @@ fn drop_all(
     g: u16,
     budget: u32,
 ) -> Answer
-    requires values_value { reads (lent words keys bytes reals values) ≡ true }
-    requires values_value_2 { first_refusal (drop_tests g (read (lent words keys bytes reals values))) ≡ none }
-    ensures { Done (dropping g budget) result (lent words.entry keys.entry bytes.entry reals.entry values.entry) (lent words.exit keys.exit bytes.exit reals.exit values.exit) }
+    requires values_value { reads (sparse words.old keys.old bytes.old reals.old values.old) ≡ true }
+    requires values_value_2 { first_refusal (drop_tests g (read (sparse words.old keys.old bytes.old reals.old values.old))) ≡ none }
+    ensures { Done (dropping g budget) result (sparse words.old keys.old bytes.old reals.old values.old) (sparse words.new keys.new bytes.new reals.new values.new) }
 {
     let mut pivots = 0;
     while refusals::group_lives(words, g) {
@@ -89,8 +89,8 @@ pub fn drop(
     g: u16,
     budget: u32,
 ) -> Answer
-    requires { Entered (lent words keys bytes reals values) (lent wwords wkeys wbytes wreals wvalues) }
-    ensures { Done (drop_group g budget) result (lent words.entry keys.entry bytes.entry reals.entry values.entry) (lent wwords.exit wkeys.exit wbytes.exit wreals.exit wvalues.exit) }
+    requires { Entered (lent words keys bytes reals values) (sparse wwords.old wkeys.old wbytes.old wreals.old wvalues.old) }
+    ensures { Done (drop_group g budget) result (lent words.entry keys.entry bytes.entry reals.entry values.entry) (sparse wwords.new wkeys.new wbytes.new wreals.new wvalues.new) }
 {
     let number = refusals::drop_tests(words, bytes, reals, g);
     if number != 0 {

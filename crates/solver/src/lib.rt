@@ -17,7 +17,7 @@ ghost use Rattle.laws.specs.Given.{Then};
 ghost use Rattle.steps.specs.Changing.{made};
 ghost use Rattle.sparse_test.specs.Reads.{reads};
 ghost use Rattle.lending.specs.sparse_copy.Over.{cleared};
-ghost use Rattle.waist.specs.Working.{lent};
+ghost use Rattle.waist.specs.Working.{lent, sparse};
 ghost use Rattle.lending.specs.Lending.{answer_of, called, call_of};
 ghost use Rattle.lending.specs.Entered.{Entered};
 ghost use Rattle.changes.specs.Change.{changing_of};
@@ -44,8 +44,8 @@ fn change_in(
     p: Pack,
     budget: u32,
 ) -> Answer
-    requires { Entered (lent words keys bytes reals values) (lent wwords wkeys wbytes wreals wvalues) }
-    ensures { Done (made (changing_of c p budget)) result (lent words.entry keys.entry bytes.entry reals.entry values.entry) (lent wwords.exit wkeys.exit wbytes.exit wreals.exit wvalues.exit) }
+    requires { Entered (lent words keys bytes reals values) (sparse wwords.old wkeys.old wbytes.old wreals.old wvalues.old) }
+    ensures { Done (made (changing_of c p budget)) result (lent words.entry keys.entry bytes.entry reals.entry values.entry) (sparse wwords.new wkeys.new wbytes.new wreals.new wvalues.new) }
 {
     match c {
         Change::Add(g, n, k, r) => add::add(
@@ -86,8 +86,8 @@ fn change_if(
     p: Pack,
     budget: u32,
 ) -> Answer
-    requires { Then ok (Entered (lent words keys bytes reals values) (lent wwords wkeys wbytes wreals wvalues)) }
-    ensures { DoneIf ok (made (changing_of c p budget)) result (lent words.entry keys.entry bytes.entry reals.entry values.entry) (lent wwords.exit wkeys.exit wbytes.exit wreals.exit wvalues.exit) }
+    requires { Then ok (Entered (lent words keys bytes reals values) (sparse wwords.old wkeys.old wbytes.old wreals.old wvalues.old)) }
+    ensures { DoneIf ok (made (changing_of c p budget)) result (lent words.entry keys.entry bytes.entry reals.entry values.entry) (sparse wwords.new wkeys.new wbytes.new wreals.new wvalues.new) }
 {
     if !ok {
         return lending::refuse18();
@@ -113,8 +113,8 @@ fn change_whole(
     p: Pack,
     budget: u16,
 ) -> Answer
-    ensures values_value { called (answer_of result) (lent words.exit keys.exit bytes.exit reals.exit values.exit) ≡ call_of (made (changing_of c p budget)) (lent wwords.entry wkeys.entry wbytes.entry wreals.entry wvalues.entry) (lent words.entry keys.entry bytes.entry reals.entry values.entry) }
-    ensures wvalues_value { lent wwords.exit wkeys.exit wbytes.exit wreals.exit wvalues.exit ≡ cleared (lent wwords.entry wkeys.entry wbytes.entry wreals.entry wvalues.entry) }
+    ensures values_value { called (answer_of result) (sparse words.new keys.new bytes.new reals.new values.new) ≡ call_of (made (changing_of c p budget)) (sparse wwords.old wkeys.old wbytes.old wreals.old wvalues.old) (sparse words.old keys.old bytes.old reals.old values.old) }
+    ensures wvalues_value { sparse wwords.new wkeys.new wbytes.new wreals.new wvalues.new ≡ cleared (sparse wwords.old wkeys.old wbytes.old wreals.old wvalues.old) }
 {
     let ok = lending::enter(
         words, keys, bytes, reals, values, wwords, wkeys, wbytes, wreals, wvalues,
@@ -167,8 +167,8 @@ pub fn change(
     p: Pack,
     budget: u16,
 ) -> Answer
-    ensures values_value { called (answer_of result) (lent words.exit keys.exit bytes.exit reals.exit values.exit) ≡ call_of (made (changing_of c p budget)) (lent wwords.entry wkeys.entry wbytes.entry wreals.entry wvalues.entry) (lent words.entry keys.entry bytes.entry reals.entry values.entry) }
-    ensures wvalues_value { lent wwords.exit wkeys.exit wbytes.exit wreals.exit wvalues.exit ≡ cleared (lent wwords.entry wkeys.entry wbytes.entry wreals.entry wvalues.entry) }
+    ensures values_value { called (answer_of result) (sparse words.new keys.new bytes.new reals.new values.new) ≡ call_of (made (changing_of c p budget)) (sparse wwords.old wkeys.old wbytes.old wreals.old wvalues.old) (sparse words.old keys.old bytes.old reals.old values.old) }
+    ensures wvalues_value { sparse wwords.new wkeys.new wbytes.new wreals.new wvalues.new ≡ cleared (sparse wwords.old wkeys.old wbytes.old wreals.old wvalues.old) }
 {
     match c {
         Change::Suggest(n, x) => back::suggest_tested(
@@ -197,8 +197,8 @@ pub fn change_held(
     budget: u16,
 ) -> Answer
     requires { reads (lent words keys bytes reals values) ≡ true }
-    ensures done { Done (made (changing_of c p budget)) result (lent words.entry keys.entry bytes.entry reals.entry values.entry) (lent wwords.exit wkeys.exit wbytes.exit wreals.exit wvalues.exit) }
-    ensures then { Then (eqb result.number 0) (reads (lent wwords.exit wkeys.exit wbytes.exit wreals.exit wvalues.exit) ≡ true) }
+    ensures done { Done (made (changing_of c p budget)) result (lent words.entry keys.entry bytes.entry reals.entry values.entry) (sparse wwords.new wkeys.new wbytes.new wreals.new wvalues.new) }
+    ensures then { Then (eqb result.number 0) (reads (sparse wwords.new wkeys.new wbytes.new wreals.new wvalues.new) ≡ true) }
 {
     numbers::are_typed(c, p, budget);
     lending::enter_held(

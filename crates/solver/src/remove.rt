@@ -3,7 +3,7 @@ ghost use Rattle.std.specs.Prelude.{◌≡◌};
 ghost use Rattle.steps.specs.Calls.{remove};
 ghost use Rattle.refusals.specs.Refusals.{remove_refusal};
 ghost use Rattle.solver.specs.Concluding.{Done, EnteredFrom, DoneFrom};
-ghost use Rattle.waist.specs.Working.{lent};
+ghost use Rattle.waist.specs.Working.{lent, sparse};
 ghost use Rattle.lending.specs.Entered.{Entered};
 
 use crate::begin::{answer_of, by_test, close, stored_mark};
@@ -26,9 +26,9 @@ pub fn remove_known(
     n: u32,
     budget: u32,
 ) -> Answer
-    requires entered_from { EnteredFrom words.now bytes.now reals.now (lent wwords wkeys wbytes wreals wvalues) }
+    requires entered_from { EnteredFrom words.now bytes.now reals.now (sparse wwords.old wkeys.old wbytes.old wreals.old wvalues.old) }
     requires reals_value { remove_refusal n words.now bytes.now reals.now ≡ 0 }
-    ensures { DoneFrom (remove n budget) result words.now bytes.now reals.now (lent wwords.entry wkeys.entry wbytes.entry wreals.entry wvalues.entry) (lent wwords.exit wkeys.exit wbytes.exit wreals.exit wvalues.exit) }
+    ensures { DoneFrom (remove n budget) result words.now bytes.now reals.now (sparse wwords.old wkeys.old wbytes.old wreals.old wvalues.old) (sparse wwords.new wkeys.new wbytes.new wreals.new wvalues.new) }
 {
     let before = stored_mark(words);
     let c = words[sparse::CONSTRAINT_COUNT] as usize;
@@ -64,8 +64,8 @@ pub fn remove(
     n: u32,
     budget: u32,
 ) -> Answer
-    requires { Entered (lent words keys bytes reals values) (lent wwords wkeys wbytes wreals wvalues) }
-    ensures { Done (remove n budget) result (lent words.entry keys.entry bytes.entry reals.entry values.entry) (lent wwords.exit wkeys.exit wbytes.exit wreals.exit wvalues.exit) }
+    requires { Entered (lent words keys bytes reals values) (sparse wwords.old wkeys.old wbytes.old wreals.old wvalues.old) }
+    ensures { Done (remove n budget) result (lent words.entry keys.entry bytes.entry reals.entry values.entry) (sparse wwords.new wkeys.new wbytes.new wreals.new wvalues.new) }
 {
     let number = refusals::remove_tests(words, bytes, reals, n);
     if number != 0 {

@@ -3,7 +3,7 @@ ghost use Rattle.std.specs.Prelude.{◌≡◌};
 ghost use Rattle.steps.specs.Calls.{remove_edit};
 ghost use Rattle.refusals.specs.Refusals.{remove_edit_refusal};
 ghost use Rattle.solver.specs.Concluding.{Done};
-ghost use Rattle.waist.specs.Working.{lent};
+ghost use Rattle.waist.specs.Working.{lent, sparse};
 ghost use Rattle.lending.specs.Entered.{Entered};
 
 use crate::begin::{answer_of, by_test, close, stored_mark};
@@ -26,9 +26,9 @@ fn remove_edit_known(
     n: u32,
     budget: u32,
 ) -> Answer
-    requires entered { Entered (lent words keys bytes reals values) (lent wwords wkeys wbytes wreals wvalues) }
+    requires entered { Entered (lent words keys bytes reals values) (sparse wwords.old wkeys.old wbytes.old wreals.old wvalues.old) }
     requires reals_value { remove_edit_refusal n words.now bytes.now reals.now ≡ 0 }
-    ensures { Done (remove_edit n budget) result (lent words.entry keys.entry bytes.entry reals.entry values.entry) (lent wwords.exit wkeys.exit wbytes.exit wreals.exit wvalues.exit) }
+    ensures { Done (remove_edit n budget) result (lent words.entry keys.entry bytes.entry reals.entry values.entry) (sparse wwords.new wkeys.new wbytes.new wreals.new wvalues.new) }
 {
     let before = stored_mark(words);
     let j = crate::looks::edit_place(words, bytes, n as u64);
@@ -65,8 +65,8 @@ pub fn remove_edit(
     n: u32,
     budget: u32,
 ) -> Answer
-    requires { Entered (lent words keys bytes reals values) (lent wwords wkeys wbytes wreals wvalues) }
-    ensures { Done (remove_edit n budget) result (lent words.entry keys.entry bytes.entry reals.entry values.entry) (lent wwords.exit wkeys.exit wbytes.exit wreals.exit wvalues.exit) }
+    requires { Entered (lent words keys bytes reals values) (sparse wwords.old wkeys.old wbytes.old wreals.old wvalues.old) }
+    ensures { Done (remove_edit n budget) result (lent words.entry keys.entry bytes.entry reals.entry values.entry) (sparse wwords.new wkeys.new wbytes.new wreals.new wvalues.new) }
 {
     let number = refusals::remove_edit_tests(words, bytes, reals, n);
     if number != 0 {

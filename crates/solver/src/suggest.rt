@@ -6,7 +6,7 @@ ghost use Rattle.steps.specs.Calls.{begin, suggest};
 ghost use Rattle.sparse.specs.Sparse.{edit_count, edit_of, read};
 ghost use Rattle.refusals.specs.Refusals.{edited_in};
 ghost use Rattle.solver.specs.Concluding.{Done};
-ghost use Rattle.waist.specs.Working.{lent};
+ghost use Rattle.waist.specs.Working.{lent, sparse};
 ghost use Rattle.waist.specs.Ending.{outcome_of, Goes};
 ghost use Rattle.lending.specs.Entered.{Entered};
 
@@ -32,10 +32,10 @@ pub fn drag(
     new: f64,
     budget: u32,
 ) -> Ended
-    requires entered { Entered (lent words keys bytes reals values) (lent wwords wkeys wbytes wreals wvalues) }
+    requires entered { Entered (lent words keys bytes reals values) (sparse wwords.old wkeys.old wbytes.old wreals.old wvalues.old) }
     requires j_bound { j < edit_count (lent words keys bytes reals values) }
-    ensures wvalues_value { outcome_of false result (lent wwords.exit wkeys.exit wbytes.exit wreals.exit wvalues.exit) ≡ suggest_steps budget (edit_of (lent words.entry keys.entry bytes.entry reals.entry values.entry) j) new (begin (read (lent words.entry keys.entry bytes.entry reals.entry values.entry))) }
-    ensures goes { Goes false result (lent wwords.exit wkeys.exit wbytes.exit wreals.exit wvalues.exit) }
+    ensures wvalues_value { outcome_of false result (sparse wwords.new wkeys.new wbytes.new wreals.new wvalues.new) ≡ suggest_steps budget (edit_of (lent words.entry keys.entry bytes.entry reals.entry values.entry) j) new (begin (read (lent words.entry keys.entry bytes.entry reals.entry values.entry))) }
+    ensures goes { Goes false result (sparse wwords.new wkeys.new wbytes.new wreals.new wvalues.new) }
 {
     let before = stored_mark(words);
     let marker = bytes[sparse::EDIT_MARKERS + j];
@@ -62,10 +62,10 @@ fn suggest_known(
     new: f64,
     budget: u32,
 ) -> Answer
-    requires entered { Entered (lent words keys bytes reals values) (lent wwords wkeys wbytes wreals wvalues) }
+    requires entered { Entered (lent words keys bytes reals values) (sparse wwords.old wkeys.old wbytes.old wreals.old wvalues.old) }
     requires value { is_finite new ≡ true }
     requires n_value { edited_in words.now bytes.now n ≡ true }
-    ensures { Done (suggest n new budget) result (lent words.entry keys.entry bytes.entry reals.entry values.entry) (lent wwords.exit wkeys.exit wbytes.exit wreals.exit wvalues.exit) }
+    ensures { Done (suggest n new budget) result (lent words.entry keys.entry bytes.entry reals.entry values.entry) (sparse wwords.new wkeys.new wbytes.new wreals.new wvalues.new) }
 {
     let j = crate::looks::edit_place(words, bytes, n as u64);
     let e = drag(
@@ -98,8 +98,8 @@ pub fn suggest(
     new: f64,
     budget: u32,
 ) -> Answer
-    requires { Entered (lent words keys bytes reals values) (lent wwords wkeys wbytes wreals wvalues) }
-    ensures { Done (suggest n new budget) result (lent words.entry keys.entry bytes.entry reals.entry values.entry) (lent wwords.exit wkeys.exit wbytes.exit wreals.exit wvalues.exit) }
+    requires { Entered (lent words keys bytes reals values) (sparse wwords.old wkeys.old wbytes.old wreals.old wvalues.old) }
+    ensures { Done (suggest n new budget) result (lent words.entry keys.entry bytes.entry reals.entry values.entry) (sparse wwords.new wkeys.new wbytes.new wreals.new wvalues.new) }
 {
     let number = refusals::suggest_tests(words, bytes, n, new);
     if number != 0 {

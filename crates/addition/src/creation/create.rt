@@ -6,7 +6,7 @@ ghost use Rattle.layout.specs.cells.Names.{row_room, last_place};
 ghost use Rattle.sparse.specs.Sparse.{symbol_count};
 ghost use Rattle.changes.specs.tags.Tags.{relation_of};
 ghost use Rattle.changes.specs.terms.Terms.{terms_of};
-ghost use Rattle.waist.specs.Working.{lent};
+ghost use Rattle.waist.specs.Working.{sparse};
 ghost use Rattle.waist.specs.Standing.{Standing};
 ghost use Rattle.waist.specs.Growing.{next_id};
 ghost use Rattle.addition.specs.creation.Tags.{Tags};
@@ -52,10 +52,10 @@ fn close_row(
     relation: Relation,
     past: Wrote,
 ) -> Tagged
-    requires standing { Standing false (mark_of past) (lent words keys bytes reals values) }
-    requires values_bound { symbol_count (lent words keys bytes reals values) + 1 < last_place }
-    requires values_bound_2 { next_id (lent words keys bytes reals values) < 9223372036854775807 }
-    ensures { Tags (λ b. reversed_by (add_tag (relation_of relation) b)) (mark_of past) (lent words.entry keys.entry bytes.entry reals.entry values.entry) (lent words.exit keys.entry bytes.exit reals.exit values.entry) row.old row.new result }
+    requires standing { Standing false (mark_of past) (sparse words.old keys.now bytes.old reals.old values.now) }
+    requires values_bound { symbol_count (sparse words.old keys.now bytes.old reals.old values.now) + 1 < last_place }
+    requires values_bound_2 { next_id (sparse words.old keys.now bytes.old reals.old values.now) < 9223372036854775807 }
+    ensures { Tags (λ b. reversed_by (add_tag (relation_of relation) b)) (mark_of past) (sparse words.old keys.now bytes.old reals.old values.now) (sparse words.new keys.now bytes.new reals.new values.now) row.old row.new result }
 {
     let t = add_tag(words, keys, bytes, reals, values, row, relation, past);
     wide(row);
@@ -76,9 +76,9 @@ pub fn create_row(
     relation: Relation,
     before: Wrote,
 ) -> Tagged
-    requires opening { Opening (mark_of before) (terms_of p) constant (lent words keys bytes reals values) }
-    requires spare { Spare (lent words keys bytes reals values) }
-    ensures { Creates (terms_of p) constant (relation_of relation) (mark_of before) (lent words.entry keys.entry bytes.entry reals.entry values.entry) (lent words.exit keys.entry bytes.exit reals.exit values.entry) row.new result }
+    requires opening { Opening (mark_of before) (terms_of p) constant (sparse words.old keys.now bytes.old reals.old values.now) }
+    requires spare { Spare (sparse words.old keys.now bytes.old reals.old values.now) }
+    ensures { Creates (terms_of p) constant (relation_of relation) (mark_of before) (sparse words.old keys.now bytes.old reals.old values.now) (sparse words.new keys.now bytes.new reals.new values.now) row.new result }
 {
     wide(row);
     start_row(row, constant, words[SYMBOL_COUNT] as usize);

@@ -8,7 +8,7 @@ ghost use Rattle.rows.specs.Marks.{mark_of};
 ghost use Rattle.layout.specs.cells.Names.{last_place};
 ghost use Rattle.sparse.specs.Sparse.{symbol_count};
 ghost use Rattle.changes.specs.tags.Tags.{relation_of};
-ghost use Rattle.waist.specs.Working.{lent};
+ghost use Rattle.waist.specs.Working.{sparse};
 ghost use Rattle.waist.specs.Standing.{Standing};
 ghost use Rattle.waist.specs.Growing.{next_id};
 ghost use Rattle.addition.specs.creation.Building.{Builds};
@@ -51,12 +51,12 @@ fn add_symbol(
     k: f64,
     past: Wrote,
 ) -> Wrote
-    requires standing { Standing false (mark_of past) (lent words keys bytes reals values) }
-    requires values_bound { symbol_count (lent words keys bytes reals values) < last_place }
-    requires values_bound_2 { next_id (lent words keys bytes reals values) < 9223372036854775808 }
+    requires standing { Standing false (mark_of past) (sparse words.old keys.now bytes.old reals.old values.now) }
+    requires values_bound { symbol_count (sparse words.old keys.now bytes.old reals.old values.now) < last_place }
+    requires values_bound_2 { next_id (sparse words.old keys.now bytes.old reals.old values.now) < 9223372036854775808 }
     requires kind_bound { kind ≤ 3 }
-    ensures grows { Grows kind (lent words.entry keys.entry bytes.entry reals.entry values.entry) (lent words.exit keys.entry bytes.exit reals.exit values.entry) }
-    ensures builds { Builds (mark_of past) (mark_of result) (λ b. add_symbol (new_symbol (kind_of kind) b.work) k b) (lent words.entry keys.entry bytes.entry reals.entry values.entry) (lent words.exit keys.entry bytes.exit reals.exit values.entry) row.old row.new }
+    ensures grows { Grows kind (sparse words.old keys.now bytes.old reals.old values.now) (sparse words.new keys.now bytes.new reals.new values.now) }
+    ensures builds { Builds (mark_of past) (mark_of result) (λ b. add_symbol (new_symbol (kind_of kind) b.work) k b) (sparse words.old keys.now bytes.old reals.old values.now) (sparse words.new keys.now bytes.new reals.new values.now) row.old row.new }
 {
     wide(row);
     let p = index(append_symbol(words, keys, bytes, reals, values, kind));
@@ -77,11 +77,11 @@ fn add_error(
     strength: f64,
     past: Wrote,
 ) -> Wrote
-    requires standing { Standing false (mark_of past) (lent words keys bytes reals values) }
-    requires values_bound { symbol_count (lent words keys bytes reals values) < last_place }
-    requires values_bound_2 { next_id (lent words keys bytes reals values) < 9223372036854775808 }
-    ensures grows { Grows 2 (lent words.entry keys.entry bytes.entry reals.entry values.entry) (lent words.exit keys.entry bytes.exit reals.exit values.entry) }
-    ensures builds { Builds (mark_of past) (mark_of result) (λ b. add_error (new_symbol (kind_of 2) b.work) k strength b) (lent words.entry keys.entry bytes.entry reals.entry values.entry) (lent words.exit keys.entry bytes.exit reals.exit values.entry) row.old row.new }
+    requires standing { Standing false (mark_of past) (sparse words.old keys.now bytes.old reals.old values.now) }
+    requires values_bound { symbol_count (sparse words.old keys.now bytes.old reals.old values.now) < last_place }
+    requires values_bound_2 { next_id (sparse words.old keys.now bytes.old reals.old values.now) < 9223372036854775808 }
+    ensures grows { Grows 2 (sparse words.old keys.now bytes.old reals.old values.now) (sparse words.new keys.now bytes.new reals.new values.now) }
+    ensures builds { Builds (mark_of past) (mark_of result) (λ b. add_error (new_symbol (kind_of 2) b.work) k strength b) (sparse words.old keys.now bytes.old reals.old values.now) (sparse words.new keys.now bytes.new reals.new values.now) row.old row.new }
 {
     let p = 1 + words[SYMBOL_COUNT] as u8;
     let v = add_symbol(words, keys, bytes, reals, values, row, 2, k, past);
@@ -100,10 +100,10 @@ fn inequality(
     strength: f64,
     past: Wrote,
 ) -> Tagged
-    requires standing { Standing false (mark_of past) (lent words keys bytes reals values) }
-    requires values_bound { symbol_count (lent words keys bytes reals values) + 1 < last_place }
-    requires values_bound_2 { next_id (lent words keys bytes reals values) < 9223372036854775807 }
-    ensures { Tags (inequality sign strength) (mark_of past) (lent words.entry keys.entry bytes.entry reals.entry values.entry) (lent words.exit keys.entry bytes.exit reals.exit values.entry) row.old row.new result }
+    requires standing { Standing false (mark_of past) (sparse words.old keys.now bytes.old reals.old values.now) }
+    requires values_bound { symbol_count (sparse words.old keys.now bytes.old reals.old values.now) + 1 < last_place }
+    requires values_bound_2 { next_id (sparse words.old keys.now bytes.old reals.old values.now) < 9223372036854775807 }
+    ensures { Tags (inequality sign strength) (mark_of past) (sparse words.old keys.now bytes.old reals.old values.now) (sparse words.new keys.now bytes.new reals.new values.now) row.old row.new result }
 {
     let p = 1 + words[SYMBOL_COUNT] as u8;
     let v = add_symbol(words, keys, bytes, reals, values, row, 1, sign, past);
@@ -133,10 +133,10 @@ fn soft_equality(
     strength: f64,
     past: Wrote,
 ) -> Tagged
-    requires standing { Standing false (mark_of past) (lent words keys bytes reals values) }
-    requires values_bound { symbol_count (lent words keys bytes reals values) + 1 < last_place }
-    requires values_bound_2 { next_id (lent words keys bytes reals values) < 9223372036854775807 }
-    ensures { Tags (soft_equality strength) (mark_of past) (lent words.entry keys.entry bytes.entry reals.entry values.entry) (lent words.exit keys.entry bytes.exit reals.exit values.entry) row.old row.new result }
+    requires standing { Standing false (mark_of past) (sparse words.old keys.now bytes.old reals.old values.now) }
+    requires values_bound { symbol_count (sparse words.old keys.now bytes.old reals.old values.now) + 1 < last_place }
+    requires values_bound_2 { next_id (sparse words.old keys.now bytes.old reals.old values.now) < 9223372036854775807 }
+    ensures { Tags (soft_equality strength) (mark_of past) (sparse words.old keys.now bytes.old reals.old values.now) (sparse words.new keys.now bytes.new reals.new values.now) row.old row.new result }
 {
     let p = 1 + words[SYMBOL_COUNT] as u8;
     let v = add_error(words, keys, bytes, reals, values, row, -1.0, strength, past);
@@ -158,10 +158,10 @@ fn required_equality(
     row: &mut [f64; ROW_ROOM],
     past: Wrote,
 ) -> Tagged
-    requires standing { Standing false (mark_of past) (lent words keys bytes reals values) }
-    requires values_bound { symbol_count (lent words keys bytes reals values) < last_place }
-    requires values_bound_2 { next_id (lent words keys bytes reals values) < 9223372036854775808 }
-    ensures { Tags required_equality (mark_of past) (lent words.entry keys.entry bytes.entry reals.entry values.entry) (lent words.exit keys.entry bytes.exit reals.exit values.entry) row.old row.new result }
+    requires standing { Standing false (mark_of past) (sparse words.old keys.now bytes.old reals.old values.now) }
+    requires values_bound { symbol_count (sparse words.old keys.now bytes.old reals.old values.now) < last_place }
+    requires values_bound_2 { next_id (sparse words.old keys.now bytes.old reals.old values.now) < 9223372036854775808 }
+    ensures { Tags required_equality (mark_of past) (sparse words.old keys.now bytes.old reals.old values.now) (sparse words.new keys.now bytes.new reals.new values.now) row.old row.new result }
 {
     let p = 1 + words[SYMBOL_COUNT] as u8;
     let w = add_symbol(words, keys, bytes, reals, values, row, 3, 1.0, past);
@@ -182,10 +182,10 @@ fn equality(
     strength: f64,
     past: Wrote,
 ) -> Tagged
-    requires standing { Standing false (mark_of past) (lent words keys bytes reals values) }
-    requires values_bound { symbol_count (lent words keys bytes reals values) + 1 < last_place }
-    requires values_bound_2 { next_id (lent words keys bytes reals values) < 9223372036854775807 }
-    ensures { Tags (add_tag (equal strength)) (mark_of past) (lent words.entry keys.entry bytes.entry reals.entry values.entry) (lent words.exit keys.entry bytes.exit reals.exit values.entry) row.old row.new result }
+    requires standing { Standing false (mark_of past) (sparse words.old keys.now bytes.old reals.old values.now) }
+    requires values_bound { symbol_count (sparse words.old keys.now bytes.old reals.old values.now) + 1 < last_place }
+    requires values_bound_2 { next_id (sparse words.old keys.now bytes.old reals.old values.now) < 9223372036854775807 }
+    ensures { Tags (add_tag (equal strength)) (mark_of past) (sparse words.old keys.now bytes.old reals.old values.now) (sparse words.new keys.now bytes.new reals.new values.now) row.old row.new result }
 {
     if strength < REQUIRED {
         return soft_equality(words, keys, bytes, reals, values, row, strength, past);
@@ -203,10 +203,10 @@ pub fn add_tag(
     relation: Relation,
     past: Wrote,
 ) -> Tagged
-    requires standing { Standing false (mark_of past) (lent words keys bytes reals values) }
-    requires values_bound { symbol_count (lent words keys bytes reals values) + 1 < last_place }
-    requires values_bound_2 { next_id (lent words keys bytes reals values) < 9223372036854775807 }
-    ensures { Tags (add_tag (relation_of relation)) (mark_of past) (lent words.entry keys.entry bytes.entry reals.entry values.entry) (lent words.exit keys.entry bytes.exit reals.exit values.entry) row.old row.new result }
+    requires standing { Standing false (mark_of past) (sparse words.old keys.now bytes.old reals.old values.now) }
+    requires values_bound { symbol_count (sparse words.old keys.now bytes.old reals.old values.now) + 1 < last_place }
+    requires values_bound_2 { next_id (sparse words.old keys.now bytes.old reals.old values.now) < 9223372036854775807 }
+    ensures { Tags (add_tag (relation_of relation)) (mark_of past) (sparse words.old keys.now bytes.old reals.old values.now) (sparse words.new keys.now bytes.new reals.new values.now) row.old row.new result }
 {
     match relation {
         Relation::AtMost(s) => inequality(words, keys, bytes, reals, values, row, 1.0, s, past),

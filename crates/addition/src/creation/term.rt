@@ -10,7 +10,7 @@ ghost use Rattle.sparse.specs.Places.{most_variables, symbol_count_at, row_count
 ghost use Rattle.sparse.specs.Sparse.{symbol_count, row_count, variable_count, symbol_at, basic_of};
 ghost use Rattle.changes.specs.terms.Terms.{terms_of};
 ghost use Rattle.variables.specs.Variables.{found_in};
-ghost use Rattle.waist.specs.Working.{lent, cutoff_of, Sound};
+ghost use Rattle.waist.specs.Working.{lent, cutoff_of, Sound, sparse};
 ghost use Rattle.waist.specs.Standing.{Owners, Standing};
 ghost use Rattle.waist.specs.Growing.{next_id};
 ghost use Rattle.addition.specs.creation.Building.{Builds};
@@ -44,12 +44,12 @@ fn new_variable(
     row: &mut [f64; ROW_ROOM],
     n: u64,
 )
-    requires sound { Sound false (lent words keys bytes reals values) }
-    requires values_bound { symbol_count (lent words keys bytes reals values) < last_place }
-    requires values_bound_2 { next_id (lent words keys bytes reals values) < 9223372036854775808 }
-    requires values_bound_3 { variable_count (lent words keys bytes reals values) < most_variables }
+    requires sound { Sound false (sparse words.old keys.now bytes.old reals.old values.now) }
+    requires values_bound { symbol_count (sparse words.old keys.now bytes.old reals.old values.now) < last_place }
+    requires values_bound_2 { next_id (sparse words.old keys.now bytes.old reals.old values.now) < 9223372036854775808 }
+    requires values_bound_3 { variable_count (sparse words.old keys.now bytes.old reals.old values.now) < most_variables }
     requires words_value { found_in n words.old ≡ Nothing }
-    ensures { (a : Mark) → Standing false a (lent words.entry keys.entry bytes.entry reals.entry values.entry) → (Builds a a (add_variable n) (lent words.entry keys.entry bytes.entry reals.entry values.entry) (lent words.exit keys.entry bytes.exit reals.exit values.entry) row.old row.new) × Steps 1 0 (lent words.entry keys.entry bytes.entry reals.entry values.entry) (lent words.exit keys.entry bytes.exit reals.exit values.entry) }
+    ensures { (a : Mark) → Standing false a (sparse words.old keys.now bytes.old reals.old values.now) → (Builds a a (add_variable n) (sparse words.old keys.now bytes.old reals.old values.now) (sparse words.new keys.now bytes.new reals.new values.now) row.old row.new) × Steps 1 0 (sparse words.old keys.now bytes.old reals.old values.now) (sparse words.new keys.now bytes.new reals.new values.now) }
 {
     wide(row);
     let p = append_symbol(words, keys, bytes, reals, values, 0);
@@ -67,10 +67,10 @@ fn know_variable(
     row: &mut [f64; ROW_ROOM],
     n: u64,
 )
-    requires sound { Sound false (lent words keys bytes reals values) }
-    requires room { Room n (lent words keys bytes reals values) }
-    requires owners { Owners (lent words keys bytes reals values) }
-    ensures { (a : Mark) → Standing false a (lent words.entry keys.entry bytes.entry reals.entry values.entry) → Knows n a (lent words.entry keys.entry bytes.entry reals.entry values.entry) (lent words.exit keys.entry bytes.exit reals.exit values.entry) row.old row.new }
+    requires sound { Sound false (sparse words.old keys.now bytes.old reals.old values.now) }
+    requires room { Room n (sparse words.old keys.now bytes.old reals.old values.now) }
+    requires owners { Owners (sparse words.old keys.now bytes.old reals.old values.now) }
+    ensures { (a : Mark) → Standing false a (sparse words.old keys.now bytes.old reals.old values.now) → Knows n a (sparse words.old keys.now bytes.old reals.old values.now) (sparse words.new keys.now bytes.new reals.new values.now) row.old row.new }
 {
     let f = find_variable(words, n);
     let Found::At(_i) = f else {
@@ -168,10 +168,10 @@ fn insert_known(
     k: f64,
     past: Wrote,
 ) -> Wrote
-    requires standing { Standing false (mark_of past) (lent words keys bytes reals values) }
-    requires used { Used most_spare (lent words keys bytes reals values) }
-    ensures builds { Builds (mark_of past) (mark_of result) (used_by n k) (lent words.entry keys.entry bytes.entry reals.entry values.entry) (lent words.exit keys.entry bytes.entry reals.entry values.entry) row.old row.new }
-    ensures steps { Steps 0 1 (lent words.entry keys.entry bytes.entry reals.entry values.entry) (lent words.exit keys.entry bytes.entry reals.entry values.entry) }
+    requires standing { Standing false (mark_of past) (sparse words.old keys.now bytes.now reals.now values.now) }
+    requires used { Used most_spare (sparse words.old keys.now bytes.now reals.now values.now) }
+    ensures builds { Builds (mark_of past) (mark_of result) (used_by n k) (sparse words.old keys.now bytes.now reals.now values.now) (sparse words.new keys.now bytes.now reals.now values.now) row.old row.new }
+    ensures steps { Steps 0 1 (sparse words.old keys.now bytes.now reals.now values.now) (sparse words.new keys.now bytes.now reals.now values.now) }
 {
     let f = find_variable(words, n);
     let Found::At(v) = f else {
@@ -203,11 +203,11 @@ fn insert_term(
     k: f64,
     past: Wrote,
 ) -> Wrote
-    requires standing { Standing false (mark_of past) (lent words keys bytes reals values) }
-    requires room { Room n (lent words keys bytes reals values) }
-    requires used { Used most_spare (lent words keys bytes reals values) }
-    ensures builds { Builds (mark_of past) (mark_of result) (insert_term (term_of n k)) (lent words.entry keys.entry bytes.entry reals.entry values.entry) (lent words.exit keys.entry bytes.exit reals.exit values.entry) row.old row.new }
-    ensures steps { Steps 1 1 (lent words.entry keys.entry bytes.entry reals.entry values.entry) (lent words.exit keys.entry bytes.exit reals.exit values.entry) }
+    requires standing { Standing false (mark_of past) (sparse words.old keys.now bytes.old reals.old values.now) }
+    requires room { Room n (sparse words.old keys.now bytes.old reals.old values.now) }
+    requires used { Used most_spare (sparse words.old keys.now bytes.old reals.old values.now) }
+    ensures builds { Builds (mark_of past) (mark_of result) (insert_term (term_of n k)) (sparse words.old keys.now bytes.old reals.old values.now) (sparse words.new keys.now bytes.new reals.new values.now) row.old row.new }
+    ensures steps { Steps 1 1 (sparse words.old keys.now bytes.old reals.old values.now) (sparse words.new keys.now bytes.new reals.new values.now) }
 {
     know_variable(words, keys, bytes, reals, values, row, n);
     insert_known(words, keys, bytes, reals, values, row, n, k, past)
@@ -226,11 +226,11 @@ fn insert_kept(
     k: f64,
     past: Wrote,
 ) -> Wrote
-    requires standing { Standing false (mark_of past) (lent words keys bytes reals values) }
-    requires room { near_zero cutoff k ≡ false → Room n (lent words keys bytes reals values) }
-    requires used { Used most_spare (lent words keys bytes reals values) }
-    ensures builds { Builds (mark_of past) (mark_of result) (kept_by cutoff n k) (lent words.entry keys.entry bytes.entry reals.entry values.entry) (lent words.exit keys.entry bytes.exit reals.exit values.entry) row.old row.new }
-    ensures steps { Steps 1 1 (lent words.entry keys.entry bytes.entry reals.entry values.entry) (lent words.exit keys.entry bytes.exit reals.exit values.entry) }
+    requires standing { Standing false (mark_of past) (sparse words.old keys.now bytes.old reals.old values.now) }
+    requires room { near_zero cutoff k ≡ false → Room n (sparse words.old keys.now bytes.old reals.old values.now) }
+    requires used { Used most_spare (sparse words.old keys.now bytes.old reals.old values.now) }
+    ensures builds { Builds (mark_of past) (mark_of result) (kept_by cutoff n k) (sparse words.old keys.now bytes.old reals.old values.now) (sparse words.new keys.now bytes.new reals.new values.now) row.old row.new }
+    ensures steps { Steps 1 1 (sparse words.old keys.now bytes.old reals.old values.now) (sparse words.new keys.now bytes.new reals.new values.now) }
 {
     if near_zero(cutoff, k) {
         return past;
@@ -256,9 +256,9 @@ pub fn insert_terms(
     p: Pack,
     past: Wrote,
 ) -> Wrote
-    requires { Ready (mark_of past) (terms_of p) (lent words keys bytes reals values) }
-    ensures builds { Builds (mark_of past) (mark_of result) (insert_terms (cutoff_of (lent words.entry keys.entry bytes.entry reals.entry values.entry)) (terms_of p)) (lent words.entry keys.entry bytes.entry reals.entry values.entry) (lent words.exit keys.entry bytes.exit reals.exit values.entry) row.old row.new }
-    ensures values_bound { (symbol_count (lent words.exit keys.entry bytes.exit reals.exit values.entry) ≤ 126) × (row_count (lent words.exit keys.entry bytes.exit reals.exit values.entry) ≡ row_count (lent words.entry keys.entry bytes.entry reals.entry values.entry)) × (next_id (lent words.exit keys.entry bytes.exit reals.exit values.entry) ≤ 4294900016) }
+    requires { Ready (mark_of past) (terms_of p) (sparse words.old keys.now bytes.old reals.old values.now) }
+    ensures builds { Builds (mark_of past) (mark_of result) (insert_terms (cutoff_of (sparse words.old keys.now bytes.old reals.old values.now)) (terms_of p)) (sparse words.old keys.now bytes.old reals.old values.now) (sparse words.new keys.now bytes.new reals.new values.now) row.old row.new }
+    ensures values_bound { (symbol_count (sparse words.new keys.now bytes.new reals.new values.now) ≤ 126) × (row_count (sparse words.new keys.now bytes.new reals.new values.now) ≡ row_count (sparse words.old keys.now bytes.old reals.old values.now)) × (next_id (sparse words.new keys.now bytes.new reals.new values.now) ≤ 4294900016) }
 {
     let e = shown(p);
     let vars = p.vars;

@@ -1,6 +1,6 @@
 // A line of text added. Its own refusals come first, 19 to 23, the solver's then.
 ghost use Rattle.std.specs.Prelude.{◌≡◌};
-ghost use Rattle.waist.specs.Working.{lent};
+ghost use Rattle.waist.specs.Working.{lent, sparse};
 ghost use Rattle.lending.specs.sparse_copy.Over.{cleared};
 ghost use Rattle.lending.specs.Lending.{called};
 ghost use Rattle.entry.specs.typed.Adding.{mark_in, text, text_answer, text_of};
@@ -46,8 +46,8 @@ pub fn add_text(
     line: &[u8],
     budget: u16,
 ) -> TextAnswer
-    ensures values_value { text result.offset (called (text_answer result) (lent words.exit keys.exit bytes.exit reals.exit values.exit)) ≡ text_of number line.now budget (lent wwords.entry wkeys.entry wbytes.entry wreals.entry wvalues.entry) (lent words.entry keys.entry bytes.entry reals.entry values.entry) }
-    ensures wvalues_value { lent wwords.exit wkeys.exit wbytes.exit wreals.exit wvalues.exit ≡ cleared (lent wwords.entry wkeys.entry wbytes.entry wreals.entry wvalues.entry) }
+    ensures values_value { text result.offset (called (text_answer result) (sparse words.new keys.new bytes.new reals.new values.new)) ≡ text_of number line.now budget (sparse wwords.old wkeys.old wbytes.old wreals.old wvalues.old) (sparse words.old keys.old bytes.old reals.old values.old) }
+    ensures wvalues_value { sparse wwords.new wkeys.new wbytes.new wreals.new wvalues.new ≡ cleared (sparse wwords.old wkeys.old wbytes.old wreals.old wvalues.old) }
 {
     let r = read_line(line);
     if r.number != 0 {

@@ -8,7 +8,7 @@ ghost use Rattle.layout.specs.cells.Names.{cell_room, last_place};
 ghost use Rattle.layout.specs.cells.Cells.{Ascending};
 ghost use Rattle.layout.specs.cells.Spots.{Lined, Spots};
 ghost use Rattle.waist.specs.substituting.Notes.{noted, is_external_kind};
-ghost use Rattle.waist.specs.Working.{lent};
+ghost use Rattle.waist.specs.Working.{sparse};
 ghost use Rattle.waist.specs.Rows.{row_for};
 ghost use Rattle.waist.specs.Tags.{tag_at};
 ghost use Rattle.waist.specs.Standing.{Standing, Makes};
@@ -197,11 +197,11 @@ pub fn shift_constants(
     delta: f64,
     before: Wrote,
 ) -> Wrote
-    requires standing { Standing false (mark_of before) (lent words keys bytes reals values) }
+    requires standing { Standing false (mark_of before) (sparse words.old keys.now bytes.old reals.old values.now) }
     requires le_marker { 1 ≤ marker }
     requires marker_bound { marker ≤ get_or words.old symbol_count_at 0 }
     requires other_bound { other ≤ get_or words.old symbol_count_at 0 }
-    ensures { Makes false false (mark_of before) (mark_of result) (steps.shift_constants (tag_at (lent words.entry keys.entry bytes.entry reals.entry values.entry) marker other) delta) (lent words.entry keys.entry bytes.entry reals.entry values.entry) (lent words.exit keys.entry bytes.exit reals.exit values.entry) }
+    ensures { Makes false false (mark_of before) (mark_of result) (steps.shift_constants (tag_at (sparse words.old keys.now bytes.old reals.old values.now) marker other) delta) (sparse words.old keys.now bytes.old reals.old values.now) (sparse words.new keys.now bytes.new reals.new values.now) }
 {
     let d = drag_of(words, bytes, marker, other, delta);
     shift_rows(words, keys, bytes, reals, values, d, before)

@@ -3,7 +3,7 @@ ghost use Rattle.std.specs.Prelude.{◌≡◌, false, ◌≤◌, get_or};
 ghost use Rattle.steps.specs.Edit.{suggest_steps};
 ghost use Rattle.rows.specs.Marks.{mark_of};
 ghost use Rattle.sparse.specs.Places.{symbol_count_at};
-ghost use Rattle.waist.specs.Working.{work_of, lent};
+ghost use Rattle.waist.specs.Working.{work_of, sparse};
 ghost use Rattle.waist.specs.Tags.{tag_at};
 ghost use Rattle.waist.specs.Standing.{Standing};
 ghost use Rattle.waist.specs.Ending.{outcome_of, Goes};
@@ -41,12 +41,12 @@ pub fn suggest_steps(
     budget: u32,
     before: Wrote,
 ) -> Ended
-    requires standing { Standing false (mark_of before) (lent words keys bytes reals values) }
+    requires standing { Standing false (mark_of before) (sparse words.old keys.old bytes.old reals.old values.old) }
     requires le_marker { 1 ≤ marker }
     requires marker_bound { marker ≤ get_or words.old symbol_count_at 0 }
     requires other_bound { other ≤ get_or words.old symbol_count_at 0 }
-    ensures values_value { outcome_of false result (lent words.exit keys.exit bytes.exit reals.exit values.exit) ≡ suggest_steps budget (edit_by (tag_at (lent words.entry keys.entry bytes.entry reals.entry values.entry) marker other) stored) new (work_of false (mark_of before) 0 (lent words.entry keys.entry bytes.entry reals.entry values.entry)) }
-    ensures goes { Goes false result (lent words.exit keys.exit bytes.exit reals.exit values.exit) }
+    ensures values_value { outcome_of false result (sparse words.new keys.new bytes.new reals.new values.new) ≡ suggest_steps budget (edit_by (tag_at (sparse words.old keys.old bytes.old reals.old values.old) marker other) stored) new (work_of false (mark_of before) 0 (sparse words.old keys.old bytes.old reals.old values.old)) }
+    ensures goes { Goes false result (sparse words.new keys.new bytes.new reals.new values.new) }
 {
     let given = mark_suggestion(new, before);
     let wrote = shift_constants(
