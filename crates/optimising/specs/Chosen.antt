@@ -10,7 +10,7 @@ use Rattle.steps.specs.Symbol.{Symbol}
 use Rattle.steps.specs.State.{Basic}
 use Rattle.steps.specs.Work.{Work, Outcome, going, ◌>>=◌, refuse, check_finite, count_pivot}
 use Rattle.steps.specs.Substitute.{pivot}
-use Rattle.steps.specs.Optimise.{Choice, ended, stuck, pivot_on, counted_pivot, get_entering_symbol, get_leaving_row, choose_pivot, optimise, get_dual_leaving_row, get_dual_entering_symbol, choose_dual_pivot, dual_optimise}
+use Rattle.steps.specs.Optimise.{Choice, ended, stuck, pivot_on, counted_pivot, get_entering_symbol, get_leaving_row, choose_pivot, optimise, get_dual_entering_symbol, choose_dual_pivot, dual_optimise}
 use Rattle.rows.specs.declared.number.Wrote.{Wrote}
 use Rattle.rows.specs.Marks.{mark_of}
 use Rattle.rows.specs.declared.choose.Found.{Found}

@@ -1,4 +1,6 @@
 // The two passes over the sparse tables, with a budget of pivots.
+#![tactic(auto)]
+
 pub mod suggestion;
 pub mod turn;
 

@@ -1,7 +1,7 @@
 -- A variable that goes, or has one use less, in tables that stand: what they read as then, and what they keep.
 -- Assumes nothing.
 use Prim.Native.Nat.{ℕ, suc, ◌+◌, ◌-◌, ◌≤◌, ◌<◌}
-use Rattle.std.specs.Prelude.{◌≡◌, false, List, length, get_or, set}
+use Rattle.std.specs.Prelude.{◌≡◌, false, List, length, get_or}
 use Rattle.std.proofs.Math.Path.{refl, sym, ap}
 use Rattle.std.proofs.Common.{◌∙◌}
 use native.Mathlib.Omega.{arith}

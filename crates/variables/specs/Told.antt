@@ -13,7 +13,7 @@ use Rattle.std.proofs.Math.ListN.{length, get_or, length-set}
 use Rattle.std.proofs.Math.Seq.{get_or-set_same, get_or-set_other}
 use borrow.Author.Tests.{leb-true, leb-false, eqb-true, eqb-false, eq-eqb, ne_eqb, lt-ltb, le-ltb}
 use Rattle.laws.specs.Loops.{first}
-use Rattle.laws.specs.Lists.{tab, list_of, tab-ext, length-tab}
+use Rattle.laws.specs.Lists.{tab, list_of, length-tab}
 use Rattle.steps.specs.Changes.{keep_number}
 use Rattle.rows.specs.declared.choose.Found.{Found}
 use Rattle.rows.specs.declared.choose.Found.TheVariants.{At, Nothing}

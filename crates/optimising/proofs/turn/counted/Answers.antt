@@ -1,0 +1,10 @@
+use mathlib.Core.Path.{refl}
+use Rattle.optimising.specs.Turn.{counted_of, counted-not}
+use Rattle.optimising.proofs.turn.counted.Goals as goal
+
+pub returns-then-wrote : goal.returns-then-wrote
+unfolding counted_of
+returns-then-wrote c = rw c.if-wrote.true refl
+
+pub returns : goal.returns
+returns c = counted-not _ _ c.if-wrote.false c.stopped.ensures

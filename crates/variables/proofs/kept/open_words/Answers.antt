@@ -1,0 +1,17 @@
+use mathlib.Core.Path.{◌≡◌, refl, ap, ◌∙◌}
+use native.Mathlib.Omega.{arith}
+use lib.ListN.{length-set}
+use Rattle.laws.specs.Loops.{insertAt, delete-down, put}
+use Rattle.rows.specs.moves.Close.{opened}
+use Rattle.std.proofs.Common.{rules}
+use Rattle.variables.proofs.kept.open_words.Goals as goal
+
+pub loop-j-init : goal.loop-j-init
+loop-j-init c = (refl, c.wide_words.ensures, search rules, search rules)
+
+pub loop-j-preserved : goal.loop-j-preserved
+loop-j-preserved c = (delete-down _ _ 0 (omega arith) (omega arith) ∙ c.loop-j.invariant.0, simp length-set c.loop-j.invariant.1, omega arith, omega arith)
+
+pub returns : goal.returns
+unfolding opened
+returns c = let q : c.loop-j.j ≡ c.args.i = omega arith in put _ _ _ (omega arith) ∙ ap (insertAt _ _) (rw q at c.loop-j.invariant.0)
