@@ -24,13 +24,11 @@ use Rattle.rows.specs.Place.{PlaceOf}
 use Rattle.rows.specs.Table.{solve_row_in, solve_row_mark}
 use Rattle.rows.specs.Reading as dense
 use Rattle.layout.specs.cells.Names.{row_room}
-use Rattle.layout.specs.cells.Cells.{settled}
 use Rattle.sparse.specs.Places.{most_rows}
 use Rattle.sparse.specs.Sparse.{Sparse, symbol_count, row_count, symbol_at, symbols_of, read}
 use Rattle.sparse.specs.Widths.{symbols-read}
 use Rattle.waist.specs.substituting.Loose.{SettledRow}
 use Rattle.waist.specs.Working.{work_of, dense-cells, live-place}
-use Rattle.waist.specs.Dropping.{Free}
 use Rattle.waist.specs.LivePlaces.{live-symbol, not-basic}
 use Rattle.waist.specs.Standing.{Standing, Makes}
 use Rattle.waist.specs.Holding.{standing-worse}

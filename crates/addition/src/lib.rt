@@ -1,4 +1,6 @@
 // Add's steps over the sparse tables, one to seven.
+#![tactic(auto)]
+
 pub mod add;
 pub mod creation;
 pub mod inputs;

@@ -11,7 +11,7 @@ use Rattle.std.proofs.Math.ListN.{length, get_or, set, length-set}
 use Rattle.std.proofs.Math.Seq.{get_or-set_same, drop-length, length-take-le}
 use Rattle.laws.specs.Loops.{mapIn}
 use Rattle.laws.specs.streams.Lines.{grown}
-use Rattle.cable_lines.specs.Cable.{limit, new, answer_of, Step, further, takes}
+use Rattle.cable_lines.specs.Cable.{limit, new, answer_of, further, takes}
 use Rattle.cable_lines.specs.State.{held_by}
 
 -- the line's bytes, zeros behind them, and last how many they are; of a line that is too long zeros, and 201

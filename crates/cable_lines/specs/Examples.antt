@@ -7,7 +7,7 @@ use Rattle.laws.specs.streams.Lines.{grown}
 use Rattle.grammar.specs.Sums.{Relation, at_most, equal}
 use Rattle.grammar.specs.edition.Endings.{Reply as Answer, taken, astray, denied, required}
 use Rattle.grammar.specs.edition.Steps.{read_second}
-use Rattle.cable_lines.specs.Cable.{new, Step, takes, closes, Fed, steps, feed, feed_all}
+use Rattle.cable_lines.specs.Cable.{new, takes, closes, Fed, steps, feed, feed_all}
 
 abbrev bytes : String → List ℕ
 bytes none = []

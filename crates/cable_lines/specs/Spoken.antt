@@ -1,12 +1,12 @@
 -- What a stream of lines is answered, line by line, and what is left at its end.
 use Rattle.std.specs.Prelude.{ℕ, suc, ◌<◌, ◌≡◌, refl, Bool, true, false, cond, List, [], ◌∷◌, ◌++◌, map, leb, length}
-use Rattle.std.proofs.Common.{sym, ap, ◌∙◌, append_assoc, arith}
+use Rattle.std.proofs.Common.{sym, ap, ◌∙◌, append_assoc}
 use Rattle.std.proofs.Math.Option.{Option, none, some}
 use Rattle.std.proofs.lemmas.Bool.{lt-leb}
 use Rattle.laws.specs.streams.Lines.{Cut, before, cut_from, pieces, Unbroken, within, begun}
 use Rattle.grammar.specs.edition.Endings.{Reply as Answer, denied}
 use Rattle.grammar.specs.edition.Steps.{read_second}
-use Rattle.cable_lines.specs.Cable.{limit, new, answer_of, Step, Fed, feed, closes}
+use Rattle.cable_lines.specs.Cable.{limit, new, answer_of, Fed, feed, closes}
 use Rattle.cable_lines.specs.Cuts.{answers_of, feed-cut}
 
 -- lines, each with its newline

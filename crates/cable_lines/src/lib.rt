@@ -1,4 +1,6 @@
 // T-12: lines over the service cable, read as their bytes come.
+#![tactic(auto)]
+
 ghost use Rattle.std.specs.Prelude.{◌≡◌, ◌≤◌, length, take as front};
 ghost use Rattle.grammar.specs.edition.Steps.{read_second};
 ghost use Rattle.reader.specs.second.Replies.{as_reply};

@@ -1,16 +1,15 @@
 -- What the code of a fetch leaves is the state after it, written into the tables, and its list.
 -- Assumes nothing.
-use Rattle.std.specs.Prelude.{ℕ, zero, suc, ◌+◌, ◌-◌, ◌≤◌, ◌≡◌, Bool, not, cond, eqb, leb, Float, length, get_or, set, replicate}
+use Rattle.std.specs.Prelude.{ℕ, zero, suc, ◌+◌, ◌-◌, ◌≤◌, ◌≡◌, Bool, not, eqb, leb, Float, length, get_or, set, replicate}
 use Rattle.std.proofs.Math.Path.{refl, ap}
 use Rattle.std.proofs.Common.{sym, ◌∙◌, not-suc-le-zero, le_of_suc-le-suc}
 use Rattle.std.proofs.Math.Bool.{true, false}
 use mathlib.Core.List.{List, [], ◌∷◌, map}
 use Rattle.std.proofs.Math.Nat.{zero-add}
 use Rattle.laws.specs.Loops.{mapIn}
-use Rattle.laws.specs.Lists.{list_of}
 use Rattle.steps.specs.Number.{zero64}
 use Rattle.steps.specs.State.{Basic, Variable, State}
-use Rattle.steps.specs.Changes.{Change, with_flag, clear_changed, is_listed, news_of, merged, reported, fetch_changes}
+use Rattle.steps.specs.Changes.{Change, with_flag, news_of, merged, reported, fetch_changes}
 use Rattle.steps.specs.Readable.{ascend, all, gone_fits}
 use Rattle.keeps.specs.Clauses.{and3, clauses-in}
 use Rattle.layout.specs.Layout.{bit_of, over}

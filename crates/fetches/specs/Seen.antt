@@ -1,23 +1,21 @@
 -- A set that a fetch has reported is cleared: the tables with its flags cleared hold the variables without them, and the same values.
 -- Assumes nothing.
 use Prim.Native.Nat.{ℕ, zero, suc, ◌+◌, ◌≤◌, ◌<◌}
-use Rattle.std.specs.Prelude.{◌≡◌, Bool, cond, List, [], ◌∷◌, map, ltb, get_or}
+use Rattle.std.specs.Prelude.{◌≡◌, Bool, cond, List, [], ◌∷◌, map, get_or}
 use Rattle.std.proofs.Math.Path.{refl, sym, ap}
 use Rattle.std.proofs.Common.{◌∙◌, map-id, not-suc-le-zero, le_of_suc-le-suc, arith}
 use Rattle.std.proofs.Math.Bool.{true, false}
 use Rattle.std.proofs.Math.Dec.{eqb}
-use Rattle.std.specs.Float.{nan}
 use Rattle.laws.specs.Loops.{mapIn}
 use Rattle.laws.specs.Places.{mapIn-before}
 use Rattle.laws.specs.Lists.{list_of}
 use Rattle.layout.specs.Laying.{list_ext}
-use Rattle.steps.specs.Number.{zero64}
 use Rattle.steps.specs.State.{Variable}
 use Rattle.steps.specs.Changes.{with_flag, clear_changed, value_of}
 use Rattle.rows.specs.places.Finding.{place_in}
 use Rattle.rows.specs.places.Listed.{map-list}
 use Rattle.layout.specs.cells.Seek.{first-within}
-use Rattle.sparse.specs.Places.{should_clear_at, variable_count_at, kinds_at, row_places_at, variable_places_at, changed_at, constants_at}
+use Rattle.sparse.specs.Places.{should_clear_at, variable_count_at, kinds_at, row_places_at, variable_places_at, changed_at}
 use Rattle.sparse.specs.Lookup.{place_from}
 use Rattle.sparse.specs.Sparse.{Sparse, row_count, variable_count, symbol_at, variable_of, basics_of}
 use Rattle.sparse.specs.Form.{Form}

@@ -1,10 +1,12 @@
 // Fetch changes, over lent tables: "a first fetch reports, a second straight after reports none", and either kind lists the gone.
+#![tactic(auto)]
+
 ghost use Rattle.std.specs.Prelude.{◌≡◌, true, ◌+◌, ◌≤◌, get_or, replicate};
 ghost use Rattle.laws.specs.Loops.{mapIn};
 ghost use Rattle.steps.specs.Number.{zero64};
 ghost use Rattle.sparse.specs.Places.{most_variables, variable_count_at, changed_at};
 ghost use Rattle.sparse_test.specs.Reads.{reads};
-ghost use Rattle.fetches.specs.Lent.{lent};
+ghost use Rattle.sparse_test.specs.Whole.{tables};
 ghost use Rattle.fetches.specs.Seen.{cleared_by};
 ghost use Rattle.fetches.specs.Fetch.{places, fetch, fetch_by, fetch_in, fetch_of};
 
@@ -65,11 +67,11 @@ fn fetch_in(
     moved: &mut Moved,
     gone: &mut Flags,
 ) -> u32
-    requires values_value { reads (lent words keys bytes reals values) ≡ true }
+    requires values_value { reads (tables words.old keys.now bytes.old reals.old values.now) ≡ true }
     requires numbers_value { numbers.old ≡ replicate places 0 }
     requires moved_value { moved.old ≡ replicate places zero64 }
     requires gone_value { gone.old ≡ replicate places 0 }
-    ensures { fetch 0 result numbers.new moved.new gone.new (lent words.exit keys.entry bytes.exit reals.exit values.entry) ≡ fetch_in (lent words.entry keys.entry bytes.entry reals.entry values.entry) }
+    ensures { fetch 0 result numbers.new moved.new gone.new (tables words.new keys.now bytes.new reals.new values.now) ≡ fetch_in (tables words.old keys.now bytes.old reals.old values.now) }
 {
     clear_reported(words, bytes);
     let count = listing::list_changes(words, bytes, reals, numbers, moved, gone);
@@ -89,8 +91,8 @@ pub fn fetch_held(
     moved: &mut Moved,
     gone: &mut Flags,
 ) -> u32
-    requires { reads (lent words keys bytes reals values) ≡ true }
-    ensures { fetch 0 result numbers.new moved.new gone.new (lent words.exit keys.entry bytes.exit reals.exit values.entry) ≡ fetch_in (lent words.entry keys.entry bytes.entry reals.entry values.entry) }
+    requires { reads (tables words.old keys.now bytes.old reals.old values.now) ≡ true }
+    ensures { fetch 0 result numbers.new moved.new gone.new (tables words.new keys.now bytes.new reals.new values.now) ≡ fetch_in (tables words.old keys.now bytes.old reals.old values.now) }
 {
     *numbers = [0; PLACES];
     *moved = [0.0; PLACES];
@@ -109,7 +111,7 @@ pub fn fetch_changes(
     moved: &mut Moved,
     gone: &mut Flags,
 ) -> Fetched
-    ensures { fetch_by result numbers.new moved.new gone.new (lent words.exit keys.entry bytes.exit reals.exit values.entry) ≡ fetch_of (lent words.entry keys.entry bytes.entry reals.entry values.entry) }
+    ensures { fetch_by result numbers.new moved.new gone.new (tables words.new keys.now bytes.new reals.new values.now) ≡ fetch_of (tables words.old keys.now bytes.old reals.old values.now) }
 {
     if !sparse_test::reads_as_state(words, keys, bytes, reals, values) {
         *numbers = [0; PLACES];

@@ -7,7 +7,6 @@ use Rattle.std.specs.Float.{nan}
 use Rattle.layout.specs.Layout.{over, bit_of}
 use Rattle.layout.specs.Laying.{laid_nil, laid_cons}
 use Rattle.steps.specs.Number.{cutoff_fits}
-use Rattle.steps.specs.State.{State}
 use Rattle.steps.specs.Calls.{Answer, empty, reset, refused_by}
 use Rattle.steps.specs.Readable.{concat}
 use Rattle.steps.proofs.Cutoff.{reset-refused, reset-taken}

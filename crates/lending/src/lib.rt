@@ -1,4 +1,6 @@
 // The shell of every changing call over sparse tables: the lent tables are tested, their tableau and variables copied into the working room, the steps run there, an accepted call's state goes back, the room is cleared. And reset.
+#![tactic(auto)]
+
 ghost use Rattle.std.specs.Prelude.{◌≡◌, true, cond};
 ghost use Rattle.laws.specs.Given.{Then};
 ghost use Rattle.sparse.specs.Form.{Counts};

@@ -1,10 +1,10 @@
 -- The turns of the loop that keeps terms, and the answer once the whole line reads.
-use Rattle.std.specs.Prelude.{ℕ, zero, suc, ◌+◌, ◌≤◌, ◌<◌, ◌≡◌, refl, Bool, true, false, cond, not, ◌&&◌, ◌||◌, List, [], ◌∷◌, leb, eqb, length, get_or, drop, nat_abs}
+use Rattle.std.specs.Prelude.{ℕ, zero, suc, ◌+◌, ◌≤◌, ◌<◌, ◌≡◌, refl, Bool, true, false, cond, not, List, [], ◌∷◌, leb, eqb, length, get_or, drop, nat_abs}
 use Rattle.std.proofs.Common.{sym, ◌∙◌, not-suc-le-zero, le_of_suc-le-suc, zero-add, add-one, arith, drop_of_length-le}
 use Rattle.std.proofs.Math.Path.{ap}
 use borrow.Author.Tests.{lt-leb, le-leb}
 use Rattle.reader.specs.sums.Held.{zero_at, term_of, value_of, held}
-use Rattle.grammar.specs.Sums.{Term, Sums, Answer, most, kept, small_terms, judged, summed}
+use Rattle.grammar.specs.Sums.{most, kept, small_terms, judged, summed}
 use Rattle.grammar.specs.Sums.{nothing}
 use Rattle.grammar.specs.Reader.{first, left, run_from, read_line, answered, refuses}
 use Rattle.reader.specs.Sides.{relation_of}
@@ -12,7 +12,7 @@ use Rattle.reader.specs.Ends.{line_of}
 use Rattle.reader.specs.declared.sides.Line.{Line}
 use Rattle.reader.specs.declared.sides.Line.TheVariants.{Whole, Refused}
 use Rattle.reader.specs.Parts.{sums_of}
-use Rattle.reader.specs.Answers.{stands_as, mark_of, refusal, as_read, big_at, with_term, kept_with, kept_from, kept_of, none_kept, stands, mark-is, big-stands, big-from, count-from, variables-from, coefficients-from}
+use Rattle.reader.specs.Answers.{refusal, as_read, big_at, with_term, kept_with, kept_from, kept_of, none_kept, stands, mark-is, big-stands, big-from, count-from, variables-from, coefficients-from}
 use Rattle.reader.specs.declared.parts.Place.{Place}
 use Rattle.reader.specs.declared.sides.Mark.{Mark}
 use Rattle.reader.specs.declared.answers.Reading.{Reading}

@@ -1,20 +1,16 @@
 -- The code's answer to a line, by the grammar's.
 use Prim.Native.Nat.{ℕ, zero, suc, ◌+◌, ◌-◌, ◌≤◌, ◌<◌}
-use Rattle.std.specs.Prelude.{◌≡◌, Bool, cond, ◌&&◌, ◌||◌, T, leb, ltb, eqb, get_or, set, drop, replicate, ℤ, pos, negsuc, nat_abs}
+use Rattle.std.specs.Prelude.{◌≡◌, Bool, cond, ◌&&◌, ◌||◌, leb, ltb, eqb, set, replicate, ℤ, pos, negsuc, nat_abs}
 use Rattle.std.proofs.Math.Path.{refl, ap}
-use Rattle.std.proofs.Common.{sym, ◌∙◌, not-suc-le-zero, le_of_suc-le-suc, add-one, leb-true, leb-false, ltb-true, ltb-false, le-leb, lt-ltb, le-ltb, eq-eqb, ne_eqb, eqb-true, drop-cons}
+use Rattle.std.proofs.Common.{sym, ◌∙◌, not-suc-le-zero, le_of_suc-le-suc, add-one, leb-true, leb-false, lt-ltb, le-ltb, ne_eqb}
 use Rattle.std.proofs.Math.Bool.{true, false, not}
 use mathlib.Core.List.{List, [], ◌∷◌}
 use native.Mathlib.Omega.{arith}
-use Rattle.std.proofs.lemmas.Bool.{lt-leb, eqb-false}
 use Rattle.std.proofs.Math.ListN.{length}
-use Rattle.std.proofs.Math.IntN.{sub_ℕ}
-use Rattle.laws.specs.Z.{P, N, PN-sub, eq_zb, ext}
-use Rattle.reader.specs.sums.Held.{zero_at, value_of, term_of, held}
-use Rattle.grammar.specs.Sums.{Relation, at_most, equal, at_least, Term, Sums, Reading as Constraint, Answer, reads, outside, refused, most, kept, small_terms, judged, summed}
+use Rattle.laws.specs.Z.{P, N, PN-sub, eq_zb}
+use Rattle.reader.specs.sums.Held.{zero_at, value_of}
+use Rattle.grammar.specs.Sums.{Relation, at_most, equal, at_least, Term, Answer, reads, outside, refused, most, kept, small_terms}
 use Rattle.reader.specs.Sides.{relation_of}
-use Rattle.reader.specs.Parts.{sums_of}
-use Rattle.reader.specs.declared.parts.Place.{Place}
 use Rattle.reader.specs.declared.sides.Mark.{Mark}
 use Rattle.reader.specs.declared.sides.Mark.TheVariants.{AtMost, Equal, AtLeast}
 use Rattle.reader.specs.declared.answers.Reading.{Reading}

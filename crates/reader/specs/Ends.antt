@@ -1,5 +1,5 @@
 -- A line's two sides, read one after the other, and its end.
-use Rattle.std.specs.Prelude.{ℕ, ◌+◌, ◌*◌, ◌≤◌, ◌<◌, ◌≡◌, refl, Bool, true, false, List, length, get_or}
+use Rattle.std.specs.Prelude.{ℕ, ◌+◌, ◌≤◌, ◌≡◌, refl, Bool, true, false, List, length, get_or}
 use Rattle.std.proofs.Common.{sym, ap, subst, ◌∙◌, arith}
 use Rattle.grammar.specs.Bytes.{Kind as Byte, kind_of}
 use Rattle.grammar.specs.Sums.{Relation, Sums, one, turned, nothing}
@@ -8,7 +8,7 @@ use Rattle.grammar.specs.Descent.{no_byte, rested, resumed, left-sum, right-sum}
 use Rattle.reader.specs.sums.Held.{held, Bounded, zero_at}
 use Rattle.reader.specs.Run.{by_kind, at-either, at_place, Follows, run-follows}
 use Rattle.reader.specs.Heads.{factor}
-use Rattle.reader.specs.Parts.{sums_of, outcome_of, Small, Ready, Rests, Sound, Unjoined, Ended}
+use Rattle.reader.specs.Parts.{sums_of, outcome_of, Ready, Rests, Sound, Unjoined, Ended}
 use Rattle.reader.specs.StepLaws.{later, small-later}
 use Rattle.reader.specs.Sides.{relation_of, StartIs, MarkIs, RelatedIs, related-within, start-at, start-bad, related-by, related-no}
 use Rattle.reader.specs.declared.parts.Place.{Place}

@@ -1,12 +1,12 @@
 -- What the code answers at each of its returns is the part's head.
-use Rattle.std.specs.Prelude.{ℕ, suc, ◌+◌, ◌*◌, ◌≤◌, ◌<◌, ◌≡◌, refl, Bool, true, false, not, List, eqb, length, get_or}
+use Rattle.std.specs.Prelude.{ℕ, ◌+◌, ◌*◌, ◌≤◌, ◌<◌, ◌≡◌, refl, Bool, false, not, List, eqb, length, get_or}
 use Rattle.std.proofs.Common.{ap, subst, ◌∙◌, arith}
 use Rattle.grammar.specs.Bytes.{is_digit}
 use Rattle.grammar.specs.Sums.{Sums, Factor, most_name}
 use Rattle.grammar.specs.Reader.{wanted, lettered, number, named, part, run_from}
 use Rattle.reader.specs.Scan.{Skips, Digits, Over, WholeIs, present}
 use Rattle.reader.specs.Run.{skipped, over-digits, too-big}
-use Rattle.reader.specs.Heads.{factor, comes_to, Placed, HeadIs, VariableIs, Settled, Unmarked, no_part, no_name, at-minus, at-letter, at_bracket, number-ends, variable-ends, multiplier, product-over}
+use Rattle.reader.specs.Heads.{factor, comes_to, Placed, HeadIs, VariableIs, Unmarked, no_part, no_name, at-minus, at-letter, at_bracket, number-ends, variable-ends, multiplier, product-over}
 use Rattle.reader.specs.declared.scan.Whole.{Whole}
 use Rattle.reader.specs.declared.scan.Whole.TheVariants.{Is, NoDigit, TooBig}
 use Rattle.reader.specs.declared.heads.Kind.{Kind}

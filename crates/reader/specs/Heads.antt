@@ -1,16 +1,16 @@
 -- What a part comes to: the reader's outcome behind its minus signs and multipliers.
 use Prim.Native.Nat.{ℕ, zero, suc, ◌+◌, ◌-◌, ◌*◌, ◌≤◌, ◌<◌}
-use Rattle.std.specs.Prelude.{◌≡◌, Bool, true, false, cond, List, [], ◌∷◌, leb, eqb, get_or}
+use Rattle.std.specs.Prelude.{◌≡◌, Bool, true, false, cond, List, leb, eqb, get_or}
 use Rattle.std.proofs.Math.Path.{refl}
 use Rattle.std.proofs.Common.{sym, ap, subst, ◌∙◌, arith, le-leb, eqb-true}
 use Rattle.std.proofs.lemmas.Bool.{lt-leb, eqb-false}
 use Rattle.std.proofs.Math.ListN.{length}
-use Rattle.grammar.specs.Bytes.{Kind as Byte, digit, letter, space, plus, minus, star, opening, closing, less, equals, more, strange, is_digit, kind_of}
-use Rattle.grammar.specs.Sums.{Sums, Factor, most, most_name, turned, multiplied, with_number, with_variable}
-use Rattle.grammar.specs.Reader.{opened, room_of, behind, multiplies, Mode, wanted, lettered, number, numbered, named, closed, apart, Around, part, inside, Next, go, ends, stop, step, follow, finished, is_read, is_bare, flushed, Outcome, read, halted, run_from}
+use Rattle.grammar.specs.Bytes.{Kind as Byte, letter, minus, star, opening, is_digit, kind_of}
+use Rattle.grammar.specs.Sums.{Sums, Factor, most, turned, multiplied, with_number, with_variable}
+use Rattle.grammar.specs.Reader.{opened, room_of, behind, multiplies, Mode, wanted, lettered, number, numbered, named, apart, part, inside, Next, go, ends, stop, step, follow, is_read, is_bare, flushed, Outcome, read, halted, run_from}
 use Rattle.grammar.specs.Descent.{byte}
-use Rattle.reader.specs.Scan.{Skips, Digits, Over, present}
-use Rattle.reader.specs.Run.{by_kind, at_place, skipped, left_behind, over-digits, too-big}
+use Rattle.reader.specs.Scan.{Skips, present}
+use Rattle.reader.specs.Run.{by_kind, at_place, left_behind}
 use Rattle.reader.specs.declared.heads.Kind.{Kind}
 use Rattle.reader.specs.declared.heads.Kind.TheVariants.{Number, Variable, Open, Halted, More}
 use Rattle.reader.specs.declared.heads.Head.{Head}

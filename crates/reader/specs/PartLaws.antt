@@ -1,5 +1,5 @@
 -- What the code answers at each of its returns, behind a part, behind a sum in brackets, and for a part that holds no sum.
-use Rattle.std.specs.Prelude.{ℕ, zero, suc, ◌+◌, ◌*◌, ◌≤◌, ◌<◌, ◌≡◌, Bool, not, List, eqb, get_or, ℤ, nat_abs, ◌+ℤ◌}
+use Rattle.std.specs.Prelude.{ℕ, ◌+◌, ◌*◌, ◌≤◌, ◌<◌, ◌≡◌, Bool, not, List, eqb, get_or, nat_abs}
 use Rattle.std.proofs.Math.Path.{refl}
 use Rattle.std.proofs.Common.{sym, ap, subst, ◌∙◌, mul-le-mul, arith, eqb-true}
 use Rattle.std.proofs.Math.Bool.{true, false}
@@ -8,13 +8,13 @@ use Rattle.std.proofs.Math.ListN.{length}
 use Rattle.laws.specs.Z.{abs-add}
 use Rattle.reader.specs.sums.Held.{held, value_of, Bounded, moved, moved-is, within, size-signed, bounded-more, bounded-add}
 use Rattle.grammar.specs.Bytes.{Kind as Byte, plus, minus, closing, space, kind_of}
-use Rattle.grammar.specs.Sums.{Sums, Term, Factor, add_to, signed, with_number, with_variable}
-use Rattle.grammar.specs.Reader.{Around, wanted, closed, part, sum, inside, go, ends, stop, step, follow, Outcome, read, halted, run_from}
-use Rattle.grammar.specs.Descent.{byte, rested, resumed}
+use Rattle.grammar.specs.Sums.{Sums, Factor, add_to, signed}
+use Rattle.grammar.specs.Reader.{Around, wanted, closed, part, sum, inside, go, step, follow, read, halted, run_from}
+use Rattle.grammar.specs.Descent.{byte, rested}
 use Rattle.reader.specs.Scan.{Skips, present}
 use Rattle.reader.specs.Run.{by_kind, at_place, skipped}
 use Rattle.reader.specs.Heads.{factor, ends_at, ended}
-use Rattle.reader.specs.Parts.{sums_of, outcome_of, Small, Ready, Rests, Sound, Unjoined, JoinsOn, EndsAt}
+use Rattle.reader.specs.Parts.{Small, Ready, Unjoined, JoinsOn, EndsAt}
 use Rattle.reader.specs.declared.parts.Place.{Place}
 
 stays : (bare : Bool) (a : Around) (s : Sums) → step (rested bare) a s space ≡ go (rested bare) a s

@@ -1,6 +1,5 @@
 -- What the code's answers stand for, and what keeps its sums and tables within their bounds.
-use Rattle.std.specs.Prelude.{ℕ, zero, suc, ◌+◌, ◌-◌, ◌*◌, ◌≤◌, ◌<◌, ◌≡◌, refl, Bool, true, false, cond, not, List, [], ◌∷◌, length, get_or, nat_abs}
-use Rattle.std.proofs.Common.{sym, ap, subst, ◌∙◌, arith}
+use Rattle.std.specs.Prelude.{ℕ, ◌+◌, ◌*◌, ◌≤◌, ◌<◌, ◌≡◌, Bool, List, length, get_or, nat_abs}
 use Rattle.reader.specs.sums.Held.{held, value_of, Bounded}
 use Rattle.grammar.specs.Sums.{Sums, Factor}
 use Rattle.grammar.specs.Reader.{wanted, part, sum, inside, Outcome, read, halted, run_from}

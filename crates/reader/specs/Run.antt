@@ -1,9 +1,9 @@
 -- How the grammar's reader goes over what the code finds at a place: spaces, digits, a byte by its kind, the line's end.
-use Rattle.std.specs.Prelude.{ℕ, zero, suc, ◌+◌, ◌-◌, ◌*◌, ◌≤◌, ◌<◌, ◌≡◌, refl, Bool, true, false, cond, List, [], ◌∷◌, leb, ltb, eqb, length, get_or}
-use Rattle.std.proofs.Common.{sym, subst, ◌∙◌, arith, ltb-true, ltb-false, eqb-true, le-leb}
+use Rattle.std.specs.Prelude.{ℕ, zero, suc, ◌+◌, ◌-◌, ◌*◌, ◌≤◌, ◌<◌, ◌≡◌, refl, Bool, true, false, cond, List, ltb, eqb, length, get_or}
+use Rattle.std.proofs.Common.{sym, ◌∙◌, arith, ltb-true, ltb-false, eqb-true, le-leb}
 use Rattle.std.proofs.Math.Path.{ap}
 use Rattle.std.proofs.lemmas.Bool.{lt-leb}
-use Rattle.grammar.specs.Bytes.{Kind, digit, letter, space, plus, minus, star, opening, closing, less, equals, more, strange, is_digit, kind_of, mark_of}
+use Rattle.grammar.specs.Bytes.{Kind, digit, letter, space, plus, minus, star, opening, closing, less, equals, more, strange, is_digit, kind_of}
 use Rattle.grammar.specs.Sums.{Sums, one}
 use Rattle.grammar.specs.Reader.{Mode, first, wanted, Around, left, room_of, Next, go, ends, stop, step, grows, follow, finished, is_read, is_bare, flushed, Outcome, halted, run_from}
 use Rattle.grammar.specs.Descent.{byte, no_byte}

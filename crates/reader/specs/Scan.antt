@@ -1,8 +1,8 @@
 -- What is found at a place of a line: spaces, digits, a byte by its kind; and how the grammar's reader takes them.
-use Rattle.std.specs.Prelude.{ℕ, zero, suc, ◌+◌, ◌-◌, ◌*◌, ◌≤◌, ◌<◌, ◌≡◌, refl, Bool, true, false, cond, ◌&&◌, List, [], ◌∷◌, leb, eqb, length, get_or, drop}
-use Rattle.std.proofs.Common.{sym, ap, subst, ◌∙◌, not-suc-le-zero, arith, leb-true, le-leb, eqb-true}
+use Rattle.std.specs.Prelude.{ℕ, zero, suc, ◌+◌, ◌-◌, ◌*◌, ◌≤◌, ◌<◌, ◌≡◌, refl, Bool, true, false, cond, ◌&&◌, List, [], ◌∷◌, leb, length, get_or}
+use Rattle.std.proofs.Common.{sym, ap, subst, ◌∙◌, not-suc-le-zero, arith, leb-true, le-leb}
 use Rattle.std.proofs.lemmas.Bool.{lt-leb}
-use Rattle.grammar.specs.Bytes.{Kind, mark_of, digit, letter, space, plus, minus, star, opening, closing, less, equals, more, strange, is_digit, kind_of}
+use Rattle.grammar.specs.Bytes.{mark_of, digit, is_digit, kind_of}
 use Rattle.reader.specs.declared.scan.Whole.{Whole}
 use Rattle.reader.specs.declared.scan.Whole.TheVariants.{Is, NoDigit, TooBig}
 

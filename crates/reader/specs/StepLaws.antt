@@ -1,14 +1,13 @@
 -- The contracts of `close` and `leaf` at each of their returns.
-use Rattle.std.specs.Prelude.{ℕ, ◌+◌, ◌*◌, ◌≤◌, ◌<◌, ◌≡◌, refl, Bool, true, List, length, get_or, ℤ}
+use Rattle.std.specs.Prelude.{ℕ, ◌+◌, ◌*◌, ◌≤◌, ◌<◌, ◌≡◌, refl, Bool, true, List, get_or, ℤ}
 use Rattle.std.proofs.Common.{sym, ap, subst, ◌∙◌, arith}
 use Rattle.reader.specs.sums.Held.{held, value_of, Bounded, moved, moved-is, bounded-more}
-use Rattle.grammar.specs.Sums.{Sums, Term, add_to, signed}
-use Rattle.grammar.specs.Reader.{Outcome, read, halted}
+use Rattle.grammar.specs.Sums.{Term, add_to, signed}
+use Rattle.grammar.specs.Reader.{read}
 use Rattle.reader.specs.Scan.{Skips}
 use Rattle.reader.specs.Heads.{factor, comes_to, Placed}
-use Rattle.reader.specs.Parts.{sums_of, outcome_of, Small, Ready, Rests, Sound, Unjoined, KindFits, LeafFits, Leafy, LeafIs, CloseIs, Within}
+use Rattle.reader.specs.Parts.{sums_of, Small, Ready, KindFits, LeafFits, Leafy, LeafIs, CloseIs, Within}
 use Rattle.reader.specs.PartLaws.{closes-on, closes-not, product, constant-room, table-room, number_small, term-small}
-use Rattle.reader.specs.declared.heads.Kind.{Kind}
 use Rattle.reader.specs.declared.heads.Kind.TheVariants.{Number, Variable, Open, Halted as Stopped, More}
 use Rattle.reader.specs.declared.heads.Head.{Head}
 use Rattle.reader.specs.declared.parts.Place.{Place}

@@ -1,15 +1,14 @@
 -- A part and a sum, at the returns of the two functions that read them and at the turns of the sum's loop.
-use Prim.Native.Nat.{ℕ, zero, suc, ◌+◌, ◌-◌, ◌*◌, ◌≤◌, ◌<◌, pred}
-use Rattle.std.specs.Prelude.{◌≡◌, refl, Bool, true, List, length, get_or}
+use Prim.Native.Nat.{ℕ, zero, suc, ◌+◌, ◌-◌, ◌≤◌, ◌<◌}
+use Rattle.std.specs.Prelude.{◌≡◌, Bool, true, List, length}
 use Rattle.std.proofs.Math.Path.{sym, subst}
 use Rattle.std.proofs.Common.{ap, ◌∙◌}
 use native.Mathlib.Omega.{arith}
-use Rattle.reader.specs.sums.Held.{held, Bounded, bounded-more}
 use Rattle.grammar.specs.Sums.{Sums, Factor}
-use Rattle.grammar.specs.Reader.{part, sum, inside, wanted, room_of, Outcome, read, halted, run_from, read_part, read_sum}
+use Rattle.grammar.specs.Reader.{part, sum, inside, wanted, room_of, read, halted, run_from, read_part, read_sum}
 use Rattle.grammar.specs.Descent.{rested, resumed, sum-of-parts, sum-in-brackets}
-use Rattle.reader.specs.Heads.{factor, opens, comes_to, Placed, HeadIs, Settled}
-use Rattle.reader.specs.Parts.{sums_of, outcome_of, Small, Ready, Rests, Sound, Unjoined, Ended, KindFits, LeafFits, Leafy, LeafIs, CloseIs, Within, JoinsOn, EndsAt, JointIs}
+use Rattle.reader.specs.Heads.{factor, comes_to, Placed, HeadIs}
+use Rattle.reader.specs.Parts.{sums_of, outcome_of, Ready, Rests, Sound, Unjoined, Ended, KindFits, LeafFits, Leafy, LeafIs, CloseIs, Within, JoinsOn, EndsAt, JointIs}
 use Rattle.reader.specs.StepLaws.{later, small-later}
 use Rattle.reader.specs.declared.heads.Kind.{Kind}
 use Rattle.reader.specs.declared.heads.Kind.TheVariants.{Number, Variable, Open, Halted as Stopped, More}

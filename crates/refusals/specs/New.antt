@@ -1,7 +1,7 @@
 -- New variables: the count over a pack's places is the length of the steps' list of them.
 -- Assumes nothing.
 use Prim.Native.Nat.{ℕ, zero, suc, ◌+◌}
-use Rattle.std.specs.Prelude.{◌≡◌, Bool, ◌&&◌, ◌||◌, cond, T, ltb, get_or}
+use Rattle.std.specs.Prelude.{◌≡◌, Bool, ◌&&◌, ◌||◌, cond, T, get_or}
 use Rattle.std.proofs.Math.Path.{refl, sym, ap}
 use Rattle.std.proofs.Common.{◌∙◌, subst, add-zero, add-one, arith, eqb-true, ne_eqb}
 use Rattle.std.proofs.Math.Bool.{true, false, not}
@@ -17,7 +17,6 @@ use Rattle.steps.specs.Tests.{member, new_variables}
 use Rattle.laws.specs.Lists.{tab, list_of, all_from, all_in, sum_from, sum_in}
 use Rattle.layout.specs.Layout.{bit_of}
 use Rattle.layout.specs.Copy.{most16}
-use Rattle.rows.specs.places.Finding.{place_in}
 use Rattle.rows.specs.places.Listed.{map-list, member-list}
 use Rattle.sparse.specs.Places.{variable_numbers_at}
 use Rattle.sparse.specs.Lookup.{place_from}

@@ -1,4 +1,6 @@
 // The tests before the steps, over the lent sparse tables' words, bytes and reals: 18 is the reading test's. A test gives the number of the first refusal, 0 if there is none.
+#![tactic(auto)]
+
 pub mod gone;
 
 ghost use Rattle.std.specs.Prelude.{◌≡◌, cond, ◌+◌, ◌<◌, ◌≤◌};

@@ -2,7 +2,7 @@
 -- Assumes nothing.
 use Rattle.std.specs.Prelude.{ℕ, zero, suc, ◌+◌, ◌-◌, ◌≤◌, ◌<◌, ◌≡◌, Bool, true, false, cond, List, ltb, length, get_or, set, replicate}
 use Rattle.std.proofs.Math.Path.{refl}
-use Rattle.std.proofs.Common.{sym, ap, ◌∙◌, arith, length-set, get_or-set_same, get_or-set_other, eqb-true, eq-eqb, ne_eqb, ltb-true, ltb-false, lt-ltb, le-ltb}
+use Rattle.std.proofs.Common.{sym, ap, ◌∙◌, arith, length-set, get_or-set_same, get_or-set_other, eqb-true, eq-eqb, ne_eqb, lt-ltb, le-ltb}
 use Rattle.std.proofs.Math.Dec.{eqb}
 use Rattle.std.proofs.lemmas.Bool.{eqb-false}
 use Rattle.laws.specs.Loops.{seek, first}
@@ -10,7 +10,7 @@ use Rattle.layout.specs.cells.Seek.{first-none}
 use Rattle.layout.specs.cells.Names.{place_room}
 use Rattle.rows.specs.places.Finding.{place_in}
 use Rattle.sparse.specs.Places.{variable_places_at, most_variables}
-use Rattle.sparse_test.specs.Tested.{index_in, number_in}
+use Rattle.sparse_test.specs.Tested.{index_in}
 
 -- what a table's entry means: one of v, or v
 unfoldable pub near : ℕ → ℕ → ℕ

@@ -1,7 +1,7 @@
 -- Lists of places, and of the codes or numbers that they stand for: members, distinct, counted alike where no two places stand for the same. Laws that know nothing of the solver.
 -- Assumes nothing.
 use Prim.Native.Nat.{ℕ, zero, suc, ◌+◌, ◌-◌, ◌≤◌, ◌<◌}
-use Rattle.std.specs.Prelude.{◌≡◌, Bool, true, false, not, ◌&&◌, ◌||◌, cond, eqb, ltb, length, get_or}
+use Rattle.std.specs.Prelude.{◌≡◌, Bool, true, false, not, ◌||◌, eqb, ltb}
 use Rattle.std.proofs.Math.Path.{refl}
 use Rattle.std.proofs.Common.{sym, ap, subst, ◌∙◌, not-suc-le-zero, eqb-true, eq-eqb, ltb-true, ltb-false, lt-ltb}
 use mathlib.Core.List.{List, [], ◌∷◌, ◌++◌, map}

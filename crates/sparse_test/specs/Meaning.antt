@@ -1,6 +1,6 @@
 -- What tables that read as a state give: the state is readable, and the tables have the sparse form.
 -- Assumes nothing.
-use Rattle.std.specs.Prelude.{ℕ, ◌+◌, ◌*◌, ◌-◌, ◌/◌, ◌%◌, ◌≤◌, ◌<◌, ◌≡◌, Bool, true, ◌&&◌, List, map, leb, length}
+use Rattle.std.specs.Prelude.{ℕ, ◌+◌, ◌-◌, ◌/◌, ◌%◌, ◌≤◌, ◌<◌, ◌≡◌, Bool, true, map, leb, length}
 use Rattle.std.proofs.Math.Path.{refl, sym}
 use Rattle.std.proofs.Common.{ap, ◌∙◌, arith}
 use Rattle.std.proofs.Math.Dec.{ltb}
@@ -8,25 +8,24 @@ use Rattle.std.specs.Float.{nan}
 use Rattle.std.specs.Float.Ieee.{ne}
 use Rattle.std.proofs.Math.ListN.{get_or}
 use borrow.Author.Tests.{leb-true, le-leb, ltb-true, lt-ltb}
-use Rattle.laws.specs.Lists.{list_of, all_in}
 use Rattle.layout.specs.Rooms.{both}
 use Rattle.layout.specs.Copied.{length-listOf}
 use Rattle.steps.specs.Number.{zero64}
 use Rattle.steps.specs.State.{Constraint, Edit}
 use Rattle.steps.specs.Readable as steps
-use Rattle.keeps.specs.Clauses.{and3, Clauses, clauses-in}
+use Rattle.keeps.specs.Clauses.{and3, clauses-in}
 use Rattle.layout.specs.Layout.{term_room}
 use Rattle.layout.specs.cells.Names.{row_span, last_place, cell_room}
-use Rattle.layout.specs.cells.Cells.{ascends_of, present_of}
+use Rattle.layout.specs.cells.Cells.{present_of}
 use Rattle.layout.specs.cells.Load.{ascends-true}
-use Rattle.rows.specs.places.Finding.{all-at, at_all}
+use Rattle.rows.specs.places.Finding.{all-at}
 use Rattle.rows.specs.places.Listed.{join, listed_at, at_listed, ascend-list, from_list}
 use Rattle.sparse.specs.Places.{most_variables, most_constraints, most_terms, most_gone, next_id_at, should_clear_at, whole_at, ids_at, variable_numbers_at, constraint_numbers_at, gone_numbers_at, kinds_at, row_places_at, variable_places_at, changed_at, constraint_markers_at, constraint_others_at, term_counts_at, edit_variables_at, edit_markers_at, edit_others_at, terms_at, relations_at}
 use Rattle.sparse.specs.Sparse.{Sparse, symbol_count, row_count, cell_count, variable_count, constraint_count, edit_count, gone_count, terms_from, term_of, constraint_of, read}
 use Rattle.sparse.specs.Concat.{sum-most}
 use Rattle.sparse.specs.Repack.{Held}
-use Rattle.sparse.specs.Form.{index_at, Counts, At, Form}
-use Rattle.sparse_test.specs.Stretch.{ascend_in, between_in, most_in, ascends, between, most}
+use Rattle.sparse.specs.Form.{index_at, At, Form}
+use Rattle.sparse_test.specs.Stretch.{ascend_in, most_in, ascends, between, most}
 use Rattle.sparse_test.specs.Reads.{greatest_u32, counts_fit, live_in, named_in, key_fits, cells_fit, form_fits, reads}
 use Rattle.sparse_test.specs.Views.{ids-are, numbers-are}
 

@@ -2,32 +2,30 @@
 -- Assumes nothing.
 use Rattle.std.specs.Prelude.{ℕ, zero, suc, ◌+◌, ◌≤◌, ◌<◌, ◌≡◌, Bool, ◌&&◌, ◌||◌, eqb, Float, get_or}
 use Rattle.std.proofs.Math.Path.{refl, sym, ap}
-use Rattle.std.proofs.Common.{◌∙◌, not-suc-le-zero, le_of_suc-le-suc, arith}
+use Rattle.std.proofs.Common.{◌∙◌, not-suc-le-zero, le_of_suc-le-suc}
 use Rattle.std.proofs.Math.Bool.{true, false, not, cond}
 use mathlib.Core.List.{List, [], ◌∷◌, ◌++◌, map}
 use Rattle.std.proofs.Math.Option.{none, some}
 use Rattle.std.proofs.Math.Dec.{ltb}
 use Rattle.std.specs.Float.{nan}
 use Rattle.std.specs.Float.Ieee.{is_nan, ne}
-use Rattle.laws.specs.Lists.{list_of, all_in}
-use Rattle.layout.specs.Layout.{kind_of, comparison_in}
-use Rattle.layout.specs.Rooms.{both}
+use Rattle.laws.specs.Lists.{all_in}
+use Rattle.layout.specs.Layout.{kind_of}
 use Rattle.steps.specs.Number.{is_finite}
 use Rattle.steps.specs.Symbol.{Error, Slack, Dummy, External, is_external, is_error}
 use Rattle.steps.specs.State.{Term, Variable, Constraint, Edit}
 use Rattle.steps.specs.Changes.{never_reported}
 use Rattle.steps.specs.Tests.{member}
 use Rattle.steps.specs.Readable as steps
-use Rattle.keeps.specs.Clauses.{and3, and4}
 use Rattle.rows.specs.places.Finding.{all-at, at_all}
-use Rattle.rows.specs.places.Listed.{join, same, all_list, at_listed, listed_at, member-list, ascend-list}
+use Rattle.rows.specs.places.Listed.{same, all_list, member-list, ascend-list}
 use Rattle.rows.specs.places.Shares.{finite_in}
-use Rattle.sparse.specs.Places.{variable_numbers_at, constraint_groups_at, gone_numbers_at, kinds_at, variable_places_at, constraint_markers_at, constraint_others_at, edit_markers_at, edit_others_at, relations_at, old_values_at, constraint_strengths_at, edit_strengths_at, suggestions_at, coefficients_at, constraint_constants_at}
+use Rattle.sparse.specs.Places.{variable_numbers_at, constraint_groups_at, gone_numbers_at, kinds_at, variable_places_at, constraint_markers_at, constraint_others_at, edit_markers_at, edit_others_at, old_values_at, constraint_strengths_at, edit_strengths_at, suggestions_at, coefficients_at, constraint_constants_at}
 use Rattle.sparse.specs.Lookup.{place_from}
 use Rattle.sparse.specs.Sparse.{Sparse, variable_count, constraint_count, edit_count, gone_count, gone_of, symbol_at, other_at, variable_of, terms_from, constraint_of, edit_of, read}
 use Rattle.sparse.specs.Written.{term_at, terms-are}
 use Rattle.sparse_test.specs.Stretch.{ascend_in, above_zero_in}
-use Rattle.sparse_test.specs.Tested.{kind_at, kind_symbol, externals_in, tag_of_kinds, tags_fit, markers_fit, errors_in, olds_fit, returned_fit}
+use Rattle.sparse_test.specs.Tested.{kind_at, externals_in, tag_of_kinds, tags_fit, markers_fit, errors_in, olds_fit, returned_fit}
 
 -- ---- tests over places that say the same
 

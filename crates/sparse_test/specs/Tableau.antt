@@ -1,37 +1,31 @@
 -- The tableau's test over places is the state's: order, ids below the next, no basic cell, finite numbers.
 -- Assumes nothing.
-use Prim.Native.Nat.{ℕ, zero, suc, ◌+◌, ◌*◌, ◌-◌, ◌/◌, ◌%◌, ◌≤◌, ◌<◌}
-use Rattle.std.specs.Prelude.{◌≡◌, Bool, not, ◌&&◌, cond, List, [], map, leb, Float, length, get_or}
+use Prim.Native.Nat.{ℕ, zero, suc, ◌+◌, ◌*◌, ◌-◌, ◌≤◌, ◌<◌}
+use Rattle.std.specs.Prelude.{◌≡◌, Bool, not, List, map, Float, length, get_or}
 use Rattle.std.proofs.Math.Path.{refl, sym, ap}
-use Rattle.std.proofs.Common.{◌∙◌, subst, zero-add, arith}
+use Rattle.std.proofs.Common.{◌∙◌, arith}
 use Rattle.std.proofs.Math.Bool.{true, false}
 use Rattle.std.proofs.Math.Dec.{eqb, ltb}
 use Rattle.std.specs.Float.{nan}
 use Rattle.std.specs.Float.Ieee.{ne, eq, of_bits}
-use borrow.Author.Tests.{eqb-true, eqb-false, eq-eqb, ne_eqb, ltb-true, ltb-false, lt-ltb, leb-true, le-leb, not-true}
-use Rattle.laws.specs.Lists.{tab, list_of, length-tab, all_in}
+use borrow.Author.Tests.{eqb-true, eqb-false, eq-eqb, ne_eqb, ltb-true, ltb-false, lt-ltb}
+use Rattle.laws.specs.Lists.{tab, list_of, length-tab}
 use Rattle.layout.specs.Rooms.{both}
 use Rattle.layout.specs.Laying.{tab-from}
-use Rattle.steps.specs.Number.{is_finite, zero64}
+use Rattle.steps.specs.Number.{zero64}
 use Rattle.steps.specs.Symbol.{Symbol, is_symbol, absent, coefficient_for}
 use Rattle.steps.specs.State.{Basic}
-use Rattle.steps.specs.Tests.{member}
 use Rattle.steps.specs.Readable as steps
 use Rattle.keeps.specs.Lists.{All, no_both}
 use Rattle.layout.specs.cells.Names.{row_span}
 use Rattle.layout.specs.cells.Cells.{cell_at, row_of}
-use Rattle.layout.specs.cells.Seek.{first-elim}
-use Rattle.layout.specs.cells.Reads.{cell-here, cell-absent}
-use Rattle.rows.specs.places.Finding.{place_in, place_is, all-at, at_all, never}
-use Rattle.rows.specs.places.Listed.{join, same, map-list, listed_at, at_listed, ascend-list, from_list, list-from, member-list}
-use Rattle.rows.specs.places.Shares.{finite_in}
-use Rattle.sparse.specs.Places.{next_id_at, ids_at, row_places_at, constants_at, objective_at}
+use Rattle.rows.specs.places.Finding.{never}
+use Rattle.rows.specs.places.Listed.{join, same, map-list, listed_at, at_listed, ascend-list, from_list, list-from}
+use Rattle.sparse.specs.Places.{next_id_at, ids_at, row_places_at, objective_at}
 use Rattle.sparse.specs.Sparse.{Sparse, symbol_count, row_count, cell_count, symbol_at, basic_of, symbols_of, basics_of, objective_of, read}
-use Rattle.sparse.specs.Repack.{Held}
 use Rattle.sparse.specs.Form.{At}
-use Rattle.sparse_test.specs.Stretch.{ascend_in, between_in, ascends, in-ascend, between, in_between}
+use Rattle.sparse_test.specs.Stretch.{ascend_in, between_in, ascends, between, in_between}
 use Rattle.sparse_test.specs.Views.{code_at, ids-are, lives-are, basics-are, basic-ids-are}
-use Rattle.sparse_test.specs.Tested.{open_at, costs_fit, rows_in, open_in, keys_fit, values_fit}
 use Rattle.sparse_test.specs.Records.{all-ext}
 use Rattle.sparse_test.specs.Injective.{members-map, each-list, ones_in}
 use Rattle.sparse_test.specs.Owners.{IdsUp, one_place}

@@ -1,30 +1,25 @@
 -- A readable state that fits, with numbers that a u32 holds, written into tables: they read as it, and pass the test.
 -- Assumes nothing.
-use Rattle.std.specs.Prelude.{ℕ, ◌+◌, ◌*◌, ◌-◌, ◌/◌, ◌%◌, ◌≤◌, ◌<◌, ◌≡◌, refl, Bool, true, ◌&&◌, List, [], eqb, leb, ltb}
+use Rattle.std.specs.Prelude.{ℕ, ◌+◌, ◌-◌, ◌≤◌, ◌<◌, ◌≡◌, true, List}
 use Rattle.std.proofs.Math.Path.{sym}
 use Rattle.std.proofs.Common.{ap, ◌∙◌}
 use Rattle.std.proofs.Math.Option.{Option, none, some}
 use native.Mathlib.Omega.{arith}
-use Rattle.std.specs.Float.{nan}
-use Rattle.std.specs.Float.Ieee.{ne}
 use Rattle.std.proofs.Math.ListN.{length, get_or, length-map}
-use borrow.Author.Tests.{le-leb, lt-ltb, eq-eqb}
-use Rattle.laws.specs.Lists.{all_in}
-use Rattle.layout.specs.Layout.{bit_of}
+use borrow.Author.Tests.{le-leb, lt-ltb}
 use Rattle.layout.specs.Copied.{bit-small, comparison-small}
-use Rattle.steps.specs.Number.{zero64}
 use Rattle.steps.specs.Symbol.{Kind, External, Slack, Error, Dummy, Symbol}
-use Rattle.steps.specs.State.{Basic, Variable, Constraint, Edit, State}
+use Rattle.steps.specs.State.{Basic, Variable, Constraint, State}
 use Rattle.steps.specs.Readable.{kind_code, readable}
 use Rattle.keeps.specs.Reads.{Reads}
 use Rattle.keeps.specs.Tested.{reads_in}
-use Rattle.layout.specs.cells.Names.{row_span, cell_room}
+use Rattle.layout.specs.cells.Names.{cell_room}
 use Rattle.layout.specs.cells.Cells.{ascends_of, present_of}
 use Rattle.layout.specs.cells.Reads.{ascending-lt}
 use Rattle.rows.specs.places.Finding.{at_all, place_in, place-live}
 use Rattle.rows.specs.places.Listed.{join}
 use Rattle.sparse.specs.Places.{kinds_at, row_places_at, variable_numbers_at, constraint_numbers_at, gone_numbers_at, variable_places_at, changed_at, constraint_markers_at, constraint_others_at, edit_variables_at, edit_markers_at, edit_others_at, terms_at, relations_at}
-use Rattle.sparse.specs.Sparse.{Sparse, symbol_count, row_count, cell_count, variable_count, constraint_count, edit_count, gone_count, terms_from, read}
+use Rattle.sparse.specs.Sparse.{Sparse, symbol_count, row_count, cell_count, variable_count, constraint_count, edit_count, gone_count, terms_from}
 use Rattle.sparse.specs.Concat.{sum-ext, sum-in, concat-length}
 use Rattle.sparse.specs.Repack.{Held}
 use Rattle.sparse.specs.HeldLaid.{rows-held, rows-size}
@@ -33,8 +28,8 @@ use Rattle.sparse.specs.Fits.{Lengths, Live, LiveOther, Fits}
 use Rattle.sparse.specs.Elements.{heading-back, number-back, constraint-number, gone-back, kind-laid, row-place, variable-place, changed-back, marker-place, other_place_lem, count-back, edit-variable, plus-place, minus-place, term-place, relation-laid}
 use Rattle.sparse.specs.ReadBack.{read-write}
 use Rattle.sparse.specs.Form.{index_at, At}
-use Rattle.sparse_test.specs.Stretch.{most_in, in_between, in-most}
-use Rattle.sparse_test.specs.Reads.{greatest_u32, live_in, named_in, key_fits, cells_fit, form_fits, reads}
+use Rattle.sparse_test.specs.Stretch.{in_between, in-most}
+use Rattle.sparse_test.specs.Reads.{greatest_u32, live_in, named_in, key_fits, cells_fit, reads}
 use Rattle.sparse_test.specs.Meaning.{Counted, FormParts, form-joined}
 
 -- the state's numbers are those that a u32 holds

@@ -1,4 +1,6 @@
 // The test that sparse tables read as a state: refusal 18 of every call but reset.
+#![tactic(auto)]
+
 ghost use Rattle.std.specs.Prelude.{◌≡◌, true, ◌≤◌, get_or};
 ghost use Rattle.layout.specs.Layout.{term_room};
 ghost use Rattle.layout.specs.cells.Names.{last_place, cell_room};

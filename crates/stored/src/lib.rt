@@ -1,4 +1,6 @@
 // The stored constraints and edits of sparse tables, as a call ends: the lent tables' records come over into the working room, renamed by the places there.
+#![tactic(auto)]
+
 pub mod carry;
 pub mod moving;
 pub mod new;

@@ -1,4 +1,6 @@
 // The service line's writer: a constraint as its plain line.
+#![tactic(auto)]
+
 ghost use Rattle.std.specs.Prelude.{◌≡◌, length};
 ghost use Rattle.writing.specs.Writes.{called, writes, called_is};
 

@@ -1,7 +1,7 @@
 -- The constraint of a number among those that tables read as, and what is shown for it. Assumes nothing.
-use Rattle.std.specs.Prelude.{ℕ, zero, suc, ◌+◌, ◌≤◌, ◌<◌, ◌≡◌, Bool, true, false, cond, List, eqb, ltb, get_or}
+use Rattle.std.specs.Prelude.{ℕ, zero, suc, ◌+◌, ◌≤◌, ◌<◌, ◌≡◌, Bool, true, false, cond, eqb, ltb}
 use Rattle.std.proofs.Math.Path.{refl, ap}
-use Rattle.std.proofs.Common.{sym, ◌∙◌, arith}
+use Rattle.std.proofs.Common.{arith}
 use Rattle.std.proofs.Math.Option.{Option, none, some}
 use Rattle.std.proofs.Math.Nat.{sub-zero}
 use borrow.Author.Tests.{lt-ltb, le-ltb}
@@ -15,7 +15,7 @@ use Rattle.sparse.specs.Places.{constraint_numbers_at}
 use Rattle.sparse.specs.Lookup.{place_from}
 use Rattle.sparse.specs.Sparse.{Sparse, constraint_count, constraint_of, read}
 use Rattle.sparse_test.specs.Reads.{reads}
-use Rattle.fetches.specs.shown.Shown.{Line, without, said, line_of, show_of}
+use Rattle.fetches.specs.shown.Shown.{without, said, line_of, show_of}
 
 abbrev pick : (ℕ → Constraint) → ℕ → ℕ → Option Constraint
 pick g e z = cond (ltb z e) (some (g z)) none

@@ -1,20 +1,20 @@
 -- The stored constraint at place i, by the tables' places, is the steps' constraint there. Assumes nothing.
 use Prim.Native.Nat.{ℕ, ◌+◌, ◌≤◌, ◌<◌}
-use Rattle.std.specs.Prelude.{◌≡◌, true, List, [], ◌∷◌, ◌++◌, map, leb, length, replicate}
+use Rattle.std.specs.Prelude.{◌≡◌, true, List, [], ◌∷◌, map, leb, length}
 use Rattle.std.proofs.Math.Path.{refl}
-use Rattle.std.proofs.Common.{sym, ap, ◌∙◌, arith}
+use Rattle.std.proofs.Common.{◌∙◌, arith}
 use Rattle.std.proofs.Math.ListN.{get_or}
 use Rattle.std.specs.Float.Ieee.{Float, nan}
-use Rattle.laws.specs.Lists.{tab, list_of, length-tab, map-tab, tab-ext}
+use Rattle.laws.specs.Lists.{list_of, length-tab, map-tab, tab-ext}
 use Rattle.steps.specs.Number.{zero64}
-use Rattle.steps.specs.State.{Comparison, no_more, exactly, no_less, Relation, strength_of, comparison_of, related, Term, Constraint}
+use Rattle.steps.specs.State.{Comparison, no_more, exactly, no_less, strength_of, comparison_of, related, Term}
 use Rattle.steps.specs.Shown.{given_of}
 use Rattle.steps.specs.Readable as steps
 use Rattle.keeps.specs.Clauses.{and3, clauses-in}
-use Rattle.layout.specs.Layout.{comparison_in, comparison_code, term_room}
+use Rattle.layout.specs.Layout.{comparison_in, term_room}
 use Rattle.layout.specs.Written.{comparison-read}
 use Rattle.sparse.specs.Places.{most_variables, most_constraints, variable_count_at, variable_numbers_at, constraint_groups_at, term_counts_at, terms_at, relations_at, constraint_strengths_at, coefficients_at, constraint_constants_at}
-use Rattle.sparse.specs.Sparse.{Sparse, variable_count, constraint_count, number_at, terms_from, term_of, constraint_of, read}
+use Rattle.sparse.specs.Sparse.{Sparse, variable_count, constraint_count, terms_from, term_of, constraint_of, read}
 use Rattle.sparse_test.specs.Stretch.{most_in, in-most}
 use Rattle.sparse_test.specs.Tested.{number_in, term_count}
 use Rattle.sparse_test.specs.Uses.{number_is}

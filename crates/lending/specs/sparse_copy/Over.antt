@@ -1,7 +1,7 @@
 -- The live part of each table over another, with the counts that the words have; and tables that are all zero.
 -- Assumes nothing.
-use Rattle.std.specs.Prelude.{ℕ, ◌+◌, ◌≡◌, refl, List, [], ◌∷◌, Float, length, get_or, replicate}
-use Rattle.std.proofs.Common.{sym, ◌∙◌}
+use Rattle.std.specs.Prelude.{ℕ, ◌+◌, ◌≡◌, refl, List, Float, length, get_or, replicate}
+use Rattle.std.proofs.Common.{◌∙◌}
 use Rattle.std.specs.Float.{nan}
 use Rattle.laws.specs.Loops.{run}
 use Rattle.laws.specs.Lists.{tab}
@@ -10,7 +10,7 @@ use Rattle.layout.specs.Laying.{remade, stretch}
 use Rattle.steps.specs.Number.{zero64}
 use Rattle.sparse.specs.Places.{next_id_at, ids_at, variable_numbers_at, variable_uses_at, constraint_numbers_at, constraint_groups_at, gone_numbers_at, kinds_at, row_places_at, variable_places_at, changed_at, constraint_markers_at, constraint_others_at, term_counts_at, edit_variables_at, edit_markers_at, edit_others_at, terms_at, relations_at, constants_at, old_values_at, objective_at, cutoff_at, constraint_strengths_at, edit_strengths_at, suggestions_at, coefficients_at, constraint_constants_at}
 use Rattle.sparse.specs.Sparse.{Sparse, symbol_count, row_count, cell_count, variable_count, constraint_count, edit_count, gone_count, terms_from}
-use Rattle.sparse.specs.Stretches.{Stretch, part, lay, copied}
+use Rattle.sparse.specs.Stretches.{lay, copied}
 use Rattle.sparse.specs.Copy.{heading_end, live_words, live_bytes, live_reals, put_over}
 
 abbrev pub tables : List ℕ → List ℕ → List ℕ → List Float → List Float → Sparse

@@ -1,6 +1,6 @@
 -- The terms that two tables hold in their first places.
 use Rattle.std.specs.Prelude.{ℕ, zero, suc, ◌+◌, ◌-◌, ◌≤◌, ◌<◌, ◌≡◌, refl, Bool, true, false, cond, List, [], ◌∷◌, ltb, eqb, length, get_or, set, ℤ, pos, nat_abs, ◌+ℤ◌}
-use Rattle.std.proofs.Common.{zero-le, sym, ap, subst, ◌∙◌, not-suc-le-zero, le_of_suc-le-suc, zero-lt-suc, arith, lt-ltb, le-ltb, eq-eqb, ne_eqb}
+use Rattle.std.proofs.Common.{sym, ap, ◌∙◌, not-suc-le-zero, le_of_suc-le-suc, zero-lt-suc, arith, lt-ltb, le-ltb, eq-eqb, ne_eqb}
 use Rattle.std.proofs.Math.IntN.{sub_ℕ}
 use Rattle.laws.specs.Z.{at, ◌⊕◌, ⊖◌, eq_z, PN-sub, abs_is, abs-add, abs_neg}
 use Rattle.laws.specs.Loops.{delete, insertAt}

@@ -15,7 +15,6 @@ use Rattle.steps.specs.Optimise.{optimise, the_objective, the_artificial}
 use Rattle.steps.specs.CreateRow.{Building, written, append_to, insert_into, with_variables, add_variable, count_use, use_once, insert_variable, insert_term, insert_terms, Created, tagged, add_symbol, insert_in_objective, add_error, inequality, soft_equality, required_equality, add_tag, create_row, choose_subject, all_dummies}
 use Rattle.steps.specs.Artificial.{any_pivotable_symbol, is_empty_row, stand_temporary, remove_temporary, artificial_constant_near_zero, add_with_artificial_variable}
 use Rattle.steps.specs.Add.{whole_inputs, add_with_subject, add_created, Added, add_steps}
-use Rattle.steps.specs.Calls.{add}
 use Rattle.keeps.specs.Passes.{Ends, ends-bind}
 use Rattle.sparse_test.specs.zeros.Plain.{PlainRow, PlainWork, zeros-plain, symbol-in-plain, insert-row-plain, solve-plain, append-plain, reverse-plain, keep-plain, enter-plain, pivot-plain, append-work-plain, purge-plain, checked-plain, optimise-plain}
 

@@ -1,5 +1,5 @@
 -- "`show C`: `REL STRENGTH GROUP CONSTANT N V1 K1 ...` or `no 5`": which constraint a line asks for, and the text of what is shown.
-use Rattle.std.specs.Prelude.{◌≡◌, ℕ, zero, suc, ◌+◌, ◌*◌, ◌<◌, ◌≤◌, Bool, true, false, cond, List, [], ◌∷◌, ◌++◌, map, length, ◌==◌, slice_index, slice_index_or, to_bits, refl, Float}
+use Rattle.std.specs.Prelude.{◌≡◌, ℕ, zero, suc, ◌+◌, ◌*◌, ◌<◌, ◌≤◌, cond, List, [], ◌∷◌, ◌++◌, map, length, ◌==◌, slice_index, slice_index_or, to_bits, refl, Float}
 use Rattle.std.proofs.Common.{sym, ◌∙◌, add-one, arith, length-append}
 use Rattle.std.proofs.Math.Path.{ap}
 use mathlib.Core.List.{append_assoc, append-nil}

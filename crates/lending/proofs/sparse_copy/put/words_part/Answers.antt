@@ -1,0 +1,16 @@
+use mathlib.Core.Path.{refl}
+use native.Mathlib.Omega.{arith}
+use Rattle.laws.specs.Loops.{run-next, run-last}
+use Rattle.layout.specs.Laying.{remade}
+use Rattle.lending.specs.sparse_copy.Over.{part-runs}
+use Rattle.lending.proofs.sparse_copy.put.words_part.Goals as goal
+
+pub loop-i-init : goal.loop-i-init
+loop-i-init c = (part-runs _ _ _ _ _, omega arith, refl)
+
+pub loop-i-preserved : goal.loop-i-preserved
+unfolding remade
+loop-i-preserved c = (run-next _ _ _ _ (omega arith) refl c.loop-i.invariant.0, omega arith, c.loop-i.invariant.2)
+
+pub returns : goal.returns
+returns c = run-last _ _ _ _ (omega arith) c.loop-i.invariant.0

@@ -1,0 +1,20 @@
+use mathlib.Core.Path.{refl}
+use native.Mathlib.Omega.{arith}
+use borrow.Author.Tests.{eq-eqb, ne_eqb}
+use Rattle.laws.specs.Loops.{first_next, first-here, first-last}
+use Rattle.rows.specs.places.Finding.{place_in}
+use Rattle.sparse.specs.Lookup.{place_from}
+use Rattle.sparse_test.proofs.asking.byte_from.Goals as goal
+
+pub loop-i-init : goal.loop-i-init
+unfolding place_from place_in
+loop-i-init c = (refl, omega arith)
+
+pub returns-then-x-bytes : goal.returns-then-x-bytes
+returns-then-x-bytes c = record { value = first-here _ _ _ _ _ (omega arith) (eq-eqb _ _ c.if-x-bytes.true) c.loop-i.invariant.0; upper_bound = omega arith }
+
+pub loop-i-preserved : goal.loop-i-preserved
+loop-i-preserved c = (first_next _ _ _ _ _ (omega arith) (ne_eqb _ _ c.if-x-bytes.false) c.loop-i.invariant.0, omega arith)
+
+pub returns : goal.returns
+returns c = record { value = first-last _ _ _ _ _ (omega arith) c.loop-i.invariant.0; upper_bound = omega arith }

@@ -1,0 +1,6 @@
+use native.Mathlib.Omega.{arith}
+use Rattle.stored.specs.Carried.{constraint-bytes}
+use Rattle.stored.proofs.carry.constraint_bytes.Goals as goal
+
+pub returns : goal.returns
+returns c = constraint-bytes _ _ (omega arith) _ _ c.split_named.ensures.region c.split_named.ensures.rest c.split_named-2.ensures.region c.split_named-2.ensures.rest c.split_bytes.ensures.region c.split_bytes.ensures.rest

@@ -1,0 +1,4 @@
+use Rattle.text.proofs.calls.reset_call.Goals as goal
+
+pub returns-in-Number : goal.returns-in-Number
+returns-in-Number c = simp c.in-Number.is

@@ -1,0 +1,15 @@
+use Rattle.std.proofs.Common.{◌≡◌, refl, arith}
+use Rattle.writing.specs.Given.{allUpTo, said-next}
+use Rattle.writing.proofs.said.terms_said.Goals as goal
+
+pub loop-i-init : goal.loop-i-init
+unfolding allUpTo
+loop-i-init c = (omega arith, refl)
+
+pub loop-i-preserved : goal.loop-i-preserved
+loop-i-preserved c = (omega (arith, c.loop-i-test.true), said-next c.args.p.vars c.args.p.coefs c.args.n c.loop-i.i c.loop-i.invariant.1 c.figure_of-f.ensures c.figure_said.ensures c.rises_at.ensures)
+
+pub returns : goal.returns
+returns c =
+    let e : c.loop-i.i ≡ c.args.n = omega (arith, c.loop-i.invariant.0, c.loop-i-test.false) in
+    rw e at c.loop-i.invariant.1
