@@ -1,4 +1,6 @@
 // Remove's steps over the sparse tables: a constraint's effects go, its marker is dropped, its symbols are purged, the objective is optimised and the use counts fall.
+#![tactic(auto)]
+
 pub mod effects;
 pub mod marker;
 pub mod uses;
