@@ -1,10 +1,9 @@
 -- Add: the calls put together, over variables. The terms come as the pack of a list (that of any pack: `changes::terms::proper`).
 -- Assumes nothing.
-use Rattle.std.specs.Prelude.{ℕ, ◌+◌, ◌≤◌, ◌<◌, ◌≡◌, true, false, ◌&&◌, cond, List, eqb, Float}
+use Rattle.std.specs.Prelude.{ℕ, ◌+◌, ◌<◌, ◌≡◌, true, false, ◌&&◌, cond, List, eqb, Float}
 use Rattle.std.proofs.Math.Path.{refl}
-use Rattle.std.proofs.Common.{sym, ap, ◌∙◌, arith}
+use Rattle.std.proofs.Common.{sym, ap, ◌∙◌}
 use Rattle.std.proofs.Math.Option.{none, some}
-use Rattle.laws.specs.Given.{Then, then-given}
 use Rattle.steps.specs.Number.{is_finite}
 use Rattle.steps.specs.State as steps
 use Rattle.steps.specs.State.{Tag, Constraint, State, strength_of, comparison_of}
@@ -16,7 +15,7 @@ use Rattle.steps.specs.Readable.{readable}
 use Rattle.keeps.specs.Keeps.{add_reads}
 use Rattle.layout.specs.Rooms.{both}
 use Rattle.sparse.specs.Places.{most_constraints}
-use Rattle.sparse.specs.Sparse.{Sparse, symbol_count, constraint_count, edit_count, read}
+use Rattle.sparse.specs.Sparse.{Sparse, constraint_count, edit_count, read}
 use Rattle.sparse_test.specs.Meaning.{reads-readable}
 use Rattle.rows.specs.declared.number.Wrote.{Wrote}
 use Rattle.rows.specs.Marks.{mark_of}
@@ -39,7 +38,7 @@ use Rattle.addition.specs.creation.Created.{Opening}
 use Rattle.waist.specs.Tags.{tag_at}
 use Rattle.solver.specs.Bringing.{brought, Comes, Ends}
 use Rattle.solver.specs.Begin.{stored_mark, begun-is, pack-opens}
-use Rattle.solver.specs.Closing.{closed, closed-comes, closed-symbols, closed-tag}
+use Rattle.solver.specs.Closing.{closed, closed-comes, closed-tag}
 use Rattle.solver.specs.Concluding.{Done, went, by_test, done-by-test, answered, added-refused, added-accepted, added-reads}
 
 -- a pack of some list

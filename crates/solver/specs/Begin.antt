@@ -1,7 +1,7 @@
 -- The start of a call: a room that holds the tableau and the variables of tables that read as a state is one on which the steps may work.
 -- Assumes nothing.
-use Prim.Native.Nat.{ℕ, zero, suc, ◌+◌, ◌*◌, ◌-◌, ◌/◌, ◌%◌, ◌≤◌, ◌<◌}
-use Rattle.std.specs.Prelude.{◌≡◌, Bool, true, false, not, cond, List, [], Float, length}
+use Prim.Native.Nat.{ℕ, zero, suc, ◌+◌, ◌*◌, ◌-◌, ◌≤◌, ◌<◌}
+use Rattle.std.specs.Prelude.{◌≡◌, true, false, List, [], Float, length}
 use Rattle.std.proofs.Math.Path.{refl}
 use Rattle.std.proofs.Common.{sym, ap, ◌∙◌, arith, eqb-true}
 use Rattle.std.proofs.Math.Dec.{eqb}
@@ -11,28 +11,23 @@ use Rattle.std.proofs.Math.ListN.{get_or}
 use Rattle.std.proofs.lemmas.Bool.{not-true}
 use Rattle.laws.specs.Lists.{list_of, length-tab}
 use Rattle.steps.specs.Number.{zero64, Mark, whole_if, is_finite}
-use Rattle.steps.specs.Symbol.{Symbol, absent}
-use Rattle.steps.specs.State.{Term, Basic, Tableau, Changes, State}
+use Rattle.steps.specs.Symbol.{absent}
+use Rattle.steps.specs.State.{Term, Tableau, Changes}
 use Rattle.steps.specs.Tests.{new_variables}
 use Rattle.steps.specs.Calls.{begin}
-use Rattle.keeps.specs.Uses.{uses_of}
 use Rattle.keeps.specs.Reads.{Reads, used_by}
 use Rattle.keeps.specs.Tested.{reads_in}
 use Rattle.keeps.specs.Good.{Good, tags_by, begin-good}
 use Rattle.layout.specs.Layout.{term_room}
-use Rattle.layout.specs.cells.Names.{row_span, last_place}
 use Rattle.layout.specs.cells.Cells.{Present}
 use Rattle.waist.specs.merging.Merge.{Placed}
 use Rattle.rows.specs.places.Finding.{all-at}
-use Rattle.sparse.specs.Places.{most_rows, most_variables, most_constraints, whole_at, next_id_at, ids_at, variable_numbers_at, constraint_numbers_at, kinds_at, row_places_at, variable_places_at, row_count_at, symbol_count_at, variable_count_at}
+use Rattle.sparse.specs.Places.{most_variables, most_constraints, whole_at, next_id_at, ids_at, variable_numbers_at, constraint_numbers_at, kinds_at, row_places_at, variable_places_at, row_count_at, symbol_count_at, variable_count_at}
 use Rattle.sparse.specs.Lookup.{Ascends}
-use Rattle.sparse.specs.Sparse.{Sparse, symbol_count, row_count, cell_count, variable_count, constraint_count, edit_count, symbol_at, other_at, variable_of, constraint_of, edit_of, symbols_of, basics_of, read}
+use Rattle.sparse.specs.Sparse.{Sparse, symbol_count, row_count, cell_count, variable_count, constraint_count, edit_count, symbol_at, other_at, read}
 use Rattle.sparse.specs.Widths.{symbols-read, rows-read}
-use Rattle.sparse.specs.Form.{Counts, Form}
-use Rattle.sparse.specs.Fits.{Lengths}
-use Rattle.sparse.specs.Repack as packed
+use Rattle.sparse.specs.Form.{Counts}
 use Rattle.sparse.specs.Copy.{heading_end}
-use Rattle.sparse_test.specs.Reads.{reads}
 use Rattle.sparse_test.specs.Stretch.{ascends}
 use Rattle.sparse_test.specs.Meaning.{reads-form, reads-readable}
 use Rattle.sparse_test.specs.Tested.{kind_at, externals_in}
@@ -40,12 +35,11 @@ use Rattle.sparse_test.specs.Parts.{Parts, parts}
 use Rattle.sparse_test.specs.Meant.{tested-is, reads-apart, reads-constraints}
 use Rattle.sparse_test.specs.zeros.Fitting.{few-symbols}
 use Rattle.waist.specs.substituting.Held.{Held}
-use Rattle.waist.specs.substituting.Named.{Named}
 use Rattle.rows.specs.declared.number.Wrote.{Wrote}
 use Rattle.rows.specs.Marks.{mark_of}
-use Rattle.waist.specs.Working.{artificial_of, work_of, lines_of, Sound}
-use Rattle.waist.specs.Standing.{Owners, Standing}
-use Rattle.lending.specs.Entered.{bare, bare_words, Entered, bare-same, count_same, past_same}
+use Rattle.waist.specs.Working.{artificial_of, work_of, lines_of}
+use Rattle.waist.specs.Standing.{Standing}
+use Rattle.lending.specs.Entered.{bare_words, Entered, bare-same, past_same}
 use Rattle.changes.specs.declared.terms.Pack.{Pack}
 use Rattle.changes.specs.terms.Terms.{kept_of, terms_of}
 use Rattle.changes.specs.terms.Kept.{most-le, terms-length, kept-terms}

@@ -1,6 +1,6 @@
 -- The records come over: what the code's calls leave in the room, put together.
 -- Assumes nothing.
-use Rattle.std.specs.Prelude.{ℕ, ◌+◌, ◌*◌, ◌≤◌, ◌<◌, ◌≡◌, Bool, true, false, List, eqb, Float, length, get_or, set}
+use Rattle.std.specs.Prelude.{ℕ, ◌+◌, ◌≤◌, ◌<◌, ◌≡◌, true, false, List, eqb, Float, length, get_or, set}
 use Rattle.std.proofs.Math.Path.{refl, ap, subst}
 use Rattle.std.proofs.Common.{sym, ◌∙◌, zero-add, arith, eq-eqb, ne_eqb}
 use Rattle.laws.specs.Lists.{sum_in, list_of, getD-tab}
@@ -13,8 +13,8 @@ use Rattle.steps.specs.Tests.{keep_constraint, drop_constraint, keep_edit, drop_
 use Rattle.steps.specs.Readable.{readable}
 use Rattle.keeps.specs.Reads.{Reads, edit_number}
 use Rattle.keeps.specs.Tested.{reads_in}
-use Rattle.sparse.specs.Places.{most_constraints, most_terms, whole_at, constraint_numbers_at, variable_places_at, term_counts_at, suggestions_at, constraint_count_at, edit_count_at}
-use Rattle.sparse.specs.Sparse.{Sparse, symbol_count, variable_count, constraint_count, edit_count, terms_from, constraint_of, edit_of, other_at, read}
+use Rattle.sparse.specs.Places.{most_constraints, most_terms, whole_at, constraint_numbers_at, term_counts_at, suggestions_at}
+use Rattle.sparse.specs.Sparse.{Sparse, symbol_count, constraint_count, edit_count, terms_from, constraint_of, edit_of, read}
 use Rattle.sparse.specs.Concat.{sum-most}
 use Rattle.sparse.specs.Write.{no_edit}
 use Rattle.sparse.specs.Form.{Form}

@@ -8,19 +8,19 @@ use Rattle.std.proofs.Math.Option.{Option, none, some}
 use Rattle.std.proofs.Math.ListN.{get_or}
 use Rattle.laws.specs.Lists.{list_of, getD-tab, length-tab}
 use Rattle.steps.specs.Symbol.{Symbol}
-use Rattle.steps.specs.State.{Term, Tag, Variable, Constraint, Edit, State}
+use Rattle.steps.specs.State.{Term, Tag, Variable, Constraint, Edit}
 use Rattle.steps.specs.Edit.{edit_terms}
-use Rattle.steps.specs.Tests.{keep_constraint, drop_constraint, find_edit, keep_edit, drop_edit}
+use Rattle.steps.specs.Tests.{keep_constraint, find_edit, keep_edit, drop_edit}
 use Rattle.steps.specs.Readable.{readable, code, tag_symbols, uses_in}
-use Rattle.keeps.specs.Lists.{All, total, same, Same?, is, isnt, same?}
+use Rattle.keeps.specs.Lists.{All, total, Same?, is, isnt, same?}
 use Rattle.keeps.specs.Keys.{keep-total, drop-total, keep_constraint-is, keep_edit-is, drop_edit-is, find_edit-is}
 use Rattle.keeps.specs.Along.{Mem}
-use Rattle.keeps.specs.Codes.{codes, codes-mem, mem-codes}
+use Rattle.keeps.specs.Codes.{codes-mem, mem-codes}
 use Rattle.keeps.specs.Uses.{uses_of, uses-miss}
 use Rattle.keeps.specs.Reads.{Reads, con_number, edit_number, tag_code, owned_by, used_by}
 use Rattle.keeps.specs.Tested.{reads_in}
 use Rattle.sparse.specs.Places.{variable_numbers_at}
-use Rattle.sparse.specs.Sparse.{Sparse, variable_count, variable_of, symbols_of, edit_of, read}
+use Rattle.sparse.specs.Sparse.{Sparse, variable_count, variable_of, symbols_of, read}
 use Rattle.sparse.specs.Write.{no_term}
 use Rattle.stored.specs.Holds.{Lives, LivesOther, Known, HoldsC, HoldsE, mem-lives}
 use Rattle.solver.specs.Bringing.{brought}

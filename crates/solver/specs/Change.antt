@@ -1,8 +1,7 @@
 -- The one changing call: the change that is known, the room entered and left, and that tables which hold a state still do. Assumes nothing.
 use Rattle.std.specs.Prelude.{ℕ, ◌≡◌, refl, ◌≢◌, Bool, true, false, ◌&&◌, cond, eqb}
-use Rattle.std.proofs.Common.{sym, ap, ◌∙◌}
+use Rattle.std.proofs.Common.{ap, ◌∙◌}
 use Rattle.std.proofs.lemmas.Bool.{eqb-false}
-use Rattle.laws.specs.Given.{Then}
 use Rattle.steps.specs.State.{State}
 use Rattle.steps.specs.Calls.{Answer, Result}
 use Rattle.steps.specs.Changing.{Changing, made}

@@ -1,8 +1,8 @@
 -- What every accepted call does at its end: the mark is stored, and no record is counted yet. With the records that then come over the room reads as the steps' `finish`.
 -- Assumes nothing.
-use Rattle.std.specs.Prelude.{ℕ, ◌+◌, ◌*◌, ◌/◌, ◌%◌, ◌≤◌, ◌<◌, ◌≡◌, Bool, true, false, not, ◌&&◌, cond, List, eqb, Float, length, get_or, set}
+use Rattle.std.specs.Prelude.{ℕ, ◌+◌, ◌≤◌, ◌<◌, ◌≡◌, Bool, true, false, ◌&&◌, cond, List, eqb, Float, length, get_or, set}
 use Rattle.std.proofs.Math.Path.{refl}
-use Rattle.std.proofs.Common.{sym, ap, ◌∙◌, arith}
+use Rattle.std.proofs.Common.{◌∙◌, arith}
 use Rattle.std.specs.Float.{nan}
 use Rattle.std.specs.Float.Ieee.{ne}
 use Rattle.std.proofs.Math.ListN.{length-set}
@@ -10,23 +10,22 @@ use Rattle.std.proofs.Math.Seq.{get_or-set_same, get_or-set_other}
 use Rattle.laws.specs.Lists.{sum_from, sum_in}
 use Rattle.steps.specs.Number.{zero64, all_whole, not_whole, not_finite, whole_if, says_whole}
 use Rattle.steps.specs.Symbol.{absent}
-use Rattle.steps.specs.State.{Constraint, Edit, State}
+use Rattle.steps.specs.State.{Constraint, Edit}
 use Rattle.steps.specs.Calls.{finish}
 use Rattle.steps.specs.Readable.{readable}
 use Rattle.keeps.specs.Tested.{reads_in}
 use Rattle.layout.specs.Layout.{bit_of}
 use Rattle.layout.specs.Back.{bit-back}
 use Rattle.layout.specs.Copied.{bit-small, length-listOf}
-use Rattle.layout.specs.cells.Names.{row_span, last_place, cell_room}
+use Rattle.layout.specs.cells.Names.{cell_room}
 use Rattle.layout.specs.cells.Cells.{Present}
 use Rattle.waist.specs.merging.Merge.{Placed}
 use Rattle.sparse.specs.Places.{most_gone, symbol_count_at, row_count_at, cell_count_at, variable_count_at, constraint_count_at, edit_count_at, should_clear_at, whole_at, ids_at, variable_numbers_at, words_size}
-use Rattle.sparse.specs.Sparse.{Sparse, symbol_count, row_count, cell_count, variable_count, constraint_count, edit_count, gone_count, gone_of, terms_from, other_at, read}
+use Rattle.sparse.specs.Sparse.{Sparse, symbol_count, row_count, cell_count, variable_count, constraint_count, gone_count, gone_of, terms_from, other_at, read}
 use Rattle.sparse.specs.Form.{Form}
-use Rattle.sparse.specs.Fits.{Lengths}
 use Rattle.sparse.specs.Repack as packed
 use Rattle.sparse_test.specs.Reads.{reads}
-use Rattle.waist.specs.substituting.Held.{Held, held-few}
+use Rattle.waist.specs.substituting.Held.{held-few}
 use Rattle.rows.specs.declared.number.Wrote.{Wrote}
 use Rattle.rows.specs.Marks.{mark_of}
 use Rattle.waist.specs.Working.{work_of, lines_of}

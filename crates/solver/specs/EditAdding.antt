@@ -1,8 +1,8 @@
 -- Add edit: the calls put together, over variables.
 -- Assumes nothing.
-use Rattle.std.specs.Prelude.{ℕ, ◌+◌, ◌≤◌, ◌<◌, ◌≡◌, true, false, cond, List, eqb, Float}
+use Rattle.std.specs.Prelude.{ℕ, ◌+◌, ◌<◌, ◌≡◌, true, false, cond, List, eqb, Float}
 use Rattle.std.proofs.Math.Path.{refl}
-use Rattle.std.proofs.Common.{sym, ap, ◌∙◌, arith}
+use Rattle.std.proofs.Common.{sym, ap, ◌∙◌}
 use Rattle.std.proofs.Math.Option.{none, some}
 use Rattle.steps.specs.Number.{zero64}
 use Rattle.steps.specs.Strength.{clip}
@@ -16,7 +16,7 @@ use Rattle.steps.specs.Readable.{readable}
 use Rattle.keeps.specs.Cells.{zero-finite}
 use Rattle.keeps.specs.Keeps.{add_edit-reads}
 use Rattle.sparse.specs.Places.{most_constraints}
-use Rattle.sparse.specs.Sparse.{Sparse, symbol_count, constraint_count, edit_count, read}
+use Rattle.sparse.specs.Sparse.{Sparse, constraint_count, edit_count, read}
 use Rattle.sparse_test.specs.Meaning.{reads-readable}
 use Rattle.rows.specs.declared.number.Wrote.{Wrote}
 use Rattle.rows.specs.Marks.{mark_of}

@@ -1,11 +1,11 @@
 -- Remove edit: the calls put together, over variables.
 -- Assumes nothing.
-use Rattle.std.specs.Prelude.{ℕ, ◌+◌, ◌≤◌, ◌<◌, ◌≡◌, true, false, List, Float, get_or}
+use Rattle.std.specs.Prelude.{ℕ, ◌+◌, ◌≤◌, ◌<◌, ◌≡◌, true, false, Float, get_or}
 use Rattle.std.proofs.Math.Path.{refl}
 use Rattle.std.proofs.Common.{sym, ap, ◌∙◌, subst, arith}
 use Rattle.std.proofs.Math.Option.{some}
 use Rattle.std.specs.Float.{nan}
-use Rattle.steps.specs.State.{Tag, Edit, State}
+use Rattle.steps.specs.State.{Edit, State}
 use Rattle.steps.specs.Remove.{remove_steps}
 use Rattle.steps.specs.Edit.{edit_terms}
 use Rattle.steps.specs.Tests.{find_edit, drop_edit, gone_full}
@@ -23,16 +23,14 @@ use Rattle.removal.specs.Tag.{TagLives}
 use Rattle.removal.specs.Room.{Room, room-begins}
 use Rattle.solver.specs.TagsLive.{tag-lives}
 use Rattle.keeps.specs.Keeps.{remove_edit-reads}
-use Rattle.sparse.specs.Places.{constraint_numbers_at, constraint_markers_at, constraint_others_at, constraint_strengths_at, edit_markers_at, edit_others_at, edit_strengths_at, suggestions_at}
-use Rattle.sparse.specs.Lookup.{place_from}
-use Rattle.sparse.specs.Sparse.{Sparse, symbol_count, constraint_count, edit_count, constraint_of, edit_of, read}
+use Rattle.sparse.specs.Places.{edit_markers_at, edit_others_at, edit_strengths_at}
+use Rattle.sparse.specs.Sparse.{Sparse, symbol_count, edit_count, edit_of, read}
 use Rattle.sparse.specs.Form.{Form}
 use Rattle.sparse_test.specs.Meaning.{reads-form, reads-readable}
 use Rattle.rows.specs.declared.number.Wrote.{Wrote}
 use Rattle.rows.specs.Marks.{mark_of}
 use Rattle.waist.specs.declared.ending.Ended.{Ended}
 use Rattle.waist.specs.Working.{work_of}
-use Rattle.waist.specs.Standing.{Standing}
 use Rattle.waist.specs.Ending.{outcome_of, Goes}
 use Rattle.lending.specs.declared.Answer as code
 use Rattle.lending.specs.Lending.{answer_of}

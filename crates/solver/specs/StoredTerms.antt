@@ -1,16 +1,15 @@
 -- The terms of a stored constraint, gathered into a pack.
 -- Assumes nothing.
 use Prim.Native.Nat.{ℕ, zero, suc, ◌+◌, ◌≤◌, ◌<◌}
-use Rattle.std.specs.Prelude.{◌≡◌, Bool, true, false, cond, List, map, Float, length}
+use Rattle.std.specs.Prelude.{◌≡◌, Bool, true, false, cond, List, Float}
 use Rattle.std.proofs.Math.Path.{refl}
-use Rattle.std.proofs.Common.{sym, ap, ◌∙◌, arith}
+use Rattle.std.proofs.Common.{ap, ◌∙◌, arith}
 use Rattle.std.proofs.Math.Nat.{sub-zero}
 use Rattle.std.specs.Float.{nan}
 use Rattle.std.proofs.Math.ListN.{get_or}
 use Rattle.laws.specs.Loops.{turns, run}
-use Rattle.laws.specs.Lists.{tab, list_of, tab-ext, sum_in}
+use Rattle.laws.specs.Lists.{list_of, tab-ext}
 use Rattle.steps.specs.Number.{near_zero}
-use Rattle.steps.specs.State as steps
 use Rattle.layout.specs.Copy.{most16}
 use Rattle.layout.specs.Copied.{length-listOf}
 use Rattle.layout.specs.Layout.{term_room}

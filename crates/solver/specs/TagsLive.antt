@@ -1,17 +1,17 @@
 -- A stored tag's places: live, no variable's, and apart.
 -- Assumes nothing.
-use Rattle.std.specs.Prelude.{ℕ, ◌+◌, ◌≤◌, ◌<◌, ◌≡◌, Bool, true, false, not, ◌&&◌, cond, List, [], ◌∷◌, eqb, Float}
+use Rattle.std.specs.Prelude.{ℕ, ◌≤◌, ◌≡◌, true, false, not, ◌&&◌, [], ◌∷◌, Float}
 use Rattle.std.proofs.Math.Path.{refl}
-use Rattle.std.proofs.Common.{sym, ap, ◌∙◌, subst, arith, ne_eqb}
+use Rattle.std.proofs.Common.{sym, ap, ◌∙◌, arith, ne_eqb}
 use Rattle.std.proofs.lemmas.Bool.{false≢true}
 use Rattle.std.proofs.Math.Option.{Option, none, some}
 use Rattle.std.specs.Float.Ieee.{lt}
 use Rattle.steps.specs.Symbol.{Kind, External, Slack, Error, Dummy, Symbol, is_external, is_error}
 use Rattle.steps.specs.Strength.{required}
-use Rattle.steps.specs.State.{Tag, Constraint, Edit}
+use Rattle.steps.specs.State.{Tag}
 use Rattle.steps.specs.Readable.{code, tag_symbols, tag_kinds}
 use Rattle.layout.specs.Rooms.{both}
-use Rattle.keeps.specs.Lists.{same, Same?, is, isnt, same?, times, total}
+use Rattle.keeps.specs.Lists.{same, Same?, is, isnt, same?, times}
 use Rattle.keeps.specs.Codes.{codes, codes-once}
 use Rattle.keeps.specs.Reads.{Reads, tag_code}
 use Rattle.sparse.specs.Sparse.{Sparse, symbol_count, symbol_at, other_at, read}

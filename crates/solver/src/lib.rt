@@ -1,4 +1,6 @@
 // The one changing call over lent sparse tables: the tables are tested, their tableau and variables copied into the working room, the steps run there, an accepted call's state goes back with the records, the room is cleared. A suggestion leaves the records where they stand.
+#![tactic(auto)]
+
 pub mod add;
 pub mod add_edit;
 pub mod again;
