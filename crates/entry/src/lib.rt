@@ -1,4 +1,6 @@
 // The changing call and reset over slices of arrays: "18 | a lent table has the wrong length" where one is lent other than once.
+#![tactic(auto)]
+
 ghost use Rattle.std.specs.Prelude.{◌≡◌, not, ◌&&◌};
 ghost use Rattle.laws.specs.Given.{Then};
 ghost use Rattle.steps.specs.Number.{zero64};

@@ -9,7 +9,7 @@ use Rattle.grammar.specs.Prefix.{at-start}
 use Rattle.grammar.specs.Complete.{Tells, tells}
 use Rattle.reader.specs.sums.Held.{value_of}
 use Rattle.reader.specs.Sides as sides
-use Rattle.reader.specs.Answers.{stands_as, mark_of, as_read}
+use Rattle.reader.specs.Answers.{mark_of, as_read}
 use Rattle.reader.specs.declared.answers.Reading.{Reading}
 use Rattle.steps.specs.State.{State}
 use Rattle.steps.specs.State as steps

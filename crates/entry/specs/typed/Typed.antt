@@ -1,15 +1,14 @@
 -- What a line reads as, as the steps of an add take it. Assumes nothing.
-use Rattle.std.specs.Prelude.{◌≡◌, ℕ, zero, suc, ◌+◌, ◌-◌, ◌^◌, ◌<◌, ◌≤◌, Bool, true, false, cond, ◌&&◌, T, List, [], ◌∷◌, map, length, get_or, replicate, ℤ, pos, negsuc, nat_le, slice_index, slice_index_or, slice_set, unsigned_abs, Float}
+use Rattle.std.specs.Prelude.{◌≡◌, ℕ, zero, suc, ◌+◌, ◌-◌, ◌<◌, ◌≤◌, true, List, [], ◌∷◌, map, length, get_or, ℤ, pos, negsuc, nat_le, slice_index, slice_index_or, slice_set, unsigned_abs, Float}
 use Rattle.std.proofs.Math.Path.{refl, sym, ap}
 use Rattle.std.proofs.Common.{◌∙◌, not-suc-le-zero, le_of_suc-le-suc, leb-true, lt-ltb, le-ltb}
 use Rattle.std.proofs.Math.Nat.{sub-zero}
 use native.Mathlib.Omega.{arith}
 use Rattle.std.proofs.Math.ListN.{length-set}
 use Rattle.std.proofs.Math.Seq.{get_or-set_same, get_or-set_other}
-use Rattle.std.proofs.Math.IntN.{sub_ℕ}
 use Rattle.std.specs.Float.{binary64}
 use Rattle.std.specs.Float.Ieee.{neg, of_int}
-use Rattle.laws.specs.Z.{P, N, PN-sub, abs_is, ext}
+use Rattle.laws.specs.Z.{PN-sub, abs_is, ext}
 use Rattle.laws.specs.Loops.{run}
 use Rattle.laws.specs.Lists.{list_of, listOf-is}
 use Rattle.grammar.specs.Sums as grammar
