@@ -1,9 +1,0 @@
--- `knobharbor::changed::knobharbor_add_edit` meets its contract. Assumes nothing.
-use Rattle.knobharbor.proofs.changed.knobharbor_add_edit.Statement.{statement}
-use Rattle.knobharbor.proofs.changed.knobharbor_add_edit.Tie as tie
-
-returns : tie.Need-returns
-returns c = c.change.ensures
-
-pub knobharbor-add-edit-spec : {M : Type 1} → statement M
-knobharbor-add-edit-spec = tie.close (tie.spec (λ c κs. tt) (λ c κs. tt) returns)
