@@ -1,6 +1,6 @@
 -- What the service line's readers hand over, handed on to an add, is the constraint added that the line says. Assumes nothing.
-use Rattle.std.specs.Prelude.{◌≡◌, ℕ, zero, suc, ◌<◌, true, T, List, [], ◌∷◌, ◌++◌, map, length, take, pos, nat_lt, slice_index, slice_index_or, refl, Float}
-use Rattle.std.proofs.Common.{sym, ap, ◌∙◌, subst, arith, eq-eqb}
+use Rattle.std.specs.Prelude.{◌≡◌, ℕ, suc, ◌<◌, true, T, List, [], ◌∷◌, ◌++◌, map, length, take, pos, nat_lt, slice_index, slice_index_or, refl, Float}
+use Rattle.std.proofs.Common.{sym, ap, ◌∙◌, subst, eq-eqb}
 use Rattle.std.proofs.Math.Option.{some}
 use Rattle.std.specs.Float.{nan}
 use Rattle.std.specs.Float.Ieee.{of_bits, of_int}
@@ -26,7 +26,7 @@ use Rattle.knobharbor.specs.Given.{term_at, given, relation_by}
 use Rattle.knobharbor.specs.Adding.{add_of, add_lists_of}
 use Rattle.entry.specs.typed.Typed.{whole_of, typed_term, typed_terms, required_by}
 use Rattle.entry.specs.typed.Adding.{text, add_read, text_of}
-use Rattle.knobharbor.specs.handed.Handed.{kind_of, Handed, said, handed_of, placed}
+use Rattle.knobharbor.specs.handed.Handed.{kind_of, Handed, said, handed_of}
 
 -- the lists up to the count, the constant, the kind and the strength, as `knobharbor_add_lists` takes them, in group 1
 abbrev pub add_handed : ℕ → Handed → ℕ → Sparse → Sparse → Called

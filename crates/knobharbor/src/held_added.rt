@@ -1,4 +1,4 @@
-// Behind the test: add. A list of terms is gathered into a pack by a function that is proved by hand.
+// Behind the test: add. A list of terms is gathered into a pack, whose call is made.
 ghost use Rattle.std.specs.Prelude.{◌≡◌, true};
 ghost use Rattle.sparse_test.specs.Reads.{reads};
 ghost use Rattle.waist.specs.Working.{lent, sparse};

@@ -1,12 +1,12 @@
 -- What is handed over, worked by computation.
-use Rattle.std.specs.Prelude.{◌≡◌, ℕ, true, false, List, [], ◌∷◌, ◌++◌, replicate, refl, Float}
+use Rattle.std.specs.Prelude.{◌≡◌, ℕ, true, false, List, [], ◌∷◌, ◌++◌, replicate, refl}
 use Prim.Native.Char.{code}
 use Prim.Native.String.{String, [] as none, ◌∷◌ as ◌then◌}
 use Rattle.std.specs.Float.{binary64}
 use Rattle.std.specs.Float.Ieee.{of_bits, of_int, neg}
 use Rattle.laws.specs.streams.Lines.{grown}
 use Rattle.grammar.specs.edition.Steps.{read_second}
-use Rattle.cable_lines.specs.Cable.{new, takes, closes}
+use Rattle.cable_lines.specs.Cable.{new, takes}
 use Rattle.cable_lines.specs.Bytes.{bytes_of}
 use Rattle.steps.specs.Number.{zero64}
 use Rattle.steps.specs.Strength.{required}

@@ -1,5 +1,5 @@
 -- What the service line's readers hand to a caller, in places that the caller lends. Assumes nothing.
-use Rattle.std.specs.Prelude.{◌≡◌, ℕ, zero, suc, ◌+◌, ◌-◌, ◌<◌, ◌≤◌, Bool, true, false, cond, ◌&&◌, List, [], ◌∷◌, ◌++◌, map, length, replicate, ℤ, pos, ◌==◌, nat_le, slice_set, unsigned_abs, Float}
+use Rattle.std.specs.Prelude.{◌≡◌, ℕ, zero, suc, ◌+◌, ◌-◌, ◌≤◌, Bool, true, false, cond, ◌&&◌, List, [], ◌∷◌, ◌++◌, map, length, replicate, ℤ, pos, ◌==◌, nat_le, slice_set, unsigned_abs, Float}
 use Rattle.std.proofs.Math.Path.{refl, ap}
 use Rattle.std.proofs.Common.{sym, ◌∙◌, arith, ne_eqb, leb-true}
 use Rattle.std.proofs.Math.Option.{Option, none, some}
@@ -10,7 +10,7 @@ use Rattle.grammar.specs.Sums.{Relation, at_most, equal, at_least, Term, Reading
 use Rattle.laws.specs.streams.Lines.{grown}
 use Rattle.reader.specs.sums.Held.{zero_at, value_of}
 use Rattle.reader.specs.Sides.{relation_of}
-use Rattle.reader.specs.Answers.{stands_as, mark_of, laid, no_variables, no_coefficients}
+use Rattle.reader.specs.Answers.{stands_as, mark_of, laid, no_coefficients}
 use Rattle.grammar.specs.edition.Endings.{Constraint, Reply, taken, astray, denied}
 use Rattle.grammar.specs.edition.Steps.{read_second}
 use Rattle.reader.specs.second.Replies.{as_reply}

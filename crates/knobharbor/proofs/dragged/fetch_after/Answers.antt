@@ -1,5 +1,4 @@
 use Rattle.std.proofs.Common.{sym, refl, ◌∙◌}
-use borrow.Author.Tests.{not-false}
 use Rattle.laws.specs.Given.{then-given}
 use Rattle.lending.specs.sparse_copy.Over.{tables}
 use Rattle.fetches.specs.Done.{fetch-accepted}
@@ -9,9 +8,9 @@ pub returns-then-not-known : goal.returns-then-not-known
 returns-then-not-known c = c.fetch_changes.ensures
 
 pub fetch_held-count-requires : goal.fetch_held-count-requires
-fetch_held-count-requires c = then-given _ (not-false c.args.known c.if-not-known.false) c.requires
+fetch_held-count-requires c = then-given _ c.if-not-known.false c.requires
 
 pub returns : goal.returns
 returns c =
     let t = tables c.args.words.now c.args.keys.now c.args.bytes.now c.args.reals.now c.args.values.now in
-    c.fetch_held-count.ensures ∙ fetch-accepted t (sym (then-given _ (not-false c.args.known c.if-not-known.false) c.requires)) refl
+    c.fetch_held-count.ensures ∙ fetch-accepted t (sym (then-given _ c.if-not-known.false c.requires)) refl
