@@ -1,9 +1,12 @@
 // Standard input handed to the reader as it comes. Answers are written at the end of each piece that was read, so that nobody who
 // waits for one has to send more, and where the buffer fills up.
-ghost use Rattle.std.specs.Prelude.{◌≡◌, ◌+◌, ◌≤◌, ◌<◌, length};
+ghost use Rattle.std.specs.Prelude.{◌≡◌, ◌+◌, ◌≤◌, ◌<◌, length, take, IsTrue, IsFalse, IsOk, IsErr};
+ghost use Rattle.std.specs.Io.KnownBytes.{Appends};
 
 use cable_lines::Taken;
 use cable_lines::state::State;
+use std::io::{Read, Write};
+use text::duplex::Duplex;
 use text::replies::{Out, put_second};
 
 // How many bytes of the buffer wait to be written, and whether every write went through.
@@ -13,18 +16,21 @@ pub struct Place {
     pub open: bool,
 }
 
-fn write_front(out: &[u8], at: usize) -> bool
+fn write_front<R, W: Write>(duplex: &mut Duplex<R, W>, out: &[u8], at: usize) -> bool
     requires { at ≤ length out.now }
+    ensures ok { IsTrue result → Appends (W.contents duplex.old.output) (W.contents duplex.new.output) (take at out.now) }
+    ensures err { IsFalse result → IsErr duplex.new.outcome }
 {
-    io::write_all(1, &out[..at])
+    duplex.write(&out[..at])
 }
 
 // What waits is written.
-fn flush(out: &Out, p: Place) -> Place
+fn flush<R, W: Write>(duplex: &mut Duplex<R, W>, out: &Out, p: Place) -> Place
     requires { p.at ≤ 8192 }
-    ensures { result.at ≡ 0 }
+    ensures at_value { result.at ≡ 0 }
+    ensures written { IsOk duplex.new.outcome → Appends (W.contents duplex.old.output) (W.contents duplex.new.output) (take p.at out.now) }
 {
-    let ok = write_front(out, p.at);
+    let ok = write_front(duplex, out, p.at);
     Place {
         at: 0,
         open: p.open & ok,
@@ -32,23 +38,23 @@ fn flush(out: &Out, p: Place) -> Place
 }
 
 // What waits is written if there may be no room for another answer.
-fn with_room(out: &Out, p: Place) -> Place
+fn with_room<R, W: Write>(duplex: &mut Duplex<R, W>, out: &Out, p: Place) -> Place
     requires { p.at ≤ 8192 }
     ensures { result.at ≤ 7000 }
 {
     if p.at <= 7000 {
         return p;
     }
-    flush(out, p)
+    flush(duplex, out, p)
 }
 
 // An answer and its newline, if there is one.
-fn put_taken(out: &mut Out, p: Place, t: Taken) -> Place
+fn put_taken<R, W: Write>(duplex: &mut Duplex<R, W>, out: &mut Out, p: Place, t: Taken) -> Place
     requires { p.at ≤ 8192 }
     ensures { result.at ≤ 8192 }
 {
     if t.answered {
-        let q = with_room(out, p);
+        let q = with_room(duplex, out, p);
         let answer = t.answer;
         let end = put_second(out, q.at, answer);
         return Place {
@@ -68,7 +74,13 @@ fn step(state: &mut State, piece: &[u8], from: usize) -> Taken
 }
 
 // Each step but the last takes a byte.
-fn take_piece(state: &mut State, out: &mut Out, piece: &[u8], p: Place) -> Place
+fn take_piece<R, W: Write>(
+    duplex: &mut Duplex<R, W>,
+    state: &mut State,
+    out: &mut Out,
+    piece: &[u8],
+    p: Place,
+) -> Place
     requires { p.at ≤ 8192 }
     ensures { result.at ≤ 8192 }
 {
@@ -76,36 +88,41 @@ fn take_piece(state: &mut State, out: &mut Out, piece: &[u8], p: Place) -> Place
     let mut from: usize = 0;
     while from < piece.len() {
         let t = step(state, piece, from);
-        q = put_taken(out, q, t);
+        q = put_taken(duplex, out, q, t);
         from += t.taken;
     }
     q
 }
 
 // One read. A read that fails ends the input, and the cable is closed.
-fn serve_piece(state: &mut State, out: &mut Out, p: Place) -> Place
+fn serve_piece<R: Read, W: Write>(
+    duplex: &mut Duplex<R, W>,
+    state: &mut State,
+    out: &mut Out,
+    p: Place,
+) -> Place
     requires { p.at ≤ 8192 }
     ensures { result.at ≤ 8192 }
 {
     let mut piece = [0u8; 4096];
-    let got = libc::read(0, &mut piece);
-    let k = io::count(got, &piece);
+    let k = duplex.read(&mut piece);
     if k == 0 {
         let t = cable_lines::close(state);
-        let q = put_taken(out, p, t);
-        flush(out, q);
+        let q = put_taken(duplex, out, p, t);
+        flush(duplex, out, q);
         return Place { at: 0, open: false };
     }
-    let q = take_piece(state, out, &piece[..k], p);
-    flush(out, q)
+    let q = take_piece(duplex, state, out, &piece[..k], p);
+    flush(duplex, out, q)
 }
 
-// A proved loop has to end, and nothing says that the input does: the loop counts down from a number of reads that no run uses up.
-pub fn serve(state: &mut State, out: &mut Out) {
+// A proved loop has to end, and nothing says that the input does: the loop takes as many turns at most as no run uses up.
+pub fn serve<R: Read, W: Write>(duplex: &mut Duplex<R, W>, state: &mut State, out: &mut Out) {
     let mut p = Place { at: 0, open: true };
-    let mut turns = u64::MAX;
-    while turns > 0 && p.open {
-        p = serve_piece(state, out, p);
-        turns -= 1;
+    for _ in 0..u64::MAX {
+        if !p.open {
+            break;
+        }
+        p = serve_piece(duplex, state, out, p);
     }
 }

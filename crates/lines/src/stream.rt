@@ -1,9 +1,12 @@
 // Standard input cut into lines, and the answers written to standard output.
 // A newline ends a line; what stands after the last newline is a line too unless it is empty. Of a longer line than 4,096 bytes no
 // more is held. Answers are written at the end of each piece that was read, and where the buffer fills up.
-ghost use Rattle.std.specs.Prelude.{◌≡◌, ◌≤◌, length};
+ghost use Rattle.std.specs.Prelude.{◌≡◌, ◌≤◌, length, take, IsTrue, IsFalse, IsOk, IsErr};
+ghost use Rattle.std.specs.Io.KnownBytes.{Appends};
 
 use reader::answers::{read_line, refuse};
+use std::io::{Read, Write};
+use text::duplex::Duplex;
 use text::replies::{Out, put_line};
 use text::stream::keep_byte;
 
@@ -15,17 +18,20 @@ pub struct Place {
     pub open: bool,
 }
 
-fn write_front(out: &[u8], at: usize) -> bool
+fn write_front<R, W: Write>(duplex: &mut Duplex<R, W>, out: &[u8], at: usize) -> bool
     requires { at ≤ length out.now }
+    ensures ok { IsTrue result → Appends (W.contents duplex.old.output) (W.contents duplex.new.output) (take at out.now) }
+    ensures err { IsFalse result → IsErr duplex.new.outcome }
 {
-    io::write_all(1, &out[..at])
+    duplex.write(&out[..at])
 }
 
-fn flush(out: &Out, p: Place) -> Place
+fn flush<R, W: Write>(duplex: &mut Duplex<R, W>, out: &Out, p: Place) -> Place
     requires { p.at ≤ 8192 }
-    ensures { result.at ≡ 0 }
+    ensures at_value { result.at ≡ 0 }
+    ensures written { IsOk duplex.new.outcome → Appends (W.contents duplex.old.output) (W.contents duplex.new.output) (take p.at out.now) }
 {
-    let ok = write_front(out, p.at);
+    let ok = write_front(duplex, out, p.at);
     Place {
         held: p.held,
         at: 0,
@@ -33,14 +39,14 @@ fn flush(out: &Out, p: Place) -> Place
     }
 }
 
-fn with_room(out: &Out, p: Place) -> Place
+fn with_room<R, W: Write>(duplex: &mut Duplex<R, W>, out: &Out, p: Place) -> Place
     requires { p.at ≤ 8192 }
     ensures { result.at ≤ 7000 }
 {
     if p.at <= 7000 {
         return p;
     }
-    flush(out, p)
+    flush(duplex, out, p)
 }
 
 // The answer and its newline.
@@ -54,11 +60,11 @@ fn answer(line: &[u8], held: usize, out: &mut Out, at: usize) -> usize
     put_line(out, at, read_line(&line[..held]))
 }
 
-fn end_line(p: Place, line: &[u8], out: &mut Out) -> Place
+fn end_line<R, W: Write>(duplex: &mut Duplex<R, W>, p: Place, line: &[u8], out: &mut Out) -> Place
     requires { p.at ≤ 8192 }
     ensures { result.at ≤ 8192 }
 {
-    let q = with_room(out, p);
+    let q = with_room(duplex, out, p);
     let end = answer(line, q.held, out, q.at);
     Place {
         held: 0,
@@ -67,13 +73,19 @@ fn end_line(p: Place, line: &[u8], out: &mut Out) -> Place
     }
 }
 
-fn take_byte(b: u8, p: Place, line: &mut [u8], out: &mut Out) -> Place
+fn take_byte<R, W: Write>(
+    duplex: &mut Duplex<R, W>,
+    b: u8,
+    p: Place,
+    line: &mut [u8],
+    out: &mut Out,
+) -> Place
     requires line_len { length line.old ≡ 4096 }
     requires at_bound { p.at ≤ 8192 }
     ensures { result.at ≤ 8192 }
 {
     if b == 10 {
-        return end_line(p, line, out);
+        return end_line(duplex, p, line, out);
     }
     let held = keep_byte(line, p.held, b);
     Place {
@@ -83,22 +95,26 @@ fn take_byte(b: u8, p: Place, line: &mut [u8], out: &mut Out) -> Place
     }
 }
 
-fn take_piece(piece: &[u8], p: Place, line: &mut [u8], out: &mut Out) -> Place
+fn take_piece<R, W: Write>(
+    duplex: &mut Duplex<R, W>,
+    piece: &[u8],
+    p: Place,
+    line: &mut [u8],
+    out: &mut Out,
+) -> Place
     requires line_len { length line.old ≡ 4096 }
     requires at_bound { p.at ≤ 8192 }
     ensures { result.at ≤ 8192 }
 {
     let mut q = p;
-    let mut i: usize = 0;
-    while i < piece.len() {
-        q = take_byte(piece[i], q, line, out);
-        i += 1;
+    for b in piece {
+        q = take_byte(duplex, *b, q, line, out);
     }
     q
 }
 
 // The input's end, after which nothing more is read.
-fn take_end(p: Place, line: &[u8], out: &mut Out) -> Place
+fn take_end<R, W: Write>(duplex: &mut Duplex<R, W>, p: Place, line: &[u8], out: &mut Out) -> Place
     requires { p.at ≤ 8192 }
     ensures { result.at ≤ 8192 }
 {
@@ -109,7 +125,7 @@ fn take_end(p: Place, line: &[u8], out: &mut Out) -> Place
             open: false,
         };
     }
-    let q = end_line(p, line, out);
+    let q = end_line(duplex, p, line, out);
     Place {
         held: 0,
         at: q.at,
@@ -118,24 +134,28 @@ fn take_end(p: Place, line: &[u8], out: &mut Out) -> Place
 }
 
 // One read. A read that fails ends the input.
-fn serve_piece(p: Place, line: &mut [u8], out: &mut Out) -> Place
+fn serve_piece<R: Read, W: Write>(
+    duplex: &mut Duplex<R, W>,
+    p: Place,
+    line: &mut [u8],
+    out: &mut Out,
+) -> Place
     requires line_len { length line.old ≡ 4096 }
     requires at_bound { p.at ≤ 8192 }
     ensures { result.at ≤ 8192 }
 {
     let mut piece = [0u8; 4096];
-    let got = libc::read(0, &mut piece);
-    let k = io::count(got, &piece);
+    let k = duplex.read(&mut piece);
     if k == 0 {
-        let q = take_end(p, line, out);
-        return flush(out, q);
+        let q = take_end(duplex, p, line, out);
+        return flush(duplex, out, q);
     }
-    let q = take_piece(&piece[..k], p, line, out);
-    flush(out, q)
+    let q = take_piece(duplex, &piece[..k], p, line, out);
+    flush(duplex, out, q)
 }
 
-// A proved loop has to end, and nothing says that the input does: the loop counts down from a number of reads that no run uses up.
-pub fn serve(line: &mut [u8], out: &mut Out)
+// A proved loop has to end, and nothing says that the input does: the loop takes as many turns at most as no run uses up.
+pub fn serve<R: Read, W: Write>(duplex: &mut Duplex<R, W>, line: &mut [u8], out: &mut Out)
     requires { length line.old ≡ 4096 }
 {
     let mut p = Place {
@@ -143,9 +163,10 @@ pub fn serve(line: &mut [u8], out: &mut Out)
         at: 0,
         open: true,
     };
-    let mut turns = u64::MAX;
-    while turns > 0 && p.open {
-        p = serve_piece(p, line, out);
-        turns -= 1;
+    for _ in 0..u64::MAX {
+        if !p.open {
+            break;
+        }
+        p = serve_piece(duplex, p, line, out);
     }
 }

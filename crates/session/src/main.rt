@@ -1,12 +1,16 @@
 // The program: calls as lines of standard input, an answer a line on standard output.
+#![tactic(auto)]
+
 mod answers;
 mod stream;
 
 use sparse::{Bytes, Keys, Reals, Values, Words};
+use std::io;
+use text::duplex::Duplex;
 
-// The reset makes the tables read as a state. A proved loop has to end, and nothing says that the input does: it counts down
-// from a number of turns that no run uses up.
-fn main() {
+// The reset makes the tables read as a state. A proved loop has to end, and nothing says that the input does: it takes as
+// many turns at most as no run uses up. An error is the first read or write that failed.
+fn main(rt: HostRuntime) -> io::Result<()> {
     let mut words: Words = [0; sparse::WORDS_SIZE];
     let mut keys: Keys = [0; layout::cells::CELL_ROOM];
     let mut bytes: Bytes = [0; sparse::BYTES_SIZE];
@@ -15,6 +19,7 @@ fn main() {
     let mut piece = [0u8; 4096];
     let mut line = [0u8; 4096];
     let mut out = [0u8; 8192];
+    let mut duplex = Duplex::new(rt.stdin(), rt.stdout());
     lending::reset(
         &mut words,
         &mut keys,
@@ -24,10 +29,13 @@ fn main() {
         text::calls::USUAL_CUTOFF,
     );
     let mut p = stream::begin();
-    let mut turns = u64::MAX;
-    while turns > 0 && p.more {
-        p = stream::take(&mut piece, &mut line, &out, p);
+    for _ in 0..u64::MAX {
+        if !p.more {
+            break;
+        }
+        p = stream::take(&mut duplex, &mut piece, &mut line, &out, p);
         p = stream::say(
+            &mut duplex,
             p,
             &line,
             &mut words,
@@ -37,7 +45,7 @@ fn main() {
             &mut values,
             &mut out,
         );
-        turns -= 1;
     }
-    stream::flush(&out, p);
+    stream::flush(&mut duplex, &out, p);
+    duplex.outcome
 }

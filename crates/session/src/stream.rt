@@ -1,10 +1,13 @@
 // Standard input cut into lines, and the answers written to standard output.
 // A newline ends a line; what stands after the last newline is a line too unless it is empty. Answers are written at the
 // end of each piece that was read, so that nobody who waits for one has to send more, and where the buffer fills up.
-ghost use Rattle.std.specs.Prelude.{◌≡◌, ◌≤◌, length};
+ghost use Rattle.std.specs.Prelude.{◌≡◌, ◌≤◌, length, take as front, IsTrue, IsFalse, IsErr};
+ghost use Rattle.std.specs.Io.KnownBytes.{Appends};
 
 use crate::answers::{Out, answer_held};
 use sparse::{Bytes, Keys, Reals, Values, Words};
+use std::io::{Read, Write};
+use text::duplex::Duplex;
 use text::stream::keep_byte;
 use text::writing::put_byte;
 
@@ -38,22 +41,25 @@ pub fn begin() -> Place
     }
 }
 
-fn write_front(out: &[u8], at: usize) -> bool
+fn write_front<R, W: Write>(duplex: &mut Duplex<R, W>, out: &[u8], at: usize) -> bool
     requires { at ≤ length out.now }
+    ensures ok { IsTrue result → Appends (W.contents duplex.old.output) (W.contents duplex.new.output) (front at out.now) }
+    ensures err { IsFalse result → IsErr duplex.new.outcome }
 {
-    io::write_all(1, &out[..at])
+    duplex.write(&out[..at])
 }
 
 // What waits is written; after a write that failed nothing more is, so that what was written is the answers' beginning.
-pub fn flush(out: &Out, p: Place) -> Place
+pub fn flush<R, W: Write>(duplex: &mut Duplex<R, W>, out: &Out, p: Place) -> Place
     requires { p.at ≤ 8192 }
     ensures at_value { result.at ≡ 0 }
     ensures end_value { result.end ≡ p.end }
+    ensures written { IsTrue result.good → Appends (W.contents duplex.old.output) (W.contents duplex.new.output) (front p.at out.now) }
 {
     let mut q = p;
     q.at = 0;
     if p.good {
-        let ok = write_front(out, p.at);
+        let ok = write_front(duplex, out, p.at);
         q.good = ok;
         q.more = p.more & ok;
     }
@@ -61,7 +67,7 @@ pub fn flush(out: &Out, p: Place) -> Place
 }
 
 // What waits is written if there may be no room for another answer.
-fn with_room(out: &Out, p: Place) -> Place
+fn with_room<R, W: Write>(duplex: &mut Duplex<R, W>, out: &Out, p: Place) -> Place
     requires { p.at ≤ 8192 }
     ensures at_bound { result.at ≤ 5000 }
     ensures end_value { result.end ≡ p.end }
@@ -69,7 +75,7 @@ fn with_room(out: &Out, p: Place) -> Place
     if p.at <= 5000 {
         return p;
     }
-    flush(out, p)
+    flush(duplex, out, p)
 }
 
 // The piece's bytes up to a newline or its end.
@@ -93,12 +99,11 @@ fn cut(piece: &Line, line: &mut Line, p: Place) -> Place
 }
 
 // A read that fails ends the input, after which nothing more is read.
-fn read(piece: &mut Line, p: Place) -> Place
+fn read<R: Read, W>(duplex: &mut Duplex<R, W>, piece: &mut Line, p: Place) -> Place
     ensures at_value { result.at ≡ p.at }
     ensures end_bound { result.end ≤ 4096 }
 {
-    let got = libc::read(0, piece);
-    let k = io::count(got, piece);
+    let k = duplex.read(piece);
     let mut q = p;
     q.next = 0;
     q.end = k;
@@ -108,7 +113,13 @@ fn read(piece: &mut Line, p: Place) -> Place
 }
 
 // On to the next line's end, or to the end of the piece; and if all of it was taken before, another piece is read.
-pub fn take(piece: &mut Line, line: &mut Line, out: &Out, p: Place) -> Place
+pub fn take<R: Read, W: Write>(
+    duplex: &mut Duplex<R, W>,
+    piece: &mut Line,
+    line: &mut Line,
+    out: &Out,
+    p: Place,
+) -> Place
     requires at_bound { p.at ≤ 8192 }
     requires end_bound { p.end ≤ 4096 }
     ensures at_bound_2 { result.at ≤ 8192 }
@@ -117,16 +128,17 @@ pub fn take(piece: &mut Line, line: &mut Line, out: &Out, p: Place) -> Place
     if p.next < p.end {
         return cut(piece, line, p);
     }
-    let q = flush(out, p);
+    let q = flush(duplex, out, p);
     if !q.more {
         return q;
     }
-    let r = read(piece, q);
+    let r = read(duplex, piece, q);
     cut(piece, line, r)
 }
 
 // The line is answered if it has ended.
-pub fn say(
+pub fn say<R, W: Write>(
+    duplex: &mut Duplex<R, W>,
     p: Place,
     line: &Line,
     words: &mut Words,
@@ -144,7 +156,7 @@ pub fn say(
     if !p.whole {
         return p;
     }
-    let mut q = with_room(out, p);
+    let mut q = with_room(duplex, out, p);
     let next = answer_held(line, q.held, words, keys, bytes, reals, values, out, q.at);
     q.at = put_byte(out, next, 10);
     q.held = 0;

@@ -3,6 +3,7 @@
 
 pub mod calls;
 pub mod digits;
+pub mod duplex;
 pub mod floats;
 pub mod packing;
 pub mod reading;

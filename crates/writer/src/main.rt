@@ -1,10 +1,18 @@
 // The program: constraints as numbers on standard input, each as its plain line on standard output.
+#![tactic(auto)]
+
 mod answers;
 mod given;
 mod stream;
 
-fn main() {
+use std::io;
+use text::duplex::Duplex;
+
+// An error is the first read or write that failed.
+fn main(rt: HostRuntime) -> io::Result<()> {
     let mut line = [0u8; 4096];
     let mut out = [0u8; 8192];
-    stream::serve(&mut line, &mut out);
+    let mut duplex = Duplex::new(rt.stdin(), rt.stdout());
+    stream::serve(&mut duplex, &mut line, &mut out);
+    duplex.outcome
 }

@@ -1,0 +1,9 @@
+-- The working room is all zero.
+use Rattle.std.specs.Float.Ieee.{of_bits}
+use Rattle.lending.specs.Entered.{zero_room}
+use Rattle.lending.specs.Lending.{call_of}
+use Rattle.session.proofs.answers.change.Goals as goal
+
+pub returns : goal.returns
+unfolding zero_room of_bits call_of
+returns c = c.change.ensures.values_value
