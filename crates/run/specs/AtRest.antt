@@ -13,14 +13,15 @@ use Rattle.simplex.specs.At.{at, at_here, at_there}
 use Rattle.simplex.specs.Choose.{All, all_map}
 use Rattle.simplex.specs.Opt.{const, external}
 use Rattle.simplex.specs.Problem.{error}
-use Rattle.simplex.specs.Final.{dragged}
+use Rattle.simplex.proofs.Final.{dragged}
 use Rattle.steps.specs.Number.{zero64}
 use Rattle.steps.specs.State.{Term, Variable}
 use Rattle.steps.specs.Changes.{find_variable, value_of, value}
 use Rattle.steps.specs.Add.{whole_terms, whole_inputs}
 use Rattle.steps.specs.Calls.{begin}
 use Rattle.simplex.specs.bridge.Nums.{zero64-z}
-use Rattle.simplex.specs.bridge.Ends.{value_at, value-z}
+use Rattle.simplex.specs.bridge.Ends.{value_at}
+use Rattle.simplex.proofs.bridge.Ends.{value-z}
 use Rattle.run.specs.Demand.{Demand, Moment, Meets, weighted, values, Best}
 use Rattle.run.specs.Inv.{non_zero_terms, columns, Held, con_of, VarAt, WholeDemand, Inv}
 use Rattle.run.specs.Words.{Agrees, WholeTerms, meets-to, meets-from, error-to}
