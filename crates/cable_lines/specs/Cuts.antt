@@ -2,7 +2,8 @@
 use Rattle.std.specs.Prelude.{ℕ, zero, suc, ◌≤◌, ◌<◌, ◌≡◌, refl, Bool, true, false, cond, List, [], ◌∷◌, ◌++◌, map, eqb, length, drop}
 use Rattle.std.proofs.Common.{sym, ap, ◌∙◌, arith, length-drop}
 use Rattle.std.proofs.Math.Option.{Option, none, some}
-use Rattle.laws.specs.streams.Lines.{Cut, before, grown, cut_from, pieces}
+use Rattle.laws.specs.streams.Lines.{Cut, before, grown, cut_from}
+use Rattle.laws.proofs.streams.Lines.{pieces}
 use Rattle.grammar.specs.edition.Endings.{Reply as Answer}
 use Rattle.cable_lines.specs.Cable.{limit, new, answer_of, Step, further, takes, Fed, answered, steps, feed, feed_all, joined}
 

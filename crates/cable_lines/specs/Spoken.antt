@@ -3,7 +3,8 @@ use Rattle.std.specs.Prelude.{ℕ, suc, ◌<◌, ◌≡◌, refl, Bool, true, fa
 use Rattle.std.proofs.Common.{sym, ap, ◌∙◌, append_assoc}
 use Rattle.std.proofs.Math.Option.{Option, none, some}
 use Rattle.std.proofs.lemmas.Bool.{lt-leb}
-use Rattle.laws.specs.streams.Lines.{Cut, before, cut_from, pieces, Unbroken, within, begun}
+use Rattle.laws.specs.streams.Lines.{Cut, before, cut_from, Unbroken, within}
+use Rattle.laws.proofs.streams.Lines.{pieces, begun}
 use Rattle.grammar.specs.edition.Endings.{Reply as Answer, denied}
 use Rattle.grammar.specs.edition.Steps.{read_second}
 use Rattle.cable_lines.specs.Cable.{limit, new, answer_of, Fed, feed, closes}

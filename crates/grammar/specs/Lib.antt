@@ -16,7 +16,6 @@ pub mod Gather
 -- What the reader has passed begins a line of the grammar.
 pub mod Prefix
 pub mod Reach
-pub mod Begun
 pub mod Complete
 -- A refusal is met by the bytes up to it; no line has two trees; the reader's answer is the document's, and the only one.
 pub mod Causal

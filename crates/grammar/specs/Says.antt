@@ -1,4 +1,4 @@
--- What any bytes are answered, in document 02's words; Theorems.antt has that the reader answers so, and that there is no other answer.
+-- What any bytes are answered, in document 02's words; proofs/Theorems.antt has that the reader answers so, and that there is no other answer.
 use Rattle.std.specs.Prelude.{ℕ, suc, ◌≤◌, ◌<◌, ◌≡◌, cond, List, [], ◌∷◌, ◌++◌, eqb, length, take, ℤ, pos, ◌-ℤ◌}
 use Rattle.std.proofs.Math.Option.{Option, none, some}
 use Rattle.grammar.specs.Sums.{Term, Reading, Answer, outside, refused, judged}

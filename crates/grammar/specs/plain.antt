@@ -8,5 +8,3 @@ pub mod Forms
 -- Reading what is written, and writing what is read.
 pub mod Said
 pub mod Theorems
--- 36 is for what no line reads as, and for nothing else.
-pub mod Unsaid

@@ -11,5 +11,4 @@ pub mod Building
 pub mod Adding
 pub mod Calls
 pub mod Listing
-pub mod Suffice
 pub mod Samples

@@ -11,8 +11,9 @@ use Rattle.grammar.specs.edition.Endings.{Constraint, required, taken}
 use Rattle.grammar.specs.edition.Steps.{read_second}
 use Rattle.grammar.specs.plain.Plain.{Written, wrote, write_line}
 use Rattle.grammar.specs.plain.Said.{small-terms}
-use Rattle.grammar.specs.plain.Theorems.{Says, Plain, writes-back}
-use Rattle.grammar.specs.plain.Unsaid.{read-says}
+use Rattle.grammar.specs.plain.Theorems.{Says, Plain}
+use Rattle.grammar.proofs.plain.Theorems.{writes-back}
+use Rattle.grammar.proofs.plain.Unsaid.{read-says}
 use Rattle.laws.specs.exact.Whole.{IsZ, val, int, isz-val, lit-z, z-int, of_int-z}
 use Rattle.laws.specs.exact.Compare.{lt-z}
 use Rattle.layout.specs.Rooms.{and_left, and_right}

@@ -7,13 +7,14 @@ use Rattle.std.specs.Float.Ieee.{of_bits, of_int}
 use Rattle.laws.specs.Lists.{list_of, listOf-is}
 use Rattle.grammar.specs.Sums.{Relation, at_most, equal, at_least, Term, Reading, reads}
 use Rattle.grammar.specs.Reader.{read_line}
-use Rattle.grammar.specs.Theorems.{accepts}
+use Rattle.grammar.proofs.Theorems.{accepts}
 use Rattle.grammar.specs.edition.Endings as edition
 use Rattle.grammar.specs.edition.Endings.{Constraint, taken}
 use Rattle.grammar.specs.edition.Steps.{read_second}
 use Rattle.grammar.specs.edition.Follow.{free}
 use Rattle.grammar.specs.edition.Free.{free-line}
-use Rattle.grammar.specs.edition.OldReaders.{renewed, as-old}
+use Rattle.grammar.specs.edition.OldReaders.{renewed}
+use Rattle.grammar.proofs.edition.OldReaders.{as-old}
 use Rattle.sparse.specs.Sparse.{Sparse}
 use Rattle.layout.specs.Laying.{get_d_map}
 use Rattle.steps.specs.Number.{zero64}

@@ -3,11 +3,11 @@ use Rattle.std.specs.Prelude.{◌≡◌, ℕ, Bool, true, false, cond, ◌&&◌,
 use Rattle.std.proofs.Common.{sym, ◌∙◌, eq-eqb, ne_eqb}
 use Rattle.std.proofs.Math.Path.{ap}
 use Rattle.std.proofs.Math.Option.{some}
-use Rattle.grammar.specs.Facts.{never}
+use Rattle.grammar.proofs.Facts.{never}
 use Rattle.steps.specs.State as steps
 use Rattle.grammar.specs.edition.Endings.{Constraint, Reply}
 use Rattle.grammar.specs.plain.Plain.{Written, wrote, refused, room, write_line}
-use Rattle.grammar.specs.plain.Theorems.{reads-back}
+use Rattle.grammar.proofs.plain.Theorems.{reads-back}
 use Rattle.changes.specs.declared.tags.Relation.{Relation}
 use Rattle.changes.specs.declared.tags.Relation.TheVariants.{AtMost, Equal, AtLeast}
 use Rattle.changes.specs.tags.Tags.{relation_of}

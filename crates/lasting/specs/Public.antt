@@ -20,7 +20,8 @@ use Rattle.knobharbor.specs.Given.{given, relation_by}
 use Rattle.knobharbor.specs.Adding.{add_of, add_lists_of}
 use Rattle.grammar.specs.Sums as grammar
 use Rattle.grammar.specs.Reader.{read_line}
-use Rattle.grammar.specs.Names.{Named, line-named}
+use Rattle.grammar.specs.Names.{Named}
+use Rattle.grammar.proofs.Names.{line-named}
 use Rattle.keeps.specs.Lists.{All}
 use Rattle.entry.specs.typed.Typed.{typed_term, typed_terms, whole_of, required_by}
 use Rattle.entry.specs.typed.Adding.{mark_in, add_read, text_of}

@@ -18,7 +18,7 @@ use Rattle.sparse_test.specs.Asked.{asked}
 use Rattle.lending.specs.Reset.{reset_of}
 use Rattle.fetches.specs.Fetch.{fetch_of}
 use Rattle.run.specs.Demand.{Call, drops, make, accepted, next, start, after, Best, None}
-use Rattle.run.specs.Run.{yes-stored, marked-best, marked-12}
+use Rattle.run.proofs.Run.{yes-stored, marked-best, marked-12}
 use Rattle.run.specs.stall.Stall.{all_ways, passes_of, budget_of, Demand3, NoSetTwice}
 use Rattle.run.proofs.stall.Whole.{marked-never-stalls}
 use Rattle.run.proofs.stall.DropSets.{marked-never-returns}

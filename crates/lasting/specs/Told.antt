@@ -15,7 +15,7 @@ use Rattle.steps.proofs.Cutoff.{reset-taken}
 use Rattle.keeps.specs.Lists.{All}
 use Rattle.keeps.specs.suffices.Reader as reader
 use Rattle.keeps.specs.suffices.Reader.{Reader, nothing, takes_all, holds, Follows}
-use Rattle.keeps.specs.suffices.Suffice.{changes-suffice}
+use Rattle.keeps.proofs.suffices.Suffice.{changes-suffice}
 use Rattle.sparse.specs.Sparse.{Sparse, read}
 use Rattle.sparse.specs.Fits.{Lengths}
 use Rattle.sparse_test.specs.Asked.{asked}

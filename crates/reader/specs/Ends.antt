@@ -4,7 +4,8 @@ use Rattle.std.proofs.Common.{sym, ap, subst, ◌∙◌, arith}
 use Rattle.grammar.specs.Bytes.{Kind as Byte, kind_of}
 use Rattle.grammar.specs.Sums.{Relation, Sums, one, turned, nothing}
 use Rattle.grammar.specs.Reader.{Mode, first, wanted, closed, apart, Around, left, right, stop, step, follow, Outcome, read, halted, whole, run_from, read_sum}
-use Rattle.grammar.specs.Descent.{no_byte, rested, resumed, left-sum, right-sum}
+use Rattle.grammar.specs.Descent.{rested, resumed}
+use Rattle.grammar.proofs.Descent.{no_byte, left-sum, right-sum}
 use Rattle.reader.specs.sums.Held.{held, Bounded, zero_at}
 use Rattle.reader.specs.Run.{by_kind, at-either, at_place, Follows, run-follows}
 use Rattle.reader.specs.Heads.{factor}

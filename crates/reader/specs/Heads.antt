@@ -8,7 +8,7 @@ use Rattle.std.proofs.Math.ListN.{length}
 use Rattle.grammar.specs.Bytes.{Kind as Byte, letter, minus, star, opening, is_digit, kind_of}
 use Rattle.grammar.specs.Sums.{Sums, Factor, most, turned, multiplied, with_number, with_variable}
 use Rattle.grammar.specs.Reader.{opened, room_of, behind, multiplies, Mode, wanted, lettered, number, numbered, named, apart, part, inside, Next, go, ends, stop, step, follow, is_read, is_bare, flushed, Outcome, read, halted, run_from}
-use Rattle.grammar.specs.Descent.{byte}
+use Rattle.grammar.proofs.Descent.{byte}
 use Rattle.reader.specs.Scan.{Skips, present}
 use Rattle.reader.specs.Run.{by_kind, at_place, left_behind}
 use Rattle.reader.specs.declared.heads.Kind.{Kind}

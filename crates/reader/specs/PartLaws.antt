@@ -10,7 +10,8 @@ use Rattle.reader.specs.sums.Held.{held, value_of, Bounded, moved, moved-is, wit
 use Rattle.grammar.specs.Bytes.{Kind as Byte, plus, minus, closing, space, kind_of}
 use Rattle.grammar.specs.Sums.{Sums, Factor, add_to, signed}
 use Rattle.grammar.specs.Reader.{Around, wanted, closed, part, sum, inside, go, step, follow, read, halted, run_from}
-use Rattle.grammar.specs.Descent.{byte, rested}
+use Rattle.grammar.specs.Descent.{rested}
+use Rattle.grammar.proofs.Descent.{byte}
 use Rattle.reader.specs.Scan.{Skips, present}
 use Rattle.reader.specs.Run.{by_kind, at_place, skipped}
 use Rattle.reader.specs.Heads.{factor, ends_at, ended}

@@ -6,7 +6,7 @@ use Rattle.std.proofs.lemmas.Bool.{lt-leb}
 use Rattle.grammar.specs.Bytes.{Kind, digit, letter, space, plus, minus, star, opening, closing, less, equals, more, strange, is_digit, kind_of}
 use Rattle.grammar.specs.Sums.{Sums, one}
 use Rattle.grammar.specs.Reader.{Mode, first, wanted, Around, left, room_of, Next, go, ends, stop, step, grows, follow, finished, is_read, is_bare, flushed, Outcome, halted, run_from}
-use Rattle.grammar.specs.Descent.{byte, no_byte}
+use Rattle.grammar.proofs.Descent.{byte, no_byte}
 use Rattle.reader.specs.Scan.{Skips, Digits, alone, longer, Over}
 
 -- ---- a byte by its kind

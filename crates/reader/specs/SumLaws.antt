@@ -6,7 +6,8 @@ use Rattle.std.proofs.Common.{ap, ◌∙◌}
 use native.Mathlib.Omega.{arith}
 use Rattle.grammar.specs.Sums.{Sums, Factor}
 use Rattle.grammar.specs.Reader.{part, sum, inside, wanted, room_of, read, halted, run_from, read_part, read_sum}
-use Rattle.grammar.specs.Descent.{rested, resumed, sum-of-parts, sum-in-brackets}
+use Rattle.grammar.specs.Descent.{rested, resumed}
+use Rattle.grammar.proofs.Descent.{sum-of-parts, sum-in-brackets}
 use Rattle.reader.specs.Heads.{factor, comes_to, Placed, HeadIs}
 use Rattle.reader.specs.Parts.{sums_of, outcome_of, Ready, Rests, Sound, Unjoined, Ended, KindFits, LeafFits, Leafy, LeafIs, CloseIs, Within, JoinsOn, EndsAt, JointIs}
 use Rattle.reader.specs.StepLaws.{later, small-later}

@@ -15,8 +15,9 @@ use Rattle.steps.specs.CreateRow.{Building, Created, append_to, insert_terms, ad
 use Rattle.steps.specs.Artificial.{stand_temporary, remove_temporary, is_empty_row, any_pivotable_symbol, artificial_constant_near_zero, add_with_artificial_variable}
 use Rattle.steps.specs.Add.{whole_inputs, add_with_subject, add_created, Added, add_steps}
 use Rattle.simplex.specs.bridge.Nums.{finite≢, worse-l, worse-r, whole-if}
-use Rattle.simplex.specs.bridge.Table.{enter-parts}
-use Rattle.simplex.specs.bridge.Runs.{mark_of, pivot-mark, optimise-mark}
+use Rattle.simplex.proofs.bridge.Table.{enter-parts}
+use Rattle.simplex.specs.bridge.Runs.{mark_of}
+use Rattle.simplex.proofs.bridge.Runs.{pivot-mark, optimise-mark}
 use Rattle.run.specs.BuildSum.{terms-mark}
 use Rattle.run.specs.BuildTags.{tag-mark}
 

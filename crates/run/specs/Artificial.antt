@@ -21,7 +21,8 @@ use Rattle.steps.specs.Optimise.{optimise, the_artificial}
 use Rattle.steps.specs.Artificial.{any_pivotable_symbol, is_empty_row, stand_temporary, remove_temporary, artificial_constant_near_zero, add_with_artificial_variable}
 use Rattle.simplex.specs.bridge.Nums.{near_zero-z}
 use Rattle.simplex.specs.bridge.Table.{ArtAt}
-use Rattle.simplex.specs.bridge.Runs.{mark_of, pivot-mark, Standing}
+use Rattle.simplex.specs.bridge.Runs.{mark_of, Standing}
+use Rattle.simplex.proofs.bridge.Runs.{pivot-mark}
 use Rattle.run.specs.Demand.{Demand}
 use Rattle.run.specs.Inv.{Held, con_of}
 use Rattle.run.specs.Passes.{ways_of}

@@ -28,7 +28,7 @@ use Rattle.steps.specs.CreateRow.{Building, Created, insert_terms, add_tag, crea
 use Rattle.simplex.specs.bridge.Nums.{zero64-z}
 use Rattle.simplex.specs.bridge.Rows.{Reads, In, ReadsRow, zb-to}
 use Rattle.simplex.specs.bridge.Table.{ReadsWork, in-nonzero}
-use Rattle.simplex.specs.bridge.Enter.{reverse-z}
+use Rattle.simplex.proofs.bridge.Enter.{reverse-z}
 use Rattle.run.specs.Demand.{Demand, sum_of}
 use Rattle.run.specs.Inv.{non_zero_terms, Held, expr_of, other_id, con_of, form_of, VarAt}
 use Rattle.run.specs.Inputs.{Inputs, nonneg-z, below-z}

@@ -19,9 +19,10 @@ use Rattle.steps.specs.Row.{Row, insert_symbol_in_row}
 use Rattle.steps.specs.Work.{Work, with_tableau, with_objective, marking, new_symbol, append_symbol}
 use Rattle.steps.specs.CreateRow.{Building, Created, written, append_to, insert_into, add_symbol, insert_in_objective}
 use Rattle.simplex.specs.bridge.Nums.{worse-l}
-use Rattle.simplex.specs.bridge.Rows.{In, insert_symbol_in_row-z}
+use Rattle.simplex.specs.bridge.Rows.{In}
+use Rattle.simplex.proofs.bridge.Rows.{insert_symbol_in_row-z}
 use Rattle.simplex.specs.bridge.Table.{kind_of}
-use Rattle.simplex.specs.bridge.Enter.{append-new, append-in}
+use Rattle.simplex.proofs.bridge.Enter.{append-new, append-in}
 use Rattle.simplex.specs.bridge.Columns.{objective-z}
 use Rattle.run.specs.Inv.{other_id, Shaped}
 use Rattle.run.specs.Build.{NewTag}

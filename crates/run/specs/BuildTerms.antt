@@ -23,9 +23,10 @@ use Rattle.steps.specs.CreateRow.{Building, written, append_to, insert_into, kee
 use Rattle.simplex.specs.bridge.Nums.{worse-l, worse-r}
 use Rattle.simplex.specs.bridge.Rows.{In, NotIn, ReadsRow, Whole}
 use Rattle.simplex.specs.bridge.Finds.{none≢some}
-use Rattle.simplex.specs.bridge.Table.{kind_of, RowAt, ReadsWork, found_in}
-use Rattle.simplex.specs.bridge.Enter.{append-z, append-row, append-in, append-new, term-z}
-use Rattle.simplex.specs.bridge.Looks.{in-or-not}
+use Rattle.simplex.specs.bridge.Table.{kind_of, RowAt, ReadsWork}
+use Rattle.simplex.proofs.bridge.Table.{found_in}
+use Rattle.simplex.proofs.bridge.Enter.{append-z, append-row, append-in, append-new, term-z}
+use Rattle.simplex.proofs.bridge.Looks.{in-or-not}
 use Rattle.simplex.specs.Choose.{all_map}
 use Rattle.run.specs.BuildVars.{find-kept, find-kept-other, used_at, find-used, StaysAll, stays-refl, stays-trans, stays-used, stays-kept, LiveAt}
 

@@ -26,7 +26,8 @@ use Rattle.steps.specs.State.{Basic, Tag}
 use Rattle.steps.specs.Work.{Work, find_row}
 use Rattle.steps.specs.Edit.{is_basic_row, own_shift, cell_shift, shift_of}
 use Rattle.simplex.specs.bridge.Nums.{absent-z}
-use Rattle.simplex.specs.bridge.Rows.{Sym?, is, isnt, sym?, zb-to, ReadsRow, row-cell}
+use Rattle.simplex.specs.bridge.Rows.{Sym?, is, isnt, sym?, zb-to, ReadsRow}
+use Rattle.simplex.proofs.bridge.Rows.{row-cell}
 use Rattle.simplex.specs.bridge.Table.{RowAt, ReadsWork}
 use Rattle.run.specs.Shift.{Amount}
 use Rattle.run.specs.Aims.{Aimed, by-marker, by-other, by-cells}

@@ -15,7 +15,6 @@ pub mod Refit
 pub mod Drawn
 pub mod Drag
 pub mod Suggest
-pub mod Suggested
 pub mod Build
 pub mod RemoveFrame
 pub mod Effects
@@ -49,10 +48,7 @@ pub mod AddMarks
 pub mod BuildRow
 pub mod SubjectEnter
 pub mod AddSteps
-pub mod AddInv
 pub mod Add
-pub mod AddEdit
-pub mod Run
 pub mod RecutRows
 pub mod Recut
 pub mod RecutAdd

@@ -12,10 +12,11 @@ use Rattle.simplex.specs.Pass.{State as StateZ, Good}
 use Rattle.simplex.specs.Bland.{Pass, good}
 use Rattle.simplex.specs.Bound.{Mem}
 use Rattle.simplex.specs.Search.{Asc}
-use Rattle.simplex.specs.Count.{asc-distinct}
-use Rattle.simplex.specs.Look.{done, look, after, lv, ev, Looked, at_rest, looked, pass, enough}
+use Rattle.simplex.proofs.Count.{asc-distinct}
+use Rattle.simplex.specs.Look.{done, look, after, lv, ev, Looked, at_rest}
+use Rattle.simplex.proofs.Look.{looked, pass, enough}
 use Rattle.simplex.specs.Problem.{Con, Models}
-use Rattle.simplex.specs.Final.{models-pass}
+use Rattle.simplex.proofs.Final.{models-pass}
 use Rattle.steps.specs.Number.{all_whole}
 use Rattle.steps.specs.Symbol.{Kind, External, Slack, Error, Dummy, Symbol, is_external, is_restricted}
 use Rattle.steps.specs.Row.{Row}
@@ -23,10 +24,13 @@ use Rattle.steps.specs.State.{Basic}
 use Rattle.steps.specs.Work.{Work, Outcome, refused, going}
 use Rattle.steps.specs.Optimise.{the_objective, optimise}
 use Rattle.simplex.specs.bridge.Rows.{In, Up}
-use Rattle.simplex.specs.bridge.Table.{kind_of, ArtAt, ReadsWork, of-basic}
-use Rattle.simplex.specs.bridge.Looks.{slack-in}
-use Rattle.simplex.specs.bridge.Runs.{mark_of, carried, Ran, rests, run}
-use Rattle.simplex.specs.bridge.Ends.{Verdict, optimise-whole}
+use Rattle.simplex.specs.bridge.Table.{kind_of, ArtAt, ReadsWork}
+use Rattle.simplex.proofs.bridge.Table.{of-basic}
+use Rattle.simplex.proofs.bridge.Looks.{slack-in}
+use Rattle.simplex.specs.bridge.Runs.{mark_of, carried, Ran, rests}
+use Rattle.simplex.proofs.bridge.Runs.{run}
+use Rattle.simplex.specs.bridge.Ends.{Verdict}
+use Rattle.simplex.proofs.bridge.Ends.{optimise-whole}
 use Rattle.run.specs.Steady.{Kinded, Kept, IfGoing, optimise-kept}
 
 -- ---- the ids of the live symbols, and of the restricted ones: demand 3's n is how many these are

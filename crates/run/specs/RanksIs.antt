@@ -22,12 +22,16 @@ use Rattle.steps.specs.Optimise.{smallest_ratio, negative_ratios}
 use Rattle.steps.specs.Remove.{cell_in, first_dummy_row, positive_ratios, last_external_row, get_marker_leaving_row}
 use Rattle.simplex.specs.bridge.Nums.{absent-yes}
 use Rattle.simplex.specs.bridge.Finds.{none≢some}
-use Rattle.simplex.specs.bridge.Rows.{ReadsRow, row-cell}
-use Rattle.simplex.specs.bridge.Table.{kind_of, RowAt, Live, ReadsWork, found_in}
-use Rattle.simplex.specs.bridge.Chosen.{restricted-is, known, Leaves, Leaving, leaving-is}
-use Rattle.simplex.specs.bridge.Looks.{minus_one}
-use Rattle.simplex.specs.bridge.Ranks.{Leaves as LeavesUp, Leaving as LeavingUp, positive-is}
-use Rattle.simplex.specs.bridge.Duals.{one_of}
+use Rattle.simplex.specs.bridge.Rows.{ReadsRow}
+use Rattle.simplex.proofs.bridge.Rows.{row-cell}
+use Rattle.simplex.specs.bridge.Table.{kind_of, RowAt, Live, ReadsWork}
+use Rattle.simplex.proofs.bridge.Table.{found_in}
+use Rattle.simplex.specs.bridge.Chosen.{Leaves, Leaving}
+use Rattle.simplex.proofs.bridge.Chosen.{restricted-is, known, leaving-is}
+use Rattle.simplex.proofs.bridge.Looks.{minus_one}
+use Rattle.simplex.specs.bridge.Ranks.{Leaves as LeavesUp, Leaving as LeavingUp}
+use Rattle.simplex.proofs.bridge.Ranks.{positive-is}
+use Rattle.simplex.proofs.bridge.Duals.{one_of}
 
 -- ---- numbers and kinds
 is-dummy : (x : Symbol) → kind_of x.kind ≡ dummy → is_dummy x ≡ true

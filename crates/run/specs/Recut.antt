@@ -19,7 +19,8 @@ use Rattle.steps.specs.Substitute.{substitute_in_row, substitute_in_cells, Subst
 use Rattle.steps.specs.Optimise.{Goal, the_objective, the_artificial, goal_cells, get_entering_symbol, get_leaving_row, Choice, ended, stuck, pivot_on, choose_pivot, counted_pivot, optimise, get_dual_entering_symbol, choose_dual_pivot, dual_optimise}
 use Rattle.steps.proofs.After.{enter-after}
 use Rattle.simplex.specs.bridge.Nums.{worse-r}
-use Rattle.simplex.specs.bridge.Runs.{mark_of, optimise-mark, dual-mark}
+use Rattle.simplex.specs.bridge.Runs.{mark_of}
+use Rattle.simplex.proofs.bridge.Runs.{optimise-mark, dual-mark}
 use Rattle.run.specs.AddMarks.{finite-mark, bound-mark}
 use Rattle.run.specs.RecutRows.{RowU, values-u, solves-u, subRow-u, subCells-u, subRows-u, solves-same, subRow-same, subCells-same, subRows-same}
 

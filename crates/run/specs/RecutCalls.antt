@@ -19,7 +19,8 @@ use Rattle.steps.specs.Calls.{Result, begin, finish, refused_by, accepted_as, co
 use Rattle.steps.proofs.After.{says-whole}
 use Rattle.steps.proofs.AfterRemove.{shift-after}
 use Rattle.simplex.specs.bridge.Nums.{whole-if}
-use Rattle.simplex.specs.bridge.Runs.{mark_of, dual-mark}
+use Rattle.simplex.specs.bridge.Runs.{mark_of}
+use Rattle.simplex.proofs.bridge.Runs.{dual-mark}
 use Rattle.run.specs.Words.{and_left, and_right}
 use Rattle.run.specs.AddMarks.{marked, finite-mark, bound-mark, mark_added, whole-steps}
 use Rattle.run.specs.RecutRows.{whole-unbroken, zero-unbroken, one-unbroken, near_same}

@@ -17,7 +17,8 @@ use Rattle.steps.specs.Optimise.{the_objective, the_artificial, optimise}
 use Rattle.steps.specs.Artificial.{any_pivotable_symbol, is_empty_row, stand_temporary, remove_temporary, artificial_constant_near_zero, add_with_artificial_variable}
 use Rattle.steps.specs.Add.{whole_inputs, add_with_subject, add_created, Added, add_steps}
 use Rattle.steps.proofs.After.{enter-after}
-use Rattle.simplex.specs.bridge.Runs.{mark_of, optimise-mark}
+use Rattle.simplex.specs.bridge.Runs.{mark_of}
+use Rattle.simplex.proofs.bridge.Runs.{optimise-mark}
 use Rattle.run.specs.AddMarks.{marked, finite-mark, temporary-mark, none-mark, created_of, placed_and_rested, added_by, mark_added, WholeSteps, whole-steps, steps-are, afterwards, goes_on}
 use Rattle.run.specs.RecutRows.{RowU, append-u, solve-u, near_same}
 use Rattle.run.specs.Recut.{recut, ArtU, Plain, Same, keep-u, plain-enter, enter-same, check-same, refuse-same, bind-same, pivoted-same, optimise-same}

@@ -19,7 +19,8 @@ use Rattle.steps.specs.Optimise.{the_objective, optimise, dual_optimise}
 use Rattle.steps.specs.Add.{whole_within}
 use Rattle.steps.specs.Remove.{insert_row_in_objective, remove_marker_effects, remove_constraint_effects, get_marker_leaving_row, note_leaving, drop_marker, purge_tag, use_less, lose, drop_use, drop_uses, remove_steps}
 use Rattle.steps.specs.Edit.{is_basic_row, own_shift, cell_shift, shift_of, shift_row, shift_rows, shift_constants, suggest_steps}
-use Rattle.simplex.specs.bridge.Runs.{mark_of, optimise-mark, dual-mark}
+use Rattle.simplex.specs.bridge.Runs.{mark_of}
+use Rattle.simplex.proofs.bridge.Runs.{optimise-mark, dual-mark}
 use Rattle.run.specs.RemoveMarks.{drop-mark, purge-mark, uses-mark}
 use Rattle.run.specs.RecutRows.{RowU, values-u, coefficient-u, insertCells-u, insertCells-same}
 use Rattle.run.specs.Recut.{recut, ArtU, RowsU, Plain, Same, drop-u, find-u, check-same, refuse-same, bind-same, pivoted-same, optimise-same, dual-same}

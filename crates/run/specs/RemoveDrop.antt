@@ -24,9 +24,12 @@ use Rattle.steps.specs.Work.{Work, refused, going, ◌>>=◌, refuse, check_fini
 use Rattle.steps.specs.Substitute.{pivot}
 use Rattle.steps.specs.Remove.{get_marker_leaving_row, note_leaving, drop_marker}
 use Rattle.simplex.specs.bridge.Nums.{finite≢}
-use Rattle.simplex.specs.bridge.Table.{RowAt, Live, ReadsTable, ReadsWork, in-nonzero, pivot-z}
-use Rattle.simplex.specs.bridge.Runs.{mark_of, pivot-pivots}
-use Rattle.simplex.specs.bridge.Ranks.{drop-z, Goes}
+use Rattle.simplex.specs.bridge.Table.{RowAt, Live, ReadsTable, ReadsWork, in-nonzero}
+use Rattle.simplex.proofs.bridge.Table.{pivot-z}
+use Rattle.simplex.specs.bridge.Runs.{mark_of}
+use Rattle.simplex.proofs.bridge.Runs.{pivot-pivots}
+use Rattle.simplex.specs.bridge.Ranks.{Goes}
+use Rattle.simplex.proofs.bridge.Ranks.{drop-z}
 use Rattle.run.specs.Steady.{Kept, kept_trans, pivot-kept}
 use Rattle.run.specs.Passes.{other-artificial}
 use Rattle.run.specs.RemoveFrame.{kept-rows, Noted, noted}

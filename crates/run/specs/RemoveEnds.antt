@@ -20,7 +20,8 @@ use Rattle.keeps.specs.Lists.{Up}
 use Rattle.keeps.specs.Uses.{var_number, uses_of}
 use Rattle.simplex.specs.bridge.Nums.{finite≢}
 use Rattle.simplex.specs.bridge.Rows.{In}
-use Rattle.simplex.specs.bridge.Runs.{mark_of, optimise-mark}
+use Rattle.simplex.specs.bridge.Runs.{mark_of}
+use Rattle.simplex.proofs.bridge.Runs.{optimise-mark}
 use Rattle.simplex.specs.bridge.Ranks.{Goes}
 use Rattle.run.specs.Demand.{Key, Moment}
 use Rattle.run.specs.Inv.{non_zero_terms, columns, Held, con_of, find_held, VarAt, Inv}

@@ -20,7 +20,8 @@ use Rattle.steps.specs.Substitute.{pivot}
 use Rattle.steps.specs.Changes.{tell_gone}
 use Rattle.steps.specs.Remove.{get_marker_leaving_row, note_leaving, drop_marker, purge_tag, use_less, lose, drop_use, drop_uses}
 use Rattle.simplex.specs.bridge.Finds.{none≢some}
-use Rattle.simplex.specs.bridge.Runs.{mark_of, pivot-mark}
+use Rattle.simplex.specs.bridge.Runs.{mark_of}
+use Rattle.simplex.proofs.bridge.Runs.{pivot-mark}
 use Rattle.run.specs.Inv.{form_of, Shaped}
 use Rattle.run.specs.Inputs.{required-z, nonneg-z}
 use Rattle.run.specs.RemoveFrame.{noted}

@@ -20,7 +20,8 @@ use Rattle.steps.specs.Row.{Row}
 use Rattle.steps.specs.State.{Tag}
 use Rattle.steps.specs.Work.{Work, with_tableau, find_row, purge}
 use Rattle.steps.specs.Remove.{purge_tag}
-use Rattle.simplex.specs.bridge.Rows.{In, reads-to, row-to}
+use Rattle.simplex.specs.bridge.Rows.{In, reads-to}
+use Rattle.simplex.proofs.bridge.Rows.{row-to}
 use Rattle.simplex.specs.bridge.Table.{RowAt, ReadsWork}
 use Rattle.simplex.specs.bridge.Columns.{purge-z, delete-in}
 

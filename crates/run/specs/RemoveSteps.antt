@@ -22,7 +22,7 @@ use Rattle.steps.specs.Calls.{begin}
 use Rattle.steps.proofs.AfterRemove.{remove_effects-after}
 use Rattle.simplex.specs.bridge.Rows.{In, NotIn}
 use Rattle.simplex.specs.bridge.Table.{kind_of, Live}
-use Rattle.simplex.specs.bridge.Looks.{in-or-not}
+use Rattle.simplex.proofs.bridge.Looks.{in-or-not}
 use Rattle.simplex.specs.bridge.Runs.{mark_of}
 use Rattle.simplex.specs.bridge.Ranks.{Goes}
 use Rattle.run.specs.Demand.{Key, Moment}

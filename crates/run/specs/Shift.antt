@@ -21,7 +21,8 @@ use Rattle.steps.specs.Work.{find_row}
 use Rattle.steps.specs.Substitute.{rows_of, marks_of}
 use Rattle.steps.specs.Edit.{shift_row, shift_rows}
 use Rattle.simplex.specs.bridge.Nums.{constant_bound-z, worse-l, worse-r, write-small}
-use Rattle.simplex.specs.bridge.Rows.{Up, Sym?, is, isnt, sym?, ReadsRow, row-to, reads-to}
+use Rattle.simplex.specs.bridge.Rows.{Up, Sym?, is, isnt, sym?, ReadsRow, reads-to}
+use Rattle.simplex.proofs.bridge.Rows.{row-to}
 use Rattle.simplex.specs.bridge.Finds.{UpRows, find-hit, find-miss, find_none}
 use Rattle.simplex.specs.bridge.Table.{RowAt, Live, ReadsTable, in-nonzero}
 

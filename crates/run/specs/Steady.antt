@@ -13,8 +13,9 @@ use Rattle.steps.specs.Substitute.{substitute_in_rows, noted_of, substitute, ent
 use Rattle.steps.specs.Optimise.{Goal, optimise, dual_optimise}
 use Rattle.keeps.specs.Frame.{clear-changed, clear-all}
 use Rattle.simplex.specs.bridge.Finds.{none≢some, after-sub}
-use Rattle.simplex.specs.bridge.Table.{kind_of, enter-parts}
-use Rattle.simplex.specs.bridge.Runs.{pivot-cases, optimise-all, dual-all}
+use Rattle.simplex.specs.bridge.Table.{kind_of}
+use Rattle.simplex.proofs.bridge.Table.{enter-parts}
+use Rattle.simplex.proofs.bridge.Runs.{pivot-cases, optimise-all, dual-all}
 
 -- each symbol is of the theory's kind
 abbrev pub Kinded : (ℕ → KindZ) → Symbol → Type 0

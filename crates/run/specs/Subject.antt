@@ -17,11 +17,12 @@ use Rattle.steps.specs.Symbol.{Kind, External, Slack, Error, Dummy, Symbol, is_e
 use Rattle.steps.specs.Work.{Work}
 use Rattle.steps.specs.CreateRow.{Created, negative_tag, choose_subject, all_dummies}
 use Rattle.simplex.specs.bridge.Nums.{absent-z, absent-yes}
-use Rattle.simplex.specs.bridge.Rows.{Reads, NotIn, In, row-cell}
+use Rattle.simplex.specs.bridge.Rows.{Reads, NotIn, In}
+use Rattle.simplex.proofs.bridge.Rows.{row-cell}
 use Rattle.simplex.specs.bridge.Finds.{none≢some}
 use Rattle.simplex.specs.bridge.Table.{kind_of, Live, in-nonzero}
 use Rattle.simplex.specs.bridge.Chosen.{MemS}
-use Rattle.simplex.specs.bridge.Looks.{in-or-not, is_live}
+use Rattle.simplex.proofs.bridge.Looks.{in-or-not, is_live}
 use Rattle.run.specs.Demand.{Demand}
 use Rattle.run.specs.Inv.{Held}
 use Rattle.run.specs.Steady.{Kinded}

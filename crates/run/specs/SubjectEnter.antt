@@ -28,9 +28,10 @@ use Rattle.steps.specs.Add.{add_with_subject}
 use Rattle.simplex.specs.Gone.{dummy≢external}
 use Rattle.simplex.specs.bridge.Nums.{finite≢, near_zero-yes, near_zero-z}
 use Rattle.simplex.specs.bridge.Table.{Live, in-nonzero}
-use Rattle.simplex.specs.bridge.Looks.{minus_one}
+use Rattle.simplex.proofs.bridge.Looks.{minus_one}
 use Rattle.simplex.specs.bridge.Runs.{mark_of}
-use Rattle.simplex.specs.bridge.Ranks.{Entered, Goes, subject-z}
+use Rattle.simplex.specs.bridge.Ranks.{Entered, Goes}
+use Rattle.simplex.proofs.bridge.Ranks.{subject-z}
 use Rattle.run.specs.Demand.{Demand}
 use Rattle.run.specs.Inv.{Held, con_of}
 use Rattle.run.specs.Steady.{Kept, enter-kept}

@@ -28,9 +28,11 @@ use Rattle.steps.specs.Edit.{shift_of, shift_rows, shift_constants, suggest_step
 use Rattle.steps.specs.Calls.{Result, begin, refused_by, accepted_as}
 use Rattle.simplex.specs.bridge.Nums.{finite≢, worse-r, constant_bound-z, whole-if}
 use Rattle.simplex.specs.bridge.Table.{ReadsWork}
-use Rattle.simplex.specs.bridge.Looks.{slack-in}
-use Rattle.simplex.specs.bridge.Runs.{mark_of, dual-mark}
-use Rattle.simplex.specs.bridge.Drags.{Drag as Dragging, Dragged, Ends, drag}
+use Rattle.simplex.proofs.bridge.Looks.{slack-in}
+use Rattle.simplex.specs.bridge.Runs.{mark_of}
+use Rattle.simplex.proofs.bridge.Runs.{dual-mark}
+use Rattle.simplex.specs.bridge.Drags.{Drag as Dragging, Dragged, Ends}
+use Rattle.simplex.proofs.bridge.Drags.{drag}
 use Rattle.run.specs.Demand.{of_edit, Call, make, accepted, live_after, Moment, next}
 use Rattle.run.specs.Inv.{non_zero_terms, columns, Held, expr_of, form_of, other_id, con_of, find_held, Shaped, EditedAs, WholeDemand, Inv}
 use Rattle.run.specs.AtRest.{one, best-columns}

@@ -26,9 +26,11 @@ use Rattle.steps.specs.Substitute.{pivot}
 use Rattle.steps.specs.Artificial.{any_pivotable_symbol, is_empty_row, stand_temporary, remove_temporary}
 use Rattle.simplex.specs.bridge.Nums.{finite≢}
 use Rattle.simplex.specs.bridge.Rows.{In, NotIn, Sym?, is, isnt, sym?, ReadsRow}
-use Rattle.simplex.specs.bridge.Table.{kind_of, RowAt, Live, ReadsWork, pivot-z}
-use Rattle.simplex.specs.bridge.Looks.{in-or-not, is_live}
-use Rattle.simplex.specs.bridge.Runs.{mark_of, pivot-pivots}
+use Rattle.simplex.specs.bridge.Table.{kind_of, RowAt, Live, ReadsWork}
+use Rattle.simplex.proofs.bridge.Table.{pivot-z}
+use Rattle.simplex.proofs.bridge.Looks.{in-or-not, is_live}
+use Rattle.simplex.specs.bridge.Runs.{mark_of}
+use Rattle.simplex.proofs.bridge.Runs.{pivot-pivots}
 use Rattle.run.specs.Demand.{Demand}
 use Rattle.run.specs.Inv.{Held, con_of}
 use Rattle.run.specs.Build.{new_held, Built}

@@ -10,9 +10,11 @@ use Rattle.simplex.specs.Basis.{Clear}
 use Rattle.simplex.specs.Tab.{Solves}
 use Rattle.simplex.specs.Opt.{Kind as KindZ, external, slack}
 use Rattle.simplex.specs.Pass.{State as StateZ, Good}
-use Rattle.simplex.specs.Bland.{Pass, good, solutions, values}
+use Rattle.simplex.specs.Bland.{Pass, good, solutions}
+use Rattle.simplex.proofs.Bland.{values}
 use Rattle.simplex.specs.Bound.{Mem}
-use Rattle.simplex.specs.Look.{Look, done, no_row, go_on, look, after, lv, ev, Pivots, Looked, at_rest, rowless, chosen, looked, pass, enough}
+use Rattle.simplex.specs.Look.{Look, done, no_row, go_on, look, after, lv, ev, Pivots, Looked, at_rest, rowless, chosen}
+use Rattle.simplex.proofs.Look.{looked, pass, enough}
 use Rattle.simplex.specs.Never.{always-leaving}
 use Rattle.simplex.specs.Steps.{temp-solves}
 use Rattle.simplex.specs.Second.{Carried}
@@ -26,7 +28,8 @@ use Rattle.steps.specs.Optimise.{optimise, the_artificial}
 use Rattle.steps.specs.Artificial.{stand_temporary}
 use Rattle.simplex.specs.bridge.Rows.{In}
 use Rattle.simplex.specs.bridge.Table.{ReadsWork}
-use Rattle.simplex.specs.bridge.Runs.{mark_of, Standing, carried, Ran, rests, used-up, no-leaving, run}
+use Rattle.simplex.specs.bridge.Runs.{mark_of, Standing, carried, Ran, rests, used-up, no-leaving}
+use Rattle.simplex.proofs.bridge.Runs.{run}
 use Rattle.run.specs.Demand.{Demand}
 use Rattle.run.specs.Inv.{Held}
 use Rattle.run.specs.Build.{Built}

@@ -18,8 +18,8 @@ use Rattle.steps.specs.Artificial.{stand_temporary}
 use Rattle.simplex.specs.bridge.Rows.{In, NotIn, ReadsRow}
 use Rattle.simplex.specs.bridge.Finds.{find-keep-same, find-keep-other, keep-up, keep_all}
 use Rattle.simplex.specs.bridge.Table.{RowAt, Live, ReadsTable, ReadsWork}
-use Rattle.simplex.specs.bridge.Looks.{in-or-not}
-use Rattle.simplex.specs.bridge.Enter.{append-z, append-row, append-new}
+use Rattle.simplex.proofs.bridge.Looks.{in-or-not}
+use Rattle.simplex.proofs.bridge.Enter.{append-z, append-row, append-new}
 use Rattle.run.specs.Demand.{Demand}
 use Rattle.run.specs.Inv.{Held}
 use Rattle.run.specs.Build.{Built}

@@ -25,7 +25,6 @@ pub mod Keep
 pub mod Temp
 pub mod Remove
 pub mod Second
-pub mod Count
 pub mod Gone
 pub mod Suggest
 pub mod Cells

@@ -1,19 +1,19 @@
--- The constraints themselves: what it means to meet them, the weighted error, and what the tableau's theorems say of them. Assumes nothing.
+-- The constraints themselves: what it means to meet them, the weighted error, and what a tableau is worth. Assumes nothing.
 use Rattle.std.specs.Prelude.{◌≡◌, ◌⊎◌, ◌≢◌, ◌↔◌, ℕ, ◌<◌, Bool, true, false, ◌+ℤ◌, ◌-ℤ◌}
-use Rattle.std.proofs.Math.Path.{refl, ap, ap₂}
+use Rattle.std.proofs.Math.Path.{refl, ap}
 use Rattle.std.proofs.Common.{sym, ◌∙◌, subst, inl, inr, arith, true≢false}
 use mathlib.Core.List.{List, [], ◌∷◌}
-use Rattle.std.proofs.Math.IntN.{ℤ, ◌*ℤ◌, *ℤ_comm}
-use Rattle.laws.specs.Z.{◌≼◌, ◌≺◌, at as num, ◌⊕◌, ⊖◌, le_z↑, le_n}
-use Rattle.laws.specs.Ring.{ring, v, k, ◌⊞◌, ◌⊠◌, ⊟◌, ◌⊟⊟◌}
-use Rattle.simplex.specs.Ord.{0ℤ, 1ℤ, ≼_refl, ≼-of-eq, ≼_trans, ≺→≼, mul-nonneg, sub-nonneg}
+use Rattle.std.proofs.Math.IntN.{ℤ, ◌*ℤ◌}
+use Rattle.laws.specs.Z.{◌≼◌, ◌≺◌}
+use Rattle.laws.specs.Ring.{ring, v, k, ◌⊠◌}
+use Rattle.simplex.specs.Ord.{0ℤ, 1ℤ, ≼-of-eq, ≼_trans}
 use Rattle.simplex.specs.Lin.{Vec, δ, Same?, same, other, same?, dot, dot-cong, dot-δ}
 use Rattle.simplex.specs.At.{at, At, here, there, at?}
 use Rattle.simplex.specs.Tab.{Solves}
-use Rattle.simplex.specs.Basis.{Mask, Shape, Clear, at-column, basic-solves}
-use Rattle.simplex.specs.Opt.{Kind, const, external, slack, dummy, slack≢dummy, Feasible, Lowest, at_least, no-feasible}
+use Rattle.simplex.specs.Basis.{Mask, Shape, Clear}
+use Rattle.simplex.specs.Opt.{Kind, const, external, slack, dummy, slack≢dummy, Feasible, Lowest, no-feasible}
 use Rattle.simplex.specs.Choose.{All, all-zip}
-use Rattle.simplex.specs.Form.{Form, le!, eq!, ge!, le, eq, ge, soft, resid, cost, viol, Holds, fit-s, fit-t, fit-resid, fit-s-nonneg, fit-t-nonneg, fit-cost, viol-least, holds, add-mono}
+use Rattle.simplex.specs.Form.{Form, le!, eq!, ge!, le, eq, ge, soft, resid, cost, viol, Holds, fit-s, fit-t, fit-resid, fit-s-nonneg, fit-t-nonneg}
 
 -- a constraint: its expression (place 0 is the constant), form, strength, marker and other symbol (not used where it is required)
 pub record Con : Type 0 where
@@ -137,7 +137,7 @@ cost-other eq s t u h = ap (λ z. s +ℤ z) (h refl)
 cost-other ge s t u h = h refl
 
 module _ (n : ℕ) (kind : ℕ → Kind) (x : Vec) where
-  val : Con → ℤ
+  unfoldable pub val : Con → ℤ
   val c = dot n c.expr x
 
   put : Con → Vec → Vec
@@ -234,10 +234,10 @@ module _ (n : ℕ) (kind : ℕ → Kind) (x : Vec) where
   full-feasible cs S M = record { slacks = λ j _ h. full-slack cs S M j h; dummies = λ j _ h. full-dummy cs S j h }
 
   -- each constraint's symbols stand at its fit
-  Fits : Vec → Con → Type 0
+  unfoldable pub Fits : Vec → Con → Type 0
   Fits τ c = (τ c.marker ≡ fit-s c.form (val c)) × (soft c.form ≡ true → τ c.other ≡ fit-t c.form (val c))
 
-  full-fits : (cs : List Con) → Sounds n kind cs → All (Fits (full cs)) cs
+  pub full-fits : (cs : List Con) → Sounds n kind cs → All (Fits (full cs)) cs
   unfolding full Fits
   full-fits [] S = tt
   full-fits (c ∷ cs) S = (own, all-zip {P = Apart c} {Q = Fits (full cs)} keep cs S.1 (full-fits cs S.2))
@@ -294,22 +294,6 @@ module _ (n : ℕ) (kind : ℕ → Kind) (x : Vec) where
           ∙ resid-other c.form (val c) (fit-s c.form (val c)) (full cs c.other) (fit-t c.form (val c)) f.1
           ∙ fit-resid c.form (val c) h.1
 
-  fits-total : (τ : Vec) (cs : List Con) → All (Fits τ) cs → total cs τ ≡ error n cs x
-  unfolding Fits val
-  fits-total τ [] F = refl
-  fits-total τ (c ∷ cs) F =
-      ap₂ (λ (a b : ℤ). c.weight *ℤ a +ℤ b)
-      (ap (λ s. cost c.form s (τ c.other)) F.0.0 ∙ cost-other c.form (fit-s c.form (val c)) (τ c.other) (fit-t c.form (val c)) F.0.1 ∙ fit-cost c.form (val c))
-      (fits-total τ cs F.1)
-
--- ---- a feasible solution meets the required constraints, and pays at least the error
-mul_mono : {w a b : ℤ} → 0ℤ ≼ w → a ≼ b → w *ℤ a ≼ w *ℤ b
-mul_mono {w} {a} {b} hw h =
-    le_z↑ (num (w *ℤ a)) (num (w *ℤ b)) (omega (arith, le_n (num 0ℤ) (num (w *ℤ b) ⊕ (⊖ num (w *ℤ a))) (≼_trans (mul-nonneg hw (sub-nonneg h)) (≼-of-eq (ring (w ∷ a ∷ b ∷ []) (v 0 ⊠ (v 2 ⊞ ⊟ v 1)) (v 0 ⊠ v 2 ⊟⊟ v 0 ⊠ v 1) tt)))))
-
-mul-mono-r : {w a b : ℤ} → 0ℤ ≼ w → a ≼ b → a *ℤ w ≼ b *ℤ w
-mul-mono-r {w} {a} {b} hw h = ≼_trans (≼-of-eq (*ℤ_comm a w)) (≼_trans (mul_mono hw h) (≼-of-eq (*ℤ_comm w b)))
-
 module _ (n : ℕ) (kind : ℕ → Kind) (σ : Vec) (F : Feasible n kind σ) where
   pub marker-nonneg : (c : Con) → Sound n kind c → 0ℤ ≼ σ c.marker
   marker-nonneg c S = go (marker-restricted c.form)
@@ -318,19 +302,7 @@ module _ (n : ℕ) (kind : ℕ → Kind) (σ : Vec) (F : Feasible n kind σ) whe
       go (inl e) = F.slacks c.marker S.marker-in (S.marker-kind ∙ e)
       go (inr e) = ≼-of-eq (sym (F.dummies c.marker S.marker-in (S.marker-kind ∙ e)))
 
-  one-met : (c : Con) → Sound n kind c → Equation n σ c → Meets n σ c
-  one-met c S E = holds c.form (dot n c.expr σ) (σ c.marker) (σ c.other) (marker-nonneg c S) (λ e. F.dummies c.marker S.marker-in (S.marker-kind ∙ ap marker_kind e)) E
-
-  pub met : (cs : List Con) → Sounds n kind cs → All (Equation n σ) cs → All (Meets n σ) cs
-  met cs S E = all-zip {P = Sound n kind} one-met cs (sounds-all n kind cs S) E
-
-  pub error-total : (cs : List Con) → Sounds n kind cs → All (Equation n σ) cs → error n cs σ ≼ total cs σ
-  error-total [] S E = ≼_refl 0ℤ
-  error-total (c ∷ cs) S E =
-      add-mono (mul_mono S.0.weighs (viol-least c.form (dot n c.expr σ) (σ c.marker) (σ c.other) (marker-nonneg c S.0) (λ b. F.slacks c.other (S.0.other-in b) (S.0.other-kind b)) E.0))
-      (error-total cs S.2 E.1)
-
--- ---- THE TWO THEOREMS OF DEMAND 2
+-- ---- THE TWO THEOREMS OF DEMAND 2: refusal 12, and in proofs/Problem.antt the least error
 -- what a tableau is worth: its solutions are the assignments that meet the constraints' equations, and its objective is their total there
 pub record Models (n : ℕ) (kind : ℕ → Kind) (B : Mask) (R : ℕ → Vec) (o : Vec) (cs : List Con) : Type 0 where
   pub shape : Shape n B R
@@ -338,30 +310,6 @@ pub record Models (n : ℕ) (kind : ℕ → Kind) (B : Mask) (R : ℕ → Vec) (
   pub sounds : Sounds n kind cs
   pub solves : (σ : Vec) → Solves n R σ ↔ All (Equation n σ) cs
   pub worth : (σ : Vec) → Solves n R σ → dot n o σ ≡ total cs σ
-
-module _ (n : ℕ) (kind : ℕ → Kind) (B : Mask) (R : ℕ → Vec) (o : Vec) (cs : List Con) (in-n : 0 < n) (zero : kind 0 ≡ const) (D : Models n kind B R o cs) (F : Feasible n kind (λ j. R j 0)) where
-  β : Vec
-  β = λ j. R j 0
-
-  β-equations : All (Equation n β) cs
-  unfolding β
-  β-equations = (D.solves (λ j. R j 0)).0 (basic-solves n B R D.shape in-n)
-
-  -- the basic solution meets every required constraint
-  pub values-meet : All (Meets n (λ j. R j 0)) cs
-  unfolding β
-  values-meet = met n kind (λ j. R j 0) F cs D.sounds β-equations
-
-  -- no assignment by fractions that meets them has less weighted error
-  pub least-error : Lowest n kind o → (x : Vec) → 0ℤ ≺ x 0 → All (Meets n x) cs → error n cs (λ j. R j 0) *ℤ x 0 ≼ error n cs x
-  unfolding β
-  least-error L x d M =
-      let τ = full n kind x cs in
-      let S = (D.solves τ).1 (full-equations n kind x cs D.sounds M) in
-      ≼_trans (mul-mono-r (≺→≼ d) (error-total n kind (λ j. R j 0) F cs D.sounds β-equations))
-      (≼_trans (≼-of-eq (ap₂ ◌*ℤ◌ (sym (D.worth (λ j. R j 0) (basic-solves n B R D.shape in-n)) ∙ at-column n B R D.shape 0 D.shape.const in-n o D.clear) (sym (full-plain n kind x cs D.sounds 0 (const-plain kind 0 zero)))))
-      (≼_trans (at_least n kind o τ in-n L (full-feasible n kind x cs D.sounds M))
-      (≼-of-eq (D.worth τ S ∙ fits-total n kind x τ cs (full-fits n kind x cs D.sounds)))))
 
 -- REFUSAL 12 IS RIGHT (Add's step 6). The tableau has the constraints' solutions and a temporary slack t, whose value its artificial objective a is; at its lowest a is above 0
 pub cannot-be-met : (n : ℕ) (kind : ℕ → Kind) (R : ℕ → Vec) (a : Vec) (t : ℕ) (cs : List Con) → 0 < n → kind 0 ≡ const

@@ -4,6 +4,7 @@ use Rattle.std.specs.Prelude.{◌≡◌, ℕ, ◌+◌, ◌<◌, ◌≤◌, List,
 use Rattle.std.proofs.Math.Option.{Option}
 use Rattle.std.proofs.Common.{arith}
 use Rattle.laws.specs.streams.Lines as streams
+use Rattle.laws.proofs.streams.Lines as streams_theorems
 use Rattle.laws.specs.streams.Held as held
 use Rattle.laws.specs.streams.Lines.{Cut, before}
 
@@ -16,7 +17,7 @@ cut_from = streams.cut_from 4096
 -- However the bytes are cut into pieces, the lines are the same.
 pub pieces : (h : Option (List ℕ)) (a b : List ℕ) → cut_from h (a ++ b) ≡ before (cut_from h a).lines (cut_from (cut_from h a).left b)
 unfolding cut_from
-pieces = streams.pieces 4096
+pieces = streams_theorems.pieces 4096
 
 -- the line that has begun, in a buffer of 4,096 bytes with the number of those in use; 4,097 once there were more
 unfoldable pub held_of : List ℕ → ℕ → Option (List ℕ)

@@ -12,7 +12,8 @@ use Rattle.grammar.specs.edition.Endings.{Constraint, required, is_group}
 use Rattle.grammar.specs.edition.Free.{and_both}
 use Rattle.laws.specs.exact.Whole.{val}
 use Rattle.grammar.specs.plain.Plain.{is_negative, sum_text, ending_text, plain_text, ascends, terms_said, sayable, Written, wrote, refused, room, write_line}
-use Rattle.grammar.specs.plain.Theorems.{Says, says, said}
+use Rattle.grammar.specs.plain.Theorems.{Says}
+use Rattle.grammar.proofs.plain.Theorems.{says, said}
 use Rattle.changes.specs.declared.tags.Relation.{Relation as Given}
 use Rattle.changes.specs.declared.tags.Relation.TheVariants.{AtMost, Equal, AtLeast}
 use Rattle.changes.specs.declared.terms.Pack.{Pack}

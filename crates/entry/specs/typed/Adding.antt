@@ -6,7 +6,8 @@ use Rattle.grammar.specs.Sums as grammar
 use Rattle.grammar.specs.Sums.{Answer, reads, outside, refused, most, small_terms, judged, summed, nothing}
 use Rattle.grammar.specs.Reader.{first, left, Outcome, read, halted, whole, run, answered, read_line}
 use Rattle.grammar.specs.Prefix.{at-start}
-use Rattle.grammar.specs.Complete.{Tells, tells}
+use Rattle.grammar.specs.Complete.{Tells}
+use Rattle.grammar.proofs.Complete.{tells}
 use Rattle.reader.specs.sums.Held.{value_of}
 use Rattle.reader.specs.Sides as sides
 use Rattle.reader.specs.Answers.{mark_of, as_read}

@@ -1,4 +1,4 @@
--- What any bytes are answered in the second edition, in document 02's words; Theorems.antt has that the reader answers so, and that there is no
+-- What any bytes are answered in the second edition, in document 02's words; proofs/edition/Theorems.antt has that the reader answers so, and that there is no
 -- other answer.
 use Rattle.std.specs.Prelude.{ℕ, suc, ◌≤◌, ◌<◌, ◌≡◌, List, ◌++◌, length, take}
 use Rattle.std.proofs.Math.Option.{none, some}

@@ -5,7 +5,8 @@ use Rattle.grammar.specs.Sums.{Answer, reads, outside, refused, judged, summed}
 use Rattle.grammar.specs.edition.Endings.{required, is_group, Reply, taken, astray, denied, behind}
 use Rattle.grammar.specs.edition.Steps.{Found, met, found, replied, read_second}
 use Rattle.grammar.specs.edition.Begun.{Tells₂}
-use Rattle.grammar.specs.edition.Theorems.{outcome, told}
+use Rattle.grammar.specs.edition.Theorems.{outcome}
+use Rattle.grammar.proofs.edition.Theorems.{told}
 use Rattle.entry.specs.typed.Adding.{Fit, judged-fit}
 
 abbrev pub Fits : Reply → Type 0

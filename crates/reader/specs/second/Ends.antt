@@ -7,7 +7,8 @@ use Rattle.grammar.specs.Reader.{Mode, first, wanted, Around, left, right, Next,
 use Rattle.grammar.specs.Descent.{rested}
 use Rattle.grammar.specs.edition.Endings.{required, most_group}
 use Rattle.grammar.specs.edition.Steps.{State, head, tail, opened, halt, stepped, closing, Found, met, found, onward, start}
-use Rattle.grammar.specs.edition.Descent.{pass_from, byte, no_byte, resumed, left-sum, right-sum}
+use Rattle.grammar.specs.edition.Descent.{pass_from, resumed}
+use Rattle.grammar.proofs.edition.Descent.{byte, no_byte, left-sum, right-sum}
 use Rattle.reader.specs.Run.{Follows, first_step}
 use Rattle.reader.specs.Parts.{sums_of}
 use Rattle.reader.specs.Sides.{relation_of}

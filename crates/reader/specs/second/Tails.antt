@@ -9,7 +9,8 @@ use Rattle.reader.specs.Scan.{Skips, present}
 use Rattle.reader.specs.Run.{behind-spaces, fewer-spaces}
 use Rattle.grammar.specs.edition.Endings.{required, most_group}
 use Rattle.grammar.specs.edition.Steps.{Mark, digit, space, mark_at, Tail, opened, strong, rested, parted, grouped, tail_step, tail, tailed, tail_end, met, found, onward}
-use Rattle.grammar.specs.edition.Descent.{pass_from, byte, no_byte}
+use Rattle.grammar.specs.edition.Descent.{pass_from}
+use Rattle.grammar.proofs.edition.Descent.{byte, no_byte}
 use Rattle.reader.specs.second.Numbers.{by-mark, Worth, alone, longer, capped, DigitsAre}
 use Rattle.reader.specs.declared.second.endings.Digits.{Digits}
 use Rattle.reader.specs.declared.second.endings.Digits.TheVariants.{Are, Missing}

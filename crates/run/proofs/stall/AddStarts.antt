@@ -31,7 +31,7 @@ use Rattle.run.specs.AddEnds.{Ends}
 use Rattle.run.specs.Artificial.{artificial-ends}
 use Rattle.run.specs.AddMarks.{mark_added, created_of}
 use Rattle.run.specs.AddSteps.{created_ways, created-ends}
-use Rattle.run.specs.AddInv.{W, B, room}
+use Rattle.run.proofs.AddInv.{W, B, room}
 use Rattle.run.specs.stall.Stall.{optimising, PassStart, objective_pass, artificial_pass, add_passes}
 use Rattle.run.proofs.stall.Pass.{Starts}
 

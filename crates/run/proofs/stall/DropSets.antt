@@ -24,10 +24,10 @@ use Rattle.simplex.specs.bridge.Finds.{UpRows, find-hit, find-miss, find_none, f
 use Rattle.keeps.specs.Tested.{reads_in}
 use Rattle.keeps.specs.Groups.{Removable, group-removable, first_found, others-removable}
 use Rattle.run.specs.Demand.{Call, drops, make, after}
-use Rattle.run.specs.Drop.{removed-reads}
+use Rattle.run.proofs.Drop.{removed-reads}
 use Rattle.run.specs.RecutDrop.{Ending, refuses, accepts, stored-ending}
 use Rattle.run.specs.DropRows.{marker_gone, removal-rows}
-use Rattle.run.specs.Run.{after-reads}
+use Rattle.run.proofs.Run.{after-reads}
 use Rattle.run.specs.stall.Stall.{PassStart, moment, is_basic, objective_pass, remove_passes, drop_passes, passes_of, budget_of, NoReturn, Different, NoSetTwice, NeverReturns}
 use Rattle.run.proofs.stall.Moments.{rows_stay}
 use Rattle.run.proofs.stall.Pass.{Starts, Unmarred, moment-up}

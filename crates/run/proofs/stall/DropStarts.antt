@@ -14,7 +14,8 @@ use Rattle.keeps.specs.Tested.{reads_in}
 use Rattle.keeps.specs.Groups.{Removable, group-removable, first_found, others-removable}
 use Rattle.run.specs.Demand.{of_constraint, without, drops, make, Moment}
 use Rattle.run.specs.Inv.{Inv}
-use Rattle.run.specs.Drop.{onward-whole, none-whole, removed-inv, removed-reads}
+use Rattle.run.specs.Drop.{onward-whole, none-whole}
+use Rattle.run.proofs.Drop.{removed-inv, removed-reads}
 use Rattle.run.specs.RecutDrop.{Ending, refuses, accepts, stored-ending, remove_all-yes}
 use Rattle.run.specs.stall.Stall.{PassStart, remove_passes, drop_passes, passes_of}
 use Rattle.run.proofs.stall.Pass.{Starts, Unmarred}

@@ -13,10 +13,12 @@ use Rattle.simplex.specs.Tab.{pivoted}
 use Rattle.simplex.specs.Opt.{Kind as KindZ, external, slack}
 use Rattle.simplex.specs.Pass.{State, step, Good, Choice}
 use Rattle.simplex.specs.Cycle.{Flips}
-use Rattle.simplex.specs.Bland.{Pass, flips, no_return}
-use Rattle.simplex.specs.Bound.{Mem, pass-bound}
+use Rattle.simplex.specs.Bland.{Pass}
+use Rattle.simplex.proofs.Bland.{flips, no_return}
+use Rattle.simplex.specs.Bound.{Mem}
+use Rattle.simplex.proofs.Bound.{pass-bound}
 use Rattle.simplex.specs.Dual
-use Rattle.simplex.specs.Count.{dual-bound}
+use Rattle.simplex.proofs.Count.{dual-bound}
 use Rattle.simplex.specs.Search.{Asc}
 use Rattle.steps.specs.Number.{all_whole}
 use Rattle.steps.specs.Symbol.{Symbol}
@@ -26,8 +28,10 @@ use Rattle.steps.specs.Optimise.{Goal, the_objective, pivot_on}
 use Rattle.simplex.specs.bridge.Finds.{UpRows, none≢some, some-injective}
 use Rattle.simplex.specs.bridge.Table.{ReadsWork}
 use Rattle.simplex.specs.bridge.Looks.{Choose, pivots}
-use Rattle.simplex.specs.bridge.Duals.{Dual, moves, dual-is, dual-pivot}
-use Rattle.simplex.specs.bridge.Runs.{mark_of, ReadsGoal, counted-mark, view, turn_is, is-choice, is-good, reads_of, reads_on, count-reads, obj_of, art_of}
+use Rattle.simplex.specs.bridge.Duals.{Dual, moves}
+use Rattle.simplex.proofs.bridge.Duals.{dual-is, dual-pivot}
+use Rattle.simplex.specs.bridge.Runs.{mark_of, ReadsGoal, obj_of, art_of}
+use Rattle.simplex.proofs.bridge.Runs.{counted-mark, view, turn_is, is-choice, is-good, reads_of, reads_on, count-reads}
 use Rattle.run.specs.Steady.{pivot-kept}
 use Rattle.run.specs.Passes.{restricted_ids}
 use Rattle.run.specs.DropRows.{pivot-rows}

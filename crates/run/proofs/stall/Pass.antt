@@ -11,7 +11,8 @@ use Rattle.simplex.specs.Lin.{Vec}
 use Rattle.simplex.specs.Choose.{Distinct, trues}
 use Rattle.simplex.specs.Opt.{Kind as KindZ, const, external, slack}
 use Rattle.simplex.specs.Pass.{State}
-use Rattle.simplex.specs.Bound.{Mem, basics}
+use Rattle.simplex.specs.Bound.{Mem}
+use Rattle.simplex.proofs.Bound.{basics}
 use Rattle.simplex.specs.Search.{Asc}
 use Rattle.steps.specs.Number.{all_whole}
 use Rattle.steps.specs.Symbol.{Symbol}
@@ -19,7 +20,8 @@ use Rattle.steps.specs.Work.{Work}
 use Rattle.simplex.specs.bridge.Finds.{UpRows, none≢some}
 use Rattle.simplex.specs.bridge.Rows.{In}
 use Rattle.simplex.specs.bridge.Table.{ReadsWork}
-use Rattle.simplex.specs.bridge.Runs.{mark_of, ReadsGoal, obj_of, art_of, reads_of}
+use Rattle.simplex.specs.bridge.Runs.{mark_of, ReadsGoal, obj_of, art_of}
+use Rattle.simplex.proofs.bridge.Runs.{reads_of}
 use Rattle.run.specs.Passes.{ids_of, restricted_ids, ways_of, live-asc, live-cover, live_inside, live-once, live-basics, live-slacks}
 use Rattle.run.specs.stall.Stall.{Rule, optimising, dual, PassStart, outcome_of, moment, pivots_of, restricted_symbols, ways, NoReturn, Level, Fewer}
 use Rattle.run.proofs.stall.Turns.{moments}

@@ -16,7 +16,7 @@ use Rattle.steps.specs.Edit.{edit_terms}
 use Rattle.steps.specs.Tests.{find_constraint, find_edit, gone_full}
 use Rattle.steps.specs.Calls.{begin}
 use Rattle.steps.proofs.AfterRemove.{purge_tag-after}
-use Rattle.simplex.specs.bridge.Runs.{optimise-mark}
+use Rattle.simplex.proofs.bridge.Runs.{optimise-mark}
 use Rattle.run.specs.Demand.{Key, of_constraint, of_edit, Moment, removes, removes_edit}
 use Rattle.run.specs.Inv.{columns, Held, find_held, ConstraintAt, EditAt, Inv}
 use Rattle.run.specs.RemoveSteps.{first, Begun, begins, inside}

@@ -14,7 +14,7 @@ use Rattle.steps.specs.Work.{Work, Outcome, refused, going, refuse, check_finite
 use Rattle.steps.specs.Tests.{find_edit}
 use Rattle.steps.specs.Calls.{begin}
 use Rattle.simplex.specs.bridge.Rows.{In}
-use Rattle.simplex.specs.bridge.Runs.{dual-mark}
+use Rattle.simplex.proofs.bridge.Runs.{dual-mark}
 use Rattle.run.specs.Demand.{of_edit, Moment, suggests}
 use Rattle.run.specs.Inv.{columns, Held, find_held, EditedAs, EditAt, Inv}
 use Rattle.run.specs.Suggest.{work, delta, shifted-work, shifted-table, shifted-starts, shifted-kept}

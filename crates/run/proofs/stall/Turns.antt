@@ -10,7 +10,8 @@ use Rattle.steps.specs.Work.{Work, Outcome, refused, going, ◌>>=◌, refuse, c
 use Rattle.steps.specs.Substitute.{pivot}
 use Rattle.steps.specs.Optimise.{Choice, ended, stuck, pivot_on, choose_pivot, counted_pivot, optimise, choose_dual_pivot, dual_optimise}
 use Rattle.steps.proofs.After.{pivot-after}
-use Rattle.simplex.specs.bridge.Runs.{mark_of, counted-one, optimise-mark, dual-mark}
+use Rattle.simplex.specs.bridge.Runs.{mark_of}
+use Rattle.simplex.proofs.bridge.Runs.{counted-one, optimise-mark, dual-mark}
 use Rattle.run.specs.stall.Stall.{Rule, optimising, dual, chosen, outcome_by, goes_on, turn, later, pivots_from, refusal_of}
 
 -- a pivot that is made, or is refused for a number that is not finite

@@ -19,9 +19,9 @@ use Rattle.simplex.specs.bridge.Finds.{none≢some}
 use Rattle.run.specs.Demand.{of_constraint, of_edit, Call, resets, fetches, adds, removes, drops, adds_edit, removes_edit, suggests, make, Moment, after}
 use Rattle.run.specs.Inv.{Inv}
 use Rattle.run.specs.AddMarks.{mark_added, whole-steps}
-use Rattle.run.specs.Add.{passed, not-above, ids-left, added-whole}
-use Rattle.run.specs.Run.{after-reads, inv-before, marked-numbers}
-use Rattle.run.specs.AddEdit.{clip-up, whole-strength, one-term}
+use Rattle.run.proofs.Add.{passed, not-above, ids-left, added-whole}
+use Rattle.run.proofs.Run.{after-reads, inv-before, marked-numbers}
+use Rattle.run.proofs.AddEdit.{clip-up, whole-strength, one-term}
 use Rattle.run.specs.stall.Stall.{PassStart, add_passes, passes_of, budget_of, Demand3, NeverStalls}
 use Rattle.run.proofs.stall.Pass.{Starts}
 use Rattle.run.proofs.stall.Calls.{unmarred, demand-3}

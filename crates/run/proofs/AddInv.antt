@@ -33,7 +33,7 @@ use Rattle.run.specs.BuildRow.{built}
 use Rattle.run.specs.AddEnds.{Unmet, ArtificialEnds}
 use Rattle.run.specs.AddMarks.{mark_added, created_of, placed_and_rested, WholeSteps, whole-steps}
 use Rattle.run.specs.AddSteps.{Finished, Final, final}
-use Rattle.run.specs.AtRest.{whole-terms}
+use Rattle.run.proofs.AtRest.{whole-terms}
 
 -- a key that is not found is no one's
 pub held_none : (k : Key) (hs : List Held) → find_held k hs ≡ none → All (λ (g : Held). same_key k g.demand.key ≡ false) hs

@@ -4,7 +4,8 @@ use Rattle.std.proofs.Common.{arith}
 use Rattle.simplex.specs.Choose.{choose, trues, All, Distinct}
 use Rattle.simplex.specs.Opt.{Kind, external}
 use Rattle.simplex.specs.Pass.{State}
-use Rattle.simplex.specs.Bound.{Mem, bound}
+use Rattle.simplex.specs.Bound.{Mem}
+use Rattle.simplex.proofs.Bound.{bound}
 use Rattle.simplex.specs.Search.{Asc}
 use Rattle.simplex.specs.Dual
 

@@ -22,14 +22,14 @@ use Rattle.steps.specs.Readable.{readable}
 use Rattle.keeps.specs.Keeps.{empty-reads, reset-reads, add_reads, remove-reads, drop-reads, add_edit-reads, remove_edit-reads, suggest-reads, fetch-reads}
 use Rattle.run.specs.Demand.{Call, resets, fetches, adds, removes, drops, adds_edit, removes_edit, suggests, make, accepted, live_after, Moment, next, start, after, Whole, Best, None}
 use Rattle.run.specs.Inv.{Inv}
-use Rattle.run.specs.AtRest.{at_rest}
+use Rattle.run.proofs.AtRest.{at_rest}
 use Rattle.run.specs.Start.{start-inv, reset-inv, fetch-inv}
 use Rattle.run.specs.Artificial.{artificial-ends}
-use Rattle.run.specs.Add.{add-inv, add-12, add-15}
-use Rattle.run.specs.AddEdit.{addEdit-inv, addEdit-12, addEdit-15}
+use Rattle.run.proofs.Add.{add-inv, add-12, add-15}
+use Rattle.run.proofs.AddEdit.{addEdit-inv, addEdit-12, addEdit-15}
 use Rattle.run.specs.Remove.{remove-inv, remove_edit-inv, remove-refusals, remove_edit-refusals}
-use Rattle.run.specs.Drop.{drop-inv, drop-refusals}
-use Rattle.run.specs.Suggested.{suggest-inv, suggest-16}
+use Rattle.run.proofs.Drop.{drop-inv, drop-refusals}
+use Rattle.run.proofs.Suggested.{suggest-inv, suggest-16}
 
 -- ---- each call keeps what a run rests on
 

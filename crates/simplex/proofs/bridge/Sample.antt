@@ -25,7 +25,8 @@ use Rattle.simplex.specs.bridge.Nums.{zero64-z, minus_one64-z}
 use Rattle.simplex.specs.bridge.Rows.{NotIn, ReadsRow, Sym?, is, isnt, sym?}
 use Rattle.simplex.specs.bridge.Finds.{find-hit, find-miss, find_none}
 use Rattle.simplex.specs.bridge.Table.{RowAt, ReadsWork}
-use Rattle.simplex.specs.bridge.Runs.{mark_of, Ran, run}
+use Rattle.simplex.specs.bridge.Runs.{mark_of, Ran}
+use Rattle.simplex.proofs.bridge.Runs.{run}
 
 unfoldable three : Float
 three = of_bits binary64 0x4008_0000_0000_0000

@@ -30,8 +30,8 @@ use Rattle.run.specs.Suggest.{unchanged}
 use Rattle.run.specs.Inputs.{z-whole, required-z}
 use Rattle.run.specs.AddEnds.{ArtificialEnds}
 use Rattle.run.specs.AddMarks.{created_of, whole-steps}
-use Rattle.run.specs.AddInv.{W, none-meet, after-add}
-use Rattle.run.specs.Add.{passed, refused-by, ids-left, added-whole, steps-whole, kept-inv, unmet-12, step-number}
+use Rattle.run.proofs.AddInv.{W, none-meet, after-add}
+use Rattle.run.proofs.Add.{passed, refused-by, ids-left, added-whole, steps-whole, kept-inv, unmet-12, step-number}
 
 -- ---- a clipped strength
 zero-up : below_zero zero64 ≡ false

@@ -31,7 +31,8 @@ use Rattle.keeps.specs.Keeps.{empty-reads, reset-reads, add_reads, remove-reads,
 use Rattle.keeps.specs.suffices.Numbers.{Is, is-refl, is-sym, is-trans}
 use Rattle.keeps.specs.suffices.Fresh.{held, Fresh}
 use Rattle.keeps.specs.suffices.Calls.{Informed, made-informed}
-use Rattle.keeps.specs.suffices.Listing.{outcome, takes-merged, news_at, listed-news, told_by, told-found, mapped, find-map}
+use Rattle.keeps.specs.suffices.Listing.{outcome, news_at, told_by, mapped}
+use Rattle.keeps.proofs.suffices.Listing.{takes-merged, listed-news, told-found, find-map}
 use Rattle.keeps.specs.suffices.Reader.{Reader, nothing, takes_all, holds, Follows, starts, resets, calls, fetches, Agrees, Suffices}
 
 -- what holds between calls

@@ -39,7 +39,8 @@ use Rattle.run.specs.Inv.{non_zero_terms, columns, Held, expr_of, form_of, other
 use Rattle.keeps.specs.Lookup.{find-keep-same, find-keep-other, find-drop-same, find-drop-other}
 use Rattle.run.specs.Vars.{Same, same_kept, at_same, known_same, known-back}
 use Rattle.run.specs.Perm.{without_held, found-key, own_key}
-use Rattle.run.specs.Refit.{with_expr, models-expr, expr-less, moved_held, moved-own, moved_other, live_moved, MovedAt, find-moved, out-moved, once-moved, models-back}
+use Rattle.run.specs.Refit.{with_expr, moved_held, MovedAt}
+use Rattle.run.proofs.Refit.{models-expr, expr-less, moved-own, moved_other, live_moved, find-moved, out-moved, once-moved, models-back}
 use Rattle.run.specs.Inputs.{whole-within, z-whole}
 use Rattle.run.specs.Passes.{other-artificial}
 use Rattle.run.specs.Suggest.{unchanged, changed, soft, shape, o, expr, weight, others, grown, new-constant, Reached, Comes, steps-come}

@@ -25,9 +25,11 @@ use Rattle.steps.specs.State.{Basic}
 use Rattle.steps.specs.Work.{Work, marking, with_tableau, find_row, keep_row, append_symbol}
 use Rattle.steps.specs.Substitute.{substitute_in_row, substitute_in_cells, substitute_in_rows, rows_of, marks_of, enter_basis}
 use Rattle.simplex.specs.bridge.Nums.{worse-l, worse-r, zero64-z, stored-z}
-use Rattle.simplex.specs.bridge.Rows.{Reads, NotIn, In, Up, Outside, Sym?, is, isnt, sym?, zb-to, ReadsRow, row-to, reads-to, cleared, Whole, solveForSymbol-z, substitute_in_row-z, substitute_in_cells-z, insert_row-z, insert_symbol_in_row-z}
+use Rattle.simplex.specs.bridge.Rows.{Reads, NotIn, In, Up, Outside, Sym?, is, isnt, sym?, zb-to, ReadsRow, reads-to, cleared, Whole}
+use Rattle.simplex.proofs.bridge.Rows.{row-to, solveForSymbol-z, substitute_in_row-z, substitute_in_cells-z, insert_row-z, insert_symbol_in_row-z}
 use Rattle.simplex.specs.bridge.Finds.{UpRows, find-hit, find-miss, find_none, find-keep-same, find-keep-other, after-sub, find-sub, find-mark, sub-up, sub-all, keep-up, keep_all}
-use Rattle.simplex.specs.bridge.Table.{kind_of, RowAt, ArtAt, Live, ReadsTable, ReadsWork, in-above, in-nonzero, art-mark, Parts, enter-parts, clash-bool, moved}
+use Rattle.simplex.specs.bridge.Table.{kind_of, RowAt, ArtAt, Live, ReadsTable, ReadsWork, in-above, in-nonzero, art-mark, Parts}
+use Rattle.simplex.proofs.bridge.Table.{enter-parts, clash-bool, moved}
 
 -- ---- a row enters: s reads as "the equation r, solved for e"
 module _ (kind : ℕ → KindZ) (cut : Float) (xs : List Symbol) (bs : List Basic) (cs : List Float) (art : Option Row) (B : Mask) (R : ℕ → Vec) (o a : Vec) (H : ReadsTable kind cut xs bs cs art B R o a)

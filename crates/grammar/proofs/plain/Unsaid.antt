@@ -8,16 +8,17 @@ use Rattle.grammar.specs.Sums.{Relation, at_most, equal, at_least, Term, reads, 
 use Rattle.grammar.specs.Trees.{mark_of}
 use Rattle.grammar.specs.Says.{NoneZero}
 use Rattle.grammar.specs.Pieces.{both}
-use Rattle.grammar.specs.Facts.{never}
+use Rattle.grammar.proofs.Facts.{never}
 use Rattle.grammar.specs.Names.{Named}
 use Rattle.grammar.specs.edition.Endings.{required, is_group, Constraint, taken, denied, ranged, behind}
 use Rattle.grammar.specs.edition.Free.{and_both}
 use Rattle.grammar.specs.edition.Steps.{read_second}
-use Rattle.grammar.specs.edition.Theorems.{accepts, second-named}
+use Rattle.grammar.proofs.edition.Theorems.{accepts, second-named}
 use Rattle.grammar.specs.plain.Decimal.{decimal_in, decimal}
 use Rattle.grammar.specs.plain.Plain.{is_negative, first_sign, next_sign, term_text, next_text, constant_text, sum_text, ending_text, plain_text, term_said, terms_said, sayable, wrote, refused, room, write_line}
 use Rattle.grammar.specs.plain.Said.{ascended}
-use Rattle.grammar.specs.plain.Theorems.{Says, says, said, plain-reads}
+use Rattle.grammar.specs.plain.Theorems.{Says}
+use Rattle.grammar.proofs.plain.Theorems.{says, said, plain-reads}
 
 -- ---- what a line says can be said
 

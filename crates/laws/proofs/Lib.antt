@@ -1,0 +1,2 @@
+-- Theorems on definitions of specs/: where an edit of a definition is tried, they are what refuses it.
+pub mod streams
