@@ -1,4 +1,4 @@
-// The terms that a caller hands in: a lent list of records, gathered into a pack that goes by value. `term_at` and `collect` have a `&[Term]` and are proved by hand.
+// The terms that a caller hands in: a lent list of records, gathered into a pack that goes by value.
 ghost use Rattle.std.specs.Prelude.{◌≡◌, ◌<◌, ◌≤◌, length, get_or};
 ghost use Rattle.layout.specs.Copy.{most16};
 ghost use Rattle.layout.specs.Layout.{term_room};
