@@ -6,6 +6,5 @@ pub mod Again
 pub mod Drops
 pub mod Public
 pub mod Runs
-pub mod Never
 pub mod Told
 pub mod layouts

@@ -1,5 +1,5 @@
 -- What the contracts of the public calls give, over any tables and any working room; that a changing call leaves tables that read as a state is the crate `solver`'s. Assumes nothing.
-use Rattle.std.specs.Prelude.{ℕ, ◌≤◌, ◌≡◌, refl, ◌≢◌, Bool, cond, Float}
+use Rattle.std.specs.Prelude.{◌≤◌, ◌≡◌, refl, ◌≢◌, Bool, cond, Float}
 use Rattle.std.proofs.Common.{sym, ◌∙◌, arith}
 use Rattle.std.proofs.Math.Path.{ap}
 use Rattle.std.proofs.Math.Bool.{true, false}

@@ -1,5 +1,5 @@
 -- The calls over the four dense tables: the test for 18, a changing call, a reset, a fetch. They are older than the choice of a cutoff, than groups and than gone entries: their cutoff is the usual one, their constraints are in group 1, and none waits.
-use Rattle.std.specs.Prelude.{ℕ, ◌+◌, Bool, true, ◌&&◌, cond, List, [], leb, Float, length, get_or, replicate}
+use Rattle.std.specs.Prelude.{ℕ, ◌+◌, Bool, ◌&&◌, cond, List, [], leb, Float, length, get_or, replicate}
 use Rattle.laws.specs.Lists.{all_in}
 use Rattle.steps.specs.Number.{zero64, usual_cutoff}
 use Rattle.steps.specs.State.{State}

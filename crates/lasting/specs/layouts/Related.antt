@@ -1,6 +1,6 @@
 -- One relation that every call keeps: dense and sparse tables that read as the same state, or neither as one. Dense tables have no place for a cutoff, a group or a gone entry, so both have the usual cutoff, constraints of group 1 alone and no gone entry that waits.
 -- Assumes nothing.
-use Rattle.std.specs.Prelude.{ℕ, zero, suc, ◌+◌, ◌≡◌, Bool, ◌&&◌, cond, List, [], ◌∷◌, get_or}
+use Rattle.std.specs.Prelude.{ℕ, zero, suc, ◌+◌, ◌≡◌, Bool, cond, List, [], ◌∷◌, get_or}
 use Rattle.std.proofs.Math.Path.{refl, ap}
 use Rattle.std.proofs.Common.{sym, ◌∙◌, subst}
 use Rattle.std.proofs.Math.Bool.{true, false}
@@ -10,7 +10,7 @@ use Rattle.laws.specs.Lists.{laid}
 use Rattle.steps.specs.Number.{usual_cutoff}
 use Rattle.steps.specs.State.{Constraint, State}
 use Rattle.steps.specs.Changes.{Change, clear_changed, merged, fetch_changes}
-use Rattle.steps.specs.Calls.{Result, reset, empty}
+use Rattle.steps.specs.Calls.{empty}
 use Rattle.steps.specs.Changing.{Changing, made}
 use Rattle.steps.specs.Readable.{readable}
 use Rattle.steps.specs.Cutoffs.{usual-fits}

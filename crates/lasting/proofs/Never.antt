@@ -14,7 +14,8 @@ use Rattle.keeps.specs.Never.{never-25}
 use Rattle.sparse.specs.Sparse.{Sparse}
 use Rattle.sparse.specs.Fits.{Lengths}
 use Rattle.run.specs.Demand.{Call, resets, fetches, adds, removes, drops, adds_edit, removes_edit, suggests, make, next, start, after}
-use Rattle.lasting.specs.Runs.{Step, Lent, call_of_step, calls_of, answers, tables-answer}
+use Rattle.lasting.specs.Runs.{Step, Lent, call_of_step, calls_of, answers}
+use Rattle.lasting.proofs.Runs.{tables-answer}
 
 run-make : (c : Call) (s : State) → keeps.Run s → keeps.Run (make c s).state
 unfolding make
