@@ -13,7 +13,7 @@ use Rattle.steps.specs.Changes.{Change, with_flag, news_of, merged, reported, fe
 use Rattle.steps.specs.Readable.{ascend, all, gone_fits}
 use Rattle.keeps.specs.Clauses.{and3, clauses-in}
 use Rattle.layout.specs.Layout.{bit_of, over}
-use Rattle.layout.specs.Copied.{length-listOf}
+use Rattle.layout.proofs.Copied.{length-listOf}
 use Rattle.sparse.specs.Places.{should_clear_at, gone_count_at, gone_numbers_at, changed_at, old_values_at, most_gone}
 use Rattle.sparse.specs.Lookup.{Ascends}
 use Rattle.sparse.specs.Sparse.{Sparse, variable_count, gone_count, variable_of, gone_of, read}

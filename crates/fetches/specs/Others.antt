@@ -14,7 +14,7 @@ use Rattle.steps.specs.Readable.{kind_code}
 use Rattle.layout.specs.Layout.{bit_of, comparison_code, over}
 use Rattle.layout.specs.Laying.{laid_nil}
 use Rattle.layout.specs.Relaid.{put-set}
-use Rattle.layout.specs.Copied.{length-listOf}
+use Rattle.layout.proofs.Copied.{length-listOf}
 use Rattle.layout.specs.cells.Names.{last_place}
 use Rattle.layout.specs.cells.Seek.{first-within}
 use Rattle.sparse.specs.Places.{most_variables, most_constraints, next_id_at, should_clear_at, gone_count_at, ids_at, variable_numbers_at, variable_uses_at, constraint_numbers_at, constraint_groups_at, gone_numbers_at, kinds_at, row_places_at, variable_places_at, changed_at, constraint_markers_at, constraint_others_at, term_counts_at, edit_variables_at, edit_markers_at, edit_others_at, terms_at, relations_at, constants_at, old_values_at, objective_at, cutoff_at, constraint_strengths_at, edit_strengths_at, suggestions_at, coefficients_at, constraint_constants_at}
@@ -22,7 +22,7 @@ use Rattle.sparse.specs.Sparse.{Sparse, symbols_of, read}
 use Rattle.sparse.specs.Stretches.{Stretch, from, lay}
 use Rattle.sparse.specs.Write.{no_variable, place_of, other_place, index_of, number_place, all_terms, laid_of, heading_of, words_of, bytes_of, reals_of, write}
 use Rattle.sparse.specs.Form.{Form}
-use Rattle.sparse.specs.Written.{write_read}
+use Rattle.sparse.proofs.Written.{write_read}
 use Rattle.fetches.specs.Anew.{Above, Below, lay-anew, lay-under, over-there}
 
 map_same : {A B : Type 0} (g h : A → B) → ((x : A) → g x ≡ h x) → (l : List A) → map g l ≡ map h l

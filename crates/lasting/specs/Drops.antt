@@ -10,7 +10,7 @@ use Rattle.steps.specs.Tests.{first_refusal, group_of, drop_tests}
 use Rattle.steps.specs.Calls.{Result, refused_by, remove_stored, onward, remove_all, all_or_none, drop_group}
 use Rattle.steps.specs.Changing.{drops}
 use Rattle.sparse.specs.Sparse.{Sparse, read}
-use Rattle.sparse.specs.Written.{write_read}
+use Rattle.sparse.proofs.Written.{write_read}
 use Rattle.sparse_test.specs.Reads.{reads}
 use Rattle.sparse_test.specs.Meaning.{reads-form}
 use Rattle.lending.specs.Lending.{called, call_in, call_of}

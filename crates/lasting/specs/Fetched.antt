@@ -9,7 +9,7 @@ use Rattle.steps.specs.Changes.{Change, gone_entry, fetch_changes}
 use Rattle.keeps.specs.Tested.{reads_in}
 use Rattle.layout.specs.Layout.{bit_of, over}
 use Rattle.layout.specs.Laying.{get_d_map}
-use Rattle.layout.specs.Back.{bit-back, first-at}
+use Rattle.layout.proofs.Back.{bit-back, first-at}
 use Rattle.sparse.specs.Sparse.{Sparse, read}
 use Rattle.sparse_test.specs.Meaning.{reads-readable}
 use Rattle.fetches.specs.Fetch.{numbers_of, values_of, flags_of, Fetch, fetch_of, fetch_in, places}

@@ -16,7 +16,7 @@ use Rattle.sparse_test.specs.zeros.PlainCalls.{empty-plain, fetch-plain}
 use Rattle.sparse.specs.Sparse.{Sparse, read}
 use Rattle.sparse.specs.Fits.{Lengths}
 use Rattle.sparse.specs.Write.{write}
-use Rattle.sparse.specs.Written.{write_read}
+use Rattle.sparse.proofs.Written.{write_read}
 use Rattle.sparse_test.specs.Reads.{reads}
 use Rattle.sparse_test.specs.Meaning.{reads-form, reads-readable}
 use Rattle.lending.specs.Lending.{Called, called, refused18, call_in, call_of}

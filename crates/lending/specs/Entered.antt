@@ -15,7 +15,7 @@ use Rattle.sparse.specs.Fits.{Lengths}
 use Rattle.sparse.specs.Form.{index_at, Form}
 use Rattle.sparse.specs.Copy.{put_over}
 use Rattle.sparse.specs.Agree.{Agree}
-use Rattle.sparse.specs.Copied.{copy-agrees, copy-reads, copy-form, copy-lengths}
+use Rattle.sparse.proofs.Copied.{copy-agrees, copy-reads, copy-form, copy-lengths}
 use Rattle.lending.specs.sparse_copy.Over.{cleared}
 use Rattle.sparse_test.specs.Reads.{reads}
 use Rattle.sparse_test.specs.Meaning.{reads-form}

@@ -9,7 +9,7 @@ use Rattle.sparse.specs.Sparse.{Sparse, read}
 use Rattle.sparse.specs.Write.{write}
 use Rattle.sparse.specs.Form.{Form, Counts}
 use Rattle.sparse.specs.Copy.{put_over}
-use Rattle.sparse.specs.Written.{written_is, write_read}
+use Rattle.sparse.proofs.Written.{written_is, write_read}
 use Rattle.sparse_test.specs.Reads.{reads}
 use Rattle.sparse_test.specs.Meaning.{reads-form}
 use Rattle.lending.specs.declared.Answer as code

@@ -16,7 +16,7 @@ use Rattle.sparse.specs.Sparse.{Sparse, read}
 use Rattle.sparse.specs.Stretches.{lay}
 use Rattle.sparse.specs.Laying.{rows_laid}
 use Rattle.sparse.specs.Write.{laid_of, heading_of, words_of, bytes_of, reals_of, write}
-use Rattle.sparse.specs.Written.{write_read}
+use Rattle.sparse.proofs.Written.{write_read}
 use Rattle.sparse_test.specs.Reads.{reads}
 use Rattle.sparse_test.specs.Meaning.{reads-form}
 use Rattle.sparse_test.specs.Asked.{asked}

@@ -14,7 +14,7 @@ use Rattle.std.specs.Float.Ieee.{ne}
 use Rattle.std.proofs.Math.ListN.{get_or}
 use Rattle.laws.specs.Lists.{tab, list_of, sum_from, sum_in}
 use Rattle.layout.specs.Layout.{bit_of}
-use Rattle.layout.specs.Copied.{length-listOf}
+use Rattle.layout.proofs.Copied.{length-listOf}
 use Rattle.steps.specs.State.{Term, Constraint, Variable, State}
 use Rattle.steps.specs.Changes.{never_reported}
 use Rattle.steps.specs.Edit.{edit_terms}

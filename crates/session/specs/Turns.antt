@@ -17,7 +17,7 @@ use Rattle.keeps.specs.Tested.{reads_in}
 use Rattle.layout.specs.Layout.{bit_of, over}
 use Rattle.sparse.specs.Sparse.{Sparse, read}
 use Rattle.sparse.specs.Write.{write}
-use Rattle.sparse.specs.Written.{write_read}
+use Rattle.sparse.proofs.Written.{write_read}
 use Rattle.sparse_test.specs.Reads.{reads}
 use Rattle.sparse_test.specs.Meaning.{reads-form, reads-readable}
 use Rattle.sparse_test.specs.Asked.{asked}

@@ -10,7 +10,7 @@ use Rattle.std.specs.Float.Ieee.{nan}
 use Rattle.std.proofs.Math.ListN.{get_or}
 use Rattle.laws.specs.Lists.{tab, tab-ext, getD-tab, list_of}
 use Rattle.layout.specs.Laying.{list_ext, get_d_map}
-use Rattle.layout.specs.Copied.{length-listOf, getD-listOf}
+use Rattle.layout.proofs.Copied.{length-listOf, getD-listOf}
 use Rattle.steps.specs.State.{Variable}
 use Rattle.steps.specs.Changes.{with_flag, clear_changed}
 use Rattle.keeps.specs.Good.{clear-length}

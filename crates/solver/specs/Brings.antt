@@ -6,8 +6,8 @@ use Rattle.std.proofs.Common.{sym, ◌∙◌, zero-add, arith, eq-eqb, ne_eqb}
 use Rattle.laws.specs.Lists.{sum_in, list_of, getD-tab}
 use Rattle.steps.specs.Number.{zero64}
 use Rattle.layout.specs.Layout.{comparison_in, comparison_code, term_room}
-use Rattle.layout.specs.Back.{comparison-back}
-use Rattle.layout.specs.Copied.{comparison-small}
+use Rattle.layout.proofs.Back.{comparison-back}
+use Rattle.layout.proofs.Copied.{comparison-small}
 use Rattle.steps.specs.State.{Comparison, Constraint, Edit, State}
 use Rattle.steps.specs.Tests.{keep_constraint, drop_constraint, keep_edit, drop_edit}
 use Rattle.steps.specs.Readable.{readable}

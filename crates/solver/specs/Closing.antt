@@ -15,8 +15,8 @@ use Rattle.steps.specs.Calls.{finish}
 use Rattle.steps.specs.Readable.{readable}
 use Rattle.keeps.specs.Tested.{reads_in}
 use Rattle.layout.specs.Layout.{bit_of}
-use Rattle.layout.specs.Back.{bit-back}
-use Rattle.layout.specs.Copied.{bit-small, length-listOf}
+use Rattle.layout.proofs.Back.{bit-back}
+use Rattle.layout.proofs.Copied.{bit-small, length-listOf}
 use Rattle.layout.specs.cells.Names.{cell_room}
 use Rattle.layout.specs.cells.Cells.{Present}
 use Rattle.waist.specs.merging.Merge.{Placed}

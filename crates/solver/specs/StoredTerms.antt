@@ -11,7 +11,7 @@ use Rattle.laws.specs.Loops.{turns, run}
 use Rattle.laws.specs.Lists.{list_of, tab-ext}
 use Rattle.steps.specs.Number.{near_zero}
 use Rattle.layout.specs.Copy.{most16}
-use Rattle.layout.specs.Copied.{length-listOf}
+use Rattle.layout.proofs.Copied.{length-listOf}
 use Rattle.layout.specs.Layout.{term_room}
 use Rattle.rows.specs.places.Listed.{map-list}
 use Rattle.rows.specs.places.Finding.{place_in}

@@ -10,7 +10,7 @@ use Rattle.steps.specs.State.{Term, Basic, Variable, Constraint, Edit, State}
 use Rattle.steps.specs.Readable.{kind_code}
 use Rattle.layout.specs.Layout.{bit_of, comparison_in, comparison_code}
 use Rattle.layout.specs.Laying.{get_d_map}
-use Rattle.layout.specs.Back.{comparison-back}
+use Rattle.layout.proofs.Back.{comparison-back}
 use Rattle.sparse.specs.Places.{ids_at, variable_numbers_at, variable_uses_at, constraint_numbers_at, constraint_groups_at, gone_numbers_at, kinds_at, row_places_at, variable_places_at, changed_at, constraint_markers_at, constraint_others_at, term_counts_at, edit_variables_at, edit_markers_at, edit_others_at, terms_at, relations_at, constants_at, old_values_at, objective_at, cutoff_at, constraint_strengths_at, edit_strengths_at, suggestions_at, coefficients_at, constraint_constants_at, words_size, bytes_size, reals_size}
 use Rattle.sparse.specs.Sparse.{Sparse}
 use Rattle.sparse.specs.Stretches.{Within, lay-in}

@@ -8,12 +8,9 @@ pub mod Laying
 pub mod Write
 pub mod Fits
 pub mod Elements
-pub mod ReadBack
 pub mod Repack
-pub mod HeldLaid
 pub mod Form
 pub mod Copy
 pub mod Written
 pub mod Agree
-pub mod Copied
 pub mod lengths

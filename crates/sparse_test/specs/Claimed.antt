@@ -12,7 +12,7 @@ use Rattle.std.proofs.Math.ListN.{length, get_or-eq_default}
 use borrow.Author.Tests.{eqb-true, eqb-false, eq-eqb, leb-true, le-leb, ltb-true, ltb-false}
 use Rattle.laws.specs.Lists.{list_of}
 use Rattle.layout.specs.Laying.{list_ext}
-use Rattle.layout.specs.Copied.{length-listOf, getD-listOf}
+use Rattle.layout.proofs.Copied.{length-listOf, getD-listOf}
 use Rattle.steps.specs.Readable as steps
 use Rattle.keeps.specs.Lists.{All, all-to}
 use Rattle.layout.specs.cells.Names.{last_place, place_room}

@@ -13,7 +13,7 @@ use Rattle.std.proofs.Math.ListN.{length, get_or}
 use borrow.Author.Tests.{eqb-true, eq-eqb, leb-true, le-leb}
 use Rattle.laws.specs.Lists.{all_in}
 use Rattle.layout.specs.Rooms.{both}
-use Rattle.layout.specs.Copied.{length-listOf}
+use Rattle.layout.proofs.Copied.{length-listOf}
 use Rattle.layout.specs.Layout.{comparison_in}
 use Rattle.steps.specs.Strength.{required}
 use Rattle.steps.specs.Tests.{member}

@@ -9,7 +9,7 @@ use Rattle.std.specs.Float.Ieee.{ne}
 use Rattle.std.proofs.Math.ListN.{get_or}
 use borrow.Author.Tests.{leb-true, le-leb, ltb-true, lt-ltb}
 use Rattle.layout.specs.Rooms.{both}
-use Rattle.layout.specs.Copied.{length-listOf}
+use Rattle.layout.proofs.Copied.{length-listOf}
 use Rattle.steps.specs.Number.{zero64}
 use Rattle.steps.specs.State.{Constraint, Edit}
 use Rattle.steps.specs.Readable as steps

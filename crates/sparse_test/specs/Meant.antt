@@ -13,7 +13,7 @@ use Rattle.std.proofs.Math.ListN.{get_or}
 use borrow.Author.Tests.{le-leb, lt-ltb}
 use Rattle.laws.specs.Lists.{list_of, length-tab}
 use Rattle.layout.specs.Rooms.{both}
-use Rattle.layout.specs.Copied.{length-listOf}
+use Rattle.layout.proofs.Copied.{length-listOf}
 use Rattle.steps.specs.Number.{is_finite, cutoff_fits}
 use Rattle.steps.specs.Symbol.{is_external}
 use Rattle.steps.specs.State.{Variable, Constraint, Edit}

@@ -23,7 +23,8 @@ use Rattle.rows.specs.places.Shares.{finite_in}
 use Rattle.sparse.specs.Places.{variable_numbers_at, constraint_groups_at, gone_numbers_at, kinds_at, variable_places_at, constraint_markers_at, constraint_others_at, edit_markers_at, edit_others_at, old_values_at, constraint_strengths_at, edit_strengths_at, suggestions_at, coefficients_at, constraint_constants_at}
 use Rattle.sparse.specs.Lookup.{place_from}
 use Rattle.sparse.specs.Sparse.{Sparse, variable_count, constraint_count, edit_count, gone_count, gone_of, symbol_at, other_at, variable_of, terms_from, constraint_of, edit_of, read}
-use Rattle.sparse.specs.Written.{term_at, terms-are}
+use Rattle.sparse.specs.Written.{term_at}
+use Rattle.sparse.proofs.Written.{terms-are}
 use Rattle.sparse_test.specs.Stretch.{ascend_in, above_zero_in}
 use Rattle.sparse_test.specs.Tested.{kind_at, externals_in, tag_of_kinds, tags_fit, markers_fit, errors_in, olds_fit, returned_fit}
 

@@ -6,7 +6,7 @@ use Rattle.std.proofs.Math.Nat.{sub-zero}
 use Rattle.std.proofs.lemmas.Bool.{eqb-false}
 use Rattle.laws.specs.Loops.{run, turns}
 use Rattle.laws.specs.Lists.{tab, list_of}
-use Rattle.layout.specs.Copied.{length-listOf}
+use Rattle.layout.proofs.Copied.{length-listOf}
 use Rattle.rows.specs.places.Spent.{count_of}
 use Rattle.sparse.specs.Places.{most_terms}
 use Rattle.sparse_test.specs.Tested.{index_in, tally, count_uses, no_uses}

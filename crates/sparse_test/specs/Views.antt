@@ -10,7 +10,7 @@ use Rattle.std.proofs.Math.Option.{none, some}
 use Rattle.std.proofs.Math.ListN.{get_or}
 use Rattle.laws.specs.Lists.{tab, list_of}
 use Rattle.layout.specs.Laying.{list_ext}
-use Rattle.layout.specs.Copied.{length-listOf}
+use Rattle.layout.proofs.Copied.{length-listOf}
 use Rattle.steps.specs.Symbol.{Symbol}
 use Rattle.steps.specs.State.{Term, Tag, Basic, Variable, Constraint, Edit}
 use Rattle.steps.specs.Edit.{edit_terms}
@@ -18,7 +18,8 @@ use Rattle.steps.specs.Readable as steps
 use Rattle.rows.specs.places.Listed.{map-list}
 use Rattle.sparse.specs.Places.{ids_at, variable_numbers_at, constraint_numbers_at, row_places_at, variable_places_at, constraint_markers_at, constraint_others_at, edit_variables_at, edit_markers_at, edit_others_at, terms_at}
 use Rattle.sparse.specs.Sparse.{Sparse, symbol_count, row_count, variable_count, constraint_count, edit_count, symbol_at, other_at, number_at, variable_of, terms_from, constraint_of, edit_of, basic_of, symbols_of, basics_of, read}
-use Rattle.sparse.specs.Written.{part-is, term_at, terms-are}
+use Rattle.sparse.specs.Written.{term_at}
+use Rattle.sparse.proofs.Written.{part-is, terms-are}
 
 module _ {A B : Type 0} where
   pub map-append : (f : A → B) (l m : List A) → map f (l ++ m) ≡ map f l ++ map f m

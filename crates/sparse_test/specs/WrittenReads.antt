@@ -7,7 +7,7 @@ use Rattle.std.proofs.Math.Option.{Option, none, some}
 use native.Mathlib.Omega.{arith}
 use Rattle.std.proofs.Math.ListN.{length, get_or, length-map}
 use borrow.Author.Tests.{le-leb, lt-ltb}
-use Rattle.layout.specs.Copied.{bit-small, comparison-small}
+use Rattle.layout.proofs.Copied.{bit-small, comparison-small}
 use Rattle.steps.specs.Symbol.{Kind, External, Slack, Error, Dummy, Symbol}
 use Rattle.steps.specs.State.{Basic, Variable, Constraint, State}
 use Rattle.steps.specs.Readable.{kind_code, readable}
@@ -22,11 +22,11 @@ use Rattle.sparse.specs.Places.{kinds_at, row_places_at, variable_numbers_at, co
 use Rattle.sparse.specs.Sparse.{Sparse, symbol_count, row_count, cell_count, variable_count, constraint_count, edit_count, gone_count, terms_from}
 use Rattle.sparse.specs.Concat.{sum-ext, sum-in, concat-length}
 use Rattle.sparse.specs.Repack.{Held}
-use Rattle.sparse.specs.HeldLaid.{rows-held, rows-size}
+use Rattle.sparse.proofs.HeldLaid.{rows-held, rows-size}
 use Rattle.sparse.specs.Write.{no_symbol, no_basic, no_variable, no_term, no_constraint, no_edit, place_of, other_place, index_of, number_place, all_terms, cells_of, laid_of, heading_of, write}
 use Rattle.sparse.specs.Fits.{Lengths, Live, LiveOther, Fits}
 use Rattle.sparse.specs.Elements.{heading-back, number-back, constraint-number, gone-back, kind-laid, row-place, variable-place, changed-back, marker-place, other_place_lem, count-back, edit-variable, plus-place, minus-place, term-place, relation-laid}
-use Rattle.sparse.specs.ReadBack.{read-write}
+use Rattle.sparse.proofs.ReadBack.{read-write}
 use Rattle.sparse.specs.Form.{index_at, At}
 use Rattle.sparse_test.specs.Stretch.{in_between, in-most}
 use Rattle.sparse_test.specs.Reads.{greatest_u32, live_in, named_in, key_fits, cells_fit, reads}

@@ -8,7 +8,7 @@ use Rattle.laws.specs.Lists.{list_of, sum_in}
 use Rattle.layout.specs.Layout.{comparison_in, term_room}
 use Rattle.layout.specs.Copy.{most16}
 use Rattle.layout.specs.Laying.{list_ext}
-use Rattle.layout.specs.Copied.{length-listOf, getD-listOf}
+use Rattle.layout.proofs.Copied.{length-listOf, getD-listOf}
 use Rattle.steps.specs.Number.{zero64}
 use Rattle.steps.specs.State.{Tag, Constraint, Edit}
 use Rattle.steps.specs.Tests.{keep_constraint, keep_edit}

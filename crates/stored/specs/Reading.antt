@@ -6,7 +6,7 @@ use Rattle.std.proofs.Math.Path.{refl}
 use Rattle.std.proofs.Common.{sym, arith, ltb-true, ltb-false}
 use Rattle.laws.specs.Lists.{list_of, sum_in}
 use Rattle.layout.specs.Laying.{list_ext}
-use Rattle.layout.specs.Copied.{length-listOf, getD-listOf}
+use Rattle.layout.proofs.Copied.{length-listOf, getD-listOf}
 use Rattle.sparse.specs.Places.{constraint_markers_at, constraint_others_at, edit_variables_at, edit_markers_at, edit_others_at, terms_at, relations_at}
 use Rattle.sparse.specs.Sparse.{Sparse, symbol_count, variable_count, constraint_count, edit_count, symbol_at, other_at, number_at, terms_from, term_of, constraint_of, edit_of}
 use Rattle.sparse.specs.Concat.{sum-in, sum-le}

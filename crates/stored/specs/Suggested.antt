@@ -7,7 +7,7 @@ use Rattle.std.specs.Float.Ieee.{nan}
 use Rattle.std.proofs.Math.Seq.{get_or-set_same}
 use Rattle.laws.specs.Lists.{tab, tab-ext, list_of}
 use Rattle.layout.specs.Laying.{list_ext}
-use Rattle.layout.specs.Copied.{length-listOf, getD-listOf}
+use Rattle.layout.proofs.Copied.{length-listOf, getD-listOf}
 use Rattle.steps.specs.State.{Constraint, Edit}
 use Rattle.steps.specs.Tests.{keep_edit, drop_edit}
 use Rattle.sparse.specs.Places.{most_constraints, term_counts_at, edit_markers_at, edit_others_at, constraint_strengths_at, edit_strengths_at, suggestions_at, coefficients_at, constraint_constants_at}

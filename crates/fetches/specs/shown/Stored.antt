@@ -12,7 +12,7 @@ use Rattle.steps.specs.Shown.{given_of}
 use Rattle.steps.specs.Readable as steps
 use Rattle.keeps.specs.Clauses.{and3, clauses-in}
 use Rattle.layout.specs.Layout.{comparison_in, term_room}
-use Rattle.layout.specs.Written.{comparison-read}
+use Rattle.layout.proofs.Written.{comparison-read}
 use Rattle.sparse.specs.Places.{most_variables, most_constraints, variable_count_at, variable_numbers_at, constraint_groups_at, term_counts_at, terms_at, relations_at, constraint_strengths_at, coefficients_at, constraint_constants_at}
 use Rattle.sparse.specs.Sparse.{Sparse, variable_count, constraint_count, terms_from, term_of, constraint_of, read}
 use Rattle.sparse_test.specs.Stretch.{most_in, in-most}

@@ -22,7 +22,7 @@ use Rattle.keeps.specs.Listed.{news-values}
 use Rattle.layout.specs.Layout.{Tables}
 use Rattle.layout.specs.Layout as layout
 use Rattle.layout.specs.Rooms as rooms
-use Rattle.layout.specs.Copied.{write-lengths}
+use Rattle.layout.proofs.Copied.{write-lengths}
 use Rattle.sparse.specs.Sparse.{Sparse, read}
 use Rattle.sparse.specs.Fits.{Lengths}
 use Rattle.sparse_test.specs.Reads.{reads}

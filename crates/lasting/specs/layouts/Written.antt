@@ -18,8 +18,9 @@ use Rattle.keeps.specs.Reads.{Reads, tag_code}
 use Rattle.keeps.specs.Tested.{reads-out}
 use Rattle.layout.specs.Layout.{Tables, read, write, over, write_names, write_reals, write_rows, next_id_of, variable_count, constraint_count, number_of, variable_of, variables_of, constraint_of, constraints_of, constraints_at}
 use Rattle.layout.specs.Rooms.{lengths-right, Lengths, Wide, Named, Fits}
-use Rattle.layout.specs.ReadBack.{no_variable, no_constraint, read-write}
-use Rattle.layout.specs.Copied.{length-listOf, getD-listOf, write-counts, write-coded, write-lengths}
+use Rattle.layout.specs.ReadBack.{no_variable, no_constraint}
+use Rattle.layout.proofs.ReadBack.{read-write}
+use Rattle.layout.proofs.Copied.{length-listOf, getD-listOf, write-counts, write-coded, write-lengths}
 use Rattle.layout.specs.cells.Names.{last_place}
 use Rattle.rows.specs.places.Finding.{at_all}
 use Rattle.sparse_test.specs.zeros.Fitting.{few-symbols}

@@ -10,7 +10,7 @@ use Rattle.steps.specs.Readable as steps
 use Rattle.laws.specs.Lists.{list_of, laid, laid_in, laid-after, length-laid}
 use Rattle.layout.specs.Rooms.{and_left, and_right}
 use Rattle.layout.specs.Laying.{remade, run-list}
-use Rattle.layout.specs.Copied.{length-listOf, getD-listOf}
+use Rattle.layout.proofs.Copied.{length-listOf, getD-listOf}
 use Rattle.rows.specs.places.Finding.{place_in, Apart, all-at, at_all, place_is, never}
 use Rattle.rows.specs.places.Listed.{join, member-list, at_listed, listed_at}
 use Rattle.rows.specs.places.Shares.{Shares, shares, none_left, stock}

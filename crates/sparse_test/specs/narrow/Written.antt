@@ -10,9 +10,9 @@ use Rattle.sparse.specs.Sparse.{Sparse, read}
 use Rattle.sparse.specs.Write.{no_variable, no_constraint, write}
 use Rattle.sparse.specs.Fits.{Lengths, Fits}
 use Rattle.sparse.specs.Form.{Form}
-use Rattle.sparse.specs.ReadBack.{read-write}
-use Rattle.sparse.specs.Written.{written_is, write_read}
-use Rattle.sparse.specs.Copied.{copy-lengths}
+use Rattle.sparse.proofs.ReadBack.{read-write}
+use Rattle.sparse.proofs.Written.{written_is, write_read}
+use Rattle.sparse.proofs.Copied.{copy-lengths}
 use Rattle.sparse_test.specs.Reads.{greatest_u32, reads}
 use Rattle.sparse_test.specs.Meaning.{reads-form}
 use Rattle.sparse_test.specs.WrittenReads as written

@@ -26,7 +26,8 @@ use Rattle.layout.specs.cells.Names.{cell_room}
 use Rattle.layout.specs.cells.Cells.{settled}
 use Rattle.layout.specs.cells.Seek.{first-at}
 use Rattle.rows.specs.places.Finding.{place_in, place-live}
-use Rattle.sparse.specs.Laying.{Settled, room_fits}
+use Rattle.sparse.specs.Laying.{Settled}
+use Rattle.sparse.proofs.Laying.{room_fits}
 use Rattle.sparse.specs.Write.{no_symbol, no_basic, no_variable, no_term, no_constraint, no_edit, place_of, index_of, all_terms, cells_of}
 use Rattle.sparse.specs.Fits.{Live, LiveOther, Fits}
 

@@ -9,9 +9,10 @@ use Rattle.laws.specs.Lists.{list_of, length-tab, getD-tab, length-laid}
 use Rattle.layout.specs.Layout.{Tables, symbols_at, rows_at, heading_end, record_counts_at, basics_at, constraints_at, edits_at, changed_flag, term_count, relation_kind, symbol_count, constraint_count, other_of, bit_of, comparison_code, tag_of, constraint_of, edit_of, cells_of, basic_of, symbols_of, basics_of, variables_of, constraints_of, edits_of, read, over, variable_names, constraint_names, edit_names, heading, record_counts, write_head, write_names, write_reals, write_rows, write}
 use Rattle.layout.specs.Rooms.{Lengths, Wide, Named, Counts, Coded, Fits}
 use Rattle.layout.specs.Copy.{put_over}
-use Rattle.layout.specs.Written.{written_is, code_read}
-use Rattle.layout.specs.Back.{first-at}
-use Rattle.layout.specs.ReadBack.{no_variable, no_constraint, count-back, record-back, variable-written, constraint-written, read-write}
+use Rattle.layout.proofs.Written.{written_is, code_read}
+use Rattle.layout.proofs.Back.{first-at}
+use Rattle.layout.specs.ReadBack.{no_variable, no_constraint}
+use Rattle.layout.proofs.ReadBack.{count-back, record-back, variable-written, constraint-written, read-write}
 
 module _ {A : Type 0} where
   pub length-listOf : (n : ℕ) (g : ℕ → A) → length (list_of n g) ≡ n

@@ -13,7 +13,8 @@ use Rattle.sparse.specs.Stretches.{Stretch, Within, lay-in, length-lay, copied_a
 use Rattle.sparse.specs.Fits.{Lengths}
 use Rattle.sparse.specs.Form.{Counts, Form}
 use Rattle.sparse.specs.Copy.{heading_end, live_words, live_bytes, live_reals, put_over}
-use Rattle.sparse.specs.Agree.{Agree, read_same, form-same}
+use Rattle.sparse.specs.Agree.{Agree}
+use Rattle.sparse.proofs.Agree.{read_same, form-same}
 
 module _ (t w : Sparse) (c : Counts t) (len : Lengths w) where
   abbrev u : Sparse

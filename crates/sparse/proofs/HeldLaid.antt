@@ -14,7 +14,8 @@ use Rattle.layout.specs.cells.Cells.{Cells, cells, put_if, pack_turn, packed, co
 use Rattle.layout.specs.cells.Seek.{run-inv}
 use Rattle.layout.specs.cells.Pack.{Packing, compress-reads}
 use Rattle.layout.specs.cells.Replace.{packed-size}
-use Rattle.sparse.specs.Laying.{rows_laid, Room, rows-ascend}
+use Rattle.sparse.specs.Laying.{rows_laid, Room}
+use Rattle.sparse.proofs.Laying.{rows-ascend}
 use Rattle.sparse.specs.Repack.{Held}
 
 -- ---- one row

@@ -17,13 +17,13 @@ use Rattle.steps.specs.State.{Basic, Variable, Constraint, Edit, State}
 use Rattle.steps.specs.Readable.{kind_code}
 use Rattle.layout.specs.Layout.{kind_of}
 use Rattle.layout.specs.Laying.{get_d_map, tab-from}
-use Rattle.layout.specs.Back.{bit-back}
+use Rattle.layout.proofs.Back.{bit-back}
 use Rattle.layout.specs.cells.Cells.{row_of}
 use Rattle.layout.specs.cells.Seek.{first-elim, first-at}
 use Rattle.sparse.specs.Places.{ids_at, variable_numbers_at, gone_numbers_at, kinds_at, row_places_at, variable_places_at, constants_at, objective_at}
 use Rattle.sparse.specs.Sparse.{Sparse, variable_count, symbol_at, other_at, number_at, variable_of, terms_from, term_of, constraint_of, edit_of, basic_of, symbols_of, basics_of, objective_of, gone_of, read}
 use Rattle.sparse.specs.Concat.{sum-ext, sum-in, sum-le, before, concat-at, concat-length}
-use Rattle.sparse.specs.Laying.{rows_back}
+use Rattle.sparse.proofs.Laying.{rows_back}
 use Rattle.sparse.specs.Write.{no_symbol, no_basic, no_variable, no_term, no_constraint, no_edit, place_of, other_place, index_of, number_place, all_terms, cells_of, laid_of, heading_of, write}
 use Rattle.sparse.specs.Fits.{Lengths, Live, LiveOther, Fits}
 use Rattle.sparse.specs.Elements.{heading-back, id-back, number-back, uses-back, constraint-number, group-back, gone-back, kind-laid, row-place, variable-place, changed-back, marker-place, other_place_lem, count-back, edit-variable, plus-place, minus-place, term-place, constant-back, old-back, cost-back, cutoff-back, strength-back, edit-strength, suggestion-back, coefficient-back, comparison-laid, own-constant}
