@@ -24,20 +24,16 @@ BEFORE, AFTER = "055d7986", "aeeeeedd"
 PAGES = ("README.md", "docs/*.md", "docs/landings/*.md", "bench/README.md")
 # what is no page, and names a definition now and then in a comment
 OTHERS = ("crates.txt", "bench/**/*", "include/*", "examples/**/*", "rust/knobharbor/**/*", "tools/*")
-INDENTED = re.compile(r"^ +(?:(?:abbrev|pub|unfoldable) )*([^\s:(){}\[\]]+) :")
-
-
-def declared(text):
-    """snake.py's, and the names that a module's parameters stand over, in their order."""
-    found = list(snake.declared(text))
-    return found + [m.group(1) for m in map(INDENTED.match, text.split("\n")) if m]
-
-
 def declarations(commit):
     """Of each .antt file at a commit, the names that it declares."""
     packed = subprocess.run(["git", "archive", commit, "crates"], cwd=ROOT, capture_output=True, check=True).stdout
     with tarfile.open(fileobj=io.BytesIO(packed)) as tar:
-        return {m.name: declared(tar.extractfile(m).read().decode()) for m in tar if m.name.endswith(".antt")}
+        return {m.name: list(snake.declared(tar.extractfile(m).read().decode())) for m in tar if m.name.endswith(".antt")}
+
+
+def today(name):
+    """What AFTER had not turned yet: names in modules with parameters."""
+    return name if name[0].isupper() else snake.EXCEPTIONS.get(name, snake.snake(name))
 
 
 def table():
@@ -48,10 +44,10 @@ def table():
         for tag, i, j, k, n in [("replace", 0, len(old), 0, len(new))] if len(old) == len(new) else difflib.SequenceMatcher(None, old, new, autojunk=False).get_opcodes():
             if tag == "replace" and j - i == n - k:
                 for was, now in zip(old[i:j], new[k:n]):
-                    turned.setdefault(was, {}).setdefault(now, []).append(path)
+                    turned.setdefault(was, {}).setdefault(today(now), []).append(path)
             elif tag == "equal":
                 for was in old[i:j]:
-                    turned.setdefault(was, {}).setdefault(was, []).append(path)
+                    turned.setdefault(was, {}).setdefault(today(was), []).append(path)
     return {was: names for was, names in turned.items() if set(names) != {was}}
 
 

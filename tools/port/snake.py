@@ -15,6 +15,7 @@ import sys
 
 WORD = re.compile(r"[^\s(){}\[\],;.:|=\"`«»@&*!<>/]+")
 HEAD = re.compile(r"^(?:(?:unfoldable|abbrev|pub|private|data|record|mutual|pattern) )*([^\s:(){}\[\]]+) *(.*)$")
+INNER = re.compile(r"^ +(?:(?:unfoldable|abbrev|pub) )*([^\s:(){}\[\]=]+)(?: \{[^}]*\})* : ")
 NOT_A_DECLARATION = re.compile(r"^(use|--|mod|open|infix|infixl|infixr|unfolding|module|pub mod|pub use)\b")
 FIELD = re.compile(r"^  (?:pub )?((?:[^\s:(){}]+ )+):")
 
@@ -32,12 +33,21 @@ def declared(text):
             m = FIELD.match(line)
             if m:
                 yield from m.group(1).split()
+        else:
+            # in a module with parameters, or below `where`
+            m = INNER.match(line)
+            if m:
+                yield m.group(1)
 
 
 def snake(name):
-    """Small letters and underscores; a run of capitals stays one word."""
-    out = re.sub(r"(?<=[a-z0-9₀-₉])([A-Z]+)", lambda m: "_" + m.group(1).lower(), name)
-    return re.sub(r"(?<![A-Za-z])_", "", out) if out.startswith("_") else out
+    """Small letters and underscores, in each part between dashes that begins with a small letter; a run of capitals stays one word."""
+    parts = [p if p[:1].isupper() else re.sub(r"(?<=[a-z0-9₀-₉])([A-Z]+)", lambda m: "_" + m.group(1).lower(), STD.get(p, p)) for p in name.split("-")]
+    return "-".join(parts)
+
+
+# what std calls these today, in the name of a lemma
+STD = {"getD": "get_or"}
 
 
 def paths(root):
@@ -52,7 +62,7 @@ def table(root):
     for p in paths(root):
         if p.endswith(".antt"):
             names.update(declared(open(p, encoding="utf-8").read()))
-    turned = {n: snake(n) for n in names if not n[0].isupper() and re.search(r"[a-z0-9₀-₉][A-Z]", n)}
+    turned = {n: snake(n) for n in names if not n[0].isupper() and snake(n) != n}
     for n, to in EXCEPTIONS.items():
         if n in turned:
             turned[n] = to
@@ -76,9 +86,10 @@ LEMMAS = {
     "scaled_value": ("scaled_value_lem", "rows/specs/Table.antt rows/proofs/row/scale_at"),
 }
 
-# `first_of` is one of the language's tactics.
+# `first_of` is one of the language's tactics; `place_at` is a lemma of rows.
 EXCEPTIONS = {
     "firstOf": "is_first_of",
+    "placeAt": "place_byte",
 }
 
 

@@ -6,7 +6,7 @@ use Rattle.std.proofs.Math.Path.{ap}
 use Rattle.std.proofs.Math.Bool.{false}
 use Rattle.std.specs.Float.{nan}
 use Rattle.laws.specs.Given.{then-of}
-use Rattle.laws.specs.Lists.{tab, length-tab, getD-tab}
+use Rattle.laws.specs.Lists.{tab, length-tab, get_or-tab}
 use Rattle.laws.specs.Places.{Every, every-at, at_every}
 use Rattle.steps.specs.Number.{Mark, worse}
 use Rattle.steps.specs.Symbol.{Symbol}
@@ -47,14 +47,14 @@ cells-fine : (k : ℕ) (row : List Float) → SettledRow k row → Every Fine (c
 cells-fine k row h =
     rw (dense-cells k row) (at_every Fine (tab (λ x. get_or row x nan) 1 k) nan λ x l.
     let n = length-tab (λ x. get_or row x nan) 1 k in
-    rw (getD-tab (λ x. get_or row x nan) 1 k x nan (omega (arith, l, n))) (h (1 + x) (omega arith) (omega (arith, l, n))))
+    rw (get_or-tab (λ x. get_or row x nan) 1 k x nan (omega (arith, l, n))) (h (1 + x) (omega arith) (omega (arith, l, n))))
 
 fine-cells : (k : ℕ) (row : List Float) → Every Fine (cells_of k row) → SettledRow k row
 fine-cells k row h x low high =
     let d : Every Fine (tab (λ y. get_or row y nan) 1 k) = subst (Every Fine) (dense-cells k row) h in
     let n = length-tab (λ y. get_or row y nan) 1 k in
     let o : 1 + (x - 1) ≡ x = omega (arith, low) in
-    let e : get_or (tab (λ y. get_or row y nan) 1 k) (x - 1) nan ≡ get_or row x nan = getD-tab (λ y. get_or row y nan) 1 k (x - 1) nan (omega (arith, low, high)) ∙ ap (λ (z : ℕ). get_or row z nan) o in
+    let e : get_or (tab (λ y. get_or row y nan) 1 k) (x - 1) nan ≡ get_or row x nan = get_or-tab (λ y. get_or row y nan) 1 k (x - 1) nan (omega (arith, low, high)) ∙ ap (λ (z : ℕ). get_or row z nan) o in
     subst Fine e (every-at Fine (tab (λ y. get_or row y nan) 1 k) nan d (x - 1) (omega (arith, n, low, high)))
 
 -- ---- the row of a subject

@@ -7,7 +7,7 @@ use Rattle.std.proofs.Math.Bool.{true, false}
 use Rattle.std.proofs.Math.Option.{Option, none, some}
 use Rattle.std.proofs.Math.Seq.{get_or-append_seam}
 use Rattle.std.proofs.lemmas.Bool.{eqb-false}
-use Rattle.laws.specs.Lists.{getD-tab}
+use Rattle.laws.specs.Lists.{get_or-tab}
 use Rattle.steps.specs.Number.{Mark}
 use Rattle.steps.specs.Symbol.{Slack, External, Symbol}
 use Rattle.steps.specs.Row.{Row}
@@ -44,7 +44,7 @@ symbol-at : (t : Sparse) (p : ℕ) (d : Symbol) → 1 ≤ p → p ≤ symbol_cou
 unfolding symbols_of
 symbol-at t p d low high =
     let e : 1 + (p - 1) ≡ p = omega (arith, low) in
-    getD-tab (symbol_at t) 1 (symbol_count t) (p - 1) d (omega (arith, low, high)) ∙ ap (symbol_at t) e
+    get_or-tab (symbol_at t) 1 (symbol_count t) (p - 1) d (omega (arith, low, high)) ∙ ap (symbol_at t) e
 
 pub alike-by : (t u : Sparse) → symbols_of u ≡ symbols_of t → Alike t u
 alike-by t u e =

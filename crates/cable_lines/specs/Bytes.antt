@@ -9,7 +9,7 @@ use Rattle.std.proofs.Math.Numerals.{unary_clauses}
 use Rattle.std.proofs.lemmas.Bool.{lt-leb}
 use Rattle.std.proofs.Math.ListN.{length, get_or, set, length-set}
 use Rattle.std.proofs.Math.Seq.{get_or-set_same, drop-length, length-take-le}
-use Rattle.laws.specs.Loops.{mapIn}
+use Rattle.laws.specs.Loops.{map_in}
 use Rattle.laws.specs.streams.Lines.{grown}
 use Rattle.cable_lines.specs.Cable.{limit, new, answer_of, further, takes}
 use Rattle.cable_lines.specs.State.{held_by}
@@ -26,8 +26,8 @@ new-zeros = refl
 
 -- ---- the code clears what stands behind the line's bytes
 
-clear-between : (i e : ℕ) (l : List ℕ) → i ≤ e → e ≤ length l → mapIn (λ _. 0) i e l ≡ take i l ++ (replicate (e - i) 0 ++ drop e l)
-unfolding mapIn
+clear-between : (i e : ℕ) (l : List ℕ) → i ≤ e → e ≤ length l → map_in (λ _. 0) i e l ≡ take i l ++ (replicate (e - i) 0 ++ drop e l)
+unfolding map_in
 clear-between zero zero [] h k = refl
 clear-between i (suc e) [] h k = absurd (not-suc-le-zero k)
 clear-between (suc i) zero l h k = absurd (not-suc-le-zero h)
@@ -41,14 +41,14 @@ last_byte s long =
     drop-cons s 200 0 (omega arith) ∙ ap (λ (r : List ℕ). get_or s 200 0 ∷ r) e
 
 module _ (s : List ℕ) (long : length s ≡ 201) where
-  pub cleared-within : get_or s 200 0 ≤ 200 → mapIn (λ _. 0) (get_or s 200 0) 200 s ≡ bytes_of (held_by s)
+  pub cleared-within : get_or s 200 0 ≤ 200 → map_in (λ _. 0) (get_or s 200 0) 200 s ≡ bytes_of (held_by s)
   unfolding bytes_of
   cleared-within h =
       let n : ℕ = get_or s 200 0 in
       let l : length (take n s) ≡ n = length-take-le n s (omega arith) in
       clear-between n 200 s h (omega arith) ∙ rw (le-leb n 200 h, l, last_byte s long) refl
 
-  pub cleared-over : 200 < get_or s 200 0 → mapIn (λ _. 0) 0 200 (set s 200 201) ≡ bytes_of (held_by s)
+  pub cleared-over : 200 < get_or s 200 0 → map_in (λ _. 0) 0 200 (set s 200 201) ≡ bytes_of (held_by s)
   unfolding bytes_of
   cleared-over h =
       let t : List ℕ = set s 200 201 in

@@ -1,6 +1,6 @@
 // What stands behind the line's bytes is cleared, so that a line that has begun is held in one way alone.
 ghost use Rattle.std.specs.Prelude.{◌≡◌, ◌≤◌};
-ghost use Rattle.laws.specs.Loops.{mapIn};
+ghost use Rattle.laws.specs.Loops.{map_in};
 ghost use Rattle.cable_lines.specs.State.{held_by};
 ghost use Rattle.cable_lines.specs.Bytes.{bytes_of};
 
@@ -8,7 +8,7 @@ use crate::state::{LIMIT, State, long};
 
 fn clear_from(s: &mut State, from: usize)
     requires { from ≤ 200 }
-    ensures { s.new ≡ mapIn (λ _. 0) from 200 s.old }
+    ensures { s.new ≡ map_in (λ _. 0) from 200 s.old }
 {
     long(s);
     let mut i = from;

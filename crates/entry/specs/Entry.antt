@@ -4,7 +4,7 @@ use Rattle.std.proofs.Math.Path.{refl}
 use Rattle.std.proofs.Common.{sym, ap, ◌∙◌, true≢false, arith}
 use borrow.Author.Tests.{eqb-true, not-true, not-false}
 use Rattle.laws.specs.Given.{Then}
-use Rattle.laws.specs.Loops.{mapIn}
+use Rattle.laws.specs.Loops.{map_in}
 use Rattle.steps.specs.Number.{zero64}
 use Rattle.steps.specs.State.{State}
 use Rattle.steps.specs.Calls.{Answer, Result}
@@ -37,7 +37,7 @@ reset_on cutoff t = cond (once_each t) (reset_of cutoff (lent_once t)) (called r
 
 -- each all zero
 unfoldable pub each : {A : Type 0} → (A → A) → List A → List A
-each f l = mapIn f 0 (length l) l
+each f l = map_in f 0 (length l) l
 
 abbrev pub zeroes : {A : Type 0} → ℕ → A → List A → List A
 zeroes n z l = replicate n z
@@ -59,7 +59,7 @@ module _ {A : Type 0} where
   put (x ∷ y ∷ l) v e = absurd (omega (arith, eqb-true (suc (suc (length l))) 1 e))
 
   put-each : (l : List (List A)) (f : List A → List A) {v : List A} → (length l == 1) ≡ true → v ≡ f (slice_index_or l 0 []) → slice_set l 0 v ≡ each f l
-  unfolding each mapIn
+  unfolding each map_in
   put-each [] f e q = absurd (true≢false (sym e))
   put-each (x ∷ []) f e q = rw q refl
   put-each (x ∷ y ∷ l) f e q = absurd (omega (arith, eqb-true (suc (suc (length l))) 1 e))

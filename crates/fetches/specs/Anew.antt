@@ -7,7 +7,7 @@ use Rattle.std.proofs.Common.{sym, ◌∙◌, suc-add}
 use mathlib.Core.List.{List, [], ◌∷◌, map}
 use native.Mathlib.Omega.{arith}
 use Rattle.std.proofs.Math.ListN.{length}
-use Rattle.laws.specs.Loops.{mapIn}
+use Rattle.laws.specs.Loops.{map_in}
 use Rattle.laws.specs.Lists.{laid}
 use Rattle.layout.specs.Layout.{over}
 use Rattle.layout.specs.Relaid.{laid-again, laid-past}
@@ -65,14 +65,14 @@ module _ {A : Type 0} where
 -- ---- one element over and over
 
 module _ {A B : Type 0} (f : B → A) (x : A) (same : (b : B) → f b ≡ x) where
-  from_zero : (l : List B) (m : List A) → laid (λ y _. y) 0 (map f l) m ≡ mapIn (λ _. x) 0 (length l) m
-  unfolding laid mapIn
+  from_zero : (l : List B) (m : List A) → laid (λ y _. y) 0 (map f l) m ≡ map_in (λ _. x) 0 (length l) m
+  unfolding laid map_in
   from_zero l [] = refl
   from_zero [] (y ∷ m) = refl
   from_zero (b ∷ l) (y ∷ m) = rw (same b, from_zero l m) refl
 
-  pub over-same : (a : ℕ) (l : List B) (m : List A) → over a (map f l) m ≡ mapIn (λ _. x) a (a + length l) m
-  unfolding over laid mapIn
+  pub over-same : (a : ℕ) (l : List B) (m : List A) → over a (map f l) m ≡ map_in (λ _. x) a (a + length l) m
+  unfolding over laid map_in
   over-same a l [] = refl
   over-same zero l (y ∷ m) =
       let o : 0 + length l ≡ length l = omega arith in

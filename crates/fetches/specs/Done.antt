@@ -6,14 +6,14 @@ use Rattle.std.proofs.Common.{sym, ◌∙◌, not-suc-le-zero, le_of_suc-le-suc}
 use Rattle.std.proofs.Math.Bool.{true, false}
 use mathlib.Core.List.{List, [], ◌∷◌, map}
 use Rattle.std.proofs.Math.Nat.{zero-add}
-use Rattle.laws.specs.Loops.{mapIn}
+use Rattle.laws.specs.Loops.{map_in}
 use Rattle.steps.specs.Number.{zero64}
 use Rattle.steps.specs.State.{Basic, Variable, State}
 use Rattle.steps.specs.Changes.{Change, with_flag, news_of, merged, reported, fetch_changes}
 use Rattle.steps.specs.Readable.{ascend, all, gone_fits}
 use Rattle.keeps.specs.Clauses.{and3, clauses-in}
 use Rattle.layout.specs.Layout.{bit_of, over}
-use Rattle.layout.proofs.Copied.{length-listOf}
+use Rattle.layout.proofs.Copied.{length-list_of}
 use Rattle.sparse.specs.Places.{should_clear_at, gone_count_at, gone_numbers_at, changed_at, old_values_at, most_gone}
 use Rattle.sparse.specs.Lookup.{Ascends}
 use Rattle.sparse.specs.Sparse.{Sparse, variable_count, gone_count, variable_of, gone_of, read}
@@ -21,7 +21,7 @@ use Rattle.sparse.specs.Write.{write}
 use Rattle.sparse.specs.Form.{Form}
 use Rattle.sparse_test.specs.Reads.{reads}
 use Rattle.sparse_test.specs.Stretch.{ascends}
-use Rattle.sparse_test.specs.Records.{gone-ascend, notTold}
+use Rattle.sparse_test.specs.Records.{gone-ascend, not_told}
 use Rattle.sparse_test.specs.Meaning.{reads-form, reads-readable}
 use Rattle.sparse_test.specs.Whole.{tables}
 use Rattle.fetches.specs.Anew.{over-same}
@@ -56,7 +56,7 @@ module _ (t : Sparse) (ok : reads t ≡ true) where
   pub gone-ascends : Ascends t.words gone_numbers_at (gone_count t)
   unfolding gone_fits
   gone-ascends =
-      let c = and3 (leb (length (read t).changes.gone) most_gone) (ascend (read t).changes.gone) (all (notTold t) (read t).changes.variables) (clauses-in (read t) (reads-readable t ok)).gone in
+      let c = and3 (leb (length (read t).changes.gone) most_gone) (ascend (read t).changes.gone) (all (not_told t) (read t).changes.variables) (clauses-in (read t) (reads-readable t ok)).gone in
       ascends t.words gone_numbers_at (gone_count t) (sym (gone-ascend t) ∙ c.1)
 
   abbrev s : State
@@ -73,7 +73,7 @@ module _ (t : Sparse) (ok : reads t ≡ true) where
 
   many : length vs ≡ variable_count t
   unfolding read
-  many = length-listOf (variable_count t) (variable_of t)
+  many = length-list_of (variable_count t) (variable_of t)
 
   -- what a fetch leaves of a variable, and its list
   abbrev after : Bool → Variable → Variable
@@ -116,7 +116,7 @@ module _ (t : Sparse) (ok : reads t ≡ true) where
   flags true =
       ap (λ (l : List ℕ). over changed_at l t.bytes) (map-twice flag_bit (after true) vs)
       ∙ over-same (λ (v : Variable). flag_bit (after true v)) 0 (λ v. refl) changed_at vs t.bytes
-      ∙ ap (λ (n : ℕ). mapIn (λ _. 0) changed_at (changed_at + n) t.bytes) many
+      ∙ ap (λ (n : ℕ). map_in (λ _. 0) changed_at (changed_at + n) t.bytes) many
   flags false = ap (λ (l : List ℕ). over changed_at l t.bytes) (map-kept (after false) flag_bit (λ v. refl) vs) ∙ flags-there t form
 
   olds : Bool → List Float

@@ -192,14 +192,14 @@ module _ (t : Sparse) (rows : List Basic) (few : row_count t ≤ most_rows) wher
   left i vs s =
       ended (over (old_values_at + i) (map (λ (v : Variable). v.old) (map (reported gone rows) vs)) s.reals) (fill (merged (rest t.words g s.told) (news_of gone rows vs)) s.lists)
 
-  abbrev valueEntry : Variable → Change
-  valueEntry v = record { variable = v.number; new = value_of v rows; gone = false }
+  abbrev value_entry : Variable → Change
+  value_entry v = record { variable = v.number; new = value_of v rows; gone = false }
 
-  news_cons : (v : Variable) (vs : List Variable) → news_of gone rows (v ∷ vs) ≡ cond (is_listed gone rows v) (valueEntry v ∷ news_of gone rows vs) (news_of gone rows vs)
+  news_cons : (v : Variable) (vs : List Variable) → news_of gone rows (v ∷ vs) ≡ cond (is_listed gone rows v) (value_entry v ∷ news_of gone rows vs) (news_of gone rows vs)
   unfolding news_of
   news_cons v vs = go (is_listed gone rows v)
     where
-      go : (b : Bool) → elim b [ true ↦ valueEntry v ∷ news_of gone rows vs | false ↦ news_of gone rows vs ] ≡ cond b (valueEntry v ∷ news_of gone rows vs) (news_of gone rows vs)
+      go : (b : Bool) → elim b [ true ↦ value_entry v ∷ news_of gone rows vs | false ↦ news_of gone rows vs ] ≡ cond b (value_entry v ∷ news_of gone rows vs) (news_of gone rows vs)
       go true = refl
       go false = refl
 
@@ -239,7 +239,7 @@ module _ (t : Sparse) (rows : List Basic) (few : row_count t ≤ most_rows) wher
       ns = news_of gone rows vs
 
       fresh : Bool → List Change
-      fresh c = cond c (valueEntry v ∷ news_of gone rows vs) (news_of gone rows vs)
+      fresh c = cond c (value_entry v ∷ news_of gone rows vs) (news_of gone rows vs)
 
       next : old_values_at + suc i ≡ suc (old_values_at + i)
       next = omega arith
@@ -247,7 +247,7 @@ module _ (t : Sparse) (rows : List Basic) (few : row_count t ≤ most_rows) wher
       go : (c : Bool) → left (suc i) vs (done i s c) ≡ ended (over (old_values_at + i) (cond c x v.old ∷ olds) s.reals) (fill (merged (rest t.words g s.told) (fresh c)) s.lists)
       go true =
           unfold variable_of in
-          rw (next, laid_cons (λ y _. y) (old_values_at + i) x olds s.reals nan, gone-before t.words g (valueEntry v) ns s.told s.lists h) refl
+          rw (next, laid_cons (λ y _. y) (old_values_at + i) x olds s.reals nan, gone-before t.words g (value_entry v) ns s.told s.lists h) refl
       go false = unfold variable_of in rw (next, laid_cons (λ y _. y) (old_values_at + i) v.old olds s.reals nan, set_same nan s.reals (old_values_at + i)) refl
 
   under_same : (f h : List Float) (j : ℕ) → get_or f (old_values_at + j) nan ≡ get_or h (old_values_at + j) nan → variable_of (under f) j ≡ variable_of (under h) j

@@ -14,7 +14,7 @@ use Rattle.steps.specs.Readable.{kind_code}
 use Rattle.layout.specs.Layout.{bit_of, comparison_code, over}
 use Rattle.layout.specs.Laying.{laid_nil}
 use Rattle.layout.specs.Relaid.{put-set}
-use Rattle.layout.proofs.Copied.{length-listOf}
+use Rattle.layout.proofs.Copied.{length-list_of}
 use Rattle.layout.specs.cells.Names.{last_place}
 use Rattle.layout.specs.cells.Seek.{first-within}
 use Rattle.sparse.specs.Places.{most_variables, most_constraints, next_id_at, should_clear_at, gone_count_at, ids_at, variable_numbers_at, variable_uses_at, constraint_numbers_at, constraint_groups_at, gone_numbers_at, kinds_at, row_places_at, variable_places_at, changed_at, constraint_markers_at, constraint_others_at, term_counts_at, edit_variables_at, edit_markers_at, edit_others_at, terms_at, relations_at, constants_at, old_values_at, objective_at, cutoff_at, constraint_strengths_at, edit_strengths_at, suggestions_at, coefficients_at, constraint_constants_at}
@@ -57,11 +57,11 @@ module _ (t : Sparse) (form : Form t) where
 
   pub few : length vs ≤ most_variables
   unfolding read
-  few = let c = form.counts.variables in rw (length-listOf _ _) c
+  few = let c = form.counts.variables in rw (length-list_of _ _) c
 
   few-constraints : length s.constraints ≤ most_constraints
   unfolding read
-  few-constraints = let c = form.counts.constraints in rw (length-listOf _ _) c
+  few-constraints = let c = form.counts.constraints in rw (length-list_of _ _) c
 
   few-symbols : length xs ≤ last_place
   unfolding read symbols_of
@@ -72,8 +72,8 @@ module _ (t : Sparse) (form : Form t) where
 
   -- ---- the lists after the one that is laid anew, and those before it
 
-  abbrev wordsAbove : List (Stretch ℕ)
-  wordsAbove =
+  abbrev words_above : List (Stretch ℕ)
+  words_above =
       from constraint_groups_at (map (λ (c : Constraint). c.group) s.constraints)
       ∷ from constraint_numbers_at (map (λ (c : Constraint). c.number) s.constraints)
       ∷ from variable_uses_at (map (λ (v : Variable). v.uses) vs)
@@ -82,20 +82,20 @@ module _ (t : Sparse) (form : Form t) where
       ∷ []
 
   -- the gone ones stand behind all others
-  abbrev goneFrom : Stretch ℕ
-  goneFrom = from gone_numbers_at s.changes.gone
+  abbrev gone_from : Stretch ℕ
+  gone_from = from gone_numbers_at s.changes.gone
 
-  above-heading : Above (next_id_at + length (heading_of s size)) (goneFrom ∷ wordsAbove)
+  above-heading : Above (next_id_at + length (heading_of s size)) (gone_from ∷ words_above)
   unfolding heading_of
   above-heading = (omega arith, (omega arith, (omega arith, (omega arith, (omega arith, (omega arith, tt))))))
 
-  words-written : lay (goneFrom ∷ wordsAbove) (over next_id_at (heading_of s size) (lay [] t.words)) ≡ t.words
+  words-written : lay (gone_from ∷ words_above) (over next_id_at (heading_of s size) (lay [] t.words)) ≡ t.words
   unfolding write words_of lay
   words-written = ap (λ (x : Sparse). x.words) written
 
   -- with the heading h, all that stands before the gone ones
-  abbrev wordsBelow : List ℕ → List (Stretch ℕ)
-  wordsBelow h =
+  abbrev words_below : List ℕ → List (Stretch ℕ)
+  words_below h =
       from constraint_groups_at (map (λ (c : Constraint). c.group) s.constraints)
       ∷ from constraint_numbers_at (map (λ (c : Constraint). c.number) s.constraints)
       ∷ from variable_uses_at (map (λ (v : Variable). v.uses) vs)
@@ -105,9 +105,9 @@ module _ (t : Sparse) (form : Form t) where
       ∷ []
 
   gone-there : over gone_numbers_at s.changes.gone t.words ≡ t.words
-  gone-there = over-there [] (wordsBelow (heading_of s size)) gone_numbers_at s.changes.gone t.words tt (unfold lay in words-written)
+  gone-there = over-there [] (words_below (heading_of s size)) gone_numbers_at s.changes.gone t.words tt (unfold lay in words-written)
 
-  gone-behind : (h : List ℕ) → length h ≡ length (heading_of s size) → Below gone_numbers_at (wordsBelow h)
+  gone-behind : (h : List ℕ) → length h ≡ length (heading_of s size) → Below gone_numbers_at (words_below h)
   unfolding heading_of
   gone-behind h e =
       let groups = length-map s.constraints (λ (c : Constraint). c.group) in
@@ -117,8 +117,8 @@ module _ (t : Sparse) (form : Form t) where
       let ids = length-map xs (λ (x : Symbol). x.id) in
       (omega (arith, groups, few-constraints), (omega (arith, numbers, few-constraints), (omega (arith, uses, few), (omega (arith, owners, few), (omega (arith, ids, few-symbols), (omega (arith, e), tt))))))
 
-  abbrev bytesAbove : List (Stretch ℕ)
-  bytesAbove =
+  abbrev bytes_above : List (Stretch ℕ)
+  bytes_above =
       from relations_at (map (λ (c : Constraint). comparison_code c.comparison) s.constraints)
       ∷ from terms_at (map (λ (t : Term). number_place xs vs t.variable) (all_terms s))
       ∷ from edit_others_at (map (λ (e : Edit). other_place xs e.tag.other) s.edits)
@@ -129,27 +129,27 @@ module _ (t : Sparse) (form : Form t) where
       ∷ from constraint_markers_at (map (λ (c : Constraint). place_of xs c.tag.marker) s.constraints)
       ∷ []
 
-  abbrev bytesBelow : List (Stretch ℕ)
-  bytesBelow =
+  abbrev bytes_below : List (Stretch ℕ)
+  bytes_below =
       from variable_places_at (map (λ (v : Variable). place_of xs v.symbol) vs)
       ∷ from (row_places_at + 1) (map (λ (r : Basic). place_of xs r.symbol) s.tableau.rows)
       ∷ from (kinds_at + 1) (map (λ (x : Symbol). kind_code x.kind) xs)
       ∷ []
 
-  above-flags : Above (changed_at + length (map flag_bit vs)) bytesAbove
+  above-flags : Above (changed_at + length (map flag_bit vs)) bytes_above
   above-flags =
       let l : changed_at + length (map flag_bit vs) ≤ changed_at + most_variables = omega (arith, length-map vs flag_bit, few) in
       (omega (arith, l), (omega (arith, l), (omega (arith, l), (omega (arith, l), (omega (arith, l), (omega (arith, l), (omega (arith, l), (omega (arith, l), tt))))))))
 
-  bytes-written : lay bytesAbove (over changed_at (map flag_bit vs) (lay bytesBelow t.bytes)) ≡ t.bytes
+  bytes-written : lay bytes_above (over changed_at (map flag_bit vs) (lay bytes_below t.bytes)) ≡ t.bytes
   unfolding write bytes_of lay
   bytes-written = ap (λ (x : Sparse). x.bytes) written
 
   pub flags-there : over changed_at (map flag_bit vs) t.bytes ≡ t.bytes
-  flags-there = over-there bytesAbove bytesBelow changed_at (map flag_bit vs) t.bytes above-flags bytes-written
+  flags-there = over-there bytes_above bytes_below changed_at (map flag_bit vs) t.bytes above-flags bytes-written
 
-  abbrev realsAbove : List (Stretch Float)
-  realsAbove =
+  abbrev reals_above : List (Stretch Float)
+  reals_above =
       from constraint_constants_at (map (λ (c : Constraint). c.constant) s.constraints)
       ∷ from coefficients_at (map (λ (t : Term). t.coefficient) (all_terms s))
       ∷ from suggestions_at (map (λ (e : Edit). e.suggestion) s.edits)
@@ -159,23 +159,23 @@ module _ (t : Sparse) (form : Form t) where
       ∷ from (objective_at + 1) s.tableau.objective
       ∷ []
 
-  abbrev realsBelow : List (Stretch Float)
-  realsBelow = from (constants_at + 1) (map (λ (r : Basic). r.row.constant) s.tableau.rows) ∷ []
+  abbrev reals_below : List (Stretch Float)
+  reals_below = from (constants_at + 1) (map (λ (r : Basic). r.row.constant) s.tableau.rows) ∷ []
 
   abbrev old : Variable → Float
   old v = v.old
 
-  above-olds : Above (old_values_at + length (map old vs)) realsAbove
+  above-olds : Above (old_values_at + length (map old vs)) reals_above
   above-olds =
       let l : old_values_at + length (map old vs) ≤ old_values_at + most_variables = omega (arith, length-map vs old, few) in
       (omega (arith, l), (omega (arith, l), (omega (arith, l), (omega (arith, l), (omega (arith, l), (omega (arith, l), (omega (arith, l), tt)))))))
 
-  reals-written : lay realsAbove (over old_values_at (map old vs) (lay realsBelow t.reals)) ≡ t.reals
+  reals-written : lay reals_above (over old_values_at (map old vs) (lay reals_below t.reals)) ≡ t.reals
   unfolding write reals_of lay
   reals-written = ap (λ (x : Sparse). x.reals) written
 
   pub olds-there : over old_values_at (map (λ (v : Variable). v.old) vs) t.reals ≡ t.reals
-  olds-there = over-there realsAbove realsBelow old_values_at (map old vs) t.reals above-olds reals-written
+  olds-there = over-there reals_above reals_below old_values_at (map old vs) t.reals above-olds reals-written
 
   -- ---- each variable as f leaves it: its number, its symbol and its uses stay
 
@@ -213,13 +213,13 @@ module _ (t : Sparse) (form : Form t) where
     changed w = set (set w should_clear_at (bit_of clear)) gone_count_at 0
 
     words-after : lay (words_of after size) t.words ≡ set (set t.words should_clear_at (bit_of clear)) gone_count_at 0
-    words-after = parts ∙ behind ∙ lay-anew (goneFrom ∷ wordsAbove) [] next_id_at (heading_of s size) heading t.words above-heading heading-long words-written ∙ put ∙ ap changed (over-there (goneFrom ∷ wordsAbove) [] next_id_at (heading_of s size) t.words above-heading words-written)
+    words-after = parts ∙ behind ∙ lay-anew (gone_from ∷ words_above) [] next_id_at (heading_of s size) heading t.words above-heading heading-long words-written ∙ put ∙ ap changed (over-there (gone_from ∷ words_above) [] next_id_at (heading_of s size) t.words above-heading words-written)
       where
-        parts : lay (words_of after size) t.words ≡ lay (wordsBelow heading) t.words
+        parts : lay (words_of after size) t.words ≡ lay (words_below heading) t.words
         parts = unfold words_of lay over in rw (map-kept f (λ (v : Variable). v.uses) uses vs, map-kept f (λ (v : Variable). v.number) numbers vs, heading-after) (laid_nil (λ x _. x) gone_numbers_at _)
 
-        behind : lay (wordsBelow heading) t.words ≡ lay (goneFrom ∷ wordsAbove) (over next_id_at heading (lay [] t.words))
-        behind = unfold lay in sym (lay-under (wordsBelow heading) gone_numbers_at s.changes.gone t.words (gone-behind heading heading-long) ∙ ap (lay (wordsBelow heading)) gone-there)
+        behind : lay (words_below heading) t.words ≡ lay (gone_from ∷ words_above) (over next_id_at heading (lay [] t.words))
+        behind = unfold lay in sym (lay-under (words_below heading) gone_numbers_at s.changes.gone t.words (gone-behind heading heading-long) ∙ ap (lay (words_below heading)) gone-there)
 
         put : over next_id_at heading t.words ≡ changed (over next_id_at (heading_of s size) t.words)
         put =
@@ -228,9 +228,9 @@ module _ (t : Sparse) (form : Form t) where
             ∙ ap (λ (w : List ℕ). set w gone_count_at 0) (put-set (heading_of s size) t.words should_clear_at (bit_of clear) (unfold heading_of in omega arith))
 
     bytes_after : lay (bytes_of after) t.bytes ≡ over changed_at (map flag_bit us) t.bytes
-    bytes_after = parts ∙ lay-anew bytesAbove bytesBelow changed_at (map flag_bit vs) (map flag_bit us) t.bytes above-flags (length-map us flag_bit ∙ many ∙ sym (length-map vs flag_bit)) bytes-written
+    bytes_after = parts ∙ lay-anew bytes_above bytes_below changed_at (map flag_bit vs) (map flag_bit us) t.bytes above-flags (length-map us flag_bit ∙ many ∙ sym (length-map vs flag_bit)) bytes-written
       where
-        parts : lay (bytes_of after) t.bytes ≡ lay bytesAbove (over changed_at (map flag_bit us) (lay bytesBelow t.bytes))
+        parts : lay (bytes_of after) t.bytes ≡ lay bytes_above (over changed_at (map flag_bit us) (lay bytes_below t.bytes))
         parts =
             unfold bytes_of lay in
             rw (
@@ -240,9 +240,9 @@ module _ (t : Sparse) (form : Form t) where
             ) refl
 
     reals-after : lay (reals_of after) t.reals ≡ over old_values_at (map old us) t.reals
-    reals-after = parts ∙ lay-anew realsAbove realsBelow old_values_at (map old vs) (map old us) t.reals above-olds (length-map us old ∙ many ∙ sym (length-map vs old)) reals-written
+    reals-after = parts ∙ lay-anew reals_above reals_below old_values_at (map old vs) (map old us) t.reals above-olds (length-map us old ∙ many ∙ sym (length-map vs old)) reals-written
       where
-        parts : lay (reals_of after) t.reals ≡ lay realsAbove (over old_values_at (map old us) (lay realsBelow t.reals))
+        parts : lay (reals_of after) t.reals ≡ lay reals_above (over old_values_at (map old us) (lay reals_below t.reals))
         parts = unfold reals_of lay in refl
 
     pub others-written : write after t ≡ record { words = set (set t.words should_clear_at (bit_of clear)) gone_count_at 0; keys = t.keys; bytes = over changed_at (map flag_bit us) t.bytes; reals = over old_values_at (map (λ (v : Variable). v.old) us) t.reals; values = t.values }

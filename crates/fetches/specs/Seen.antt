@@ -6,8 +6,8 @@ use Rattle.std.proofs.Math.Path.{refl, sym, ap}
 use Rattle.std.proofs.Common.{◌∙◌, map-id, not-suc-le-zero, le_of_suc-le-suc, arith}
 use Rattle.std.proofs.Math.Bool.{true, false}
 use Rattle.std.proofs.Math.Dec.{eqb}
-use Rattle.laws.specs.Loops.{mapIn}
-use Rattle.laws.specs.Places.{mapIn-before}
+use Rattle.laws.specs.Loops.{map_in}
+use Rattle.laws.specs.Places.{map_in-before}
 use Rattle.laws.specs.Lists.{list_of}
 use Rattle.layout.specs.Laying.{list_ext}
 use Rattle.steps.specs.State.{Variable}
@@ -24,13 +24,13 @@ use Rattle.sparse_test.specs.Whole.{tables}
 
 -- the bytes that a fetch lists by: cleared, or as they stand
 abbrev pub cleared_if : Bool → ℕ → List ℕ → List ℕ
-cleared_if c k b = cond c (mapIn (λ _. 0) changed_at (changed_at + k) b) b
+cleared_if c k b = cond c (map_in (λ _. 0) changed_at (changed_at + k) b) b
 
 unfoldable pub cleared_by : List ℕ → List ℕ → List ℕ
 cleared_by w b = cleared_if (eqb (get_or w should_clear_at 0) 1) (get_or w variable_count_at 0) b
 
 module _ (w b : List ℕ) where
-  pub cleared : {d : List ℕ} → eqb (get_or w should_clear_at 0) 1 ≡ true → d ≡ mapIn (λ _. 0) changed_at (changed_at + get_or w variable_count_at 0) b → d ≡ cleared_by w b
+  pub cleared : {d : List ℕ} → eqb (get_or w should_clear_at 0) 1 ≡ true → d ≡ map_in (λ _. 0) changed_at (changed_at + get_or w variable_count_at 0) b → d ≡ cleared_by w b
   unfolding cleared_by
   cleared e h = h ∙ rw e refl
 
@@ -47,8 +47,8 @@ unfolding clear_changed
 seen_all true vs = refl
 seen_all false vs = sym (map-id vs)
 
-off_at : (a e : ℕ) (l : List ℕ) (j : ℕ) → a ≤ j → j < e → get_or (mapIn (λ _. 0) a e l) j 0 ≡ 0
-unfolding mapIn
+off_at : (a e : ℕ) (l : List ℕ) (j : ℕ) → a ≤ j → j < e → get_or (map_in (λ _. 0) a e l) j 0 ≡ 0
+unfolding map_in
 off_at a e [] j h k = refl
 off_at a zero (x ∷ l) j h k = absurd (not-suc-le-zero k)
 off_at zero (suc e) (x ∷ l) zero h k = refl
@@ -68,7 +68,7 @@ module _ (t : Sparse) (form : Form t) (c : Bool) where
   stays j h = go c
     where
       go : (b : Bool) → get_or (cleared_if b (variable_count t) t.bytes) j 0 ≡ get_or t.bytes j 0
-      go true = mapIn-before (λ _. 0) changed_at (changed_at + variable_count t) t.bytes j 0 h
+      go true = map_in-before (λ _. 0) changed_at (changed_at + variable_count t) t.bytes j 0 h
       go false = refl
 
   flag_is : (i : ℕ) → i < variable_count t → eqb (get_or bytes (changed_at + i) 0) 1 ≡ (seen c (variable_of t i)).changed

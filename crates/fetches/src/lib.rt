@@ -2,7 +2,7 @@
 #![tactic(auto)]
 
 ghost use Rattle.std.specs.Prelude.{◌≡◌, true, ◌+◌, ◌≤◌, get_or, replicate};
-ghost use Rattle.laws.specs.Loops.{mapIn};
+ghost use Rattle.laws.specs.Loops.{map_in};
 ghost use Rattle.steps.specs.Number.{zero64};
 ghost use Rattle.sparse.specs.Places.{most_variables, variable_count_at, changed_at};
 ghost use Rattle.sparse_test.specs.Reads.{reads};
@@ -37,7 +37,7 @@ pub struct Fetched {
 
 fn clear_changed(bytes: &mut Bytes, count: usize)
     requires { count ≤ most_variables }
-    ensures { bytes.new ≡ mapIn (λ _. 0) changed_at (changed_at + count) bytes.old }
+    ensures { bytes.new ≡ map_in (λ _. 0) changed_at (changed_at + count) bytes.old }
 {
     let mut v = CHANGED;
     while v < CHANGED + count {

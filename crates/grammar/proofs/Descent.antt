@@ -25,8 +25,8 @@ module _ (w : List ℕ) (at : ℕ) (m : Mode) (a : Around) (s : Sums) where
 -- ---- what stands around a part or a sum takes the place of its end
 
 module _ (b : Around) where
-  abbrev behindRest : Mode → Sums → Kind → Next
-  behindRest = specs.behindRest b
+  abbrev behind_rest : Mode → Sums → Kind → Next
+  behind_rest = specs.behind_rest b
 
   room : (a : Around) → Fits a b → room_of (over a b) ≡ room_of a
   unfolding over room_of
@@ -121,11 +121,11 @@ module _ (b : Around) where
   alike-digits x nn more = stops
   alike-digits x nn strange = stops
 
-  pub alike : (m : Mode) (a : Around) (s : Sums) (k : Kind) → Inner m → Fits a b → Alike b (behindRest m s k) (step m (over a b) s k) (step m a s k)
-  alike first a s k i h = alike-begins (behindRest first s k) one a s h (λ d. goes tt h) (goes tt h) (goes tt h) k
-  alike spaced a s k i h = alike-begins (behindRest spaced s k) one a s h (λ d. stops) stops (goes tt h) k
-  alike (wanted f) a s k i h = alike-begins (behindRest (wanted f) s k) f a s h (λ d. goes tt h) (goes tt h) (goes tt h) k
-  alike (lettered f) a s k i h = alike-digits (behindRest (lettered f) s k) (λ d. goes tt h) k
+  pub alike : (m : Mode) (a : Around) (s : Sums) (k : Kind) → Inner m → Fits a b → Alike b (behind_rest m s k) (step m (over a b) s k) (step m a s k)
+  alike first a s k i h = alike-begins (behind_rest first s k) one a s h (λ d. goes tt h) (goes tt h) (goes tt h) k
+  alike spaced a s k i h = alike-begins (behind_rest spaced s k) one a s h (λ d. stops) stops (goes tt h) k
+  alike (wanted f) a s k i h = alike-begins (behind_rest (wanted f) s k) f a s h (λ d. goes tt h) (goes tt h) (goes tt h) k
+  alike (lettered f) a s k i h = alike-digits (behind_rest (lettered f) s k) (λ d. goes tt h) k
   alike (number f n) a s k i h = alike-behind a (with_number f n s) h (λ d. alike-if (halts b) (leb (n * 10 + d) most) (number f (n * 10 + d)) a s 22 tt h) (goes tt h) (alike-if (halts b) (leb (f.times * n) most) (wanted (multiplied f n)) a s 22 tt h) k
   alike (numbered f n) a s k i h = alike-behind a (with_number f n s) h (λ d. alike-halts a h) (goes tt h) (alike-if (halts b) (leb (f.times * n) most) (wanted (multiplied f n)) a s 22 tt h) k
   alike (named f v) a s k i h = alike-behind a (with_variable f v s) h (λ d. alike-if (halts b) (leb (v * 10 + d) most_name) (named f (v * 10 + d)) a s 22 tt h) (goes tt h) (alike-halts a h) k
@@ -190,11 +190,11 @@ module _ (line : List ℕ) (b : Around) where
   from [] at m a s i h e = last-over at (is_read m) (is_bare m) a (flushed m s) (behind-is m) h e
   from (c ∷ w) at m a s i h e = by (step m (over a b) s (kind_of c)) (step m a s (kind_of c)) (alike b m a s (kind_of c) i h) (λ m' a' s' i' h'. from w (suc at) m' a' s' i' h' (drop-tail at line e))
     where
-      by : (x y : Next) → Alike b (behindRest b m s (kind_of c)) x y
+      by : (x y : Next) → Alike b (behind_rest b m s (kind_of c)) x y
           → ((m' : Mode) (a' : Around) (s' : Sums) → Inner m' → Fits a' b → run w (suc at) m' (over a' b) s' ≡ resumed line b (run w (suc at) m' a' s'))
           → follow at m s x (run w (suc at)) ≡ resumed line b (follow at m s y (run w (suc at)))
       by _ _ (goes {m = m'} {a = a'} {s = s'} i' h') next = next m' a' s' i' h'
-      by _ _ ended next = rw e (rested-follow at m s (behindRest b m s (kind_of c)) (run w (suc at)))
+      by _ _ ended next = rw e (rested-follow at m s (behind_rest b m s (kind_of c)) (run w (suc at)))
       by _ _ stops next = refl
 
 module _ (line : List ℕ) (at : ℕ) (s : Sums) where

@@ -49,8 +49,8 @@ pub data Alike (b : Around) (x : Next) : Next → Next → Type 0 where
 
 module _ (b : Around) where
   -- where the reader goes on once a part or sum has ended
-  abbrev pub behindRest : Mode → Sums → Kind → Next
-  behindRest m s k = step (rested (is_bare m)) b (flushed m s) k
+  abbrev pub behind_rest : Mode → Sums → Kind → Next
+  behind_rest m s k = step (rested (is_bare m)) b (flushed m s) k
 
 -- what b does behind a part or sum that was read
 abbrev pub resumed : List ℕ → Around → Outcome → Outcome

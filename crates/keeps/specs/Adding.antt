@@ -23,7 +23,7 @@ use Rattle.keeps.specs.Lists.{All, all-to, Same?, is, isnt, same, same?, times}
 use Rattle.keeps.specs.Keys.{row_id, find-all, keep-length, keep_row-is, Row?, no_row, a-row, row?}
 use Rattle.keeps.specs.Along.{Along, along-append, first-chosen}
 use Rattle.keeps.specs.Cells.{Ok, Fine, fine-l, fine-r, ok-zero, holds-held}
-use Rattle.keeps.specs.RowOps.{RowOk, solveForSymbol-ok}
+use Rattle.keeps.specs.RowOps.{RowOk, solve_for_symbol-ok}
 use Rattle.keeps.specs.Fits.{bids, IsBasic, Fits, FitsW, fits-worse, fits-plain, fits-append, fits-keep, bids-rerow, rerow, all_map, mem-last, fresh-row}
 use Rattle.keeps.specs.Frame.{Frame, frame-trans, mark-frame, enter-frame, enter-count}
 use Rattle.keeps.specs.Pivots.{enter-fits}
@@ -60,7 +60,7 @@ pub subject-fits : (s : Symbol) (r : Row) (w : Work) → FitsW w → RowOk (IsBa
 unfolding marking
 subject-fits s r w fits h f =
     enter-fits s solved.row (marking solved.mark w) (fits-worse fits solved.mark) f.free f.live C old (λ i p. p)
-    (solveForSymbol-ok (IsBasic bs) C (Fine w.mark) (Fine (worse w.mark solved.mark)) (fine-l w.mark solved.mark) 1
+    (solve_for_symbol-ok (IsBasic bs) C (Fine w.mark) (Fine (worse w.mark solved.mark)) (fine-l w.mark solved.mark) 1
     w.tableau.symbols fits.up s.id old r h (fine-r w.mark solved.mark))
   where
     solved : Written

@@ -64,22 +64,22 @@ along-zero R f (x ∷ xs) = (f x.id, along-zero R f xs)
 -- ---- the operations on cells
 
 module _ (O Q : ℕ → Float → Type 0) (R : ℕ → Cell → Type 0) (cut k : Float) (f : (i : ℕ) (o c : Float) → O i o → Q i c → R i (insert_times cut k o c)) where
-  pub along-insertCells : (xs : List Symbol) (os cs : List Float) → Along O xs os → Along Q xs cs → Along R xs (insert_cells cut k os cs)
+  pub along-insert_cells : (xs : List Symbol) (os cs : List Float) → Along O xs os → Along Q xs cs → Along R xs (insert_cells cut k os cs)
   unfolding insert_cells
-  along-insertCells [] [] [] g h = tt
-  along-insertCells [] [] (c ∷ cs) g h = absurd h
-  along-insertCells [] (o ∷ os) cs g h = absurd g
-  along-insertCells (x ∷ xs) [] cs g h = absurd g
-  along-insertCells (x ∷ xs) (o ∷ os) [] g h = absurd h
-  along-insertCells (x ∷ xs) (o ∷ os) (c ∷ cs) g h = (f x.id o c g.0 h.0, along-insertCells xs os cs g.1 h.1)
+  along-insert_cells [] [] [] g h = tt
+  along-insert_cells [] [] (c ∷ cs) g h = absurd h
+  along-insert_cells [] (o ∷ os) cs g h = absurd g
+  along-insert_cells (x ∷ xs) [] cs g h = absurd g
+  along-insert_cells (x ∷ xs) (o ∷ os) [] g h = absurd h
+  along-insert_cells (x ∷ xs) (o ∷ os) (c ∷ cs) g h = (f x.id o c g.0 h.0, along-insert_cells xs os cs g.1 h.1)
 
 module _ (Q : ℕ → Float → Type 0) (R : ℕ → Cell → Type 0) (cut : Float) (s : ℕ) (k : Float) (here : (c : Float) → Q s c → R s (insert_cell cut c k)) (there : (i : ℕ) (c : Float) → s ≢ i → Q i c → R i (kept c)) where
-  pub along-insertSymbol : (xs : List Symbol) (cs : List Float) → Along Q xs cs → Along R xs (insert_symbol cut s k xs cs)
+  pub along-insert_symbol : (xs : List Symbol) (cs : List Float) → Along Q xs cs → Along R xs (insert_symbol cut s k xs cs)
   unfolding insert_symbol is_symbol
-  along-insertSymbol [] [] h = tt
-  along-insertSymbol [] (c ∷ cs) h = absurd h
-  along-insertSymbol (x ∷ xs) [] h = absurd h
-  along-insertSymbol (x ∷ xs) (c ∷ cs) h = (go (same? s x.id) h.0, along-insertSymbol xs cs h.1)
+  along-insert_symbol [] [] h = tt
+  along-insert_symbol [] (c ∷ cs) h = absurd h
+  along-insert_symbol (x ∷ xs) [] h = absurd h
+  along-insert_symbol (x ∷ xs) (c ∷ cs) h = (go (same? s x.id) h.0, along-insert_symbol xs cs h.1)
     where
       go : Same? s x.id → Q x.id c → R x.id (elim (eqb s x.id) [ true ↦ insert_cell cut c k | false ↦ kept c ])
       go (is a b d) q = rw a (subst (λ (i : ℕ). R i (insert_cell cut c k)) b (here c (subst (λ (i : ℕ). Q i c) (sym b) q)))

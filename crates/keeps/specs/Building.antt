@@ -16,9 +16,9 @@ use Rattle.steps.specs.Changes.{member, never_reported}
 use Rattle.steps.specs.CreateRow.{Building, written, append_to, insert_into, keep_variable, with_variables, add_variable, use_once, insert_variable}
 use Rattle.steps.specs.Readable.{code}
 use Rattle.keeps.specs.Lists.{Same?, is, isnt, same, same?, total, times, up-once}
-use Rattle.keeps.specs.Keys.{row_id, keepBy, find-all, find_none, keep-total, keep_all, keep-up, keep_variable-is, Row?, no_row, a-row, row?}
+use Rattle.keeps.specs.Keys.{row_id, keep_by, find-all, find_none, keep-total, keep_all, keep-up, keep_variable-is, Row?, no_row, a-row, row?}
 use Rattle.keeps.specs.Cells.{Fine, fine-l, fine-r}
-use Rattle.keeps.specs.RowOps.{RowOk, row-to, insertSymbolInRow-ok, insertRow-ok, append-ok}
+use Rattle.keeps.specs.RowOps.{RowOk, row-to, insert_symbol_in_row-ok, insert_row-ok, append-ok}
 use Rattle.keeps.specs.Fits.{bids, IsBasic, FitsW, fits-worse, fits-plain, fits-append, bids-rerow, fresh-row, mem-append, mem-last, all_map}
 use Rattle.keeps.specs.Frame.{mark-frame}
 use Rattle.keeps.specs.Codes.{codes-append}
@@ -41,13 +41,13 @@ module _ (K U : ℕ → ℕ) (N : ℕ) (b : Building) (h : Built K U N b) where
   marked : (m : Mark) → Good K U (marking m b.work)
   marked m = good-frame K U b.work (marking m b.work) h.good (unfold marking in fits-worse h.good.fits m) (mark-frame m b.work)
 
-  pub insertInto-built : (s : ℕ) (k : Float) → times s (bids b.work.tableau.rows) ≡ 0 → Built K U N (insert_into s k b)
+  pub insert_into-built : (s : ℕ) (k : Float) → times s (bids b.work.tableau.rows) ≡ 0 → Built K U N (insert_into s k b)
   unfolding insert_into written
-  insertInto-built s k z =
+  insert_into-built s k z =
       record {
         good = marked m;
         row =
-            unfold marking in insertSymbolInRow-ok b.work.tableau.cutoff (IsBasic b.work.tableau.rows) (Fine b.work.mark) (Fine (worse b.work.mark m))
+            unfold marking in insert_symbol_in_row-ok b.work.tableau.cutoff (IsBasic b.work.tableau.rows) (Fine b.work.mark) (Fine (worse b.work.mark m))
             (fine-l b.work.mark m) b.work.tableau.symbols s k b.row (λ q. omega arith) h.row (fine-r b.work.mark m);
         plain = unfold marking in h.plain;
         count = unfold marking in h.count;
@@ -56,14 +56,14 @@ module _ (K U : ℕ → ℕ) (N : ℕ) (b : Building) (h : Built K U N b) where
       m : Mark
       m = (insert_symbol_in_row b.work.tableau.cutoff s k b.work.tableau.symbols b.row).mark
 
-  insertRow-built : (r : Row) (k : Float) → RowOk (IsBasic b.work.tableau.rows) (Fine b.work.mark) b.work.tableau.symbols r
+  insert_row-built : (r : Row) (k : Float) → RowOk (IsBasic b.work.tableau.rows) (Fine b.work.mark) b.work.tableau.symbols r
       → Built K U N (written (insert_row b.work.tableau.cutoff r k b.row) b.work)
   unfolding written
-  insertRow-built r k o =
+  insert_row-built r k o =
       record {
         good = marked m;
         row =
-            unfold marking in insertRow-ok b.work.tableau.cutoff (IsBasic b.work.tableau.rows) (Fine b.work.mark) (Fine (worse b.work.mark m)) (fine-l b.work.mark m)
+            unfold marking in insert_row-ok b.work.tableau.cutoff (IsBasic b.work.tableau.rows) (Fine b.work.mark) (Fine (worse b.work.mark m)) (fine-l b.work.mark m)
             b.work.tableau.symbols k r b.row o h.row (fine-r b.work.mark m);
         plain = unfold marking in h.plain;
         count = unfold marking in h.count;
@@ -72,17 +72,17 @@ module _ (K U : ℕ → ℕ) (N : ℕ) (b : Building) (h : Built K U N b) where
       m : Mark
       m = (insert_row b.work.tableau.cutoff r k b.row).mark
 
-  pub insertVariable-built : (s : Symbol) (k : Float) → Built K U N (insert_variable s k b)
+  pub insert_variable-built : (s : Symbol) (k : Float) → Built K U N (insert_variable s k b)
   unfolding insert_variable
-  insertVariable-built s k = go (find_row s.id b.work.tableau.rows) (row? s.id b.work.tableau.rows)
+  insert_variable-built s k = go (find_row s.id b.work.tableau.rows) (row? s.id b.work.tableau.rows)
     where
       next : Option Row → Building
       next o = elim o [ none ↦ insert_into s.id k b | some r ↦ written (insert_row b.work.tableau.cutoff r k b.row) b.work ]
 
       go : (o : Option Row) → Row? s.id b.work.tableau.rows o → Built K U N (next o)
-      go o (no_row q) = insertInto-built s.id k (find_none row_id s.id b.work.tableau.rows q)
+      go o (no_row q) = insert_into-built s.id k (find_none row_id s.id b.work.tableau.rows q)
       go o (a-row c q) =
-          insertRow-built c.row k
+          insert_row-built c.row k
           (find-all row_id (λ (c : Basic). RowOk (IsBasic b.work.tableau.rows) (Fine b.work.mark) b.work.tableau.symbols c.row) s.id
           b.work.tableau.rows c q h.good.fits.rows)
 
@@ -156,7 +156,7 @@ new-vars n s C U vs x z h =
       up = keep-up var_number 0 (new_variable n s) vs (omega arith) z h.up;
       symbols = λ m. keep-total var_number (var_code m) (new_variable n s) vs ∙ ap (λ (k : ℕ). same m (code s) + k) (h.symbols m);
       uses =
-          λ m. uses-total m (keepBy var_number (new_variable n s) vs) ∙ keep-total var_number (λ (v : Variable). cond (eqb m v.number) v.uses 0)
+          λ m. uses-total m (keep_by var_number (new_variable n s) vs) ∙ keep-total var_number (λ (v : Variable). cond (eqb m v.number) v.uses 0)
           (new_variable n s) vs ∙ none-used m (eqb m n) ∙ sym (uses-total m vs) ∙ h.uses m;
       olds = keep_all var_number OldOk (new_variable n s) vs (unfold is_finite is_nan in refl) h.olds;
       externals = keep_all var_number (λ (v : Variable). is_external v.symbol ≡ true) (new_variable n s) vs x h.externals;
@@ -171,7 +171,7 @@ new-vars n s C U vs x z h =
 new-waits : (n : ℕ) (s : Symbol) (gone : List ℕ) (vs : List Variable) → Waits gone vs → Waits gone (keep_variable (new_variable n s) vs)
 unfolding new_variable never_reported ne eq
 new-waits n s gone vs w =
-    rw keep_variable-is (waits-to gone vs (keepBy var_number (new_variable n s) vs) (λ h. keep_all var_number (Returned gone) (new_variable n s) vs (by (not (member n gone))) h) w)
+    rw keep_variable-is (waits-to gone vs (keep_by var_number (new_variable n s) vs) (λ h. keep_all var_number (Returned gone) (new_variable n s) vs (by (not (member n gone))) h) w)
   where
     by : (b : Bool) → (b || true) ≡ true
     by true = refl

@@ -25,7 +25,7 @@ use Rattle.keeps.specs.Reads.{tag_code}
 use Rattle.keeps.specs.Good.{Good, good-frame, good-to}
 use Rattle.keeps.specs.Passes.{Free, held-free}
 use Rattle.keeps.specs.Leaving.{symbol-objective}
-use Rattle.keeps.specs.Building.{Built, append-built, append-new, append-free, insertInto-built}
+use Rattle.keeps.specs.Building.{Built, append-built, append-new, append-free, insert_into-built}
 use Rattle.keeps.specs.Terms.{insert_terms-built, insert_terms-length}
 
 -- ---- a symbol of the tag comes in
@@ -41,7 +41,7 @@ unfolding add_symbol
 add_symbol-step K U N b s k e h =
     record {
       built =
-          insertInto-built (λ n. same n (code s) + K n) U N (append_to s b) (append-built K U N b s e h) s.id k
+          insert_into-built (λ n. same n (code s) + K n) U N (append_to s b) (append-built K U N b s e h) s.id k
           (unfold append_to in (append-new s b.work h.good.fits e).free);
       new =
           unfold insert_into written marking append_to in record {
@@ -169,11 +169,11 @@ module _ (K U : ℕ → ℕ) (N : ℕ) (b : Building) where
   required-tagged h =
       one_symbol (new_symbol Dummy b.work) (add_symbol (new_symbol Dummy b.work) one64 b) (add_symbol-step K U N b (new_symbol Dummy b.work) one64 refl h)
 
-  addTag-tagged : (r : Relation) → Built K U N b → Tagged K U N (length b.work.changes.variables) (add_tag r b)
+  add_tag-tagged : (r : Relation) → Built K U N b → Tagged K U N (length b.work.changes.variables) (add_tag r b)
   unfolding add_tag
-  addTag-tagged (at_most s) h = inequality-tagged one64 s h
-  addTag-tagged (at_least s) h = inequality-tagged minus_one64 s h
-  addTag-tagged (equal s) h = go (lt s required)
+  add_tag-tagged (at_most s) h = inequality-tagged one64 s h
+  add_tag-tagged (at_least s) h = inequality-tagged minus_one64 s h
+  add_tag-tagged (equal s) h = go (lt s required)
     where
       go : (t : Bool) → Tagged K U N (length b.work.changes.variables) (elim t [ true ↦ soft_equality s b | false ↦ required_equality b ])
       go true = equality-tagged s h
@@ -262,7 +262,7 @@ create_row-tagged K U terms constant r w g plain fin = go (below_zero c.row.cons
 
     built : Tagged K (λ m. uses_in m (kept_terms w.tableau.cutoff terms) + U m) (length w.tableau.rows) L c
     built = subst (λ (l : ℕ). Tagged K (λ m. uses_in m (kept_terms w.tableau.cutoff terms) + U m) (length w.tableau.rows) l c) (insert_terms-length w.tableau.cutoff terms start)
-        (addTag-tagged K (λ m. uses_in m (kept_terms w.tableau.cutoff terms) + U m) (length w.tableau.rows) (insert_terms w.tableau.cutoff terms start) r
+        (add_tag-tagged K (λ m. uses_in m (kept_terms w.tableau.cutoff terms) + U m) (length w.tableau.rows) (insert_terms w.tableau.cutoff terms start) r
         (insert_terms-built w.tableau.cutoff K U (length w.tableau.rows) terms start
         (record { good = g; row = bare-ok (IsBasic w.tableau.rows) (Fine w.mark) w.tableau.symbols constant fin; plain = plain; count = refl })))
 

@@ -225,9 +225,9 @@ drop_uses-shrunk (t ∷ ts) w = shrunk-trans (drop_use-shrunk t w) (drop_uses-sh
 
 module _ (t : Term) (w : Work) where
   -- what a term's use less makes of them
-  dropUse-gone : (drop_use t w).changes.gone ≡ gone_after (use_less t.variable w.changes.variables).gone w.changes.gone
+  drop_use-gone : (drop_use t w).changes.gone ≡ gone_after (use_less t.variable w.changes.variables).gone w.changes.gone
   unfolding drop_use lose tell_gone with_variables with_changes purge with_tableau
-  dropUse-gone = go (use_less t.variable w.changes.variables).gone
+  drop_use-gone = go (use_less t.variable w.changes.variables).gone
     where
       left : Work
       left = with_variables (use_less t.variable w.changes.variables).variables w
@@ -236,9 +236,9 @@ module _ (t : Term) (w : Work) where
       go none = refl
       go (some v) = refl
 
-  dropUse-variables : (drop_use t w).changes.variables ≡ (use_less t.variable w.changes.variables).variables
+  drop_use-variables : (drop_use t w).changes.variables ≡ (use_less t.variable w.changes.variables).variables
   unfolding drop_use lose tell_gone with_variables with_changes purge with_tableau
-  dropUse-variables = go (use_less t.variable w.changes.variables).gone
+  drop_use-variables = go (use_less t.variable w.changes.variables).gone
     where
       left : Work
       left = with_variables (use_less t.variable w.changes.variables).variables w
@@ -255,17 +255,17 @@ module _ (t : Term) (w : Work) where
       go true = u
       go false = keep-number-up 0 v.number gone (omega arith) u
 
-  dropUse-ups : Up 0 w.changes.gone → Up 0 (map var_number w.changes.variables) → Up 0 (drop_use t w).changes.gone × Up 0 (map var_number (drop_use t w).changes.variables)
-  dropUse-ups g u = (rw dropUse-gone (after-up (use_less t.variable w.changes.variables).gone w.changes.gone g), rw dropUse-variables (less-up t.variable 0 w.changes.variables u))
+  drop_use-ups : Up 0 w.changes.gone → Up 0 (map var_number w.changes.variables) → Up 0 (drop_use t w).changes.gone × Up 0 (map var_number (drop_use t w).changes.variables)
+  drop_use-ups g u = (rw drop_use-gone (after-up (use_less t.variable w.changes.variables).gone w.changes.gone g), rw drop_use-variables (less-up t.variable 0 w.changes.variables u))
 
 -- 25's count is exact: the fall of these terms' uses makes just so many entries, and those of other terms are counted afterwards as before
 pub drop_uses-entries : (ts us : List Term) (w : Work) → Up 0 w.changes.gone → Up 0 (map var_number w.changes.variables) → entries_by us (drop_uses ts w).changes ≡ entries_by (ts ++ us) w.changes
 unfolding drop_uses
 drop_uses-entries [] us w g u = refl
 drop_uses-entries (t ∷ ts) us w g u =
-    let v = dropUse-ups t w g u in
+    let v = drop_use-ups t w g u in
     drop_uses-entries ts us (drop_use t w) v.0 v.1
-    ∙ ap₂ (λ (n : List ℕ) (vs : List Variable). length n + entries_made n (ts ++ us) vs) (dropUse-gone t w) (dropUse-variables t w)
+    ∙ ap₂ (λ (n : List ℕ) (vs : List Variable). length n + entries_made n (ts ++ us) vs) (drop_use-gone t w) (drop_use-variables t w)
     ∙ entries-fall 0 w.changes.gone t (ts ++ us) w.changes.variables g u
 
 -- ---- a term's use falls
@@ -343,7 +343,7 @@ drop_uses-good (t ∷ ts) K U W w g plain h room = drop_uses-good ts K (λ n. us
     first = unfold same in drop_use-good t ts K U (λ n. uses_in n ts + W n) w g plain (λ n. omega (arith, h n)) room
 
     on : entries_by ts (drop_use t w).changes ≤ 32
-    on = omega (arith, ap₂ (λ (n : List ℕ) (vs : List Variable). length n + entries_made n ts vs) (dropUse-gone t w) (dropUse-variables t w), entries-fall 0 w.changes.gone t ts w.changes.variables g.waits.up g.vars.up, room)
+    on = omega (arith, ap₂ (λ (n : List ℕ) (vs : List Variable). length n + entries_made n ts vs) (drop_use-gone t w) (drop_use-variables t w), entries-fall 0 w.changes.gone t ts w.changes.variables g.waits.up g.vars.up, room)
 
 -- ---- the entries, where the variables change their flags alone
 

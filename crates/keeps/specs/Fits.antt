@@ -8,7 +8,7 @@ use Rattle.steps.specs.Row.{Row, append_cell}
 use Rattle.steps.specs.State.{Basic}
 use Rattle.steps.specs.Work.{Work, drop_row, keep_row}
 use Rattle.keeps.specs.Lists.{All, all-to, all-zip, all_append, Same?, is, isnt, same, same?, times, Up, up_from}
-use Rattle.keeps.specs.Keys.{row_id, dropBy, drop_all, drop-up, drop-times, drop-gone, drop_row-is, keepBy, keep_all, keep-up, keep-times, keep_row-is, none_has}
+use Rattle.keeps.specs.Keys.{row_id, drop_by, drop_all, drop-up, drop-times, drop-gone, drop_row-is, keep_by, keep_all, keep-up, keep-times, keep_row-is, none_has}
 use Rattle.keeps.specs.Along.{Along, ids, Mem, along-append, along-delete}
 use Rattle.keeps.specs.Cells.{Ok, Fine, fine-l, ok-zero, ok-to}
 use Rattle.keeps.specs.RowOps.{RowOk, row-to, append-ok}
@@ -78,7 +78,7 @@ module _ {xs : List Symbol} {next : ℕ} {bs : List Basic} {os : List Float} {a 
       })
     where
       fewer : ℕ → Type 0
-      fewer = IsBasic (dropBy row_id l bs)
+      fewer = IsBasic (drop_by row_id l bs)
 
       less : (i : ℕ) → fewer i → IsBasic bs i
       less i p = omega (arith, p, drop-times row_id i l bs)
@@ -244,7 +244,7 @@ fits-keep s r xs next bs os a m l z u p n v w C c mine h o t =
     new = record { symbol = s; row = r }
 
     now : ℕ → Type 0
-    now = IsBasic (keepBy row_id new bs)
+    now = IsBasic (keep_by row_id new bs)
 
     to : (i : ℕ) → now i → C i
     to i p = c i (rw keep-times at p)

@@ -15,7 +15,7 @@ use Rattle.keeps.specs.Lists.{All, Same?, is, isnt, same, same?, times, Up}
 use Rattle.keeps.specs.Keys.{row_id, drop_row-is, drop-times, drop-gone, find-all, Row?, no_row, a-row, row?}
 use Rattle.keeps.specs.Along.{ids, Mem}
 use Rattle.keeps.specs.Cells.{Fine, fine-l, fine-r}
-use Rattle.keeps.specs.RowOps.{RowOk, row-to, substituteInRow-ok, substituteInCells-ok, solve_for_symbols-ok}
+use Rattle.keeps.specs.RowOps.{RowOk, row-to, substitute_in_row-ok, substitute_in_cells-ok, solve_for_symbols-ok}
 use Rattle.keeps.specs.Fits.{bids, IsBasic, ArtOk, Fits, FitsW, fits-worse, fits-drop, fits-keep}
 
 -- ---- in all rows
@@ -46,14 +46,14 @@ module _ (cut : Float) (B C : ℕ → Type 0) (G H : Type 0) (g : H → G) (xs :
   unfolding rows_of substitute_in_rows marks_of
   rows-sub [] m h = tt
   rows-sub (b ∷ bs) m h = (
-    substituteInRow-ok B C G H g 1 xs u s old cut r b.row mine h.0 (λ p. fine-l (substitute_in_row cut s xs r b.row).mark (marks_of (substitute_in_rows cut s xs r bs)) (m p)),
+    substitute_in_row-ok B C G H g 1 xs u s old cut r b.row mine h.0 (λ p. fine-l (substitute_in_row cut s xs r b.row).mark (marks_of (substitute_in_rows cut s xs r bs)) (m p)),
     rows-sub bs (λ p. fine-r (substitute_in_row cut s xs r b.row).mark (marks_of (substitute_in_rows cut s xs r bs)) (m p)) h.1,
   )
 
   art-sub : (a : Option Row) → (H → Fine (art-mark (written cut s xs r a))) → ArtOk B G xs a → ArtOk C H xs (art-row (written cut s xs r a))
   unfolding written art-mark art-row
   art-sub none m h = tt
-  art-sub (some o) m h = substituteInRow-ok B C G H g 1 xs u s old cut r o mine h m
+  art-sub (some o) m h = substitute_in_row-ok B C G H g 1 xs u s old cut r o mine h m
 
 -- ---- the rest of Add's step 5
 pub enter-fits : (s : Symbol) (r : Row) (w : Work) → FitsW w → times s.id (bids w.tableau.rows) ≡ 0 → Mem s w.tableau.symbols
@@ -92,7 +92,7 @@ enter-fits s r w f z l C old new h = go (is_external s && ne r.constant zero64)
         (rw bids-sub f.rows-up)
         (live-sub cut (λ x. Mem x xs) s.id xs r bs f.live) C (λ i p. new i (rw bids-sub at p)) (row-to C C (Fine w.mark) H (λ i c. c) g xs r h)
         (rows-sub cut (IsBasic bs) C (Fine w.mark) H g xs f.up s.id old r h bs (λ p. fine-l (marks_of rows) _ (rest p)) f.rows)
-        (substituteInCells-ok (IsBasic bs) C (Fine w.mark) H g 1 xs f.up s.id old cut r.cells w.tableau.objective h.1 f.objective
+        (substitute_in_cells-ok (IsBasic bs) C (Fine w.mark) H g 1 xs f.up s.id old cut r.cells w.tableau.objective h.1 f.objective
         (λ p. fine-l (cell_marks objective_bound _) _ (fine-r (marks_of rows) _ (rest p))))
         (art-sub cut (IsBasic bs) C (Fine w.mark) H g xs f.up s.id old r h w.artificial
         (λ p. fine-r (cell_marks objective_bound _) _ (fine-r (marks_of rows) _ (rest p))) f.artificial)

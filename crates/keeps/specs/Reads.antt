@@ -81,9 +81,9 @@ total-map f g (x ∷ xs) = ap (λ (k : ℕ). f (g x) + k) (total-map f g xs)
 pub owned-total : (n : ℕ) (s : State) → times n (owned s) ≡ owned_by n s.changes.variables s.constraints s.edits
 unfolding owned tags
 owned-total n s =
-    times-append n (map (λ (v : Variable). code v.symbol) vs) (concat (map symbolCodes ts))
+    times-append n (map (λ (v : Variable). code v.symbol) vs) (concat (map symbol_codes ts))
     ∙ ap₂ (λ (a b : ℕ). a + b) (times-map (λ (v : Variable). code v.symbol) n vs)
-    (times-concat symbolCodes n ts
+    (times-concat symbol_codes n ts
     ∙ total-append (tag_code n) (map (λ (c : Constraint). c.tag) s.constraints) (map (λ (e : Edit). e.tag) s.edits)
     ∙ ap₂ (λ (a b : ℕ). a + b) (total-map (tag_code n) (λ (c : Constraint). c.tag) s.constraints) (total-map (tag_code n) (λ (e : Edit). e.tag) s.edits))
   where
@@ -93,8 +93,8 @@ owned-total n s =
     ts : List Tag
     ts = map (λ (c : Constraint). c.tag) s.constraints ++ map (λ (e : Edit). e.tag) s.edits
 
-    symbolCodes : Tag → List ℕ
-    symbolCodes t = map code (tag_symbols t)
+    symbol_codes : Tag → List ℕ
+    symbol_codes t = map code (tag_symbols t)
 
 pub used-total : (n : ℕ) (s : State) → uses_in n (stored_terms s) ≡ used_by n s.constraints s.edits
 unfolding stored_terms

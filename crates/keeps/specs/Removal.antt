@@ -19,7 +19,7 @@ use Rattle.steps.proofs.Ends as steps
 use Rattle.steps.proofs.Steps.{remove_steps-ends}
 use Rattle.steps.proofs.Answered.{limits, starts, steps-above-zero}
 use Rattle.keeps.specs.Lists.{All, Same?, is, isnt, same, same?, total, times, no_both}
-use Rattle.keeps.specs.Keys.{findBy, find-some, drop-total, drop-length, drop_all, drop-up, find_constraint-is, drop_constraint-is, find_edit-is, drop_edit-is}
+use Rattle.keeps.specs.Keys.{find_by, find-some, drop-total, drop-length, drop_all, drop-up, find_constraint-is, drop_constraint-is, find_edit-is, drop_edit-is}
 use Rattle.keeps.specs.Along.{Mem}
 use Rattle.keeps.specs.Cells.{Fine}
 use Rattle.keeps.specs.Frame.{Frame, frame-trans}
@@ -205,7 +205,7 @@ module _ (n budget : ℕ) (s : State) (c : Constraint) (r : Reads s) (e : find_c
   cs : List Constraint
   cs = drop_constraint n s.constraints
 
-  by : findBy con_number n s.constraints ≡ some c
+  by : find_by con_number n s.constraints ≡ some c
   by = sym (find_constraint-is n s.constraints) ∙ e
 
   part : (f : Constraint → ℕ) → total f s.constraints ≡ f c + total f cs
@@ -302,7 +302,7 @@ remove_edit-kept n budget s r = go (find_edit n s.edits) refl
         (begin-good s r) plain tags terms room)
         (removed-reads s (edit_terms n) s.constraints es r stored (omega (arith, size)))))
       where
-        by : findBy edit_number n s.edits ≡ some c
+        by : find_by edit_number n s.edits ≡ some c
         by = sym (find_edit-is n s.edits) ∙ e
 
         plain : (begin s).artificial ≡ none

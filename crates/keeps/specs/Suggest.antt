@@ -22,7 +22,7 @@ use Rattle.steps.specs.Tests.{find_edit, keep_edit, drop_edit}
 use Rattle.steps.specs.Calls.{begin, finish, refused_by, accepted_as, conclude, suggest}
 use Rattle.steps.specs.Readable.{uses_in, edit_finite, edit_kinds}
 use Rattle.keeps.specs.Lists.{All, all-to, total, Up, both, left}
-use Rattle.keeps.specs.Keys.{row_id, findBy, keepBy, dropBy, find-all, find-some, drop-total, drop-length, drop_all, drop-up, drop-gone, keep-total, keep-length, keep_all, keep-up, find_edit-is, keep_edit-is, drop_edit-is, Row?, no_row, a-row, row?}
+use Rattle.keeps.specs.Keys.{row_id, find_by, keep_by, drop_by, find-all, find-some, drop-total, drop-length, drop_all, drop-up, drop-gone, keep-total, keep-length, keep_all, keep-up, find_edit-is, keep_edit-is, drop_edit-is, Row?, no_row, a-row, row?}
 use Rattle.keeps.specs.Cells.{Fine, ok-to, fine-l, fine-r, write-finite, zero-finite}
 use Rattle.keeps.specs.RowOps.{RowOk, row-to}
 use Rattle.keeps.specs.Along.{Mem}
@@ -161,27 +161,27 @@ module _ (n : ℕ) (new : Float) (e : Edit) (es : List Edit) (found : find_edit 
   edits : List Edit
   edits = keep_edit again (drop_edit n es)
 
-  found-by : findBy edit_number n es ≡ some e
+  found-by : find_by edit_number n es ≡ some e
   found-by = sym (find_edit-is n es) ∙ found
 
-  edits-is : edits ≡ keepBy edit_number again (dropBy edit_number n es)
+  edits-is : edits ≡ keep_by edit_number again (drop_by edit_number n es)
   unfolding edits
-  edits-is = keep_edit-is again (drop_edit n es) ∙ ap (λ (l : List Edit). keepBy edit_number again l) (drop_edit-is n es)
+  edits-is = keep_edit-is again (drop_edit n es) ∙ ap (λ (l : List Edit). keep_by edit_number again l) (drop_edit-is n es)
 
   again-total : (f : Edit → ℕ) → f again ≡ f e → total f edits ≡ total f es
   again-total f h =
-      rw edits-is (keep-total edit_number f again (dropBy edit_number n es) ∙ ap (λ (k : ℕ). k + total f (dropBy edit_number n es)) h ∙ sym
+      rw edits-is (keep-total edit_number f again (drop_by edit_number n es) ∙ ap (λ (k : ℕ). k + total f (drop_by edit_number n es)) h ∙ sym
       (drop-total edit_number f n es e found-by))
 
   again-length : length edits ≡ length es
-  again-length = rw edits-is (keep-length edit_number again (dropBy edit_number n es) ∙ sym (drop-length edit_number n es e found-by))
+  again-length = rw edits-is (keep-length edit_number again (drop_by edit_number n es) ∙ sym (drop-length edit_number n es e found-by))
 
   again-up : Up 0 (map edit_number es) → Up 0 (map edit_number edits)
   unfolding again
-  again-up u = rw edits-is (keep-up edit_number 0 again (dropBy edit_number n es) (omega arith) (drop-gone edit_number 0 n es u) (drop-up edit_number 0 n es u))
+  again-up u = rw edits-is (keep-up edit_number 0 again (drop_by edit_number n es) (omega arith) (drop-gone edit_number 0 n es u) (drop-up edit_number 0 n es u))
 
   again-all : (P : Edit → Type 0) → P again → All P es → All P edits
-  again-all P p h = rw edits-is (keep_all edit_number P again (dropBy edit_number n es) p (drop_all edit_number P n es h))
+  again-all P p h = rw edits-is (keep_all edit_number P again (drop_by edit_number n es) p (drop_all edit_number P n es h))
 
   again-stored : (cs : List Constraint) → is_finite new ≡ true → Stored cs es → Stored cs edits
   unfolding edit_finite edit_kinds again

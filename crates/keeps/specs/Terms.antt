@@ -17,7 +17,7 @@ use Rattle.keeps.specs.Lists.{Same?, is, isnt, same, same?, times, member-in, me
 use Rattle.keeps.specs.Keys.{find_none, find-times, keep-length, keep-times, keep_variable-is, find_variable-is}
 use Rattle.keeps.specs.Uses.{var_number}
 use Rattle.keeps.specs.Good.{numbers-map, good-to}
-use Rattle.keeps.specs.Building.{Built, insertVariable-built, add_variable-built, once-vars, once-waits}
+use Rattle.keeps.specs.Building.{Built, insert_variable-built, add_variable-built, once-vars, once-waits}
 
 -- ---- is the variable n live
 pub live-some : (n : ℕ) (vs : List Variable) (v : Variable) → find_variable n vs ≡ some v → 1 ≤ times n (map var_number vs)
@@ -75,7 +75,7 @@ insert_term-built K U N t b h = go (find_variable n b.work.changes.variables) re
       where
         by : (o : Option Variable) → Built K (λ m. same m n + U m) N (elim o [ none ↦ x | some v ↦ insert_variable v.symbol t.coefficient x ])
         by none = hx
-        by (some v) = insertVariable-built K (λ m. same m n + U m) N x hx v.symbol t.coefficient
+        by (some v) = insert_variable-built K (λ m. same m n + U m) N x hx v.symbol t.coefficient
 
     go : (o : Option Variable) → find_variable n b.work.changes.variables ≡ o → Built K (λ m. same m n + U m) N (last t (count_use n (known n b o)))
     go none e =

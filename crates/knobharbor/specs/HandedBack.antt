@@ -27,7 +27,7 @@ use Rattle.changes.specs.declared.terms.Pack.{Pack}
 use Rattle.changes.specs.terms.Terms.{pack_of, term_of, terms_in, term_in, terms_of}
 use Rattle.changes.specs.terms.Packed.{pack-finite, pack-few, pack-terms, most-few}
 use Rattle.writing.specs.Figures.{is_figure}
-use Rattle.writing.specs.Given.{term_at, wholeFrom}
+use Rattle.writing.specs.Given.{term_at, whole_from}
 use Rattle.writing.specs.Writes.{relation_in, related_of, constraint_of, numbers_in, writes}
 use Rattle.entry.specs.typed.Typed.{whole_of, whole-exact, typed_term, typed_terms}
 use Rattle.knobharbor.specs.handed.Handed.{kind_of, Handed, said, handed_of, read_by}
@@ -87,8 +87,8 @@ figures : List steps.Term → Bool
 figures [] = true
 figures (t ∷ ts) = is_figure t.coefficient && figures ts
 
-figures-from : (p : Pack) (i k : ℕ) → figures (tab (λ j. term_of (term_in p j)) i k) ≡ wholeFrom p.vars p.coefs i k
-unfolding tab wholeFrom figures term_of term_in
+figures-from : (p : Pack) (i k : ℕ) → figures (tab (λ j. term_of (term_in p j)) i k) ≡ whole_from p.vars p.coefs i k
+unfolding tab whole_from figures term_of term_in
 figures-from p i zero = refl
 figures-from p i (suc k) = ap (λ (b : Bool). is_figure (slice_index_or p.coefs i nan) && b) (figures-from p (suc i) k)
 
@@ -141,8 +141,8 @@ module _ (ts : List Term) (few : length ts ≤ term_room) (h : small_terms ts �
   unfolding terms_of list_of
   tabbed = ap (λ (n : ℕ). tab (λ j. term_of (term_in pack j)) 0 n) (sym (most-few (length ts) few) ∙ ap most16 (sym counted)) ∙ pack-terms (typed_terms ts) held
 
-  all_whole : wholeFrom pack.vars pack.coefs 0 pack.count ≡ true
-  all_whole = ap (wholeFrom pack.vars pack.coefs 0) counted ∙ (sym (figures-from pack 0 (length ts)) ∙ (ap figures tabbed ∙ terms-figures ts h))
+  all_whole : whole_from pack.vars pack.coefs 0 pack.count ≡ true
+  all_whole = ap (whole_from pack.vars pack.coefs 0) counted ∙ (sym (figures-from pack 0 (length ts)) ∙ (ap figures tabbed ∙ terms-figures ts h))
 
   all-terms : tab (term_at pack.vars pack.coefs) 0 pack.count ≡ ts
   all-terms = ap (tab (term_at pack.vars pack.coefs) 0) counted ∙ (sym (worth-from pack (length ts)) ∙ (ap (map worth) tabbed ∙ terms-worth ts h))

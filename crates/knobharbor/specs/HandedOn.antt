@@ -4,7 +4,7 @@ use Rattle.std.proofs.Common.{sym, ap, ◌∙◌, subst, eq-eqb}
 use Rattle.std.proofs.Math.Option.{some}
 use Rattle.std.specs.Float.{nan}
 use Rattle.std.specs.Float.Ieee.{of_bits, of_int}
-use Rattle.laws.specs.Lists.{list_of, listOf-is}
+use Rattle.laws.specs.Lists.{list_of, list_of-is}
 use Rattle.grammar.specs.Sums.{Relation, at_most, equal, at_least, Term, Reading, reads}
 use Rattle.grammar.specs.Reader.{read_line}
 use Rattle.grammar.proofs.Theorems.{accepts}
@@ -59,7 +59,7 @@ given-at ts j k =
 
 pub given-terms : (ts : List Term) → given (variables ts) (coefficients ts) ≡ typed_terms ts
 unfolding given
-given-terms ts = ap (λ (n : ℕ). list_of n (term_at (variables ts) (coefficients ts))) (length-of (λ t. t.variable) ts ∙ sym (length-of typed_term ts)) ∙ listOf-is (term_at (variables ts) (coefficients ts)) (typed_terms ts) no_term (given-at ts)
+given-terms ts = ap (λ (n : ℕ). list_of n (term_at (variables ts) (coefficients ts))) (length-of (λ t. t.variable) ts ∙ sym (length-of typed_term ts)) ∙ list_of-is (term_at (variables ts) (coefficients ts)) (typed_terms ts) no_term (given-at ts)
 
 pub kind_fits : (m : Relation) → nat_lt (kind_of m) 3 ≡ true
 kind_fits at_most = refl

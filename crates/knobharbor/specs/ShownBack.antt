@@ -5,7 +5,7 @@ use Rattle.std.proofs.Common.{sym, ◌∙◌}
 use Rattle.std.proofs.Math.Option.{some}
 use Rattle.std.proofs.lemmas.List.{length-map}
 use Rattle.std.specs.Float.{nan}
-use Rattle.laws.specs.Lists.{tab, list_of, listOf-is}
+use Rattle.laws.specs.Lists.{tab, list_of, list_of-is}
 use Rattle.steps.specs.State.{Term, Relation, at_most, equal, at_least, strength_of, comparison_of}
 use Rattle.steps.specs.Shown.{Given, shown}
 use Rattle.layout.specs.Layout.{comparison_code, term_room}
@@ -84,7 +84,7 @@ coded-at ts j k =
 
 given-coded : (ts : List Term) → given (variables ts) (coefficients ts) ≡ coded ts
 unfolding given
-given-coded ts = ap (λ (n : ℕ). list_of n (givenAt (variables ts) (coefficients ts))) (length-map ts (λ (t : Term). t.variable) ∙ sym (length-map ts as_coded)) ∙ listOf-is (givenAt (variables ts) (coefficients ts)) (coded ts) no_term (coded-at ts)
+given-coded ts = ap (λ (n : ℕ). list_of n (givenAt (variables ts) (coefficients ts))) (length-map ts (λ (t : Term). t.variable) ∙ sym (length-map ts as_coded)) ∙ list_of-is (givenAt (variables ts) (coefficients ts)) (coded ts) no_term (coded-at ts)
 
 module _ (ts : List Term) (few : length ts ≤ term_room) where
   abbrev pack : Pack

@@ -2,7 +2,7 @@
 use Rattle.std.specs.Prelude.{ℕ, ◌≤◌, ◌<◌, ◌≡◌, refl, List, map, eqb, length, get_or, replicate}
 use Rattle.std.proofs.Common.{◌∙◌, arith}
 use Rattle.std.proofs.lemmas.List.{length-map, length-replicate}
-use Rattle.laws.specs.Lists.{list_of, listOf-is}
+use Rattle.laws.specs.Lists.{list_of, list_of-is}
 use Rattle.steps.specs.Number.{zero64}
 use Rattle.steps.specs.State.{State}
 use Rattle.steps.specs.Changes.{Change, gone_entry, fetch_changes}
@@ -48,7 +48,7 @@ module _ {A : Type 0} (g : Change → A) (z : A) (l : List Change) (d : Change) 
 
 pub entries-are : (l : List Change) (f : Fetch) → Lists l f → entries_of f ≡ l
 unfolding entries_of numbers_of values_of flags_of
-entries-are l f h = rw (h.count, h.numbers, h.values, h.gone) (listOf-is _ l (gone_entry 0) at)
+entries-are l f h = rw (h.count, h.numbers, h.values, h.gone) (list_of-is _ l (gone_entry 0) at)
   where
     at : (j : ℕ) → j < length l
         → record {

@@ -8,7 +8,7 @@ use Rattle.std.specs.Float.{nan}
 use Rattle.steps.specs.Symbol.{Kind, External, Slack, Error, Dummy, Symbol}
 use Rattle.steps.specs.State.{Term, Comparison, no_more, exactly, no_less, Basic, Tag, Variable, Constraint, Edit}
 use Rattle.steps.specs.Readable.{kind_code, code}
-use Rattle.laws.specs.Lists.{list_of, listOf-is, laid_in}
+use Rattle.laws.specs.Lists.{list_of, list_of-is, laid_in}
 use Rattle.layout.specs.Laying.{get_d_map}
 use Rattle.layout.specs.Layout.{kind_of, symbol_of, other_of, other_code, bit_of, comparison_in, comparison_code, variable_of, tag_of, term_of, constraint_of, edit_of, cells_of, basic_of, over, variable_names, variable_reals, constraint_names, constraint_reals, edit_names, edit_reals, basic_row}
 use Rattle.layout.specs.Rooms.{Named}
@@ -70,7 +70,7 @@ module _ {A : Type 0} where
 cells-back : (c : Float) (cells row : List Float) → length row ≡ 130 → length cells ≤ 129 → cells_of (length cells) (over 0 (c ∷ cells) row) ≡ cells
 unfolding cells_of
 cells-back c cells row l r =
-    listOf-is (λ j. get_or (over 0 (c ∷ cells) row) (1 + j) nan) cells nan λ j k.
+    list_of-is (λ j. get_or (over 0 (c ∷ cells) row) (1 + j) nan) cells nan λ j k.
     let m : 1 + j ≡ suc j = omega arith in
     first-at (c ∷ cells) row (1 + j) nan (omega arith) (omega arith) ∙ ap (λ (i : ℕ). get_or (c ∷ cells) i nan) m
 
@@ -80,7 +80,7 @@ basic-back b row l r = rw (symbol-back b.symbol, first-at (b.row.constant ∷ b.
 
 pub objective-back : (cells row : List Float) → length row ≡ 130 → length cells ≤ 129 → cells_of (length cells) (over 1 cells row) ≡ cells
 unfolding cells_of
-objective-back cells row l r = listOf-is (λ j. get_or (over 1 cells row) (1 + j) nan) cells nan λ j k. over-at 1 cells row j nan nan k (omega arith)
+objective-back cells row l r = list_of-is (λ j. get_or (over 1 cells row) (1 + j) nan) cells nan λ j k. over-at 1 cells row j nan nan k (omega arith)
 
 pub variable-back : (v : Variable) (n : List ℕ) (r : List Float) → length n ≡ 21 → length r ≡ 18 → variable_of (over 0 (variable_names v) n) (over 0 (variable_reals v) r) ≡ v
 unfolding variable_of variable_names variable_reals
@@ -106,7 +106,7 @@ terms-back : (ts : List Term) (n : List ℕ) (r : List Float) → ((j : ℕ) →
 unfolding term_of
 terms-back ts n r f g =
     let d : Term = record { variable = 0; coefficient = nan } in
-    listOf-is (term_of n r) ts d λ j k.
+    list_of-is (term_of n r) ts d λ j k.
     rw (f j k, g j k, get_d_map (λ (t : Term). t.variable) ts j d 0 k, get_d_map (λ (t : Term). t.coefficient) ts j d nan k) refl
 
 pub constraint-back : (c : Constraint) (n : List ℕ) (r : List Float) → length n ≡ 21 → length r ≡ 18 → length c.terms ≤ 16 → Named c.tag.other → c.group ≡ 1 → constraint_of (over 0 (constraint_names c) n) (over 0 (constraint_reals c) r) ≡ c

@@ -5,7 +5,7 @@ use Rattle.std.proofs.Math.Path.{refl, sym}
 use Rattle.std.proofs.Common.{ap, ◌∙◌, zero-add, suc-ne-zero, arith, ne_eqb}
 use Rattle.std.proofs.Math.ListN.{length, get_or, length-map}
 use Rattle.steps.specs.State.{Comparison, no_more, exactly, no_less, Variable, Constraint, Term, State}
-use Rattle.laws.specs.Lists.{list_of, length-tab, getD-tab, length-laid}
+use Rattle.laws.specs.Lists.{list_of, length-tab, get_or-tab, length-laid}
 use Rattle.layout.specs.Layout.{Tables, symbols_at, rows_at, heading_end, record_counts_at, basics_at, constraints_at, edits_at, changed_flag, term_count, relation_kind, symbol_count, constraint_count, other_of, bit_of, comparison_code, tag_of, constraint_of, edit_of, cells_of, basic_of, symbols_of, basics_of, variables_of, constraints_of, edits_of, read, over, variable_names, constraint_names, edit_names, heading, record_counts, write_head, write_names, write_reals, write_rows, write}
 use Rattle.layout.specs.Rooms.{Lengths, Wide, Named, Counts, Coded, Fits}
 use Rattle.layout.specs.Copy.{put_over}
@@ -15,13 +15,13 @@ use Rattle.layout.specs.ReadBack.{no_variable, no_constraint}
 use Rattle.layout.proofs.ReadBack.{count-back, record-back, variable-written, constraint-written, read-write}
 
 module _ {A : Type 0} where
-  pub length-listOf : (n : ℕ) (g : ℕ → A) → length (list_of n g) ≡ n
+  pub length-list_of : (n : ℕ) (g : ℕ → A) → length (list_of n g) ≡ n
   unfolding list_of
-  length-listOf n g = length-tab g 0 n
+  length-list_of n g = length-tab g 0 n
 
-  pub getD-listOf : (n : ℕ) (g : ℕ → A) (j : ℕ) (d : A) → j < n → get_or (list_of n g) j d ≡ g j
+  pub get_or-list_of : (n : ℕ) (g : ℕ → A) (j : ℕ) (d : A) → j < n → get_or (list_of n g) j d ≡ g j
   unfolding list_of
-  getD-listOf n g j d h = rw (zero-add j) at (getD-tab g 0 n j d h)
+  get_or-list_of n g j d h = rw (zero-add j) at (get_or-tab g 0 n j d h)
 
 -- ---- what was read fits
 
@@ -33,11 +33,11 @@ named (suc c) = rw (ne_eqb (suc c) 0 (suc-ne-zero c)) (rw (code_read (suc c)) (o
 module _ (t : Tables) (q : Coded t) where
   row-cells : (i : ℕ) → length (basic_of (symbol_count t.head) (get_or t.head (rows_at + i) 0) (get_or t.rows (basics_at + i) [])).row.cells ≡ symbol_count t.head
   unfolding basic_of cells_of
-  row-cells i = length-listOf _ _
+  row-cells i = length-list_of _ _
 
   few-terms : (j : ℕ) → j < constraint_count t.head → length (constraint_of (get_or t.names (constraints_at + j) []) (get_or t.reals (constraints_at + j) [])).terms ≤ 16
   unfolding constraint_of
-  few-terms j k = rw (length-listOf _ _) (q.3 j k)
+  few-terms j k = rw (length-list_of _ _) (q.3 j k)
 
   other-named : (j : ℕ) → Named (constraint_of (get_or t.names (constraints_at + j) []) (get_or t.reals (constraints_at + j) [])).tag.other
   unfolding constraint_of tag_of
@@ -56,18 +56,18 @@ module _ (t : Tables) (q : Coded t) where
   read_fits c =
       record {
         usual = refl;
-        symbols = rw (length-listOf _ _) c.0;
-        rows = rw (length-listOf _ _) c.1;
-        variables = rw (length-listOf _ _) c.2;
+        symbols = rw (length-list_of _ _) c.0;
+        rows = rw (length-list_of _ _) c.1;
+        variables = rw (length-list_of _ _) c.2;
         gone = refl;
-        constraints = rw (length-listOf _ _) c.3;
-        edits = rw (length-listOf _ _) c.4;
-        objective = length-listOf _ _ ∙ sym (length-listOf _ _);
-        cells = λ d j k. rw (getD-listOf _ _ j d (rw (length-listOf _ _) at k)) (row-cells j ∙ sym (length-listOf _ _));
-        terms = λ d j k. rw (getD-listOf _ _ j d (rw (length-listOf _ _) at k)) (few-terms j (rw (length-listOf _ _) at k));
-        groups = λ d j k. rw (getD-listOf _ _ j d (rw (length-listOf _ _) at k)) (one-group j);
-        others = λ d j k. rw (getD-listOf _ _ j d (rw (length-listOf _ _) at k)) (other-named j);
-        minuses = λ d j k. rw (getD-listOf _ _ j d (rw (length-listOf _ _) at k)) (minus-named j);
+        constraints = rw (length-list_of _ _) c.3;
+        edits = rw (length-list_of _ _) c.4;
+        objective = length-list_of _ _ ∙ sym (length-list_of _ _);
+        cells = λ d j k. rw (get_or-list_of _ _ j d (rw (length-list_of _ _) at k)) (row-cells j ∙ sym (length-list_of _ _));
+        terms = λ d j k. rw (get_or-list_of _ _ j d (rw (length-list_of _ _) at k)) (few-terms j (rw (length-list_of _ _) at k));
+        groups = λ d j k. rw (get_or-list_of _ _ j d (rw (length-list_of _ _) at k)) (one-group j);
+        others = λ d j k. rw (get_or-list_of _ _ j d (rw (length-list_of _ _) at k)) (other-named j);
+        minuses = λ d j k. rw (get_or-list_of _ _ j d (rw (length-list_of _ _) at k)) (minus-named j);
       }
 
 -- ---- what was written is within the room, and coded

@@ -9,7 +9,7 @@ use Rattle.std.proofs.Math.ListN.{length, get_or, length-map}
 use Rattle.std.specs.Float.Ieee.{Float}
 use Rattle.steps.specs.State.{Basic, Variable, Constraint, Edit, State}
 use Rattle.steps.specs.Readable.{code}
-use Rattle.laws.specs.Lists.{listOf-is, laid, laid_in, laid-before, laid-after, length-laid}
+use Rattle.laws.specs.Lists.{list_of-is, laid, laid_in, laid-before, laid-after, length-laid}
 use Rattle.layout.specs.Laying.{get_d_map}
 use Rattle.layout.specs.Layout.{Tables, head_size, items_size, rows_size, symbols_at, rows_at, heading_end, record_counts_at, constraints_at, edits_at, symbol_of, cells_of, symbols_of, basics_of, variables_of, constraints_of, edits_of, read, over, variable_names, variable_reals, constraint_names, constraint_reals, edit_names, edit_reals, basic_row, basic_code, heading, record_counts, write_head, write_names, write_reals, write_rows, write}
 use Rattle.layout.specs.Rooms.{Lengths, Wide, Fits}
@@ -115,13 +115,13 @@ module _ (s : State) (t : Tables) (fits : Fits s) (l : Lengths t) (w : Wide t) w
   symbols-back : symbols_of (write s t) ≡ s.tableau.symbols
   unfolding symbols_of write heading
   symbols-back =
-      rw (count-back s t.head l.0 1 (omega arith)) (listOf-is _ s.tableau.symbols no_symbol λ j k.
+      rw (count-back s t.head l.0 1 (omega arith)) (list_of-is _ s.tableau.symbols no_symbol λ j k.
       ap symbol_of (symbol-written s t.head l.0 j k fits.symbols) ∙ symbol-back (get_or s.tableau.symbols j no_symbol))
 
   basics-back : basics_of (write s t) ≡ s.tableau.rows
   unfolding basics_of write heading
   basics-back =
-      rw (count-back s t.head l.0 1 (omega arith), count-back s t.head l.0 2 (omega arith)) (listOf-is _ s.tableau.rows no_basic λ j k.
+      rw (count-back s t.head l.0 1 (omega arith), count-back s t.head l.0 2 (omega arith)) (list_of-is _ s.tableau.rows no_basic λ j k.
       let b : Basic = get_or s.tableau.rows j no_basic in
       let r = fits.rows in
       let m = fits.symbols in
@@ -138,7 +138,7 @@ module _ (s : State) (t : Tables) (fits : Fits s) (l : Lengths t) (w : Wide t) w
   variables-back : variables_of (write s t) ≡ s.changes.variables
   unfolding variables_of write write_names write_reals record_counts
   variables-back =
-      rw (record-back s t.head l.0 0 (omega arith)) (listOf-is _ s.changes.variables no_variable λ j k.
+      rw (record-back s t.head l.0 0 (omega arith)) (list_of-is _ s.changes.variables no_variable λ j k.
       let r = fits.variables in
       rw (variable-written (λ v m. over 0 (variable_names v) m) (λ c m. over 0 (constraint_names c) m) (λ e m. over 0 (edit_names e) m) s t.names l.1 fits j k, variable-written (λ v m. over 0 (variable_reals v) m) (λ c m. over 0 (constraint_reals c) m) (λ e m. over 0 (edit_reals e) m) s t.reals l.2 fits j k)
       (variable-back (get_or s.changes.variables j no_variable) (get_or t.names j []) (get_or t.reals j []) (w.0 j (omega arith)) (w.1 j (omega arith))))
@@ -146,7 +146,7 @@ module _ (s : State) (t : Tables) (fits : Fits s) (l : Lengths t) (w : Wide t) w
   constraints-back : constraints_of (write s t) ≡ s.constraints
   unfolding constraints_of write write_names write_reals record_counts
   constraints-back =
-      rw (record-back s t.head l.0 1 (omega arith)) (listOf-is _ s.constraints no_constraint λ j k.
+      rw (record-back s t.head l.0 1 (omega arith)) (list_of-is _ s.constraints no_constraint λ j k.
       let r = fits.constraints in
       rw (constraint-written (λ v m. over 0 (variable_names v) m) (λ c m. over 0 (constraint_names c) m) (λ e m. over 0 (edit_names e) m) s t.names l.1 fits j k, constraint-written (λ v m. over 0 (variable_reals v) m) (λ c m. over 0 (constraint_reals c) m) (λ e m. over 0 (edit_reals e) m) s t.reals l.2 fits j k)
       (constraint-back (get_or s.constraints j no_constraint) (get_or t.names (constraints_at + j) []) (get_or t.reals (constraints_at + j) []) (w.0 (constraints_at + j) (omega arith)) (w.1 (constraints_at + j) (omega arith)) (fits.terms no_constraint j k) (fits.others no_constraint j k) (fits.groups no_constraint j k)))
@@ -154,7 +154,7 @@ module _ (s : State) (t : Tables) (fits : Fits s) (l : Lengths t) (w : Wide t) w
   edits-back : edits_of (write s t) ≡ s.edits
   unfolding edits_of write write_names write_reals record_counts
   edits-back =
-      rw (record-back s t.head l.0 2 (omega arith)) (listOf-is _ s.edits no_edit λ j k.
+      rw (record-back s t.head l.0 2 (omega arith)) (list_of-is _ s.edits no_edit λ j k.
       let r = fits.edits in
       rw (edit-written (λ v m. over 0 (variable_names v) m) (λ c m. over 0 (constraint_names c) m) (λ e m. over 0 (edit_names e) m) s t.names l.1 fits j k, edit-written (λ v m. over 0 (variable_reals v) m) (λ c m. over 0 (constraint_reals c) m) (λ e m. over 0 (edit_reals e) m) s t.reals l.2 fits j k)
       (edit-back (get_or s.edits j no_edit) (get_or t.names (edits_at + j) []) (get_or t.reals (edits_at + j) []) (w.0 (edits_at + j) (omega arith)) (w.1 (edits_at + j) (omega arith)) (fits.minuses no_edit j k)))

@@ -8,7 +8,7 @@ use mathlib.Core.List.{List, [], ◌∷◌, map}
 use native.Mathlib.Omega.{arith}
 use Rattle.std.proofs.Math.ListN.{length, get_or}
 use Rattle.laws.specs.Loops.{run, turns}
-use Rattle.laws.specs.Lists.{tab, list_of, tab-ext, length-tab, getD-tab, laid}
+use Rattle.laws.specs.Lists.{tab, list_of, tab-ext, length-tab, get_or-tab, laid}
 
 -- place i is made anew from what stands there
 unfoldable pub remade : {A : Type 0} → A → (ℕ → A → A) → ℕ → List A → List A
@@ -60,7 +60,7 @@ module _ {A : Type 0} (d : A) where
   pub stretch : (from l : List A) (a k z : ℕ) (to : List A) → z ≡ a + k → l ≡ tab (λ j. get_or from j d) a k → run (remade d (λ i _. get_or from i d)) a z to ≡ laid (λ x _. x) a l to
   stretch from l a k z to q h =
       let n : length (tab (λ j. get_or from j d) a k) ≡ k = length-tab (λ j. get_or from j d) a k in
-      rw h (run-laid (λ x _. x) (λ i _. get_or from i d) d d (tab (λ j. get_or from j d) a k) a z to (rw n q) (λ j b y. sym (getD-tab (λ i. get_or from i d) a k j d (rw n at b))))
+      rw h (run-laid (λ x _. x) (λ i _. get_or from i d) d d (tab (λ j. get_or from j d) a k) a z to (rw n q) (λ j b y. sym (get_or-tab (λ i. get_or from i d) a k j d (rw n at b))))
 
 module _ {A B : Type 0} (d : A) where
   pub run-list : (f : B → A → A) (g : ℕ → A → A) (h : ℕ → B) (a k z : ℕ) (m : List A) → z ≡ a + k → ((j : ℕ) → j < k → (y : A) → g (a + j) y ≡ f (h j) y) → run (remade d g) a z m ≡ laid f a (list_of k h) m
@@ -68,7 +68,7 @@ module _ {A B : Type 0} (d : A) where
   run-list f g h a k z m q r =
       let n : length (tab h 0 k) ≡ k = length-tab h 0 k in
       run-laid f g d (h 0) (tab h 0 k) a z m (rw n q) λ j b y.
-      let e : get_or (tab h 0 k) j (h 0) ≡ h j = rw (zero-add j) at (getD-tab h 0 k j (h 0) (rw n at b)) in
+      let e : get_or (tab h 0 k) j (h 0) ≡ h j = rw (zero-add j) at (get_or-tab h 0 k j (h 0) (rw n at b)) in
       rw e (r j (rw n at b) y)
 
 -- ---- what stands there already, put there once more

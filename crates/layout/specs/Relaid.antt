@@ -5,7 +5,7 @@ use Rattle.std.specs.Prelude.{◌≡◌, length, set}
 use Rattle.std.proofs.Math.Path.{refl, sym, ap}
 use Rattle.std.proofs.Common.{◌∙◌, not-suc-le-zero, le_of_suc-le-suc, arith}
 use mathlib.Core.List.{List, [], ◌∷◌, map}
-use Rattle.laws.specs.Loops.{mapIn}
+use Rattle.laws.specs.Loops.{map_in}
 use Rattle.laws.specs.Lists.{laid}
 use Rattle.layout.specs.Laying.{laid_nil}
 
@@ -19,8 +19,8 @@ module _ {A B : Type 0} where
   laid-again f (c ∷ k) (b ∷ l) (y ∷ m) h q = rw (q b c y, laid-again f k l m (le_of_suc-le-suc h) q) refl
 
   -- elements changed, and what they write changed with them
-  pub laid-map : (f : B → A → A) (g : B → B) (c : A → A) (l : List B) (m : List A) → ((b : B) (y : A) → f (g b) y ≡ c (f b y)) → laid f 0 (map g l) m ≡ mapIn c 0 (length l) (laid f 0 l m)
-  unfolding laid mapIn
+  pub laid-map : (f : B → A → A) (g : B → B) (c : A → A) (l : List B) (m : List A) → ((b : B) (y : A) → f (g b) y ≡ c (f b y)) → laid f 0 (map g l) m ≡ map_in c 0 (length l) (laid f 0 l m)
+  unfolding laid map_in
   laid-map f g c l [] q = refl
   laid-map f g c [] (y ∷ m) q = refl
   laid-map f g c (b ∷ l) (y ∷ m) q = rw (q b y, laid-map f g c l m q) refl

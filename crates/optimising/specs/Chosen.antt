@@ -33,24 +33,24 @@ pub record ByTurns (run : Pass) (choose : Work → Choice) (n : ℕ) : Type 0 wh
   pub next : (left : ℕ) (w : Work) → run (suc left) w ≡ elim (choose w) [ ended ↦ going w | stuck ↦ refuse n w | pivot_on l e ↦ counted_pivot l e w >>= λ v. run left v ]
 
 module _ {run : Pass} {choose : Work → Choice} {n : ℕ} (turns : ByTurns run choose n) (w : Work) where
-  abbrev atLimit : Choice → Outcome Work
-  atLimit c = elim c [ ended ↦ going w | stuck ↦ refuse n w | pivot_on l e ↦ refuse 14 w ]
+  abbrev at_limit : Choice → Outcome Work
+  at_limit c = elim c [ ended ↦ going w | stuck ↦ refuse n w | pivot_on l e ↦ refuse 14 w ]
 
   abbrev onward : ℕ → Choice → Outcome Work
   onward left c = elim c [ ended ↦ going w | stuck ↦ refuse n w | pivot_on l e ↦ counted_pivot l e w >>= λ v. run left v ]
 
   ends-here : (left : ℕ) → choose w ≡ ended → run left w ≡ going w
-  ends-here zero e = turns.last w ∙ ap atLimit e
+  ends-here zero e = turns.last w ∙ ap at_limit e
   ends-here (suc left) e = turns.next left w ∙ ap (onward left) e
 
   stuck-here : (left : ℕ) → choose w ≡ stuck → run left w ≡ refuse n w
-  stuck-here zero e = turns.last w ∙ ap atLimit e
+  stuck-here zero e = turns.last w ∙ ap at_limit e
   stuck-here (suc left) e = turns.next left w ∙ ap (onward left) e
 
   module _ {l e : Symbol} (c : choose w ≡ pivot_on l e) where
     -- "14 is tested after 15 and 16."
     limit-here : (left : ℕ) → left ≡ 0 → run left w ≡ refuse 14 w
-    limit-here left z = ap (λ (k : ℕ). run k w) z ∙ turns.last w ∙ ap atLimit c
+    limit-here left z = ap (λ (k : ℕ). run k w) z ∙ turns.last w ∙ ap at_limit c
 
     pivots-here : (left k : ℕ) → left ≡ suc k → run left w ≡ (check_finite (pivot l.id e w) >>= (λ v. going (count_pivot v))) >>= (λ v. run k v)
     unfolding counted_pivot
@@ -102,12 +102,12 @@ module _ (art : Bool) (a : Mark) (v : ℕ) (t : Sparse) {f : Found} (h : Chooses
   abbrev w : Work
   w = work_of art a v t
 
-  abbrev leavingFor : Symbol → Choice
-  leavingFor e = picked (λ (l : Symbol). pivot_on l e) stuck (get_leaving_row e w)
+  abbrev leaving_for : Symbol → Choice
+  leaving_for e = picked (λ (l : Symbol). pivot_on l e) stuck (get_leaving_row e w)
 
-  entered : {g : Found} → f ≡ g → choose_pivot (goal_of art) w ≡ picked leavingFor ended (on_found (λ p. some (symbol_at t p)) none g)
+  entered : {g : Found} → f ≡ g → choose_pivot (goal_of art) w ≡ picked leaving_for ended (on_found (λ p. some (symbol_at t p)) none g)
   unfolding choose_pivot
-  entered e = ap (λ (o : Option Symbol). picked leavingFor ended o) (h.is a v ∙ ap (on_found (λ p. some (symbol_at t p)) none) e)
+  entered e = ap (λ (o : Option Symbol). picked leaving_for ended o) (h.is a v ∙ ap (on_found (λ p. some (symbol_at t p)) none) e)
 
   pub optimise-ended : f ≡ Nothing → choose_pivot (goal_of art) w ≡ ended
   optimise-ended e = entered e
@@ -132,12 +132,12 @@ module _ (a : Mark) (v : ℕ) (t : Sparse) {f : Found} (h : f ≡ dual_leaving_o
   abbrev d : Work
   d = work_of false a v t
 
-  abbrev enteringFor : Basic → Choice
-  enteringFor b = picked (λ (e : Symbol). pivot_on b.symbol e) stuck (get_dual_entering_symbol b.row d)
+  abbrev entering_for : Basic → Choice
+  entering_for b = picked (λ (e : Symbol). pivot_on b.symbol e) stuck (get_dual_entering_symbol b.row d)
 
-  leaves : {g : Found} → f ≡ g → choose_dual_pivot d ≡ picked enteringFor ended (on_found (λ i. some (basic_of t i)) none g)
+  leaves : {g : Found} → f ≡ g → choose_dual_pivot d ≡ picked entering_for ended (on_found (λ i. some (basic_of t i)) none g)
   unfolding choose_dual_pivot
-  leaves e = ap (λ (o : Option Basic). picked enteringFor ended o) (dual-leaving-reads t false a v ∙ ap (on_found (λ i. some (basic_of t i)) none) (sym h ∙ e))
+  leaves e = ap (λ (o : Option Basic). picked entering_for ended o) (dual-leaving-reads t false a v ∙ ap (on_found (λ i. some (basic_of t i)) none) (sym h ∙ e))
 
   pub dual-ended : f ≡ Nothing → choose_dual_pivot d ≡ ended
   dual-ended e = leaves e

@@ -1,7 +1,7 @@
 // Like terms summed: variables ascending, each with its coefficient, in two lent tables of which `count` places are in use.
 // A coefficient stands as what it is above ZERO, so that one below 0 is below ZERO.
 ghost use Rattle.std.specs.Prelude.{◌≡◌, ◌+◌, ◌≤◌, ◌<◌, length};
-ghost use Rattle.laws.specs.Loops.{delete, insertAt};
+ghost use Rattle.laws.specs.Loops.{delete, insert_at};
 ghost use Rattle.grammar.specs.Sums.{add_to, signed};
 ghost use Rattle.reader.specs.sums.Places.{Place};
 ghost use Rattle.reader.specs.sums.Held.{held, Bounded, moved};
@@ -52,7 +52,7 @@ pub fn long_sums(l: &Sums)
 fn open_number(numbers: &mut Numbers, i: usize, e: usize, v: u32)
     requires i_le_e { i ≤ e }
     requires e_bound { e < 1366 }
-    ensures { numbers.new ≡ insertAt i v (delete e numbers.old) }
+    ensures { numbers.new ≡ insert_at i v (delete e numbers.old) }
 {
     long_numbers(numbers);
     let mut j = e;
@@ -66,7 +66,7 @@ fn open_number(numbers: &mut Numbers, i: usize, e: usize, v: u32)
 fn open_sum(sums: &mut Sums, i: usize, e: usize, x: u64)
     requires i_le_e { i ≤ e }
     requires e_bound { e < 1366 }
-    ensures { sums.new ≡ insertAt i x (delete e sums.old) }
+    ensures { sums.new ≡ insert_at i x (delete e sums.old) }
 {
     long_sums(sums);
     let mut j = e;

@@ -14,7 +14,7 @@ use Rattle.std.specs.Float.Ieee.{ne}
 use Rattle.std.proofs.Math.ListN.{get_or}
 use Rattle.laws.specs.Lists.{tab, list_of, sum_from, sum_in}
 use Rattle.layout.specs.Layout.{bit_of}
-use Rattle.layout.proofs.Copied.{length-listOf}
+use Rattle.layout.proofs.Copied.{length-list_of}
 use Rattle.steps.specs.State.{Term, Constraint, Variable, State}
 use Rattle.steps.specs.Changes.{never_reported}
 use Rattle.steps.specs.Edit.{edit_terms}
@@ -114,22 +114,22 @@ module _ (b : List ℕ) where
 
 module _ (n : ℕ) (f : ℕ → Constraint) where
   -- of those that are chosen
-  abbrev usesIf : (ℕ → Bool) → ℕ → ℕ
-  usesIf p c = cond (p c) (uses_in n (f c).terms) 0
+  abbrev uses_if : (ℕ → Bool) → ℕ → ℕ
+  uses_if p c = cond (p c) (uses_in n (f c).terms) 0
 
-  group-uses : (g i k : ℕ) → uses_in n (terms_of (group_of g (tab f i k))) ≡ sum_from (usesIf (λ c. eqb g (f c).group)) i k
+  group-uses : (g i k : ℕ) → uses_in n (terms_of (group_of g (tab f i k))) ≡ sum_from (uses_if (λ c. eqb g (f c).group)) i k
   unfolding group_of terms_of tab sum_from uses_in
   group-uses g i zero = refl
   group-uses g i (suc k) = go (eqb g (f i).group) (group-uses g (suc i) k)
     where
-      go : (b : Bool) → uses_in n (terms_of (group_of g (tab f (suc i) k))) ≡ sum_from (usesIf (λ c. eqb g (f c).group)) (suc i) k
-          → uses_in n (terms_of (elim b as (λ _. List Constraint) [ true ↦ f i ∷ group_of g (tab f (suc i) k) | false ↦ group_of g (tab f (suc i) k) ])) ≡ cond b (uses_in n (f i).terms) 0 + sum_from (usesIf (λ c. eqb g (f c).group)) (suc i) k
+      go : (b : Bool) → uses_in n (terms_of (group_of g (tab f (suc i) k))) ≡ sum_from (uses_if (λ c. eqb g (f c).group)) (suc i) k
+          → uses_in n (terms_of (elim b as (λ _. List Constraint) [ true ↦ f i ∷ group_of g (tab f (suc i) k) | false ↦ group_of g (tab f (suc i) k) ])) ≡ cond b (uses_in n (f i).terms) 0 + sum_from (uses_if (λ c. eqb g (f c).group)) (suc i) k
       go true ih = uses-append n (f i).terms (terms_of (group_of g (tab f (suc i) k))) ∙ ap (λ (m : ℕ). uses_in n (f i).terms + m) ih
       go false ih = ih ∙ sym (zero-add _)
 
   -- the one of this number, where numbers ascend
   found-uses : (m i k : ℕ) → ((a b : ℕ) → i ≤ a → a < b → b < i + k → (f a).number < (f b).number)
-      → uses_in n (elim (find_constraint m (tab f i k)) [ none ↦ [] | some c ↦ c.terms ]) ≡ sum_from (usesIf (λ c. eqb m (f c).number)) i k
+      → uses_in n (elim (find_constraint m (tab f i k)) [ none ↦ [] | some c ↦ c.terms ]) ≡ sum_from (uses_if (λ c. eqb m (f c).number)) i k
   unfolding find_constraint tab sum_from uses_in
   found-uses m i zero up = refl
   found-uses m i (suc k) up = go (eqb m (f i).number) refl (found-uses m (suc i) k (λ a b x y z. up a b (omega arith) y (omega arith)))
@@ -138,13 +138,13 @@ module _ (n : ℕ) (f : ℕ → Constraint) where
       rest = find_constraint m (tab f (suc i) k)
 
       later : ℕ
-      later = sum_from (usesIf (λ c. eqb m (f c).number)) (suc i) k
+      later = sum_from (uses_if (λ c. eqb m (f c).number)) (suc i) k
 
       go : (b : Bool) → eqb m (f i).number ≡ b → uses_in n (elim rest [ none ↦ [] | some c ↦ c.terms ]) ≡ later
           → uses_in n (elim (elim b as (λ _. Option Constraint) [ true ↦ some (f i) | false ↦ rest ]) [ none ↦ [] | some c ↦ c.terms ]) ≡ cond b (uses_in n (f i).terms) 0 + later
-      go true e ih = sym (add-zero (uses_in n (f i).terms)) ∙ ap (λ (k : ℕ). uses_in n (f i).terms + k) (sym (sum-none (usesIf (λ c. eqb m (f c).number)) (suc i) k other))
+      go true e ih = sym (add-zero (uses_in n (f i).terms)) ∙ ap (λ (k : ℕ). uses_in n (f i).terms + k) (sym (sum-none (uses_if (λ c. eqb m (f c).number)) (suc i) k other))
         where
-          other : (j : ℕ) → suc i ≤ j → j < suc i + k → usesIf (λ c. eqb m (f c).number) j ≡ 0
+          other : (j : ℕ) → suc i ≤ j → j < suc i + k → uses_if (λ c. eqb m (f c).number) j ≡ 0
           other j a b = rw (ne_eqb m (f j).number (λ q. let l = up i j (omega arith) (omega (arith, a)) (omega (arith, b)) in omega (arith, l, eqb-true m (f i).number e, q))) refl
       go false e ih = ih ∙ sym (zero-add later)
 
@@ -204,7 +204,7 @@ module _ (t : Sparse) (good : reads t ≡ true) where
 
   -- of the constraints that are chosen
   chosen-uses : (p : ℕ → Bool) (i : ℕ) → i < variable_count t
-      → sum_from (usesIf (number i) (constraint_of t) p) 0 (constraint_count t) ≡ sum_in (λ c. cond (p c) (uses_at t.bytes (term_count t.bytes c) (count c) (place i)) 0) 0 (constraint_count t)
+      → sum_from (uses_if (number i) (constraint_of t) p) 0 (constraint_count t) ≡ sum_in (λ c. cond (p c) (uses_at t.bytes (term_count t.bytes c) (count c) (place i)) 0) 0 (constraint_count t)
   chosen-uses p i h = sum-ext _ _ 0 (constraint_count t) (λ c k. ap (λ (m : ℕ). cond (p c) m 0) (constraint-uses i c h (omega (arith, k)))) ∙ sym (sum-in _ (constraint_count t))
 
   -- how often a variable is in the terms that are taken
@@ -230,7 +230,7 @@ module _ (t : Sparse) (good : reads t ≡ true) where
 
   gone-count : length (read t).changes.gone ≡ gone_count t
   unfolding read gone_of
-  gone-count = length-listOf (gone_count t) _
+  gone-count = length-list_of (gone_count t) _
 
   variables-are : (read t).changes.variables ≡ tab (variable_of t) 0 (variable_count t)
   unfolding read list_of

@@ -39,23 +39,23 @@ module _ (a : Mark) (t : Sparse) (p : ℕ) (strength : Float) where
   abbrev s : Symbol
   s = symbol_at t p
 
-  abbrev byRow : Option Row → Work → Work
-  byRow o w = elim o [ none ↦ insert_in_objective s.id (neg strength) w | some r ↦ insert_row_in_objective r (neg strength) w ]
+  abbrev by_row : Option Row → Work → Work
+  by_row o w = elim o [ none ↦ insert_in_objective s.id (neg strength) w | some r ↦ insert_row_in_objective r (neg strength) w ]
 
   abbrev effect : Bool → Work → Work
-  effect b w = elim b [ false ↦ w | true ↦ byRow (find_row s.id w.tableau.rows) w ]
+  effect b w = elim b [ false ↦ w | true ↦ by_row (find_row s.id w.tableau.rows) w ]
 
   pub no-error : Standing false a t → eqb (get_or t.bytes (kinds_at + p) 0) 2 ≡ false → Makes false false a a (remove_marker_effects s strength) t t
   unfolding remove_marker_effects
   no-error st e = makes-to (λ v. sym (ap (λ (b : Bool). effect b (work_of false a v t)) (error-at t p ∙ e))) (makes-same st)
 
   module _ {b : Mark} {u : Sparse} (e : eqb (get_or t.bytes (kinds_at + p) 0) 2 ≡ true) (f : Found) (found : find_row s.id (basics_of t) ≡ on_found (λ i. some (basic_of t i).row) none f) where
-    with_row : (o : Option Row) → on_found (λ i. some (basic_of t i).row) none f ≡ o → Makes false false a b (byRow o) t u → Makes false false a b (remove_marker_effects s strength) t u
+    with_row : (o : Option Row) → on_found (λ i. some (basic_of t i).row) none f ≡ o → Makes false false a b (by_row o) t u → Makes false false a b (remove_marker_effects s strength) t u
     unfolding remove_marker_effects
     with_row o q m = makes-to (λ v. sym (by v)) m
       where
-        by : (v : ℕ) → effect (is_error s) (work_of false a v t) ≡ byRow o (work_of false a v t)
-        by v = ap (λ (c : Bool). effect c (work_of false a v t)) (error-at t p ∙ e) ∙ ap (λ (c : Option Row). byRow c (work_of false a v t)) (ap (find_row s.id) (work-rows false a v t) ∙ found ∙ q)
+        by : (v : ℕ) → effect (is_error s) (work_of false a v t) ≡ by_row o (work_of false a v t)
+        by v = ap (λ (c : Bool). effect c (work_of false a v t)) (error-at t p ∙ e) ∙ ap (λ (c : Option Row). by_row c (work_of false a v t)) (ap (find_row s.id) (work-rows false a v t) ∙ found ∙ q)
 
     pub not-basic : f ≡ Nothing → Makes false false a b (insert_in_objective s.id (neg strength)) t u → Makes false false a b (remove_marker_effects s strength) t u
     not-basic q m = with_row none (ap (on_found (λ i. some (basic_of t i).row) none) q) m

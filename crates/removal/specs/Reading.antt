@@ -6,7 +6,7 @@ use Rattle.std.proofs.Math.Path.{ap}
 use Rattle.std.proofs.lemmas.Bool.{false≢true}
 use mathlib.Core.List.{List}
 use Rattle.std.proofs.Math.ListN.{get_or}
-use Rattle.laws.specs.Lists.{getD-tab}
+use Rattle.laws.specs.Lists.{get_or-tab}
 use Rattle.steps.specs.Number.{Mark}
 use Rattle.steps.specs.Symbol.{Symbol, is_external}
 use Rattle.steps.specs.State.{Basic}
@@ -37,8 +37,8 @@ module _ (t u : Sparse) where
         let c = count_same in
         let q : 1 + (p - 1) ≡ p = omega (arith, low) in
         let d : Symbol = symbol_at t 0 in
-        let x : get_or (symbols_of u) (p - 1) d ≡ symbol_at u (1 + (p - 1)) = getD-tab (symbol_at u) 1 (symbol_count u) (p - 1) d (omega (arith, low, high, c)) in
-        let y : get_or (symbols_of t) (p - 1) d ≡ symbol_at t (1 + (p - 1)) = getD-tab (symbol_at t) 1 (symbol_count t) (p - 1) d (omega (arith, low, high)) in
+        let x : get_or (symbols_of u) (p - 1) d ≡ symbol_at u (1 + (p - 1)) = get_or-tab (symbol_at u) 1 (symbol_count u) (p - 1) d (omega (arith, low, high, c)) in
+        let y : get_or (symbols_of t) (p - 1) d ≡ symbol_at t (1 + (p - 1)) = get_or-tab (symbol_at t) 1 (symbol_count t) (p - 1) d (omega (arith, low, high)) in
         rw q at (sym x ∙ ap (λ (l : List Symbol). get_or l (p - 1) d) e ∙ y)
 
   module _ (e : basics_of u ≡ basics_of t) where

@@ -2,8 +2,8 @@
 use Rattle.std.specs.Prelude.{◌≡◌, ℕ, zero, suc, ◌+◌, ◌<◌, ◌≤◌, List, ◌∷◌, length, get_or, slice_index_or, slice_set, refl, Float}
 use Rattle.std.proofs.Common.{sym, ap, ◌∙◌, zero-add, arith}
 use Rattle.std.specs.Float.{nan}
-use Rattle.laws.specs.Loops.{fold_in, fold_next, fold-last, fold2In, fold2-next, fold2-last}
-use Rattle.laws.specs.Lists.{tab, list_of, length-tab, getD-tab}
+use Rattle.laws.specs.Loops.{fold_in, fold_next, fold-last, fold2_in, fold2-next, fold2-last}
+use Rattle.laws.specs.Lists.{tab, list_of, length-tab, get_or-tab}
 use Rattle.laws.specs.Places.{tab-set-in, tab-set-out}
 use Rattle.steps.specs.Number.{Mark, worse}
 use Rattle.steps.specs.Row.{Cell, cell_value, cell_values, cell_mark, cell_marks, insert_times, insert_cells, scale_cell, scale_cells}
@@ -20,7 +20,7 @@ pub cell-at : (n : ℕ) (row : List Float) (j : ℕ) (d : Float) → j < n → s
 unfolding cells_of list_of
 cell-at n row j d h =
     let e : 0 + j ≡ j = zero-add j in
-    rw e at (getD-tab (λ i. get_or row (1 + i) nan) 0 n j d h)
+    rw e at (get_or-tab (λ i. get_or row (1 + i) nan) 0 n j d h)
 
 pub cells-set : (n : ℕ) (row : List Float) (j : ℕ) (v : Float) → j < n → n < length row → cells_of n (slice_set row (1 + j) v) ≡ slice_set (cells_of n row) j v
 unfolding cells_of list_of
@@ -63,7 +63,7 @@ fold-cells bound g i (suc n) row s h =
     sym turn ∙ rw (e, e₁) (fold-cells bound g (suc i) n row (f s (slice_index_or row (1 + i) nan)) (omega arith)) ∙ worse-assoc s (cell_mark bound (g (slice_index_or row (1 + i) nan))) (cell_marks bound (tab (λ j. g (slice_index_or row (1 + j) nan)) (suc i) n))
 
 pub fold2-cells : (bound : Float) (g : Float → Float → Cell) (i n : ℕ) (row other : List Float) (s : Mark) → 1 + i + n ≤ length row → 1 + i + n ≤ length other
-    → fold2In (λ (m : Mark) (c o : Float). worse m (cell_mark bound (g c o))) (1 + i) (1 + i + n) row other s ≡ worse s (cell_marks bound (tab (λ j. g (slice_index_or row (1 + j) nan) (slice_index_or other (1 + j) nan)) i n))
+    → fold2_in (λ (m : Mark) (c o : Float). worse m (cell_mark bound (g c o))) (1 + i) (1 + i + n) row other s ≡ worse s (cell_marks bound (tab (λ j. g (slice_index_or row (1 + j) nan) (slice_index_or other (1 + j) nan)) i n))
 unfolding tab cell_marks
 fold2-cells bound g i zero row other s h k = sym (fold2-last (λ (m : Mark) (c o : Float). worse m (cell_mark bound (g c o))) (1 + i) (1 + i + 0) row other s (omega arith) refl) ∙ sym (worse-unit s)
 fold2-cells bound g i (suc n) row other s h k =
@@ -71,6 +71,6 @@ fold2-cells bound g i (suc n) row other s h k =
     let v : Mark = f s (slice_index_or row (1 + i) nan) (slice_index_or other (1 + i) nan) in
     let e : 1 + i + 1 ≡ 1 + suc i = omega arith in
     let e₁ : 1 + i + suc n ≡ 1 + suc i + n = omega arith in
-    let turn : fold2In f (1 + i + 1) (1 + i + suc n) row other v ≡ fold2In f (1 + i) (1 + i + suc n) row other s =
+    let turn : fold2_in f (1 + i + 1) (1 + i + suc n) row other v ≡ fold2_in f (1 + i) (1 + i + suc n) row other s =
     fold2-next f (1 + i) (1 + i + suc n) row other s nan nan (omega arith) (omega arith) (omega arith) refl refl in
     sym turn ∙ rw (e, e₁) (fold2-cells bound g (suc i) n row other v (omega arith) (omega arith)) ∙ worse-assoc s (cell_mark bound (g (slice_index_or row (1 + i) nan) (slice_index_or other (1 + i) nan))) (cell_marks bound (tab (λ j. g (slice_index_or row (1 + j) nan) (slice_index_or other (1 + j) nan)) (suc i) n))

@@ -4,9 +4,9 @@ use Rattle.std.proofs.Math.Path.{refl, sym, ap}
 use Rattle.std.proofs.Common.{◌∙◌, add-zero, arith, length-set, get_or-set_same, get_or-set_other}
 use Rattle.std.proofs.Math.Option.{some}
 use Rattle.std.specs.Float.Ieee.{nan, ne, neg}
-use Rattle.laws.specs.Loops.{mapIn}
+use Rattle.laws.specs.Loops.{map_in}
 use Rattle.laws.specs.Lists.{tab, list_of, map-tab}
-use Rattle.laws.specs.Places.{mapIn-before, zipIn-before, tab-mapIn, tab-zipIn}
+use Rattle.laws.specs.Places.{map_in-before, zip_in-before, tab-map_in, tab-zip_in}
 use Rattle.steps.specs.Number.{zero64, minus_one64, cell_bound, ◌+₆₄◌, ◌*₆₄◌, ◌/₆₄◌, Mark, all_whole, worse}
 use Rattle.steps.specs.Symbol.{Symbol, absent, coefficient_for, clear_cell}
 use Rattle.steps.specs.Row.{Row, Cell, kept, stored, cell_value, cell_values, cell_mark, cell_marks, insert_cell, insert_symbol, insert_times, insert_cells, Written, untouched, insert_symbol_in_row, insert_row, scale_cell, scale_cells, solve_for_symbol, solve_for_symbols, reverse_sign}
@@ -29,7 +29,7 @@ written_of r b m = record { row = r; constant_changed = b; mark = m }
 pub insert-cells-read : (cutoff k : Float) (n : ℕ) (other row : List Float) → n < length row → n < length other → cells_of n (insert_cells_in cutoff k n other row) ≡ cell_values (insert_cells cutoff k (cells_of n other) (cells_of n row))
 unfolding cells_of list_of insert_cells_in inserted_value
 insert-cells-read cutoff k n other row h h₁ =
-    tab-zipIn (inserted_value cutoff k) 1 n row other nan nan (omega arith) (omega arith)
+    tab-zip_in (inserted_value cutoff k) 1 n row other nan nan (omega arith) (omega arith)
     ∙ sym (ap cell_values (insert-tab cutoff k (λ j. get_or other (1 + j) nan) (λ j. get_or row (1 + j) nan) 0 n) ∙ values-tab (λ j. insert_times cutoff k (slice_index_or other (1 + j) nan) (slice_index_or row (1 + j) nan)) 0 n)
 
 pub insert-cells-marks : (cutoff bound k : Float) (n : ℕ) (other row : List Float) → n < length row → n < length other → insert_cells_mark cutoff bound k n other row ≡ cell_marks bound (insert_cells cutoff k (cells_of n other) (cells_of n row))
@@ -41,7 +41,7 @@ insert-cells-marks cutoff bound k n other row h h₁ =
 
 insert-cells-constant : (cutoff k : Float) (n : ℕ) (other row : List Float) → slice_index_or (insert_cells_in cutoff k n other row) 0 nan ≡ slice_index_or row 0 nan
 unfolding insert_cells_in
-insert-cells-constant cutoff k n other row = zipIn-before (inserted_value cutoff k) 1 (1 + n) row other 0 nan (omega arith)
+insert-cells-constant cutoff k n other row = zip_in-before (inserted_value cutoff k) 1 (1 + n) row other 0 nan (omega arith)
 
 pub insert-row-read : (cutoff k : Float) (n : ℕ) (other row : List Float) → n < length row → n < length other
     → written_of (row_of n (insert_row_in cutoff k n other row)) (insert_row_changed k other) (insert_row_mark cutoff k n other row) ≡ insert_row cutoff (row_of n other) k (row_of n row)
@@ -99,7 +99,7 @@ module _ (s : ℕ) (symbols : List Symbol) (j n : ℕ) (row : List Float) (p : P
 scale-cells-read : (factor : Float) (n : ℕ) (row : List Float) → n < length row → cells_of n (scale_cells_in factor n row) ≡ cell_values (scale_cells factor (cells_of n row))
 unfolding cells_of list_of scale_cells_in scaled_value
 scale-cells-read factor n row h =
-    tab-mapIn (scaled_value factor) 1 n row nan (omega arith)
+    tab-map_in (scaled_value factor) 1 n row nan (omega arith)
     ∙ sym (ap cell_values (scale-tab factor (λ j. get_or row (1 + j) nan) 0 n) ∙ values-tab (λ j. scale_cell factor (slice_index_or row (1 + j) nan)) 0 n)
 
 scale-cells-marks : (factor : Float) (n : ℕ) (row : List Float) → n < length row → scale_cells_mark factor n row ≡ cell_marks cell_bound (scale_cells factor (cells_of n row))
@@ -111,7 +111,7 @@ scale-cells-marks factor n row h =
 
 scale-cells-constant : (factor : Float) (n : ℕ) (row : List Float) → slice_index_or (scale_cells_in factor n row) 0 nan ≡ slice_index_or row 0 nan
 unfolding scale_cells_in
-scale-cells-constant factor n row = mapIn-before (scaled_value factor) 1 (1 + n) row 0 nan (omega arith)
+scale-cells-constant factor n row = map_in-before (scaled_value factor) 1 (1 + n) row 0 nan (omega arith)
 
 pub solve-read : (s : ℕ) (symbols : List Symbol) (j n : ℕ) (row : List Float) → PlaceOf s symbols j → length symbols ≡ n → n < length row
     → written_of (row_of n (solve_row_in (1 + j) n row)) false (solve_row_mark (1 + j) n row) ≡ solve_for_symbol s symbols (row_of n row)
@@ -204,9 +204,9 @@ unfolding row_of reverse_sign_in reverse_sign reversed_value cells_of list_of
 reverse-read n row h =
     let v : Float = neg (slice_index_or row 0 nan) in
     let l : 1 + n ≤ length (slice_set row 0 v) = rw (length-set row 0 v) (omega (arith, h)) in
-    let c : get_or (mapIn reversed_value 1 (1 + n) (slice_set row 0 v)) 0 nan ≡ v = mapIn-before reversed_value 1 (1 + n) (slice_set row 0 v) 0 nan (omega arith) ∙ get_or-set_same row 0 v nan (omega (arith, h)) in
-    let d : tab (λ j. get_or (mapIn reversed_value 1 (1 + n) (slice_set row 0 v)) (1 + j) nan) 0 n ≡ map (λ (c : Float). stored (neg c)) (tab (λ j. get_or row (1 + j) nan) 0 n) =
-    tab-mapIn reversed_value 1 n (slice_set row 0 v) nan l
+    let c : get_or (map_in reversed_value 1 (1 + n) (slice_set row 0 v)) 0 nan ≡ v = map_in-before reversed_value 1 (1 + n) (slice_set row 0 v) 0 nan (omega arith) ∙ get_or-set_same row 0 v nan (omega (arith, h)) in
+    let d : tab (λ j. get_or (map_in reversed_value 1 (1 + n) (slice_set row 0 v)) (1 + j) nan) 0 n ≡ map (λ (c : Float). stored (neg c)) (tab (λ j. get_or row (1 + j) nan) 0 n) =
+    tab-map_in reversed_value 1 n (slice_set row 0 v) nan l
     ∙ sym (map-tab reversed_value (λ j. get_or (slice_set row 0 v) (1 + j) nan) 0 n)
     ∙ ap (map reversed_value) (cells-constant n row v) in
     rw (c, d) refl

@@ -3,7 +3,7 @@ use Rattle.std.specs.Prelude.{◌≡◌, ℕ, ◌+◌, Bool, true, false, cond, 
 use Rattle.std.proofs.Common.{◌∙◌, length-set}
 use Rattle.std.specs.Float.{nan}
 use Rattle.std.specs.Float.Ieee.{neg}
-use Rattle.laws.specs.Places.{length-mapIn, length-zipIn}
+use Rattle.laws.specs.Places.{length-map_in, length-zip_in}
 use Rattle.steps.specs.Number.{zero64, minus_one64, ◌+₆₄◌, ◌*₆₄◌}
 use Rattle.steps.specs.Symbol.{absent}
 use Rattle.steps.specs.Row.{cell_value, insert_cell}
@@ -17,7 +17,7 @@ length-insert_symbol_at cutoff at k row = length-set row at (cell_value (insert_
 
 pub length-insert_cells_in : (cutoff k : Float) (n : ℕ) (other row : List Float) → length (insert_cells_in cutoff k n other row) ≡ length row
 unfolding insert_cells_in
-length-insert_cells_in cutoff k n other row = length-zipIn (inserted_value cutoff k) 1 (1 + n) row other
+length-insert_cells_in cutoff k n other row = length-zip_in (inserted_value cutoff k) 1 (1 + n) row other
 
 pub length-insert_row_in : (cutoff k : Float) (n : ℕ) (other row : List Float) → length (insert_row_in cutoff k n other row) ≡ length row
 unfolding insert_row_in
@@ -29,7 +29,7 @@ length-solve_start at row = length-set (slice_set row 0 (slice_index_or row 0 na
 
 pub length-solve_row_in : (at n : ℕ) (row : List Float) → length (solve_row_in at n row) ≡ length row
 unfolding solve_row_in scale_cells_in
-length-solve_row_in at n row = length-mapIn (scaled_value (solve_factor at row)) 1 (1 + n) (solve_start at row) ∙ length-solve_start at row
+length-solve_row_in at n row = length-map_in (scaled_value (solve_factor at row)) 1 (1 + n) (solve_start at row) ∙ length-solve_start at row
 
 pub length-solve_for_symbols_in : (cutoff : Float) (leaving entering n : ℕ) (row : List Float) → length (solve_for_symbols_in cutoff leaving entering n row) ≡ length row
 unfolding solve_for_symbols_in
@@ -37,7 +37,7 @@ length-solve_for_symbols_in cutoff leaving entering n row = length-solve_row_in 
 
 pub length-reverse_sign_in : (n : ℕ) (row : List Float) → length (reverse_sign_in n row) ≡ length row
 unfolding reverse_sign_in
-length-reverse_sign_in n row = length-mapIn reversed_value 1 (1 + n) (slice_set row 0 (neg (slice_index_or row 0 nan))) ∙ length-set row 0 (neg (slice_index_or row 0 nan))
+length-reverse_sign_in n row = length-map_in reversed_value 1 (1 + n) (slice_set row 0 (neg (slice_index_or row 0 nan))) ∙ length-set row 0 (neg (slice_index_or row 0 nan))
 
 -- one of two rows, of one length
 either : (f : List Float → ℕ) (b : Bool) (x y : List Float) → f y ≡ f x → f (cond b x y) ≡ f x

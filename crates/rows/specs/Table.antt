@@ -7,7 +7,7 @@ use Rattle.std.specs.Float.Ieee.{ne, neg}
 use Rattle.steps.specs.Number.{zero64, minus_one64, cell_bound, constant_bound, ◌+₆₄◌, ◌*₆₄◌, ◌/₆₄◌, Mark, all_whole, worse, mark_write}
 use Rattle.steps.specs.Symbol.{absent}
 use Rattle.steps.specs.Row.{Cell, kept, stored, cell_value, cell_mark, insert_cell, insert_times, scale_cell, factor_mark}
-use Rattle.laws.specs.Loops.{mapIn, zipIn, fold_in, fold2In}
+use Rattle.laws.specs.Loops.{map_in, zip_in, fold_in, fold2_in}
 use Rattle.rows.specs.Marks.{worse-unit, insert_times-is}
 
 -- ---- a cell's new value, and the mark so far with it
@@ -36,10 +36,10 @@ unfoldable pub insert_symbol_mark : Float → ℕ → Float → Float → List F
 insert_symbol_mark cutoff at k bound row = cell_mark bound (insert_cell cutoff (slice_index_or row at nan) k)
 
 unfoldable pub insert_cells_in : Float → Float → ℕ → List Float → List Float → List Float
-insert_cells_in cutoff k width other row = zipIn (inserted_value cutoff k) 1 (1 + width) row other
+insert_cells_in cutoff k width other row = zip_in (inserted_value cutoff k) 1 (1 + width) row other
 
 unfoldable pub insert_cells_mark : Float → Float → Float → ℕ → List Float → List Float → Mark
-insert_cells_mark cutoff bound k width other row = fold2In (inserted_mark cutoff bound k) 1 (1 + width) row other all_whole
+insert_cells_mark cutoff bound k width other row = fold2_in (inserted_mark cutoff bound k) 1 (1 + width) row other all_whole
 
 unfoldable pub added_constant : Float → List Float → List Float → Float
 added_constant k other row = slice_index_or row 0 nan +₆₄ (slice_index_or other 0 nan *₆₄ k)
@@ -57,7 +57,7 @@ insert_row_changed k other = ne (slice_index_or other 0 nan *₆₄ k) zero64
 -- ---- solve
 
 unfoldable pub scale_cells_in : Float → ℕ → List Float → List Float
-scale_cells_in factor width row = mapIn (scaled_value factor) 1 (1 + width) row
+scale_cells_in factor width row = map_in (scaled_value factor) 1 (1 + width) row
 
 unfoldable pub scale_cells_mark : Float → ℕ → List Float → Mark
 scale_cells_mark factor width row = fold_in (scaled_mark factor) 1 (1 + width) row all_whole
@@ -86,7 +86,7 @@ solve_for_symbols_mark cutoff leaving entering width row =
     worse (insert_symbol_mark cutoff leaving minus_one64 cell_bound row) (solve_row_mark entering width (insert_symbol_at cutoff leaving minus_one64 row))
 
 unfoldable pub reverse_sign_in : ℕ → List Float → List Float
-reverse_sign_in width row = mapIn reversed_value 1 (1 + width) (slice_set row 0 (neg (slice_index_or row 0 nan)))
+reverse_sign_in width row = map_in reversed_value 1 (1 + width) (slice_set row 0 (neg (slice_index_or row 0 nan)))
 
 -- ---- substitute for the symbol at a place
 

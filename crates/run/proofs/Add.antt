@@ -173,14 +173,14 @@ module _ (art : ArtificialEnds) (m : Moment) (g n : ℕ) (ts : List Term) (k : F
   unfolding same_key
   constraints-after whole-ts new a j = go (eqb j n) refl
     where
-      kept : find_constraint j (keep_constraint (stored a) m.state.constraints) ≡ Rattle.keeps.specs.Keys.findBy (λ (c : Constraint). c.number) j (Rattle.keeps.specs.Keys.keepBy (λ (c : Constraint). c.number) (stored a) m.state.constraints)
-      kept = ap (find_constraint j) (keep_constraint-is (stored a) m.state.constraints) ∙ find_constraint-is j (Rattle.keeps.specs.Keys.keepBy (λ (c : Constraint). c.number) (stored a) m.state.constraints)
+      kept : find_constraint j (keep_constraint (stored a) m.state.constraints) ≡ Rattle.keeps.specs.Keys.find_by (λ (c : Constraint). c.number) j (Rattle.keeps.specs.Keys.keep_by (λ (c : Constraint). c.number) (stored a) m.state.constraints)
+      kept = ap (find_constraint j) (keep_constraint-is (stored a) m.state.constraints) ∙ find_constraint-is j (Rattle.keeps.specs.Keys.keep_by (λ (c : Constraint). c.number) (stored a) m.state.constraints)
 
       go : (t : Bool) → eqb j n ≡ t → ConstraintAt (find_constraint j (keep_constraint (stored a) m.state.constraints)) (find_held (of_constraint j) (record { demand = d; tag = a.tag } ∷ I.held))
       go true e =
           let q : j ≡ n = eqb→eq j n (subst T (sym e) tt) in
           subst (λ (t : Option Constraint). ConstraintAt t (find_held (of_constraint j) (record { demand = d; tag = a.tag } ∷ I.held)))
-          (sym (kept ∙ find-keep-same (λ (c : Constraint). c.number) j (stored a) m.state.constraints q (ap (Rattle.keeps.specs.Keys.findBy (λ (c : Constraint). c.number) j) refl ∙ sym (find_constraint-is j m.state.constraints) ∙ ap (λ (i : ℕ). find_constraint i m.state.constraints) q ∙ new)))
+          (sym (kept ∙ find-keep-same (λ (c : Constraint). c.number) j (stored a) m.state.constraints q (ap (Rattle.keeps.specs.Keys.find_by (λ (c : Constraint). c.number) j) refl ∙ sym (find_constraint-is j m.state.constraints) ∙ ap (λ (i : ℕ). find_constraint i m.state.constraints) q ∙ new)))
           (subst (ConstraintAt (some (stored a))) (sym (found-hit (of_constraint j) (record { demand = d; tag = a.tag }) I.held e)) (record { group = refl; strength = refl; terms = counted whole-ts; tag = refl }))
       go false e =
           let q : j ≢ n = λ p. subst T e (subst (λ (y : ℕ). T (eqb j y)) p (eqb_refl j)) in

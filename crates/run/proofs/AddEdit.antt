@@ -18,7 +18,7 @@ use Rattle.steps.specs.Add.{whole_within, whole_terms, whole_inputs, Added, add_
 use Rattle.steps.specs.Edit.{edit_terms, add_edit_steps}
 use Rattle.steps.specs.Tests.{find_constraint, find_edit, keep_edit, has_edit, Test, first_refusal, add_edit_tests}
 use Rattle.steps.specs.Calls.{Result, begin, finish, refused_by, conclude_add, add_edit}
-use Rattle.keeps.specs.Keys.{findBy, keepBy, find_edit-is, keep_edit-is}
+use Rattle.keeps.specs.Keys.{find_by, keep_by, find_edit-is, keep_edit-is}
 use Rattle.keeps.specs.Addition.{clip-below}
 use Rattle.simplex.specs.bridge.Nums.{zero64-z, constant_bound-z, below_zero-z, magnitude-z}
 use Rattle.run.specs.Demand.{of_constraint, of_edit, same_key, Demand, aim, adds_edit, make, accepted, Moment, next, None}
@@ -139,8 +139,8 @@ module _ (art : ArtificialEnds) (m : Moment) (u : ℕ) (k : Float) (b : ℕ) (I 
   unfolding same_key
   edits-after new soft a j = go (eqb j u) refl
     where
-      kept : find_edit j (keep_edit (stored a) m.state.edits) ≡ findBy (λ (c : Edit). c.variable) j (keepBy (λ (c : Edit). c.variable) (stored a) m.state.edits)
-      kept = ap (find_edit j) (keep_edit-is (stored a) m.state.edits) ∙ find_edit-is j (keepBy (λ (c : Edit). c.variable) (stored a) m.state.edits)
+      kept : find_edit j (keep_edit (stored a) m.state.edits) ≡ find_by (λ (c : Edit). c.variable) j (keep_by (λ (c : Edit). c.variable) (stored a) m.state.edits)
+      kept = ap (find_edit j) (keep_edit-is (stored a) m.state.edits) ∙ find_edit-is j (keep_by (λ (c : Edit). c.variable) (stored a) m.state.edits)
 
       go : (t : Bool) → eqb j u ≡ t → EditAt j (find_edit j (keep_edit (stored a) m.state.edits)) (find_held (of_edit j) (held a ∷ I.held))
       go true e =
@@ -170,9 +170,9 @@ module _ (art : ArtificialEnds) (m : Moment) (u : ℕ) (k : Float) (b : ℕ) (I 
       (added-whole m.state (add_steps b (edit_terms u) zero64 (equal s) (begin m.state)) after (sym (ap (λ (r : Result). r.answer.whole) (is-add e)) ∙ whole))).inputs)
 
   -- AN ADD EDIT KEEPS THE INVARIANT
-  pub addEdit-inv : Inv (next (adds_edit u k b) m)
+  pub add_edit-inv : Inv (next (adds_edit u k b) m)
   unfolding accepted aim
-  addEdit-inv = go (first_refusal (add_edit_tests u s m.state)) refl
+  add_edit-inv = go (first_refusal (add_edit_tests u s m.state)) refl
     where
       go : (t : Option ℕ) → first_refusal (add_edit_tests u s m.state) ≡ t → Inv (next (adds_edit u k b) m)
       go (some j) e =
@@ -187,9 +187,9 @@ module _ (art : ArtificialEnds) (m : Moment) (u : ℕ) (k : Float) (b : ℕ) (I 
           (edits-after P.new (clip-below k P.soft) (record { work = x; tag = (created_of (edit_terms u) zero64 (equal s) (begin m.state)).tag })))
 
   -- A REFUSAL 12 IS RIGHT
-  pub addEdit-12 : (make (adds_edit u k b) m.state).answer.number ≡ 12 → None (aim u s zero64 ∷ m.live)
+  pub add_edit-12 : (make (adds_edit u k b) m.state).answer.number ≡ 12 → None (aim u s zero64 ∷ m.live)
   unfolding refused_by aim
-  addEdit-12 h = go (first_refusal (add_edit_tests u s m.state)) refl
+  add_edit-12 h = go (first_refusal (add_edit_tests u s m.state)) refl
     where
       go : (t : Option ℕ) → first_refusal (add_edit_tests u s m.state) ≡ t → None (aim u s zero64 ∷ m.live)
       go (some j) e =
@@ -202,9 +202,9 @@ module _ (art : ArtificialEnds) (m : Moment) (u : ℕ) (k : Float) (b : ℕ) (I 
           (unmet-12 art m I d b (strong e) (one-term u) P.low (adds_edit u k b) after (is-add e) whole h)
 
   -- 15 IS NEVER GIVEN
-  pub addEdit-15 : (make (adds_edit u k b) m.state).answer.number ≢ 15
+  pub add_edit-15 : (make (adds_edit u k b) m.state).answer.number ≢ 15
   unfolding refused_by
-  addEdit-15 = go (first_refusal (add_edit_tests u s m.state)) refl
+  add_edit-15 = go (first_refusal (add_edit_tests u s m.state)) refl
     where
       go : (t : Option ℕ) → first_refusal (add_edit_tests u s m.state) ≡ t → (make (adds_edit u k b) m.state).answer.number ≢ 15
       go (some j) e = λ h.

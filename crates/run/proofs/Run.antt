@@ -26,7 +26,7 @@ use Rattle.run.proofs.AtRest.{at_rest}
 use Rattle.run.specs.Start.{start-inv, reset-inv, fetch-inv}
 use Rattle.run.specs.Artificial.{artificial-ends}
 use Rattle.run.proofs.Add.{add-inv, add-12, add-15}
-use Rattle.run.proofs.AddEdit.{addEdit-inv, addEdit-12, addEdit-15}
+use Rattle.run.proofs.AddEdit.{add_edit-inv, add_edit-12, add_edit-15}
 use Rattle.run.specs.Remove.{remove-inv, remove_edit-inv, remove-refusals, remove_edit-refusals}
 use Rattle.run.proofs.Drop.{drop-inv, drop-refusals}
 use Rattle.run.proofs.Suggested.{suggest-inv, suggest-16}
@@ -59,7 +59,7 @@ inv-next fetches m I h w = fetch-inv m I
 inv-next (adds g n ts k r b) m I h w = add-inv artificial-ends m g n ts k r b I w
 inv-next (removes n b) m I h w = remove-inv m n b I h w
 inv-next (drops g b) m I h w = drop-inv m g b I h w
-inv-next (adds_edit v k b) m I h w = addEdit-inv artificial-ends m v k b I w
+inv-next (adds_edit v k b) m I h w = add_edit-inv artificial-ends m v k b I w
 inv-next (removes_edit v b) m I h w = remove_edit-inv m v b I h w
 inv-next (suggests v x b) m I h w = suggest-inv m v x b I h w
 
@@ -190,7 +190,7 @@ module _ (cut : Float) (fits : cutoff_fits cut ≡ true) where
   marked-12 (adds g n ts k r b) cs w e = add-12 artificial-ends (after cut cs) g n ts k r b (inv-before (changing.adds g n ts k r b) cs w) w e
   marked-12 (removes n b) cs w e = absurd (other-number 12 (changing.removes n b) (after cut cs).state tt e)
   marked-12 (drops g b) cs w e = absurd (other-number 12 (changing.drops g b) (after cut cs).state tt e)
-  marked-12 (adds_edit v k b) cs w e = addEdit-12 artificial-ends (after cut cs) v k b (inv-before (changing.adds_edit v k b) cs w) w e
+  marked-12 (adds_edit v k b) cs w e = add_edit-12 artificial-ends (after cut cs) v k b (inv-before (changing.adds_edit v k b) cs w) w e
   marked-12 (removes_edit v b) cs w e = absurd (other-number 12 (changing.removes_edit v b) (after cut cs).state tt e)
   marked-12 (suggests v x b) cs w e = absurd (other-number 12 (changing.suggests v x b) (after cut cs).state tt e)
 
@@ -220,7 +220,7 @@ module _ (cut : Float) (fits : cutoff_fits cut ≡ true) where
       each (finite-yes c (after cut cs).state w) (N 15 (λ p. omega arith) (λ p. omega arith) ((λ p. omega arith), (λ p. omega arith), λ p. omega arith)) (other-number 16 c (after cut cs).state tt) (N 17 (λ p. omega arith) (λ p. omega arith) ((λ p. omega arith), (λ p. omega arith), λ p. omega arith))
   marked-numbers (adds_edit v k b) cs w =
       let c : Changing = changing.adds_edit v k b in
-      each (finite-yes c (after cut cs).state w) (addEdit-15 artificial-ends (after cut cs) v k b (inv-before c cs w) w) (other-number 16 c (after cut cs).state tt) (other-number 17 c (after cut cs).state tt)
+      each (finite-yes c (after cut cs).state w) (add_edit-15 artificial-ends (after cut cs) v k b (inv-before c cs w) w) (other-number 16 c (after cut cs).state tt) (other-number 17 c (after cut cs).state tt)
   marked-numbers (removes_edit v b) cs w =
       let c : Changing = changing.removes_edit v b in
       each (finite-yes c (after cut cs).state w) (away 15 (λ p. omega arith) (λ p. omega arith) (λ p. omega arith) (λ p. omega arith)) (other-number 16 c (after cut cs).state tt) (away 17 (λ p. omega arith) (λ p. omega arith) (λ p. omega arith) (λ p. omega arith))

@@ -103,13 +103,13 @@ over-map f P Q g (a ∷ l) h = (g a h.0, over-map f P Q g l h.1)
 
 edit-found : (u : ℕ) (es : List Edit) (e₁ : Edit) → e₁.variable ≡ u → Rattle.keeps.specs.Lists.Up 0 (map (λ (e : Edit). e.variable) es) → find_edit u (keep_edit e₁ (drop_edit u es)) ≡ some e₁
 edit-found u es e₁ p up =
-    find_edit-is u (keep_edit e₁ (drop_edit u es)) ∙ ap (Rattle.keeps.specs.Keys.findBy (λ (e : Edit). e.variable) u) (keep_edit-is e₁ (drop_edit u es) ∙ ap (Rattle.keeps.specs.Keys.keepBy (λ (e : Edit). e.variable) e₁) (drop_edit-is u es))
-    ∙ find-keep-same (λ (e : Edit). e.variable) u e₁ (Rattle.keeps.specs.Keys.dropBy (λ (e : Edit). e.variable) u es) (sym p) (find-drop-same (λ (e : Edit). e.variable) u es up)
+    find_edit-is u (keep_edit e₁ (drop_edit u es)) ∙ ap (Rattle.keeps.specs.Keys.find_by (λ (e : Edit). e.variable) u) (keep_edit-is e₁ (drop_edit u es) ∙ ap (Rattle.keeps.specs.Keys.keep_by (λ (e : Edit). e.variable) e₁) (drop_edit-is u es))
+    ∙ find-keep-same (λ (e : Edit). e.variable) u e₁ (Rattle.keeps.specs.Keys.drop_by (λ (e : Edit). e.variable) u es) (sym p) (find-drop-same (λ (e : Edit). e.variable) u es up)
 
 edit-other : (t u : ℕ) (es : List Edit) (e₁ : Edit) → e₁.variable ≡ u → t ≢ u → find_edit t (keep_edit e₁ (drop_edit u es)) ≡ find_edit t es
 edit-other t u es e₁ p n =
-    find_edit-is t (keep_edit e₁ (drop_edit u es)) ∙ ap (Rattle.keeps.specs.Keys.findBy (λ (e : Edit). e.variable) t) (keep_edit-is e₁ (drop_edit u es) ∙ ap (Rattle.keeps.specs.Keys.keepBy (λ (e : Edit). e.variable) e₁) (drop_edit-is u es))
-    ∙ find-keep-other (λ (e : Edit). e.variable) t e₁ (Rattle.keeps.specs.Keys.dropBy (λ (e : Edit). e.variable) u es) (λ q. n (q ∙ p))
+    find_edit-is t (keep_edit e₁ (drop_edit u es)) ∙ ap (Rattle.keeps.specs.Keys.find_by (λ (e : Edit). e.variable) t) (keep_edit-is e₁ (drop_edit u es) ∙ ap (Rattle.keeps.specs.Keys.keep_by (λ (e : Edit). e.variable) e₁) (drop_edit-is u es))
+    ∙ find-keep-other (λ (e : Edit). e.variable) t e₁ (Rattle.keeps.specs.Keys.drop_by (λ (e : Edit). e.variable) u es) (λ q. n (q ∙ p))
     ∙ find-drop-other (λ (e : Edit). e.variable) t u es n ∙ sym (find_edit-is t es)
 
 -- ---- the moment after

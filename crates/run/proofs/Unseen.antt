@@ -17,7 +17,7 @@ use Rattle.run.specs.Demand.{Call, resets, fetches, adds, removes, drops, adds_e
 use Rattle.run.specs.RecutRows.{whole-unbroken}
 use Rattle.run.specs.RecutAdd.{TermsU}
 use Rattle.run.specs.RecutDrop.{drop-twin}
-use Rattle.run.specs.RecutCalls.{recut_s, Sound, Twin, add-twin, remove-twin, addEdit-twin, removeEdit-twin, suggest-twin}
+use Rattle.run.specs.RecutCalls.{recut_s, Sound, Twin, add-twin, remove-twin, add_edit-twin, remove_edit-twin, suggest-twin}
 use Rattle.run.specs.Unseen.{Given, Alike, SameSeen}
 
 -- ---- one call
@@ -60,8 +60,8 @@ recut-next fetches g z fz s h w = (refl, record { cutoff = z; fits = fz; is = un
 recut-next (adds j n ts k r b) g z fz s h w = twins z fz (make (adds j n ts k r b) s) (make (adds j n ts k r b) (recut_s z s)) (add-twin z fz s h j n ts k r b (terms-u ts g) w)
 recut-next (removes n b) g z fz s h w = twins z fz (make (removes n b) s) (make (removes n b) (recut_s z s)) (remove-twin z fz s h n b w)
 recut-next (drops j b) g z fz s h w = twins z fz (make (drops j b) s) (make (drops j b) (recut_s z s)) (drop-twin z fz s h j b w)
-recut-next (adds_edit v k b) g z fz s h w = twins z fz (make (adds_edit v k b) s) (make (adds_edit v k b) (recut_s z s)) (addEdit-twin z fz s h v k b w)
-recut-next (removes_edit v b) g z fz s h w = twins z fz (make (removes_edit v b) s) (make (removes_edit v b) (recut_s z s)) (removeEdit-twin z fz s h v b w)
+recut-next (adds_edit v k b) g z fz s h w = twins z fz (make (adds_edit v k b) s) (make (adds_edit v k b) (recut_s z s)) (add_edit-twin z fz s h v k b w)
+recut-next (removes_edit v b) g z fz s h w = twins z fz (make (removes_edit v b) s) (make (removes_edit v b) (recut_s z s)) (remove_edit-twin z fz s h v b w)
 recut-next (suggests v x b) g z fz s h w = twins z fz (make (suggests v x b) s) (make (suggests v x b) (recut_s z s)) (suggest-twin z fz s h v x b w)
 
 -- on states that are alike a call whose answer says yes on one answers the same on the other, and leaves states that are alike

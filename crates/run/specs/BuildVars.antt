@@ -8,13 +8,13 @@ use Rattle.steps.specs.Symbol.{External, Symbol}
 use Rattle.steps.specs.State.{Variable}
 use Rattle.steps.specs.Changes.{find_variable}
 use Rattle.steps.specs.CreateRow.{keep_variable, use_once}
-use Rattle.keeps.specs.Keys.{findBy, keepBy, find_variable-is, keep_variable-is}
+use Rattle.keeps.specs.Keys.{find_by, keep_by, find_variable-is, keep_variable-is}
 use Rattle.simplex.specs.bridge.Rows.{In}
 use Rattle.keeps.specs.Lookup.{find-keep-same, find-keep-other}
 
 -- ---- lookups
-kept-is : (n : ℕ) (v : Variable) (vs : List Variable) → find_variable n (keep_variable v vs) ≡ findBy (λ (x : Variable). x.number) n (keepBy (λ (x : Variable). x.number) v vs)
-kept-is n v vs = ap (find_variable n) (keep_variable-is v vs) ∙ find_variable-is n (keepBy (λ (x : Variable). x.number) v vs)
+kept-is : (n : ℕ) (v : Variable) (vs : List Variable) → find_variable n (keep_variable v vs) ≡ find_by (λ (x : Variable). x.number) n (keep_by (λ (x : Variable). x.number) v vs)
+kept-is n v vs = ap (find_variable n) (keep_variable-is v vs) ∙ find_variable-is n (keep_by (λ (x : Variable). x.number) v vs)
 
 pub find-kept : (v : Variable) (vs : List Variable) → find_variable v.number vs ≡ none → find_variable v.number (keep_variable v vs) ≡ some v
 find-kept v vs e = kept-is v.number v vs ∙ find-keep-same (λ (x : Variable). x.number) v.number v vs refl (sym (find_variable-is v.number vs) ∙ e)

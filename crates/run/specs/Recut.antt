@@ -22,7 +22,7 @@ use Rattle.simplex.specs.bridge.Nums.{worse-r}
 use Rattle.simplex.specs.bridge.Runs.{mark_of}
 use Rattle.simplex.proofs.bridge.Runs.{optimise-mark, dual-mark}
 use Rattle.run.specs.AddMarks.{finite-mark, bound-mark}
-use Rattle.run.specs.RecutRows.{RowU, values-u, solves-u, subRow-u, subCells-u, subRows-u, solves-same, subRow-same, subCells-same, subRows-same}
+use Rattle.run.specs.RecutRows.{RowU, values-u, solves-u, sub_row-u, sub_cells-u, sub_rows-u, solves-same, sub_row-same, sub_cells-same, sub_rows-same}
 
 -- the work with another cutoff
 abbrev pub recut : Float → Work → Work
@@ -120,15 +120,15 @@ enter-is s r w = refl
 plain-substitute : (s : ℕ) (r : Row) (w : Work) → Plain w → RowU r → Plain (substitute s r w)
 unfolding substitute marking with_artificial with_changes with_objective with_rows with_tableau
 plain-substitute s r w p h = record {
-  rows = subRows-u w.tableau.cutoff s w.tableau.symbols r w.tableau.rows h p.rows;
-  objective = values-u _ (subCells-u w.tableau.cutoff s w.tableau.symbols r.cells w.tableau.objective h.1 p.objective);
+  rows = sub_rows-u w.tableau.cutoff s w.tableau.symbols r w.tableau.rows h p.rows;
+  objective = values-u _ (sub_cells-u w.tableau.cutoff s w.tableau.symbols r.cells w.tableau.objective h.1 p.objective);
   artificial = go w.artificial p.artificial;
   fits = p.fits;
 }
   where
     go : (t : Option Row) → ArtU t → ArtU (elim (art_of w.tableau.cutoff s w.tableau.symbols r t) as (λ _. Option Row) [ none ↦ none | some a ↦ some a.row ])
     go none a = tt
-    go (some q) a = subRow-u w.tableau.cutoff s w.tableau.symbols r q h a
+    go (some q) a = sub_row-u w.tableau.cutoff s w.tableau.symbols r q h a
 
 plain-placed : (s : Symbol) (r : Row) (v : Work) → Plain v → RowU r → Plain (placed s r v)
 unfolding with_rows with_tableau note with_changes
@@ -149,8 +149,8 @@ module _ (z : Float) (fz : cutoff_fits z ≡ true) where
   substitute-same : (s : ℕ) (r : Row) (w : Work) → Plain w → RowU r → substitute s r (recut z w) ≡ recut z (substitute s r w)
   substitute-same s r w p h =
       substitute-is s r (recut z w)
-      ∙ ap (λ (a : List Substituted). built a (cells z) (art_of z s xs r w.artificial) (recut z w)) (subRows-same y z fy fz s xs r w.tableau.rows h p.rows)
-      ∙ ap (λ (b : List Cell). built (rows y) b (art_of z s xs r w.artificial) (recut z w)) (subCells-same y z fy fz s xs r.cells w.tableau.objective h.1 p.objective)
+      ∙ ap (λ (a : List Substituted). built a (cells z) (art_of z s xs r w.artificial) (recut z w)) (sub_rows-same y z fy fz s xs r w.tableau.rows h p.rows)
+      ∙ ap (λ (b : List Cell). built (rows y) b (art_of z s xs r w.artificial) (recut z w)) (sub_cells-same y z fy fz s xs r.cells w.tableau.objective h.1 p.objective)
       ∙ ap (λ (c : Option Written). built (rows y) (cells y) c (recut z w)) (art w.artificial p.artificial)
       ∙ recut-built (rows y) (cells y) (art_of y s xs r w.artificial) w
       ∙ ap (recut z) (sym (substitute-is s r w))
@@ -172,7 +172,7 @@ module _ (z : Float) (fz : cutoff_fits z ≡ true) where
 
       art : (t : Option Row) → ArtU t → art_of z s xs r t ≡ art_of y s xs r t
       art none a = refl
-      art (some q) a = ap some (subRow-same y z fy fz s xs r q h a)
+      art (some q) a = ap some (sub_row-same y z fy fz s xs r q h a)
 
   recut-placed : (s : Symbol) (r : Row) (v : Work) → placed s r (recut z v) ≡ recut z (placed s r v)
   unfolding with_rows with_tableau note with_changes
@@ -238,9 +238,9 @@ module _ (z : Float) (fz : cutoff_fits z ≡ true) where
 
   -- ---- the passes
 
-  countPivot-same : (v : Work) → Plain v → Same z (going (count_pivot v)) (going (count_pivot (recut z v)))
+  count_pivot-same : (v : Work) → Plain v → Same z (going (count_pivot v)) (going (count_pivot (recut z v)))
   unfolding count_pivot
-  countPivot-same v p = (refl, record { rows = p.rows; objective = p.objective; artificial = p.artificial; fits = p.fits })
+  count_pivot-same v p = (refl, record { rows = p.rows; objective = p.objective; artificial = p.artificial; fits = p.fits })
 
   counted-mark : (v : Work) → mark_of (going (count_pivot v)) ≡ all_whole → v.mark ≡ all_whole
   unfolding mark_of count_pivot
@@ -254,7 +254,7 @@ module _ (z : Float) (fz : cutoff_fits z ≡ true) where
 
   counted_same : (l e : Symbol) (w : Work) → Plain w → mark_of (counted_pivot l e w) ≡ all_whole → Same z (counted_pivot l e w) (counted_pivot l e (recut z w))
   unfolding counted_pivot
-  counted_same l e w p m = bind-same _ _ (λ v. going (count_pivot v)) counted-mark (pivoted-same l.id e w p) (λ v q _. countPivot-same v q) m
+  counted_same l e w p m = bind-same _ _ (λ v. going (count_pivot v)) counted-mark (pivoted-same l.id e w p) (λ v q _. count_pivot-same v q) m
 
   -- a turn of a pass, and what follows it
   turn : Choice → ℕ → (Symbol → Symbol → Work → Outcome Work) → Work → Outcome Work

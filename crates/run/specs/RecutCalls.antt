@@ -26,8 +26,8 @@ use Rattle.run.specs.AddMarks.{marked, finite-mark, bound-mark, mark_added, whol
 use Rattle.run.specs.RecutRows.{whole-unbroken, zero-unbroken, one-unbroken, near_same}
 use Rattle.run.specs.Recut.{recut, Plain, Same}
 use Rattle.run.specs.RecutAdd.{TermsU}
-use Rattle.run.specs.RecutPlace.{recut_a, PlainAdded, addSteps-same}
-use Rattle.run.specs.RecutRemove.{removeSteps-same, suggestSteps-same}
+use Rattle.run.specs.RecutPlace.{recut_a, PlainAdded, add_steps-same}
+use Rattle.run.specs.RecutRemove.{remove_steps-same, suggest_steps-same}
 
 -- the state with another cutoff
 abbrev pub recut_s : Float → State → State
@@ -169,13 +169,13 @@ module _ (z : Float) (fz : cutoff_fits z ≡ true) (s : State) (h : Sound s) whe
   unfolding variables_full
   full-same ts u = rw (kept_same y z fy fz ts u) refl
 
-  addTests-same : (g n : ℕ) (ts : List Term) (k : Float) (r : Relation) → TermsU ts → add_tests g n ts k r (recut_s z s) ≡ add_tests g n ts k r s
+  add_tests-same : (g n : ℕ) (ts : List Term) (k : Float) (r : Relation) → TermsU ts → add_tests g n ts k r (recut_s z s) ≡ add_tests g n ts k r s
   unfolding add_tests has_constraint constraints_full ids_used
-  addTests-same g n ts k r u = rw (full-same ts u) refl
+  add_tests-same g n ts k r u = rw (full-same ts u) refl
 
-  editTests-same : (n : ℕ) (k : Float) → add_edit_tests n k (recut_s z s) ≡ add_edit_tests n k s
+  edit_tests-same : (n : ℕ) (k : Float) → add_edit_tests n k (recut_s z s) ≡ add_edit_tests n k s
   unfolding add_edit_tests has_edit constraints_full ids_used
-  editTests-same n k = rw (full-same (edit_terms n) (edit-terms n)) refl
+  edit_tests-same n k = rw (full-same (edit_terms n) (edit-terms n)) refl
 
   refused-twin : (n p : ℕ) (b : Bool) → Twin z (refused_by n p b s) (refused_by n p b (recut_s z s))
   unfolding refused_by
@@ -209,15 +209,15 @@ module _ (z : Float) (fz : cutoff_fits z ≡ true) (s : State) (h : Sound s) whe
   unfolding begin
   begun = refl
 
-  addedBy-same : (b : ℕ) (ts : List Term) (k : Float) (r : Relation) → TermsU ts → mark_added (add_steps b ts k r (begin s)) ≡ all_whole
+  added_by-same : (b : ℕ) (ts : List Term) (k : Float) (r : Relation) → TermsU ts → mark_added (add_steps b ts k r (begin s)) ≡ all_whole
       → ((add_steps b ts k r (begin (recut_s z s)) ≡ recut_a z (add_steps b ts k r (begin s))) × PlainAdded (add_steps b ts k r (begin s))) × Inputs k r
-  addedBy-same b ts k r u m =
+  added_by-same b ts k r u m =
       let I : Inputs k r = inputs-of ts k r (whole-steps b ts k r (begin s) m).inputs in
-      let A = addSteps-same z fz b ts k r u I.constant I.strength (begin s) h.plain m in
+      let A = add_steps-same z fz b ts k r u I.constant I.strength (begin s) h.plain m in
       ((ap (add_steps b ts k r) begun ∙ A.0, A.1), I)
 
   removed : (b : ℕ) (tag : Tag) (k : Float) → Unbroken k → (ts : List Term) → mark_of (remove_steps b tag k ts (begin s)) ≡ all_whole → Same z (remove_steps b tag k ts (begin s)) (remove_steps b tag k ts (begin (recut_s z s)))
-  removed b tag k u ts m = subst (λ (x : Work). Same z (remove_steps b tag k ts (begin s)) (remove_steps b tag k ts x)) (sym begun) (removeSteps-same z fz b tag k u ts (begin s) h.plain m)
+  removed b tag k u ts m = subst (λ (x : Work). Same z (remove_steps b tag k ts (begin s)) (remove_steps b tag k ts x)) (sym begun) (remove_steps-same z fz b tag k u ts (begin s) h.plain m)
 
   finished : (w : Work) (cs : List Constraint) (es : List Edit) → finish (recut z w) cs es ≡ recut_s z (finish w cs es)
   unfolding finish
@@ -226,7 +226,7 @@ module _ (z : Float) (fz : cutoff_fits z ≡ true) (s : State) (h : Sound s) whe
   pub add-twin : (g n : ℕ) (ts : List Term) (k : Float) (r : Relation) (b : ℕ) → TermsU ts → (add g n ts k r b s).answer.whole ≡ true → Twin z (add g n ts k r b s) (add g n ts k r b (recut_s z s))
   unfolding add
   add-twin g n ts k r b u w =
-      subst (λ (t : List Test). Twin z (at (first_refusal (add_tests g n ts k r s)) s) (at (first_refusal t) (recut_s z s))) (sym (addTests-same g n ts k r u)) (go (first_refusal (add_tests g n ts k r s)) w)
+      subst (λ (t : List Test). Twin z (at (first_refusal (add_tests g n ts k r s)) s) (at (first_refusal t) (recut_s z s))) (sym (add_tests-same g n ts k r u)) (go (first_refusal (add_tests g n ts k r s)) w)
     where
       stores : State → Added → State
       stores s a = finish a.work (keep_constraint (record { number = n; group = g; comparison = comparison_of r; strength = strength_of r; constant = k; terms = kept_terms s.tableau.cutoff ts; tag = a.tag }) s.constraints) s.edits
@@ -240,7 +240,7 @@ module _ (z : Float) (fz : cutoff_fits z ≡ true) (s : State) (h : Sound s) whe
       go : (o : Option ℕ) → (at o s).answer.whole ≡ true → Twin z (at o s) (at o (recut_s z s))
       go (some x) w = refused-twin x 0 s.whole
       go none w =
-          let A = addedBy-same b ts k r u (add-mark (add_steps b ts k r (begin s)) (stores s) w) in
+          let A = added_by-same b ts k r u (add-mark (add_steps b ts k r (begin s)) (stores s) w) in
           concluded_add (add_steps b ts k r (begin s)) (add_steps b ts k r (begin (recut_s z s))) A.0 (stores s) (stores (recut_s z s)) stored
           (λ a p. finish-sound a.work _ s.edits p (keep_c-u (λ (c : Constraint). Unbroken c.strength) _ s.constraints A.1.strength h.strengths) h.edits)
 
@@ -270,10 +270,10 @@ module _ (z : Float) (fz : cutoff_fits z ≡ true) (s : State) (h : Sound s) whe
           full true w = refused-twin 25 0 s.whole
           full false w = stored-twin n c u b w
 
-  pub addEdit-twin : (n : ℕ) (k : Float) (b : ℕ) → (add_edit n k b s).answer.whole ≡ true → Twin z (add_edit n k b s) (add_edit n k b (recut_s z s))
+  pub add_edit-twin : (n : ℕ) (k : Float) (b : ℕ) → (add_edit n k b s).answer.whole ≡ true → Twin z (add_edit n k b s) (add_edit n k b (recut_s z s))
   unfolding add_edit add_edit_steps strength_of
-  addEdit-twin n k b w =
-      subst (λ (t : List Test). Twin z (at (first_refusal (add_edit_tests n (clip k) s)) s) (at (first_refusal t) (recut_s z s))) (sym (editTests-same n (clip k))) (go (first_refusal (add_edit_tests n (clip k) s)) w)
+  add_edit-twin n k b w =
+      subst (λ (t : List Test). Twin z (at (first_refusal (add_edit_tests n (clip k) s)) s) (at (first_refusal t) (recut_s z s))) (sym (edit_tests-same n (clip k))) (go (first_refusal (add_edit_tests n (clip k) s)) w)
     where
       stores : State → Added → State
       stores s a = finish a.work s.constraints (keep_edit (record { variable = n; strength = clip k; tag = a.tag; suggestion = zero64 }) s.edits)
@@ -284,13 +284,13 @@ module _ (z : Float) (fz : cutoff_fits z ≡ true) (s : State) (h : Sound s) whe
       go : (o : Option ℕ) → (at o s).answer.whole ≡ true → Twin z (at o s) (at o (recut_s z s))
       go (some x) w = refused-twin x 0 s.whole
       go none w =
-          let A = addedBy-same b (edit_terms n) zero64 (equal (clip k)) (edit-terms n) (add-mark (add_steps b (edit_terms n) zero64 (equal (clip k)) (begin s)) (stores s) w) in
+          let A = added_by-same b (edit_terms n) zero64 (equal (clip k)) (edit-terms n) (add-mark (add_steps b (edit_terms n) zero64 (equal (clip k)) (begin s)) (stores s) w) in
           concluded_add (add_steps b (edit_terms n) zero64 (equal (clip k)) (begin s)) (add_steps b (edit_terms n) zero64 (equal (clip k)) (begin (recut_s z s))) A.0 (stores s) (stores (recut_s z s)) (λ a. finished a.work _ _)
           (λ a p. finish-sound a.work s.constraints _ p h.strengths (keep_e-u (λ (e : Edit). Unbroken e.strength × Unbroken e.suggestion) _ s.edits (A.1.strength, zero-unbroken) h.edits))
 
-  pub removeEdit-twin : (n b : ℕ) → (remove_edit n b s).answer.whole ≡ true → Twin z (remove_edit n b s) (remove_edit n b (recut_s z s))
+  pub remove_edit-twin : (n b : ℕ) → (remove_edit n b s).answer.whole ≡ true → Twin z (remove_edit n b s) (remove_edit n b (recut_s z s))
   unfolding remove_edit remove_edit_stored unless_full gone_full
-  removeEdit-twin n b = go (find_edit n s.edits) (find_e-u (λ (e : Edit). Unbroken e.strength × Unbroken e.suggestion) n s.edits h.edits)
+  remove_edit-twin n b = go (find_edit n s.edits) (find_e-u (λ (e : Edit). Unbroken e.strength × Unbroken e.suggestion) n s.edits h.edits)
     where
       stores : State → Work → State
       stores s w = finish w s.constraints (drop_edit n s.edits)
@@ -332,7 +332,7 @@ module _ (z : Float) (fz : cutoff_fits z ≡ true) (s : State) (h : Sound s) whe
           let m : mark_of (suggest_steps b e x (begin s)) ≡ all_whole = steps-mark (suggest_steps b e x (begin s)) (stores e s) w in
           let hx : Unbroken x = suggested-whole b e x (begin s) m in
           concluded (suggest_steps b e x (begin s)) (suggest_steps b e x (begin (recut_s z s)))
-          (subst (λ (v : Work). Same z (suggest_steps b e x (begin s)) (suggest_steps b e x v)) (sym begun) (suggestSteps-same z fz b e x hx u.1 (begin s) h.plain m)) (stores e s) (stores e (recut_s z s)) (λ v. finished v _ _)
+          (subst (λ (v : Work). Same z (suggest_steps b e x (begin s)) (suggest_steps b e x v)) (sym begun) (suggest_steps-same z fz b e x hx u.1 (begin s) h.plain m)) (stores e s) (stores e (recut_s z s)) (λ v. finished v _ _)
           (λ v p. finish-sound v s.constraints _ p h.strengths (keep_e-u (λ (e : Edit). Unbroken e.strength × Unbroken e.suggestion) _ (drop_edit n s.edits) (u.0, hx) (drop_e-u (λ (e : Edit). Unbroken e.strength × Unbroken e.suggestion) n s.edits h.edits)))
 
       by_number : (f : Bool) → (at f s).answer.whole ≡ true → Twin z (at f s) (at f (recut_s z s))

@@ -73,10 +73,10 @@ module _ (z : Float) (fz : cutoff_fits z ≡ true) where
       go true = refl
       go false = refl
 
-  removeAll-twin : (ds : List Constraint) → All (λ (c : Constraint). Unbroken c.strength) ds → (b : ℕ) (s : State) → Sound s → (remove_all ds b s).answer.whole ≡ true → Twin z (remove_all ds b s) (remove_all ds b (recut_s z s))
+  remove_all-twin : (ds : List Constraint) → All (λ (c : Constraint). Unbroken c.strength) ds → (b : ℕ) (s : State) → Sound s → (remove_all ds b s).answer.whole ≡ true → Twin z (remove_all ds b s) (remove_all ds b (recut_s z s))
   unfolding remove_all
-  removeAll-twin [] u b s h w = (refl, h)
-  removeAll-twin (d ∷ ds) u b s h w = go (stored-ending d.number d b s) (removeAll-twin ds u.1 (b - one.answer.pivots) one.state)
+  remove_all-twin [] u b s h w = (refl, h)
+  remove_all-twin (d ∷ ds) u b s h w = go (stored-ending d.number d b s) (remove_all-twin ds u.1 (b - one.answer.pivots) one.state)
     where
       one : Result
       one = remove_stored d.number d b s
@@ -134,4 +134,4 @@ module _ (z : Float) (fz : cutoff_fits z ≡ true) where
 
       go : (o : Option ℕ) → (at o s).answer.whole ≡ true → Twin z (at o s) (at o (recut_s z s))
       go (some x) w = unfold refused_by in (refl, h)
-      go none w = ended (removeAll-twin (group_of g s.constraints) (group-u (λ (c : Constraint). Unbroken c.strength) g s.constraints h.strengths) b s h (sym (none-whole s (all s)) ∙ w))
+      go none w = ended (remove_all-twin (group_of g s.constraints) (group-u (λ (c : Constraint). Unbroken c.strength) g s.constraints h.strengths) b s h (sym (none-whole s (all s)) ∙ w))

@@ -22,7 +22,7 @@ use Rattle.simplex.proofs.bridge.Runs.{optimise-mark}
 use Rattle.run.specs.AddMarks.{marked, finite-mark, temporary-mark, none-mark, created_of, placed_and_rested, added_by, mark_added, WholeSteps, whole-steps, steps-are, afterwards, goes_on}
 use Rattle.run.specs.RecutRows.{RowU, append-u, solve-u, near_same}
 use Rattle.run.specs.Recut.{recut, ArtU, Plain, Same, keep-u, plain-enter, enter-same, check-same, refuse-same, bind-same, pivoted-same, optimise-same}
-use Rattle.run.specs.RecutAdd.{recut_c, PlainC, TermsU, plain-append, plain-mark, plain-purge, createRow-twin}
+use Rattle.run.specs.RecutAdd.{recut_c, PlainC, TermsU, plain-append, plain-mark, plain-purge, create_row-twin}
 
 abbrev pub recut_a : Float → Outcome Added → Outcome Added
 recut_a z (refused n p m) = refused n p m
@@ -177,9 +177,9 @@ module _ (z : Float) (fz : cutoff_fits z ≡ true) where
   added-same t (refused n p m) q s = (rw s.0 refl, tt)
   added-same t (going v) q s = (rw s.0 refl, s.1)
 
-  pub addSteps-same : (budget : ℕ) (ts : List Term) (k : Float) (r : Relation) → TermsU ts → Unbroken k → Unbroken (strength_of r) → (w : Work) → Plain w → mark_added (add_steps budget ts k r w) ≡ all_whole
+  pub add_steps-same : (budget : ℕ) (ts : List Term) (k : Float) (r : Relation) → TermsU ts → Unbroken k → Unbroken (strength_of r) → (w : Work) → Plain w → mark_added (add_steps budget ts k r w) ≡ all_whole
       → (add_steps budget ts k r (recut z w) ≡ recut_a z (add_steps budget ts k r w)) × PlainAdded (add_steps budget ts k r w)
-  addSteps-same budget ts k r ht hk hs w p m =
+  add_steps-same budget ts k r ht hk hs w p m =
       let S : WholeSteps budget ts k r w = whole-steps budget ts k r w m in
       let c : Created = created_of ts k r w in
       let twin = made in
@@ -192,4 +192,4 @@ module _ (z : Float) (fz : cutoff_fits z ≡ true) where
       )
     where
       made : (created_of ts k r (recut z w) ≡ recut_c z (created_of ts k r w)) × PlainC (created_of ts k r w)
-      made = unfold created_of marking in createRow-twin z fz ts k r ht hk hs (marking (whole_if (whole_inputs ts k r)) w) (plain-mark (whole_if (whole_inputs ts k r)) w p)
+      made = unfold created_of marking in create_row-twin z fz ts k r ht hk hs (marking (whole_if (whole_inputs ts k r)) w) (plain-mark (whole_if (whole_inputs ts k r)) w p)

@@ -22,7 +22,7 @@ use Rattle.steps.specs.Edit.{is_basic_row, own_shift, cell_shift, shift_of, shif
 use Rattle.simplex.specs.bridge.Runs.{mark_of}
 use Rattle.simplex.proofs.bridge.Runs.{optimise-mark, dual-mark}
 use Rattle.run.specs.RemoveMarks.{drop-mark, purge-mark, uses-mark}
-use Rattle.run.specs.RecutRows.{RowU, values-u, coefficient-u, insertCells-u, insertCells-same}
+use Rattle.run.specs.RecutRows.{RowU, values-u, coefficient-u, insert_cells-u, insert_cells-same}
 use Rattle.run.specs.Recut.{recut, ArtU, RowsU, Plain, Same, drop-u, find-u, check-same, refuse-same, bind-same, pivoted-same, optimise-same, dual-same}
 use Rattle.run.specs.RecutAdd.{plain-mark, plain-objective, plain-purge, objective-twin}
 
@@ -43,9 +43,9 @@ module _ (z : Float) (fz : cutoff_fits z ≡ true) where
   row-twin : (r : Row) (k : Float) → RowU r → Unbroken k → (w : Work) → Plain w → Twin z (insert_row_in_objective r k w) (insert_row_in_objective r k (recut z w))
   unfolding insert_row_in_objective
   row-twin r k hr hk w p = (
-    ap (λ (cells : List Cell). marking (cell_marks objective_bound cells) (with_objective (cell_values cells) (recut z w))) (insertCells-same w.tableau.cutoff z p.fits fz k hk r.cells w.tableau.objective hr.1 p.objective)
+    ap (λ (cells : List Cell). marking (cell_marks objective_bound cells) (with_objective (cell_values cells) (recut z w))) (insert_cells-same w.tableau.cutoff z p.fits fz k hk r.cells w.tableau.objective hr.1 p.objective)
         ∙ over (insert_cells w.tableau.cutoff k r.cells w.tableau.objective),
-    plain-objective _ _ w p (values-u _ (insertCells-u w.tableau.cutoff k hk r.cells w.tableau.objective hr.1 p.objective)),
+    plain-objective _ _ w p (values-u _ (insert_cells-u w.tableau.cutoff k hk r.cells w.tableau.objective hr.1 p.objective)),
   )
     where
       over : (cells : List Cell) → marking (cell_marks objective_bound cells) (with_objective (cell_values cells) (recut z w)) ≡ recut z (marking (cell_marks objective_bound cells) (with_objective (cell_values cells) w))
@@ -126,9 +126,9 @@ module _ (z : Float) (fz : cutoff_fits z ≡ true) where
   purge-twin : (s : ℕ) (w : Work) → Plain w → Twin z (purge s w) (purge s (recut z w))
   purge-twin s w p = (unfold purge with_tableau in refl, plain-purge s w p)
 
-  purgeTag-twin : (tag : Tag) (w : Work) → Plain w → Twin z (purge_tag tag w) (purge_tag tag (recut z w))
+  purge_tag-twin : (tag : Tag) (w : Work) → Plain w → Twin z (purge_tag tag w) (purge_tag tag (recut z w))
   unfolding purge_tag
-  purgeTag-twin tag w p = go tag.other
+  purge_tag-twin tag w p = go tag.other
     where
       at : Option Symbol → Work → Work
       at o w = purge tag.marker.id (elim o as (λ _. Work) [ none ↦ w | some x ↦ purge x.id w ])
@@ -168,9 +168,9 @@ module _ (z : Float) (fz : cutoff_fits z ≡ true) where
   checked-same : (f : Work → Work) → ((w : Work) → Plain w → Twin z (f w) (f (recut z w))) → (w : Work) → Plain w → Same z (check_finite (f w)) (check_finite (f (recut z w)))
   checked-same f h w p = let t = h w p in subst (λ (x : Work). Same z (check_finite (f w)) (check_finite x)) (sym t.0) (check-same z fz (f w) t.1)
 
-  pub removeSteps-same : (budget : ℕ) (tag : Tag) (k : Float) → Unbroken k → (ts : List Term) (w : Work) → Plain w → mark_of (remove_steps budget tag k ts w) ≡ all_whole → Same z (remove_steps budget tag k ts w) (remove_steps budget tag k ts (recut z w))
+  pub remove_steps-same : (budget : ℕ) (tag : Tag) (k : Float) → Unbroken k → (ts : List Term) (w : Work) → Plain w → mark_of (remove_steps budget tag k ts w) ≡ all_whole → Same z (remove_steps budget tag k ts w) (remove_steps budget tag k ts (recut z w))
   unfolding remove_steps
-  removeSteps-same budget tag k hk ts w p m =
+  remove_steps-same budget tag k hk ts w p m =
       bind-same z fz _ _ (λ v. going (drop_uses ts v)) (λ v q. sym (uses-mark ts v) ∙ (unfold mark_of in q))
       (λ a. bind-same z fz _ _ (λ v. optimise (budget - v.pivots) the_objective (purge_tag tag v)) (λ v q. sym (purge-mark tag v) ∙ optimise-mark (budget - v.pivots) the_objective (purge_tag tag v) q)
       (λ b. bind-same z fz _ _ (drop_marker tag.marker) (drop-mark tag.marker) (λ _. checked-same (remove_constraint_effects tag k) (effects-twin tag k hk) w p) (drop-same tag.marker) b) passes a)
@@ -178,7 +178,7 @@ module _ (z : Float) (fz : cutoff_fits z ≡ true) where
     where
       passes : (v : Work) → Plain v → mark_of (optimise (budget - v.pivots) the_objective (purge_tag tag v)) ≡ all_whole
           → Same z (optimise (budget - v.pivots) the_objective (purge_tag tag v)) (optimise (budget - v.pivots) the_objective (purge_tag tag (recut z v)))
-      passes v q a = let t = purgeTag-twin tag v q in subst (λ (x : Work). Same z (optimise (budget - v.pivots) the_objective (purge_tag tag v)) (optimise (budget - v.pivots) the_objective x)) (sym t.0) (optimise-same z fz (budget - v.pivots) the_objective (purge_tag tag v) t.1 a)
+      passes v q a = let t = purge_tag-twin tag v q in subst (λ (x : Work). Same z (optimise (budget - v.pivots) the_objective (purge_tag tag v)) (optimise (budget - v.pivots) the_objective x)) (sym t.0) (optimise-same z fz (budget - v.pivots) the_objective (purge_tag tag v) t.1 a)
 
   -- ---- suggest
 
@@ -217,9 +217,9 @@ module _ (z : Float) (fz : cutoff_fits z ≡ true) where
   unfolding shift_constants shift_of is_basic_row marking with_changes with_rows with_tableau
   shift-twin tag d hd w p = (refl, record { rows = shifted-u (shift_of tag d w) (shifts-u tag d hd w) w.tableau.rows p.rows; objective = p.objective; artificial = p.artificial; fits = p.fits })
 
-  pub suggestSteps-same : (budget : ℕ) (e : Edit) (new : Float) → Unbroken new → Unbroken e.suggestion → (w : Work) → Plain w → mark_of (suggest_steps budget e new w) ≡ all_whole → Same z (suggest_steps budget e new w) (suggest_steps budget e new (recut z w))
+  pub suggest_steps-same : (budget : ℕ) (e : Edit) (new : Float) → Unbroken new → Unbroken e.suggestion → (w : Work) → Plain w → mark_of (suggest_steps budget e new w) ≡ all_whole → Same z (suggest_steps budget e new w) (suggest_steps budget e new (recut z w))
   unfolding suggest_steps
-  suggestSteps-same budget e new hn he w p m =
+  suggest_steps-same budget e new hn he w p m =
       bind-same z fz _ _ (dual_optimise budget) (dual-mark budget)
       (λ _. checked-same (λ w. shift_constants e.tag (new -₆₄ e.suggestion) (marking (whole_if (whole_within constant_bound new)) w)) (λ w p. then (shift_constants e.tag (new -₆₄ e.suggestion)) (shift-twin e.tag (new -₆₄ e.suggestion) (sub-unbroken new e.suggestion hn he)) (over w p)) w p)
       (dual-same z fz budget) m

@@ -155,9 +155,9 @@ solve-u s xs r h m = (mul-unbroken r.constant (minus_one64 /₆₄ cell) h.0 fac
 -- ---- with any cutoff
 
 module _ (y : Float) where
-  insertCell-u : (c k : Float) → Unbroken c → Unbroken k → CellU (insert_cell y c k)
+  insert_cell-u : (c k : Float) → Unbroken c → Unbroken k → CellU (insert_cell y c k)
   unfolding insert_cell goes_if_near_zero
-  insertCell-u c k hc hk = go (absent c) (near_zero y k) (near_zero y (c +₆₄ k))
+  insert_cell-u c k hc hk = go (absent c) (near_zero y k) (near_zero y (c +₆₄ k))
     where
       go : (a p q : Bool) → CellU (elim a as (λ _. Cell) [ true ↦ elim p as (λ _. Cell) [ true ↦ kept c | false ↦ wrote k ] | false ↦ wrote (cond q zero64 (c +₆₄ k)) ])
       go true true q = hc
@@ -165,68 +165,68 @@ module _ (y : Float) where
       go false p true = zero-unbroken
       go false p false = add-unbroken c k hc hk
 
-  pub insertSymbol-u : (s : ℕ) (k : Float) → Unbroken k → (xs : List Symbol) (cs : List Float) → All Unbroken cs → All CellU (insert_symbol y s k xs cs)
+  pub insert_symbol-u : (s : ℕ) (k : Float) → Unbroken k → (xs : List Symbol) (cs : List Float) → All Unbroken cs → All CellU (insert_symbol y s k xs cs)
   unfolding insert_symbol
-  insertSymbol-u s k hk [] cs h = tt
-  insertSymbol-u s k hk (x ∷ xs) [] h = tt
-  insertSymbol-u s k hk (x ∷ xs) (c ∷ cs) h = (go (is_symbol s x), insertSymbol-u s k hk xs cs h.1)
+  insert_symbol-u s k hk [] cs h = tt
+  insert_symbol-u s k hk (x ∷ xs) [] h = tt
+  insert_symbol-u s k hk (x ∷ xs) (c ∷ cs) h = (go (is_symbol s x), insert_symbol-u s k hk xs cs h.1)
     where
       go : (b : Bool) → CellU (elim b as (λ _. Cell) [ true ↦ insert_cell y c k | false ↦ kept c ])
-      go true = insertCell-u c k h.0 hk
+      go true = insert_cell-u c k h.0 hk
       go false = h.0
 
-  insertTimes-u : (k o c : Float) → Unbroken k → Unbroken o → Unbroken c → CellU (insert_times y k o c)
+  insert_times-u : (k o c : Float) → Unbroken k → Unbroken o → Unbroken c → CellU (insert_times y k o c)
   unfolding insert_times
-  insertTimes-u k o c hk ho hc = go (absent o)
+  insert_times-u k o c hk ho hc = go (absent o)
     where
       go : (b : Bool) → CellU (elim b as (λ _. Cell) [ true ↦ kept c | false ↦ insert_cell y c (o *₆₄ k) ])
       go true = hc
-      go false = insertCell-u c (o *₆₄ k) hc (mul-unbroken o k ho hk)
+      go false = insert_cell-u c (o *₆₄ k) hc (mul-unbroken o k ho hk)
 
-  pub insertCells-u : (k : Float) → Unbroken k → (os cs : List Float) → All Unbroken os → All Unbroken cs → All CellU (insert_cells y k os cs)
+  pub insert_cells-u : (k : Float) → Unbroken k → (os cs : List Float) → All Unbroken os → All Unbroken cs → All CellU (insert_cells y k os cs)
   unfolding insert_cells
-  insertCells-u k hk [] cs g h = tt
-  insertCells-u k hk (o ∷ os) [] g h = tt
-  insertCells-u k hk (o ∷ os) (c ∷ cs) g h = (insertTimes-u k o c hk g.0 h.0, insertCells-u k hk os cs g.1 h.1)
+  insert_cells-u k hk [] cs g h = tt
+  insert_cells-u k hk (o ∷ os) [] g h = tt
+  insert_cells-u k hk (o ∷ os) (c ∷ cs) g h = (insert_times-u k o c hk g.0 h.0, insert_cells-u k hk os cs g.1 h.1)
 
-  pub insertSymbolInRow-u : (s : ℕ) (k : Float) → Unbroken k → (xs : List Symbol) (r : Row) → RowU r → RowU (insert_symbol_in_row y s k xs r).row
+  pub insert_symbol_in_row-u : (s : ℕ) (k : Float) → Unbroken k → (xs : List Symbol) (r : Row) → RowU r → RowU (insert_symbol_in_row y s k xs r).row
   unfolding insert_symbol_in_row
-  insertSymbolInRow-u s k hk xs r h = (h.0, values-u _ (insertSymbol-u s k hk xs r.cells h.1))
+  insert_symbol_in_row-u s k hk xs r h = (h.0, values-u _ (insert_symbol-u s k hk xs r.cells h.1))
 
-  pub insertRow-u : (other : Row) (k : Float) (mine : Row) → RowU other → Unbroken k → RowU mine → RowU (insert_row y other k mine).row
+  pub insert_row-u : (other : Row) (k : Float) (mine : Row) → RowU other → Unbroken k → RowU mine → RowU (insert_row y other k mine).row
   unfolding insert_row
-  insertRow-u other k mine g hk h = (
+  insert_row-u other k mine g hk h = (
     add-unbroken mine.constant (other.constant *₆₄ k) h.0 (mul-unbroken other.constant k g.0 hk),
-    values-u _ (insertCells-u k hk other.cells mine.cells g.1 h.1),
+    values-u _ (insert_cells-u k hk other.cells mine.cells g.1 h.1),
   )
 
   pub solves-u : (l e : ℕ) (xs : List Symbol) (r : Row) → RowU r → (solve_for_symbols y l e xs r).mark ≡ all_whole → RowU (solve_for_symbols y l e xs r).row
   unfolding solve_for_symbols
-  solves-u l e xs r h m = solve-u e xs (insert_symbol_in_row y l minus_one64 xs r).row (insertSymbolInRow-u l minus_one64 minus-one-unbroken xs r h) (worse-r (insert_symbol_in_row y l minus_one64 xs r).mark _ m)
+  solves-u l e xs r h m = solve-u e xs (insert_symbol_in_row y l minus_one64 xs r).row (insert_symbol_in_row-u l minus_one64 minus-one-unbroken xs r h) (worse-r (insert_symbol_in_row y l minus_one64 xs r).mark _ m)
 
-  pub subRow-u : (s : ℕ) (xs : List Symbol) (other mine : Row) → RowU other → RowU mine → RowU (substitute_in_row y s xs other mine).row
+  pub sub_row-u : (s : ℕ) (xs : List Symbol) (other mine : Row) → RowU other → RowU mine → RowU (substitute_in_row y s xs other mine).row
   unfolding substitute_in_row untouched
-  subRow-u s xs other mine g h = go (absent (coefficient_for s xs mine.cells))
+  sub_row-u s xs other mine g h = go (absent (coefficient_for s xs mine.cells))
     where
       cleared : Row
       cleared = record { constant = mine.constant; cells = clear_cell s xs mine.cells }
 
       go : (b : Bool) → RowU (elim b as (λ _. Written) [ true ↦ untouched mine | false ↦ insert_row y other (coefficient_for s xs mine.cells) cleared ]).row
       go true = h
-      go false = insertRow-u other (coefficient_for s xs mine.cells) cleared g (coefficient-u s xs mine.cells h.1) (h.0, clear-u s xs mine.cells h.1)
+      go false = insert_row-u other (coefficient_for s xs mine.cells) cleared g (coefficient-u s xs mine.cells h.1) (h.0, clear-u s xs mine.cells h.1)
 
-  pub subCells-u : (s : ℕ) (xs : List Symbol) (other mine : List Float) → All Unbroken other → All Unbroken mine → All CellU (substitute_in_cells y s xs other mine)
+  pub sub_cells-u : (s : ℕ) (xs : List Symbol) (other mine : List Float) → All Unbroken other → All Unbroken mine → All CellU (substitute_in_cells y s xs other mine)
   unfolding substitute_in_cells
-  subCells-u s xs other mine g h = go (absent (coefficient_for s xs mine))
+  sub_cells-u s xs other mine g h = go (absent (coefficient_for s xs mine))
     where
       go : (b : Bool) → All CellU (elim b as (λ _. List Cell) [ true ↦ map kept mine | false ↦ insert_cells y (coefficient_for s xs mine) other (clear_cell s xs mine) ])
       go true = kept-u mine h
-      go false = insertCells-u (coefficient_for s xs mine) (coefficient-u s xs mine h) other (clear_cell s xs mine) g (clear-u s xs mine h)
+      go false = insert_cells-u (coefficient_for s xs mine) (coefficient-u s xs mine h) other (clear_cell s xs mine) g (clear-u s xs mine h)
 
-  pub subRows-u : (s : ℕ) (xs : List Symbol) (other : Row) (bs : List Basic) → RowU other → All (λ (b : Basic). RowU b.row) bs → All (λ (b : Basic). RowU b.row) (rows_of (substitute_in_rows y s xs other bs))
+  pub sub_rows-u : (s : ℕ) (xs : List Symbol) (other : Row) (bs : List Basic) → RowU other → All (λ (b : Basic). RowU b.row) bs → All (λ (b : Basic). RowU b.row) (rows_of (substitute_in_rows y s xs other bs))
   unfolding substitute_in_rows rows_of
-  subRows-u s xs other [] g h = tt
-  subRows-u s xs other (b ∷ bs) g h = (subRow-u s xs other b.row g h.0, subRows-u s xs other bs g h.1)
+  sub_rows-u s xs other [] g h = tt
+  sub_rows-u s xs other (b ∷ bs) g h = (sub_row-u s xs other b.row g h.0, sub_rows-u s xs other bs g h.1)
 
 -- ---- with one cutoff as with another
 
@@ -244,54 +244,54 @@ module _ (y z : Float) (fy : cutoff_fits y ≡ true) (fz : cutoff_fits z ≡ tru
           go b false = unfold near_zero magnitude lt neg zero64 of_bits in rw b.is refl
   near_same (fin s m k) h = let i = int-z (fin s m k) h in near_zero-z z fz i ∙ sym (near_zero-z y fy i)
 
-  insertCell-same : (c k : Float) → Unbroken c → Unbroken k → insert_cell z c k ≡ insert_cell y c k
+  insert_cell-same : (c k : Float) → Unbroken c → Unbroken k → insert_cell z c k ≡ insert_cell y c k
   unfolding insert_cell goes_if_near_zero
-  insertCell-same c k hc hk =
+  insert_cell-same c k hc hk =
       ap₂ (λ (p q : Bool). elim (absent c) as (λ _. Cell) [ true ↦ elim p as (λ _. Cell) [ true ↦ kept c | false ↦ wrote k ] | false ↦ wrote (cond q zero64 (c +₆₄ k)) ]) (near_same k hk)
       (near_same (c +₆₄ k) (add-unbroken c k hc hk))
 
-  pub insertSymbol-same : (s : ℕ) (k : Float) → Unbroken k → (xs : List Symbol) (cs : List Float) → All Unbroken cs → insert_symbol z s k xs cs ≡ insert_symbol y s k xs cs
+  pub insert_symbol-same : (s : ℕ) (k : Float) → Unbroken k → (xs : List Symbol) (cs : List Float) → All Unbroken cs → insert_symbol z s k xs cs ≡ insert_symbol y s k xs cs
   unfolding insert_symbol
-  insertSymbol-same s k hk [] cs h = refl
-  insertSymbol-same s k hk (x ∷ xs) [] h = refl
-  insertSymbol-same s k hk (x ∷ xs) (c ∷ cs) h =
-      ap₂ (λ (d : Cell) (ds : List Cell). elim (is_symbol s x) as (λ _. Cell) [ true ↦ d | false ↦ kept c ] ∷ ds) (insertCell-same c k h.0 hk) (insertSymbol-same s k hk xs cs h.1)
+  insert_symbol-same s k hk [] cs h = refl
+  insert_symbol-same s k hk (x ∷ xs) [] h = refl
+  insert_symbol-same s k hk (x ∷ xs) (c ∷ cs) h =
+      ap₂ (λ (d : Cell) (ds : List Cell). elim (is_symbol s x) as (λ _. Cell) [ true ↦ d | false ↦ kept c ] ∷ ds) (insert_cell-same c k h.0 hk) (insert_symbol-same s k hk xs cs h.1)
 
-  pub insertCells-same : (k : Float) → Unbroken k → (os cs : List Float) → All Unbroken os → All Unbroken cs → insert_cells z k os cs ≡ insert_cells y k os cs
+  pub insert_cells-same : (k : Float) → Unbroken k → (os cs : List Float) → All Unbroken os → All Unbroken cs → insert_cells z k os cs ≡ insert_cells y k os cs
   unfolding insert_cells insert_times
-  insertCells-same k hk [] cs g h = refl
-  insertCells-same k hk (o ∷ os) [] g h = refl
-  insertCells-same k hk (o ∷ os) (c ∷ cs) g h =
-      ap₂ (λ (d : Cell) (ds : List Cell). elim (absent o) as (λ _. Cell) [ true ↦ kept c | false ↦ d ] ∷ ds) (insertCell-same c (o *₆₄ k) h.0 (mul-unbroken o k g.0 hk))
-      (insertCells-same k hk os cs g.1 h.1)
+  insert_cells-same k hk [] cs g h = refl
+  insert_cells-same k hk (o ∷ os) [] g h = refl
+  insert_cells-same k hk (o ∷ os) (c ∷ cs) g h =
+      ap₂ (λ (d : Cell) (ds : List Cell). elim (absent o) as (λ _. Cell) [ true ↦ kept c | false ↦ d ] ∷ ds) (insert_cell-same c (o *₆₄ k) h.0 (mul-unbroken o k g.0 hk))
+      (insert_cells-same k hk os cs g.1 h.1)
 
-  pub insertSymbolInRow-same : (s : ℕ) (k : Float) → Unbroken k → (xs : List Symbol) (r : Row) → RowU r → insert_symbol_in_row z s k xs r ≡ insert_symbol_in_row y s k xs r
+  pub insert_symbol_in_row-same : (s : ℕ) (k : Float) → Unbroken k → (xs : List Symbol) (r : Row) → RowU r → insert_symbol_in_row z s k xs r ≡ insert_symbol_in_row y s k xs r
   unfolding insert_symbol_in_row
-  insertSymbolInRow-same s k hk xs r h =
-      ap (λ (cells : List Cell). record { row = record { constant = r.constant; cells = cell_values cells }; constant_changed = false; mark = cell_marks cell_bound cells }) (insertSymbol-same s k hk xs r.cells h.1)
+  insert_symbol_in_row-same s k hk xs r h =
+      ap (λ (cells : List Cell). record { row = record { constant = r.constant; cells = cell_values cells }; constant_changed = false; mark = cell_marks cell_bound cells }) (insert_symbol-same s k hk xs r.cells h.1)
 
-  pub insertRow-same : (other : Row) (k : Float) (mine : Row) → RowU other → Unbroken k → RowU mine → insert_row z other k mine ≡ insert_row y other k mine
+  pub insert_row-same : (other : Row) (k : Float) (mine : Row) → RowU other → Unbroken k → RowU mine → insert_row z other k mine ≡ insert_row y other k mine
   unfolding insert_row
-  insertRow-same other k mine g hk h = rw (insertCells-same k hk other.cells mine.cells g.1 h.1) refl
+  insert_row-same other k mine g hk h = rw (insert_cells-same k hk other.cells mine.cells g.1 h.1) refl
 
   pub solves-same : (l e : ℕ) (xs : List Symbol) (r : Row) → RowU r → solve_for_symbols z l e xs r ≡ solve_for_symbols y l e xs r
   unfolding solve_for_symbols
-  solves-same l e xs r h = rw (insertSymbolInRow-same l minus_one64 minus-one-unbroken xs r h) refl
+  solves-same l e xs r h = rw (insert_symbol_in_row-same l minus_one64 minus-one-unbroken xs r h) refl
 
-  pub subRow-same : (s : ℕ) (xs : List Symbol) (other mine : Row) → RowU other → RowU mine → substitute_in_row z s xs other mine ≡ substitute_in_row y s xs other mine
+  pub sub_row-same : (s : ℕ) (xs : List Symbol) (other mine : Row) → RowU other → RowU mine → substitute_in_row z s xs other mine ≡ substitute_in_row y s xs other mine
   unfolding substitute_in_row
-  subRow-same s xs other mine g h =
+  sub_row-same s xs other mine g h =
       ap (λ (r : Written). elim (absent (coefficient_for s xs mine.cells)) as (λ _. Written) [ true ↦ untouched mine | false ↦ r ])
-      (insertRow-same other (coefficient_for s xs mine.cells) (record { constant = mine.constant; cells = clear_cell s xs mine.cells }) g (coefficient-u s xs mine.cells h.1) (h.0, clear-u s xs mine.cells h.1))
+      (insert_row-same other (coefficient_for s xs mine.cells) (record { constant = mine.constant; cells = clear_cell s xs mine.cells }) g (coefficient-u s xs mine.cells h.1) (h.0, clear-u s xs mine.cells h.1))
 
-  pub subCells-same : (s : ℕ) (xs : List Symbol) (other mine : List Float) → All Unbroken other → All Unbroken mine → substitute_in_cells z s xs other mine ≡ substitute_in_cells y s xs other mine
+  pub sub_cells-same : (s : ℕ) (xs : List Symbol) (other mine : List Float) → All Unbroken other → All Unbroken mine → substitute_in_cells z s xs other mine ≡ substitute_in_cells y s xs other mine
   unfolding substitute_in_cells
-  subCells-same s xs other mine g h =
+  sub_cells-same s xs other mine g h =
       ap (λ (cs : List Cell). elim (absent (coefficient_for s xs mine)) as (λ _. List Cell) [ true ↦ map kept mine | false ↦ cs ])
-      (insertCells-same (coefficient_for s xs mine) (coefficient-u s xs mine h) other (clear_cell s xs mine) g (clear-u s xs mine h))
+      (insert_cells-same (coefficient_for s xs mine) (coefficient-u s xs mine h) other (clear_cell s xs mine) g (clear-u s xs mine h))
 
-  pub subRows-same : (s : ℕ) (xs : List Symbol) (other : Row) (bs : List Basic) → RowU other → All (λ (b : Basic). RowU b.row) bs → substitute_in_rows z s xs other bs ≡ substitute_in_rows y s xs other bs
+  pub sub_rows-same : (s : ℕ) (xs : List Symbol) (other : Row) (bs : List Basic) → RowU other → All (λ (b : Basic). RowU b.row) bs → substitute_in_rows z s xs other bs ≡ substitute_in_rows y s xs other bs
   unfolding substitute_in_rows
-  subRows-same s xs other [] g h = refl
-  subRows-same s xs other (b ∷ bs) g h =
-      ap₂ (λ (r : Written) (rs : List Substituted). record { symbol = b.symbol; written = r } ∷ rs) (subRow-same s xs other b.row g h.0) (subRows-same s xs other bs g h.1)
+  sub_rows-same s xs other [] g h = refl
+  sub_rows-same s xs other (b ∷ bs) g h =
+      ap₂ (λ (r : Written) (rs : List Substituted). record { symbol = b.symbol; written = r } ∷ rs) (sub_row-same s xs other b.row g h.0) (sub_rows-same s xs other bs g h.1)

@@ -11,7 +11,7 @@ use Rattle.steps.specs.Edit.{edit_terms}
 use Rattle.steps.specs.Tests.{find_constraint, drop_constraint, find_edit, drop_edit}
 use Rattle.steps.specs.Readable.{uses_in}
 use Rattle.keeps.specs.Lists.{Up, total}
-use Rattle.keeps.specs.Keys.{findBy, dropBy, find-some, drop-total, find_constraint-is, drop_constraint-is, find_edit-is, drop_edit-is}
+use Rattle.keeps.specs.Keys.{find_by, drop_by, find-some, drop-total, find_constraint-is, drop_constraint-is, find_edit-is, drop_edit-is}
 use Rattle.keeps.specs.Reads.{con_number, edit_number, used_by}
 use Rattle.simplex.specs.bridge.Nums.{one64-z, absent-z}
 use Rattle.run.specs.Demand.{Key, of_constraint, of_edit, same_key}
@@ -35,15 +35,15 @@ edit_uses x e = uses_in x (edit_terms e.variable)
 
 pub split-constraint : (x n : ℕ) (cs : List Constraint) (es : List Edit) (c : Constraint) → find_constraint n cs ≡ some c → used_by x cs es ≡ uses_in x c.terms + used_by x (drop_constraint n cs) es
 split-constraint x n cs es c f =
-    let d : total (con_uses x) cs ≡ con_uses x c + total (con_uses x) (dropBy con_number n cs) = drop-total con_number (con_uses x) n cs c (sym (find_constraint-is n cs) ∙ f) in
-    let e : total (con_uses x) (drop_constraint n cs) ≡ total (con_uses x) (dropBy con_number n cs) = ap (total (con_uses x)) (drop_constraint-is n cs) in
+    let d : total (con_uses x) cs ≡ con_uses x c + total (con_uses x) (drop_by con_number n cs) = drop-total con_number (con_uses x) n cs c (sym (find_constraint-is n cs) ∙ f) in
+    let e : total (con_uses x) (drop_constraint n cs) ≡ total (con_uses x) (drop_by con_number n cs) = ap (total (con_uses x)) (drop_constraint-is n cs) in
     omega (arith, d, e)
 
 pub split-edit : (x u : ℕ) (cs : List Constraint) (es : List Edit) (e : Edit) → find_edit u es ≡ some e → used_by x cs es ≡ uses_in x (edit_terms u) + used_by x cs (drop_edit u es)
 split-edit x u cs es e f =
-    let g : findBy edit_number u es ≡ some e = sym (find_edit-is u es) ∙ f in
-    let d : total (edit_uses x) es ≡ edit_uses x e + total (edit_uses x) (dropBy edit_number u es) = drop-total edit_number (edit_uses x) u es e g in
-    let q : total (edit_uses x) (drop_edit u es) ≡ total (edit_uses x) (dropBy edit_number u es) = ap (total (edit_uses x)) (drop_edit-is u es) in
+    let g : find_by edit_number u es ≡ some e = sym (find_edit-is u es) ∙ f in
+    let d : total (edit_uses x) es ≡ edit_uses x e + total (edit_uses x) (drop_by edit_number u es) = drop-total edit_number (edit_uses x) u es e g in
+    let q : total (edit_uses x) (drop_edit u es) ≡ total (edit_uses x) (drop_by edit_number u es) = ap (total (edit_uses x)) (drop_edit-is u es) in
     let r : edit_uses x e ≡ uses_in x (edit_terms u) = ap (λ (k : ℕ). uses_in x (edit_terms k)) (sym (find-some edit_number u es e g)) in
     omega (arith, d, q, r)
 
@@ -86,10 +86,10 @@ module _ (cs : List Constraint) (es : List Edit) (held : List Held) (once : Once
       (subst (λ (o : Option Constraint). ConstraintAt o (find_held (of_constraint i) held)) (sym (stays p)) (con i)))
     where
       gone : find_constraint n (drop_constraint n cs) ≡ none
-      gone = find_constraint-is n (drop_constraint n cs) ∙ ap (findBy con_number n) (drop_constraint-is n cs) ∙ find-drop-same con_number n cs up
+      gone = find_constraint-is n (drop_constraint n cs) ∙ ap (find_by con_number n) (drop_constraint-is n cs) ∙ find-drop-same con_number n cs up
 
       stays : i ≢ n → find_constraint i (drop_constraint n cs) ≡ find_constraint i cs
-      stays p = find_constraint-is i (drop_constraint n cs) ∙ ap (findBy con_number i) (drop_constraint-is n cs) ∙ find-drop-other con_number i n cs p ∙ sym (find_constraint-is i cs)
+      stays p = find_constraint-is i (drop_constraint n cs) ∙ ap (find_by con_number i) (drop_constraint-is n cs) ∙ find-drop-other con_number i n cs p ∙ sym (find_constraint-is i cs)
 
   pub edits-beside : (n u : ℕ) → EditAt u (find_edit u es) (find_held (of_edit u) (without_held (of_constraint n) held))
   unfolding same_key
@@ -104,10 +104,10 @@ module _ (cs : List Constraint) (es : List Edit) (held : List Held) (once : Once
       (subst (λ (o : Option Edit). EditAt i o (find_held (of_edit i) held)) (sym (stays p)) (edi i)))
     where
       gone : find_edit n (drop_edit n es) ≡ none
-      gone = find_edit-is n (drop_edit n es) ∙ ap (findBy edit_number n) (drop_edit-is n es) ∙ find-drop-same edit_number n es up
+      gone = find_edit-is n (drop_edit n es) ∙ ap (find_by edit_number n) (drop_edit-is n es) ∙ find-drop-same edit_number n es up
 
       stays : i ≢ n → find_edit i (drop_edit n es) ≡ find_edit i es
-      stays p = find_edit-is i (drop_edit n es) ∙ ap (findBy edit_number i) (drop_edit-is n es) ∙ find-drop-other edit_number i n es p ∙ sym (find_edit-is i es)
+      stays p = find_edit-is i (drop_edit n es) ∙ ap (find_by edit_number i) (drop_edit-is n es) ∙ find-drop-other edit_number i n es p ∙ sym (find_edit-is i es)
 
   pub constraints-beside : (n i : ℕ) → ConstraintAt (find_constraint i cs) (find_held (of_constraint i) (without_held (of_edit n) held))
   unfolding same_key

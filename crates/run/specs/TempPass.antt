@@ -149,18 +149,18 @@ module _ (n : ℕ) (old : ℕ → KindZ) (S : StateZ) (held : List Held) (d : De
     unfolding end
     never_stuck e q = go (no_row e) (subst (Looked kind ids (after kind ids T₀ k)) q (looked kind ids asc cover n (after kind ids T₀ k) end-good)) e refl
       where
-        isRowless : Look → Type 0
-        isRowless done = ⊥
-        isRowless (no_row e) = Unit
-        isRowless (go_on l e) = ⊥
+        is_rowless : Look → Type 0
+        is_rowless done = ⊥
+        is_rowless (no_row e) = Unit
+        is_rowless (go_on l e) = ⊥
 
         free : (e : ℕ) → (after kind ids T₀ k).o e ≺ 0ℤ → (b : Bool) → (after kind ids T₀ k).B e ≡ b → (after kind ids T₀ k).B e ≡ false
         free e h false p = p
         free e h true p = absurd (clash h (≼-of-eq (sym (end-good.clear e p))))
 
         go : (t : Look) → Looked kind ids (after kind ids T₀ k) t → (e : ℕ) → t ≡ no_row e → ⊥
-        go t (at_rest h) e p = subst isRowless (sym p) tt
-        go t (chosen l e' E M) e p = subst isRowless (sym p) tt
+        go t (at_rest h) e p = subst is_rowless (sym p) tt
+        go t (chosen l e' E M) e p = subst is_rowless (sym p) tt
         go t (rowless e' E h) e p =
             always-leaving n kind (after kind ids T₀ k).B (after kind ids T₀ k).R (after kind ids T₀ k).o e' end-good.shape end-good.clear (free e' E.cell ((after kind ids T₀ k).B e') refl) (in_ids e' (cover e' E.is-slack))
             (λ σ s F. ≼_trans (F.slacks c.work.tableau.next_id room (at_here c.work.tableau.next_id slack Q.kind)) (≼-of-eq (sym (end-art σ s))))

@@ -12,7 +12,7 @@ use Rattle.steps.specs.Number.{zero64}
 use Rattle.steps.specs.Changes.{Change, fetch_changes}
 use Rattle.steps.specs.Session.{Call, turn, answered, resets, adds, removes, drops, adds_edit, removes_edit, suggests, value_of, fetches, has_constraints, has_edits, creates, clips, reads as readsAid, dumps, sets_next}
 use Rattle.steps.specs.Shown.{shown}
-use Rattle.laws.specs.Lists.{listOf-is, laid_in}
+use Rattle.laws.specs.Lists.{list_of-is, laid_in}
 use Rattle.keeps.specs.Tested.{reads_in}
 use Rattle.layout.specs.Layout.{bit_of, over}
 use Rattle.sparse.specs.Sparse.{Sparse, read}
@@ -88,7 +88,7 @@ module _ (l : List Change) (few : length l ≤ places) where
 
   listed_back : listed_in (length l) (over 0 (numbers_of l) (replicate places 0)) (over 0 (values_of l) (replicate places zero64)) (over 0 (flags_of l) (replicate places 0)) ≡ l
   unfolding listed_in
-  listed_back = listOf-is (listed_at (over 0 (numbers_of l) (replicate places 0)) (over 0 (values_of l) (replicate places zero64)) (over 0 (flags_of l) (replicate places 0))) l none-at λ j h. rw (number-at j h, value-at j h, gone_at j h) refl
+  listed_back = list_of-is (listed_at (over 0 (numbers_of l) (replicate places 0)) (over 0 (values_of l) (replicate places zero64)) (over 0 (flags_of l) (replicate places 0))) l none-at λ j h. rw (number-at j h, value-at j h, gone_at j h) refl
 
 -- ---- call by call
 

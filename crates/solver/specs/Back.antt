@@ -8,9 +8,9 @@ use Rattle.std.proofs.Math.Bool.{false}
 use Rattle.std.proofs.Math.Dec.{eqb}
 use Rattle.std.specs.Float.Ieee.{nan}
 use Rattle.std.proofs.Math.ListN.{get_or}
-use Rattle.laws.specs.Lists.{tab, tab-ext, getD-tab, list_of}
+use Rattle.laws.specs.Lists.{tab, tab-ext, get_or-tab, list_of}
 use Rattle.layout.specs.Laying.{list_ext, get_d_map}
-use Rattle.layout.proofs.Copied.{length-listOf, getD-listOf}
+use Rattle.layout.proofs.Copied.{length-list_of, get_or-list_of}
 use Rattle.steps.specs.State.{Variable}
 use Rattle.steps.specs.Changes.{with_flag, clear_changed}
 use Rattle.keeps.specs.Good.{clear-length}
@@ -55,7 +55,7 @@ pub record Back (t u z : Sparse) : Type 0 where
   pub values : (j : ℕ) → j < cell_count u → get_or z.values j nan ≡ get_or u.values j nan
 
 tab-at : {A : Type 0} (f g : ℕ → A) (i n m j : ℕ) (d : A) → tab f i n ≡ tab g i m → n ≡ m → j < n → f (i + j) ≡ g (i + j)
-tab-at f g i n m j d e q h = sym (getD-tab f i n j d h) ∙ ap (λ (l : List _). get_or l j d) e ∙ getD-tab g i m j d (omega (arith, h, q))
+tab-at f g i n m j d e q h = sym (get_or-tab f i n j d h) ∙ ap (λ (l : List _). get_or l j d) e ∙ get_or-tab g i m j d (omega (arith, h, q))
 
 module _ (t u z : Sparse) (ft : Form t) (fu : Form u) (stays : Stays t u) (back : Back t u z) where
   -- ---- the counts
@@ -135,7 +135,7 @@ module _ (t u z : Sparse) (ft : Form t) (fu : Form u) (stays : Stays t u) (back 
   flagless i h = sym (at u i (omega (arith, h, variables-same))) ∙ ap (λ (l : List Variable). get_or l i no_variable) stays.variables ∙ at t i h
     where
       at : (s : Sparse) (i : ℕ) → i < variable_count s → get_or (clear_changed (read s).changes.variables) i no_variable ≡ with_flag false (variable_of s i)
-      at s i h = unfold read clear_changed in (get_d_map (with_flag false) (list_of (variable_count s) (variable_of s)) i no_variable no_variable (rw (length-listOf (variable_count s) (variable_of s)) h) ∙ ap (with_flag false) (getD-listOf (variable_count s) (variable_of s) i no_variable h))
+      at s i h = unfold read clear_changed in (get_d_map (with_flag false) (list_of (variable_count s) (variable_of s)) i no_variable no_variable (rw (length-list_of (variable_count s) (variable_of s)) h) ∙ ap (with_flag false) (get_or-list_of (variable_count s) (variable_of s) i no_variable h))
 
   variable-is : (i : ℕ) → i < variable_count t → variable_of z i ≡ variable_of u i
   unfolding with_flag

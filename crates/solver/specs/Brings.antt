@@ -3,7 +3,7 @@
 use Rattle.std.specs.Prelude.{ℕ, ◌+◌, ◌≤◌, ◌<◌, ◌≡◌, true, false, List, eqb, Float, length, get_or, set}
 use Rattle.std.proofs.Math.Path.{refl, ap, subst}
 use Rattle.std.proofs.Common.{sym, ◌∙◌, zero-add, arith, eq-eqb, ne_eqb}
-use Rattle.laws.specs.Lists.{sum_in, list_of, getD-tab}
+use Rattle.laws.specs.Lists.{sum_in, list_of, get_or-tab}
 use Rattle.steps.specs.Number.{zero64}
 use Rattle.layout.specs.Layout.{comparison_in, comparison_code, term_room}
 use Rattle.layout.proofs.Back.{comparison-back}
@@ -46,7 +46,7 @@ whole_is t = refl
 
 edit-place : (s : Sparse) (j : ℕ) → j < edit_count s → get_or (read s).edits j no_edit ≡ edit_of s j
 unfolding read list_of
-edit-place s j l = getD-tab (edit_of s) 0 (edit_count s) j no_edit l ∙ ap (edit_of s) (zero-add j)
+edit-place s j l = get_or-tab (edit_of s) 0 (edit_count s) j no_edit l ∙ ap (edit_of s) (zero-add j)
 
 pub ends_of : (u v : Sparse) (cs : List Constraint) (es : List Edit) {m : ℕ} → Kept u v cs es m → Ends u cs es v
 ends_of u v cs es k = (by (read v) k.tableau k.changes k.constraints k.edits (whole_is v ∙ rw k.whole (sym (whole_is u))), k.form)

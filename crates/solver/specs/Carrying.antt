@@ -6,7 +6,7 @@ use Rattle.std.proofs.Math.Path.{ap}
 use Rattle.std.proofs.lemmas.Bool.{false≢true}
 use Rattle.std.proofs.Math.Option.{Option, none, some}
 use Rattle.std.proofs.Math.ListN.{get_or}
-use Rattle.laws.specs.Lists.{list_of, getD-tab, length-tab}
+use Rattle.laws.specs.Lists.{list_of, get_or-tab, length-tab}
 use Rattle.steps.specs.Symbol.{Symbol}
 use Rattle.steps.specs.State.{Term, Tag, Variable, Constraint, Edit}
 use Rattle.steps.specs.Edit.{edit_terms}
@@ -102,7 +102,7 @@ module _ (u : Sparse) (cs : List Constraint) (es : List Edit) (reads : readable 
       at v l = ap (λ (x : Variable). x.number) (place v l) ∙ (unfold variable_of in refl)
         where
           place : (v : ℕ) → v < variable_count u → get_or vs v (variable_of u 0) ≡ variable_of u v
-          place v l = unfold read list_of in getD-tab (variable_of u) 0 (variable_count u) v (variable_of u 0) l ∙ ap (variable_of u) (zero-add v)
+          place v l = unfold read list_of in get_or-tab (variable_of u) 0 (variable_count u) v (variable_of u 0) l ∙ ap (variable_of u) (zero-add v)
 
       go : Hit vs n (variable_of u 0) → Known u n
       go k = let l : k.at < variable_count u = omega (arith, k.low, long) in (k.at, l, sym (at k.at l) ∙ k.is)

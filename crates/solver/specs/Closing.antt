@@ -16,7 +16,7 @@ use Rattle.steps.specs.Readable.{readable}
 use Rattle.keeps.specs.Tested.{reads_in}
 use Rattle.layout.specs.Layout.{bit_of}
 use Rattle.layout.proofs.Back.{bit-back}
-use Rattle.layout.proofs.Copied.{bit-small, length-listOf}
+use Rattle.layout.proofs.Copied.{bit-small, length-list_of}
 use Rattle.layout.specs.cells.Names.{cell_room}
 use Rattle.layout.specs.cells.Cells.{Present}
 use Rattle.waist.specs.merging.Merge.{Placed}
@@ -63,7 +63,7 @@ absent-ne x h = rw h refl
 
 gone-count : (t : Sparse) → length (read t).changes.gone ≡ gone_count t
 unfolding read gone_of
-gone-count t = length-listOf (gone_count t) _
+gone-count t = length-list_of (gone_count t) _
 
 -- "At most 32 gone entries wait."
 gone-few : (t : Sparse) (cs : List Constraint) (es : List Edit) → readable (brought cs es t) ≡ true → gone_count t ≤ most_gone

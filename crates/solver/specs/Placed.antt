@@ -8,11 +8,11 @@ use Rattle.std.proofs.lemmas.Bool.{false≢true}
 use mathlib.Core.List.{List, [], ◌∷◌, map}
 use Rattle.std.proofs.Math.Option.{some}
 use Rattle.std.proofs.Math.ListN.{get_or}
-use Rattle.laws.specs.Lists.{list_of, getD-tab}
+use Rattle.laws.specs.Lists.{list_of, get_or-tab}
 use Rattle.steps.specs.State.{Constraint, Edit}
 use Rattle.steps.specs.Tests.{find_constraint, find_edit}
 use Rattle.keeps.specs.Lists.{Up}
-use Rattle.keeps.specs.Keys.{findBy, find_constraint-is, find_edit-is}
+use Rattle.keeps.specs.Keys.{find_by, find_constraint-is, find_edit-is}
 use Rattle.keeps.specs.Reads.{Reads, con_number, edit_number}
 use Rattle.rows.specs.places.Finding.{place_in, place_is, place_at}
 use Rattle.sparse.specs.Places.{variable_numbers_at, constraint_numbers_at, variable_places_at, edit_variables_at}
@@ -40,22 +40,22 @@ module _ {A : Type 0} (key : A → ℕ) (d : A) where
   up-less i (x ∷ l) zero (suc b) u h k = up_least (suc (key x)) l b u.1 (le_of_suc-le-suc k)
   up-less i (x ∷ l) (suc a) (suc b) u h k = up-less (suc (key x)) l a b u.1 (le_of_suc-le-suc h) (le_of_suc-le-suc k)
 
-  find_at : (i : ℕ) (l : List A) (j : ℕ) → Up i (map key l) → j < length l → findBy key (key (get_or l j d)) l ≡ some (get_or l j d)
-  unfolding findBy
+  find_at : (i : ℕ) (l : List A) (j : ℕ) → Up i (map key l) → j < length l → find_by key (key (get_or l j d)) l ≡ some (get_or l j d)
+  unfolding find_by
   find_at i [] j u h = absurd (not-suc-le-zero h)
-  find_at i (x ∷ l) zero u h = rw (eq-eqb (key x) (key x) refl, findBy) refl
+  find_at i (x ∷ l) zero u h = rw (eq-eqb (key x) (key x) refl, find_by) refl
   find_at i (x ∷ l) (suc j) u h =
       let a = up_least (suc (key x)) l j u.1 (le_of_suc-le-suc h) in
-      rw (ne_eqb (key (get_or l j d)) (key x) (λ e. omega (arith, a, e)), findBy) (find_at (suc (key x)) l j u.1 (le_of_suc-le-suc h))
+      rw (ne_eqb (key (get_or l j d)) (key x) (λ e. omega (arith, a, e)), find_by) (find_at (suc (key x)) l j u.1 (le_of_suc-le-suc h))
 
 module _ (t : Sparse) (r : Reads (read t)) (j : ℕ) where
   constraint-at : (d : Constraint) → j < constraint_count t → get_or (read t).constraints j d ≡ constraint_of t j
   unfolding read list_of
-  constraint-at d h = getD-tab (constraint_of t) 0 (constraint_count t) j d h ∙ rw (zero-add j) refl
+  constraint-at d h = get_or-tab (constraint_of t) 0 (constraint_count t) j d h ∙ rw (zero-add j) refl
 
   pub edit-at : (d : Edit) → j < edit_count t → get_or (read t).edits j d ≡ edit_of t j
   unfolding read list_of
-  edit-at d h = getD-tab (edit_of t) 0 (edit_count t) j d h ∙ rw (zero-add j) refl
+  edit-at d h = get_or-tab (edit_of t) 0 (edit_count t) j d h ∙ rw (zero-add j) refl
 
   pub constraint-found : j < constraint_count t → find_constraint (constraint_of t j).number (read t).constraints ≡ some (constraint_of t j)
   constraint-found h =

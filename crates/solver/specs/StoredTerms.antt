@@ -11,7 +11,7 @@ use Rattle.laws.specs.Loops.{turns, run}
 use Rattle.laws.specs.Lists.{list_of, tab-ext}
 use Rattle.steps.specs.Number.{near_zero}
 use Rattle.layout.specs.Copy.{most16}
-use Rattle.layout.proofs.Copied.{length-listOf}
+use Rattle.layout.proofs.Copied.{length-list_of}
 use Rattle.layout.specs.Layout.{term_room}
 use Rattle.rows.specs.places.Listed.{map-list}
 use Rattle.rows.specs.places.Finding.{place_in}
@@ -126,7 +126,7 @@ module _ (t : Sparse) (good : reads t ≡ true) where
   pub pack-is : (j : ℕ) → j < constraint_count t → {p : Pack} → p ≡ stored_pack t.words t.bytes t.reals (from j) (count j) → terms_of p ≡ (constraint_of t j).terms
   unfolding stored_pack constraint_of terms.terms_in list_of
   pack-is j h e =
-      rw e (pack-terms (list_of (count j) (stored_term t.words t.bytes t.reals (from j))) (rw (length-listOf (count j) (stored_term t.words t.bytes t.reals (from j))) (few j h))
+      rw e (pack-terms (list_of (count j) (stored_term t.words t.bytes t.reals (from j))) (rw (length-list_of (count j) (stored_term t.words t.bytes t.reals (from j))) (few j h))
       ∙ map-list terms.term_of (count j) (stored_term t.words t.bytes t.reals (from j))
       ∙ tab-ext (λ i. terms.term_of (stored_term t.words t.bytes t.reals (from j) i)) (term_of t (terms_from t j)) 0 (count j) (λ i a b. term_is j h i (omega (arith, b))))
 

@@ -6,7 +6,7 @@ use Rattle.std.proofs.Math.Path.{refl}
 use Rattle.std.proofs.Common.{◌∙◌, zero-add, arith}
 use Rattle.std.specs.Float.Ieee.{Float, nan}
 use Rattle.std.proofs.Math.ListN.{length, get_or}
-use Rattle.laws.specs.Lists.{tab, getD-tab, length-tab}
+use Rattle.laws.specs.Lists.{tab, get_or-tab, length-tab}
 use Rattle.sparse.specs.Places.{next_id_at, ids_at, variable_numbers_at, variable_uses_at, constraint_numbers_at, constraint_groups_at, gone_numbers_at, kinds_at, row_places_at, variable_places_at, changed_at, constraint_markers_at, constraint_others_at, term_counts_at, edit_variables_at, edit_markers_at, edit_others_at, terms_at, relations_at, constants_at, old_values_at, objective_at, cutoff_at, constraint_strengths_at, edit_strengths_at, suggestions_at, coefficients_at, constraint_constants_at, words_size, bytes_size, reals_size}
 use Rattle.sparse.specs.Sparse.{Sparse, symbol_count, row_count, cell_count, variable_count, constraint_count, edit_count, gone_count, terms_from, read}
 use Rattle.sparse.specs.Stretches.{Stretch, Within, lay-in, length-lay, copied_at, length-copied}
@@ -64,21 +64,21 @@ module _ (t w : Sparse) (c : Counts t) (len : Lengths w) where
   word i a n j h q k =
       let g : ℕ → ℕ = λ j. get_or t.words j 0 in
       let x = lay-in words_size (live_words t) w.words within-words (omega (arith, len.0)) i j 0 (unfold live_words in h) (rw (q, length-tab g a n) k) in
-      (rw q at x) ∙ getD-tab g a n j 0 k
+      (rw q at x) ∙ get_or-tab g a n j 0 k
 
   byte : (i a n j : ℕ) → i < 12 → get_or (live_bytes t) i none ≡ (record { at = a; list = tab (λ j. get_or t.bytes j 0) a n }) → j < n → get_or u.bytes (a + j) 0 ≡ get_or t.bytes (a + j) 0
   unfolding put_over
   byte i a n j h q k =
       let g : ℕ → ℕ = λ j. get_or t.bytes j 0 in
       let x = lay-in bytes_size (live_bytes t) w.bytes within-bytes (omega (arith, len.2)) i j 0 (unfold live_bytes in h) (rw (q, length-tab g a n) k) in
-      (rw q at x) ∙ getD-tab g a n j 0 k
+      (rw q at x) ∙ get_or-tab g a n j 0 k
 
   real : (i a n j : ℕ) → i < 9 → get_or (live_reals t) i none ≡ (record { at = a; list = tab (λ j. get_or t.reals j nan) a n }) → j < n → get_or u.reals (a + j) nan ≡ get_or t.reals (a + j) nan
   unfolding put_over
   real i a n j h q k =
       let g : ℕ → Float = λ j. get_or t.reals j nan in
       let x = lay-in reals_size (live_reals t) w.reals within-reals (omega (arith, len.3)) i j nan (unfold live_reals in h) (rw (q, length-tab g a n) k) in
-      (rw q at x) ∙ getD-tab g a n j nan k
+      (rw q at x) ∙ get_or-tab g a n j nan k
 
   -- from place 1 on
   from_one : {A : Type 0} (l m : List A) (d : A) (a p : ℕ) → 1 ≤ p → get_or l (a + 1 + (p - 1)) d ≡ get_or m (a + 1 + (p - 1)) d → get_or l (a + p) d ≡ get_or m (a + p) d

@@ -8,7 +8,7 @@ use mathlib.Core.List.{List, [], ◌∷◌}
 use native.Mathlib.Omega.{arith}
 use Rattle.std.specs.Float.Ieee.{Float, nan}
 use Rattle.std.proofs.Math.ListN.{get_or}
-use Rattle.laws.specs.Lists.{tab, tab-ext, tab-getD}
+use Rattle.laws.specs.Lists.{tab, tab-ext, tab-get_or}
 use Rattle.steps.specs.Number.{zero64}
 use Rattle.layout.specs.cells.Names.{row_span}
 use Rattle.layout.specs.cells.Cells.{Ascending, Cells, cells, cell_in, cell_at, row_of, packed, counted, settled}
@@ -104,7 +104,7 @@ ascends_none keys a b h k = absurd (omega (arith, k))
 
 -- a list read past one more element
 shifted : (r : List Float) (k : ℕ) → length r ≡ k → tab (λ p. get_or (zero64 ∷ r) p nan) 1 k ≡ r
-shifted r k n = rw (← n) (sym (tab-shift (λ p. get_or (zero64 ∷ r) p nan) 0 (length r)) ∙ tab-getD r nan)
+shifted r k n = rw (← n) (sym (tab-shift (λ p. get_or (zero64 ∷ r) p nan) 0 (length r)) ∙ tab-get_or r nan)
 
 -- ---- the law
 

@@ -11,7 +11,7 @@ use Rattle.std.proofs.Math.Dec.{eqb}
 use Rattle.std.specs.Float.Ieee.{nan}
 use Rattle.std.proofs.Math.ListN.{length, get_or, length-map}
 use borrow.Author.Tests.{eqb-true, eq-eqb, ne_eqb}
-use Rattle.laws.specs.Lists.{tab, tab-ext, tab-getD, list_of, listOf-is}
+use Rattle.laws.specs.Lists.{tab, tab-ext, tab-get_or, list_of, list_of-is}
 use Rattle.steps.specs.Symbol.{Kind, External, Slack, Error, Dummy, Symbol}
 use Rattle.steps.specs.State.{Basic, Variable, Constraint, Edit, State}
 use Rattle.steps.specs.Readable.{kind_code}
@@ -45,7 +45,7 @@ index_number vs n h =
 
 -- what is read from place 1 on is the list
 tab-back : {A : Type 0} (g : ℕ → A) (l : List A) (n : ℕ) (d : A) → n ≡ length l → ((j : ℕ) → j < length l → g (1 + j) ≡ get_or l j d) → tab g 1 n ≡ l
-tab-back g l n d q f = rw q (sym (tab-from g 1 0 (length l)) ∙ tab-ext (λ j. g (1 + j)) (λ j. get_or l j d) 0 (length l) (λ j u v. f j (omega (arith, v))) ∙ tab-getD l d)
+tab-back g l n d q f = rw q (sym (tab-from g 1 0 (length l)) ∙ tab-ext (λ j. g (1 + j)) (λ j. get_or l j d) 0 (length l) (λ j u v. f j (omega (arith, v))) ∙ tab-get_or l d)
 
 module _ (s : State) (t : Sparse) (fits : Fits s) (len : Lengths t) where
   abbrev t' : Sparse
@@ -161,7 +161,7 @@ module _ (s : State) (t : Sparse) (fits : Fits s) (len : Lengths t) where
   unfolding constraint_of
   constraint-back i h =
       let c : Constraint = get_or s.constraints i no_constraint in
-      let ts : list_of (length c.terms) (term_of t' (terms_from t' i)) ≡ c.terms = listOf-is (term_of t' (terms_from t' i)) c.terms no_term λ j k. term-back i j h k in
+      let ts : list_of (length c.terms) (term_of t' (terms_from t' i)) ≡ c.terms = list_of-is (term_of t' (terms_from t' i)) c.terms no_term λ j k. term-back i j h k in
       rw (constraint-number s t fits len i h, group-back s t fits len i h, comparison-laid s t fits len i h, strength-back s t fits len i h, own-constant s t fits len i h, count-back s t fits len i h, ts, marker-place s t fits len i h, live_back c.tag.marker (fits.markers i h), other_place_lem s t fits len i h, other-back c.tag.other (fits.others i h)) refl
 
   edit-back : (i : ℕ) → i < length s.edits → edit_of t' i ≡ get_or s.edits i no_edit
@@ -172,14 +172,14 @@ module _ (s : State) (t : Sparse) (fits : Fits s) (len : Lengths t) where
 
   gone-all : gone_of t' ≡ s.changes.gone
   unfolding gone_of heading_of
-  gone-all = rw (head 9 (omega arith)) (listOf-is (λ j. get_or t'.words (gone_numbers_at + j) 0) s.changes.gone 0 (gone-back s t fits len))
+  gone-all = rw (head 9 (omega arith)) (list_of-is (λ j. get_or t'.words (gone_numbers_at + j) 0) s.changes.gone 0 (gone-back s t fits len))
 
   -- ---- the state
 
   pub read-write : read t' ≡ s
   unfolding read heading_of
   read-write =
-      let v : list_of (length vs) (variable_of t') ≡ vs = listOf-is (variable_of t') vs no_variable variable-back in
-      let c : list_of (length s.constraints) (constraint_of t') ≡ s.constraints = listOf-is (constraint_of t') s.constraints no_constraint constraint-back in
-      let e : list_of (length s.edits) (edit_of t') ≡ s.edits = listOf-is (edit_of t') s.edits no_edit edit-back in
+      let v : list_of (length vs) (variable_of t') ≡ vs = list_of-is (variable_of t') vs no_variable variable-back in
+      let c : list_of (length s.constraints) (constraint_of t') ≡ s.constraints = list_of-is (constraint_of t') s.constraints no_constraint constraint-back in
+      let e : list_of (length s.edits) (edit_of t') ≡ s.edits = list_of-is (edit_of t') s.edits no_edit edit-back in
       rw (cutoff-back s t fits len, symbols-back, head 0 (omega arith), basics-back, objective-back, head 4 (omega arith), v, gone-all, head 7 (omega arith), bit-back s.changes.should_clear, head 5 (omega arith), c, head 6 (omega arith), e, head 8 (omega arith), bit-back s.whole) refl

@@ -11,7 +11,7 @@ use Rattle.std.proofs.Math.Dec.{ltb}
 use Rattle.std.specs.Float.Ieee.{nan, ne, of_bits}
 use Rattle.std.proofs.Math.ListN.{get_or}
 use borrow.Author.Tests.{ltb-true, ltb-false, eqb-true, eqb-false}
-use Rattle.laws.specs.Lists.{tab, getD-tab, laid}
+use Rattle.laws.specs.Lists.{tab, get_or-tab, laid}
 use Rattle.layout.specs.Layout.{over}
 use Rattle.layout.specs.Laying.{laid_nil}
 use Rattle.steps.specs.Number.{zero64}
@@ -154,7 +154,7 @@ module _ (keys : List ℕ) (vals : List Float) (n k r : ℕ) (w : k < row_span) 
   row-cell i zero a b = absurd (omega (arith, a))
   row-cell i (suc p) a b =
       let o : 1 + p ≡ suc p = omega arith in
-      rw o at (getD-tab (λ q. cell_at keys vals n (i * row_span + q)) 1 k p nan (omega (arith, b)))
+      rw o at (get_or-tab (λ q. cell_at keys vals n (i * row_span + q)) 1 k p nan (omega (arith, b)))
 
   rows-packed : (i m : ℕ) → rows_laid k i (tab (λ q. row_of keys vals n k q) i m) (done (low (i * row_span + 1))) ≡ done (low ((i + m) * row_span + 1))
   unfolding rows_laid tab

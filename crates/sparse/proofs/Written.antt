@@ -9,14 +9,14 @@ use Rattle.std.proofs.Math.Dec.{eqb}
 use Rattle.std.specs.Float.{nan}
 use Rattle.std.proofs.Math.ListN.{length, get_or}
 use borrow.Author.Tests.{eq-eqb, ne_eqb}
-use Rattle.laws.specs.Lists.{tab, list_of, map-tab, getD-tab, length-tab}
+use Rattle.laws.specs.Lists.{tab, list_of, map-tab, get_or-tab, length-tab}
 use Rattle.steps.specs.Symbol.{Symbol}
 use Rattle.steps.specs.State.{Term, Basic, Variable, Constraint, Edit}
 use Rattle.steps.specs.Readable.{concat, kind_code}
 use Rattle.layout.specs.Layout.{kind_of, bit_of, comparison_code, over}
 use Rattle.layout.specs.Laying.{tab-from}
 use Rattle.layout.proofs.Written.{comparison-read}
-use Rattle.layout.proofs.Copied.{length-listOf, getD-listOf}
+use Rattle.layout.proofs.Copied.{length-list_of, get_or-list_of}
 use Rattle.layout.specs.cells.Cells.{cells, row_of}
 use Rattle.layout.specs.cells.Seek.{first-at}
 use Rattle.sparse.specs.Places.{ids_at, variable_numbers_at, variable_uses_at, constraint_numbers_at, constraint_groups_at, gone_numbers_at, kinds_at, row_places_at, variable_places_at, changed_at, constraint_markers_at, constraint_others_at, term_counts_at, edit_variables_at, edit_markers_at, edit_others_at, terms_at, relations_at, constants_at, old_values_at, objective_at, cutoff_at, constraint_strengths_at, edit_strengths_at, suggestions_at, coefficients_at, constraint_constants_at}
@@ -84,7 +84,7 @@ module _ (w : Sparse) (form : Form w) where
 
   id-at : (j : ℕ) → j < k → (get_or xs j no_symbol).id ≡ get_or w.words (ids_at + (1 + j)) 0
   unfolding symbols_of symbol_at
-  id-at j h = ap (λ (x : Symbol). x.id) (getD-tab (symbol_at w) 1 k j no_symbol h)
+  id-at j h = ap (λ (x : Symbol). x.id) (get_or-tab (symbol_at w) 1 k j no_symbol h)
 
   place-live : (p : ℕ) → At w p → place_of xs (symbol_at w p) ≡ p
   unfolding place_of symbol_at
@@ -104,13 +104,13 @@ module _ (w : Sparse) (form : Form w) where
   other-live (suc p) l = rw (ne_eqb (suc p) 0 (λ e. omega (arith, e))) (place-live (suc p) (omega arith, l))
 
   variable-at : (j : ℕ) → j < variable_count w → get_or vs j no_variable ≡ variable_of w j
-  variable-at j h = getD-listOf (variable_count w) (variable_of w) j no_variable h
+  variable-at j h = get_or-list_of (variable_count w) (variable_of w) j no_variable h
 
   index_back : (j : ℕ) → j < variable_count w → index_of vs (get_or w.words (variable_numbers_at + j) 0) ≡ j
   unfolding index_of variable_of
   index_back j h =
       let n : ℕ = get_or w.words (variable_numbers_at + j) 0 in
-      let l : length vs ≡ variable_count w = length-listOf (variable_count w) (variable_of w) in
+      let l : length vs ≡ variable_count w = length-list_of (variable_count w) (variable_of w) in
       let at : (i : ℕ) → i < variable_count w → (get_or vs i no_variable).number ≡ get_or w.words (variable_numbers_at + i) 0 = λ i u. ap (λ (v : Variable). v.number) (variable-at i u) in
       first-at (λ i. eqb n (get_or vs i no_variable).number) (λ i. i) (length vs) 0 (length vs) j (omega arith) (omega (arith, h, l))
       (eq-eqb n (get_or vs j no_variable).number (sym (at j h)))
@@ -144,12 +144,12 @@ module _ (w : Sparse) (form : Form w) where
 
   gone-many : length (gone_of w) ≡ gone_count w
   unfolding gone_of
-  gone-many = length-listOf (gone_count w) _
+  gone-many = length-list_of (gone_count w) _
 
   heading-is : heading_of (read w) (cell_count w) ≡ tab (λ j. get_or w.words j 0) 0 10
   unfolding heading_of read tab basics_of
   heading-is =
-      rw (many, length-tab (basic_of w) 1 (row_count w), length-listOf (variable_count w) (variable_of w), length-listOf (constraint_count w) (constraint_of w), length-listOf (edit_count w) (edit_of w), bit-read (get_or w.words 7 0) form.clear, bit-read (get_or w.words 8 0) form.whole, gone-many) refl
+      rw (many, length-tab (basic_of w) 1 (row_count w), length-list_of (variable_count w) (variable_of w), length-list_of (constraint_count w) (constraint_of w), length-list_of (edit_count w) (edit_of w), bit-read (get_or w.words 7 0) form.clear, bit-read (get_or w.words 8 0) form.whole, gone-many) refl
 
   gone-is : gone_of w ≡ tab (λ j. get_or w.words j 0) gone_numbers_at (gone_count w)
   unfolding gone_of list_of
@@ -216,7 +216,7 @@ module _ (w : Sparse) (form : Form w) where
   unfolding list_of constraint_of
   counts-are =
       part-is (λ (c : Constraint). length c.terms) (constraint_of w) byte 0 term_counts_at (constraint_count w) λ j h.
-      rw (zero-add j) (length-listOf (byte (term_counts_at + j)) (term_of w (terms_from w j)))
+      rw (zero-add j) (length-list_of (byte (term_counts_at + j)) (term_of w (terms_from w j)))
 
   relations-are : map (λ (c : Constraint). comparison_code c.comparison) cs ≡ tab byte relations_at (constraint_count w)
   unfolding list_of constraint_of

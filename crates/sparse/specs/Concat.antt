@@ -52,16 +52,16 @@ pub sum-most : (g : ℕ → ℕ) (n : ℕ) → ((j : ℕ) → j < n → g j ≤ 
 sum-most g n h = rw (sum-in g n) (sum-each g 0 n λ j a c. h j (omega (arith, c)))
 
 module _ {A : Type 0} where
-  getD-left : (l m : List A) (j : ℕ) (d : A) → j < length l → get_or (l ++ m) j d ≡ get_or l j d
-  getD-left [] m j d h = absurd (not-suc-le-zero h)
-  getD-left (x ∷ l) m zero d h = refl
-  getD-left (x ∷ l) m (suc j) d h = getD-left l m j d (le_of_suc-le-suc h)
+  get_or-left : (l m : List A) (j : ℕ) (d : A) → j < length l → get_or (l ++ m) j d ≡ get_or l j d
+  get_or-left [] m j d h = absurd (not-suc-le-zero h)
+  get_or-left (x ∷ l) m zero d h = refl
+  get_or-left (x ∷ l) m (suc j) d h = get_or-left l m j d (le_of_suc-le-suc h)
 
-  getD-right : (l m : List A) (j : ℕ) (d : A) → get_or (l ++ m) (length l + j) d ≡ get_or m j d
-  getD-right [] m j d = rw (zero-add j) refl
-  getD-right (x ∷ l) m j d =
+  get_or-right : (l m : List A) (j : ℕ) (d : A) → get_or (l ++ m) (length l + j) d ≡ get_or m j d
+  get_or-right [] m j d = rw (zero-add j) refl
+  get_or-right (x ∷ l) m j d =
       let o : length (x ∷ l) + j ≡ suc (length l + j) = omega arith in
-      rw o (getD-right l m j d)
+      rw o (get_or-right l m j d)
 
 module _ {A B : Type 0} where
   -- how many there are in those before the i-th
@@ -71,12 +71,12 @@ module _ {A B : Type 0} where
   pub concat-at : (f : B → List A) (cs : List B) (e : B) (i j : ℕ) (d : A) → i < length cs → j < length (f (get_or cs i e)) → get_or (concat (map f cs)) (before f cs e i + j) d ≡ get_or (f (get_or cs i e)) j d
   unfolding concat sum_from
   concat-at f [] e i j d h k = absurd (not-suc-le-zero h)
-  concat-at f (c ∷ cs) e zero j d h k = rw (zero-add j) (getD-left (f c) (concat (map f cs)) j d k)
+  concat-at f (c ∷ cs) e zero j d h k = rw (zero-add j) (get_or-left (f c) (concat (map f cs)) j d k)
   concat-at f (c ∷ cs) e (suc i) j d h k =
       let g : ℕ → ℕ = λ n. length (f (get_or (c ∷ cs) n e)) in
       let s : sum_from g 1 i ≡ before f cs e i = sym (sum-shift g 0 i) in
       let o : length (f c) + sum_from g 1 i + j ≡ length (f c) + (before f cs e i + j) = omega (arith, s) in
-      rw o (getD-right (f c) (concat (map f cs)) (before f cs e i + j) d ∙ concat-at f cs e i j d (le_of_suc-le-suc h) k)
+      rw o (get_or-right (f c) (concat (map f cs)) (before f cs e i + j) d ∙ concat-at f cs e i j d (le_of_suc-le-suc h) k)
 
   pub concat-length : (f : B → List A) (cs : List B) (e : B) → length (concat (map f cs)) ≡ before f cs e (length cs)
   unfolding concat sum_from

@@ -6,7 +6,7 @@ use Rattle.std.proofs.Math.Path.{refl, sym, ap}
 use Rattle.std.proofs.Common.{◌∙◌, not-suc-le-zero, le_of_suc-le-suc, zero-add, arith}
 use mathlib.Core.List.{List, [], ◌∷◌}
 use Rattle.std.proofs.Math.ListN.{length, get_or}
-use Rattle.laws.specs.Lists.{tab, length-tab, getD-tab, length-laid, laid_in, laid-before}
+use Rattle.laws.specs.Lists.{tab, length-tab, get_or-tab, length-laid, laid_in, laid-before}
 use Rattle.layout.specs.Layout.{over}
 use Rattle.layout.specs.Laying.{stretch, run-same}
 
@@ -89,7 +89,7 @@ module _ {A : Type 0} where
   copied_at g m l j d h k =
       let n : length (tab g 0 m) ≡ m = length-tab g 0 m in
       let a : get_or (copied g m l) (0 + j) d ≡ get_or (tab g 0 m) j d = laid_in (λ x _. x) 0 (tab g 0 m) l j d d (omega (arith, h, n)) (omega (arith, h, k)) in
-      (rw (zero-add j) at (a ∙ getD-tab g 0 m j d h))
+      (rw (zero-add j) at (a ∙ get_or-tab g 0 m j d h))
 
   pub copied-itself : (d : A) (m : ℕ) (l : List A) → copied (λ j. get_or l j d) m l ≡ l
   unfolding copied

@@ -5,7 +5,7 @@ use Rattle.std.proofs.Math.Path.{sym}
 use Rattle.std.proofs.Common.{◌∙◌}
 use Rattle.std.proofs.Math.ListN.{get_or}
 use Rattle.std.specs.Float.{nan}
-use Rattle.laws.specs.Lists.{length-tab, getD-tab}
+use Rattle.laws.specs.Lists.{length-tab, get_or-tab}
 use Rattle.steps.specs.State.{Basic}
 use Rattle.layout.specs.cells.Names.{row_span}
 use Rattle.layout.specs.cells.Cells.{cell_at, row_of}
@@ -28,7 +28,7 @@ module _ (t : Sparse) where
   -- the i-th row of the state, from 0, is row 1 + i of the tables
   pub row_read : (i : ℕ) (d : Basic) → i < row_count t → get_or (basics_of t) i d ≡ basic_of t (1 + i)
   unfolding basics_of
-  row_read i d h = getD-tab (basic_of t) 1 (row_count t) i d h
+  row_read i d h = get_or-tab (basic_of t) 1 (row_count t) i d h
 
   pub cells_wide : (i : ℕ) → length (basic_of t i).row.cells ≡ length (symbols_of t)
   unfolding basic_of row_of

@@ -48,37 +48,37 @@ module _ {A : Type 0} where
   abbrev or_else : Bool → A → Option A → Option A
   or_else b x r = elim b [ true ↦ some x | false ↦ r ]
 
-  unfoldable findBy : (A → Bool) → List A → Option A
-  findBy q [] = none
-  findBy q (x ∷ xs) = or_else (q x) x (findBy q xs)
+  unfoldable find_by : (A → Bool) → List A → Option A
+  find_by q [] = none
+  find_by q (x ∷ xs) = or_else (q x) x (find_by q xs)
 
-  findBy-is : (look : List A → Option A) (q : A → Bool) → look [] ≡ none → ((x : A) (xs : List A) → look (x ∷ xs) ≡ or_else (q x) x (look xs)) → (l : List A) → look l ≡ findBy q l
-  unfolding findBy
-  findBy-is look q h k [] = h
-  findBy-is look q h k (x ∷ l) = k x l ∙ ap (λ (r : Option A). or_else (q x) x r) (findBy-is look q h k l)
+  find_by-is : (look : List A → Option A) (q : A → Bool) → look [] ≡ none → ((x : A) (xs : List A) → look (x ∷ xs) ≡ or_else (q x) x (look xs)) → (l : List A) → look l ≡ find_by q l
+  unfolding find_by
+  find_by-is look q h k [] = h
+  find_by-is look q h k (x ∷ l) = k x l ∙ ap (λ (r : Option A). or_else (q x) x r) (find_by-is look q h k l)
 
   abbrev pick : (ℕ → A) → ℕ → ℕ → Option A
   pick g e z = cond (ltb z e) (some (g z)) none
 
-  findBy-tab : (q : A → Bool) (g : ℕ → A) (f : ℕ → ℕ) (x e k i : ℕ) → ((j : ℕ) → j < e → q (g j) ≡ eqb x (f j)) → i + k ≡ e → findBy q (tab g i k) ≡ pick g e (seek (λ j. eqb x (f j)) (λ j. j) e k i)
-  unfolding findBy tab seek
-  findBy-tab q g f x e zero i h s = rw (le-ltb e e (omega arith)) refl
-  findBy-tab q g f x e (suc k) i h s = rw (h i (omega arith)) (go (eqb x (f i)) (findBy-tab q g f x e k (suc i) h (omega arith)))
+  find_by-tab : (q : A → Bool) (g : ℕ → A) (f : ℕ → ℕ) (x e k i : ℕ) → ((j : ℕ) → j < e → q (g j) ≡ eqb x (f j)) → i + k ≡ e → find_by q (tab g i k) ≡ pick g e (seek (λ j. eqb x (f j)) (λ j. j) e k i)
+  unfolding find_by tab seek
+  find_by-tab q g f x e zero i h s = rw (le-ltb e e (omega arith)) refl
+  find_by-tab q g f x e (suc k) i h s = rw (h i (omega arith)) (go (eqb x (f i)) (find_by-tab q g f x e k (suc i) h (omega arith)))
     where
-      go : (b : Bool) → findBy q (tab g (suc i) k) ≡ pick g e (seek (λ j. eqb x (f j)) (λ j. j) e k (suc i)) → or_else b (g i) (findBy q (tab g (suc i) k)) ≡ pick g e (cond b i (seek (λ j. eqb x (f j)) (λ j. j) e k (suc i)))
+      go : (b : Bool) → find_by q (tab g (suc i) k) ≡ pick g e (seek (λ j. eqb x (f j)) (λ j. j) e k (suc i)) → or_else b (g i) (find_by q (tab g (suc i) k)) ≡ pick g e (cond b i (seek (λ j. eqb x (f j)) (λ j. j) e k (suc i)))
       go true r = rw (lt-ltb i e (omega arith)) refl
       go false r = r
 
-  findBy-list : (q : A → Bool) (k : ℕ) (g : ℕ → A) (f : ℕ → ℕ) (x : ℕ) → ((j : ℕ) → j < k → q (g j) ≡ eqb x (f j)) → findBy q (list_of k g) ≡ pick g k (place_in f k x)
+  find_by-list : (q : A → Bool) (k : ℕ) (g : ℕ → A) (f : ℕ → ℕ) (x : ℕ) → ((j : ℕ) → j < k → q (g j) ≡ eqb x (f j)) → find_by q (list_of k g) ≡ pick g k (place_in f k x)
   unfolding list_of place_in first
-  findBy-list q k g f x h = rw (sub-zero k) (findBy-tab q g f x k k 0 h (omega arith))
+  find_by-list q k g f x h = rw (sub-zero k) (find_by-tab q g f x k k 0 h (omega arith))
 
-none-tab : {A : Type 0} (q : A → Bool) (g : ℕ → A) (i m : ℕ) → ((j : ℕ) → i ≤ j → j < i + m → q (g j) ≡ false) → findBy q (tab g i m) ≡ none
-unfolding findBy tab
+none-tab : {A : Type 0} (q : A → Bool) (g : ℕ → A) (i m : ℕ) → ((j : ℕ) → i ≤ j → j < i + m → q (g j) ≡ false) → find_by q (tab g i m) ≡ none
+unfolding find_by tab
 none-tab q g i zero f = refl
 none-tab q g i (suc m) f = rw (f i (omega arith) (omega arith)) (none-tab q g (suc i) m λ j a b. f j (omega arith) (omega arith))
 
-none_found : {A : Type 0} (q : A → Bool) (g : ℕ → A) (k : ℕ) → ((j : ℕ) → j < k → q (g j) ≡ false) → findBy q (list_of k g) ≡ none
+none_found : {A : Type 0} (q : A → Bool) (g : ℕ → A) (k : ℕ) → ((j : ℕ) → j < k → q (g j) ≡ false) → find_by q (list_of k g) ≡ none
 unfolding list_of
 none_found q g k f = none-tab q g 0 k λ j a b. f j (omega (arith, b))
 
@@ -94,23 +94,23 @@ cond-true-false : (b : Bool) → cond b true false ≡ b
 cond-true-false true = refl
 cond-true-false false = refl
 
-constraint-by : (n : ℕ) (l : List Constraint) → find_constraint n l ≡ findBy (λ c. eqb n c.number) l
+constraint-by : (n : ℕ) (l : List Constraint) → find_constraint n l ≡ find_by (λ c. eqb n c.number) l
 unfolding find_constraint
-constraint-by n l = findBy-is (find_constraint n) (λ c. eqb n c.number) refl (λ x xs. refl) l
+constraint-by n l = find_by-is (find_constraint n) (λ c. eqb n c.number) refl (λ x xs. refl) l
 
-variable-by : (n : ℕ) (l : List Variable) → find_variable n l ≡ findBy (λ v. eqb n v.number) l
+variable-by : (n : ℕ) (l : List Variable) → find_variable n l ≡ find_by (λ v. eqb n v.number) l
 unfolding find_variable
-variable-by n l = findBy-is (find_variable n) (λ v. eqb n v.number) refl (λ x xs. refl) l
+variable-by n l = find_by-is (find_variable n) (λ v. eqb n v.number) refl (λ x xs. refl) l
 
 one_of : (v : Bool) (b : Basic) (o : Option Row) (q : Option Basic) → picked (λ (r : Row). r.constant) zero64 o ≡ picked (λ (c : Basic). c.row.constant) zero64 q
     → picked (λ (r : Row). r.constant) zero64 (or_else v b.row o) ≡ picked (λ (c : Basic). c.row.constant) zero64 (or_else v b q)
 one_of true b o q h = refl
 one_of false b o q h = h
 
-row_by : (x : ℕ) (l : List Basic) → picked (λ (r : Row). r.constant) zero64 (find_row x l) ≡ picked (λ (b : Basic). b.row.constant) zero64 (findBy (λ (b : Basic). eqb x b.symbol.id) l)
-unfolding find_row findBy is_symbol
+row_by : (x : ℕ) (l : List Basic) → picked (λ (r : Row). r.constant) zero64 (find_row x l) ≡ picked (λ (b : Basic). b.row.constant) zero64 (find_by (λ (b : Basic). eqb x b.symbol.id) l)
+unfolding find_row find_by is_symbol
 row_by x [] = refl
-row_by x (b ∷ l) = one_of (eqb x b.symbol.id) b (find_row x l) (findBy (λ (c : Basic). eqb x c.symbol.id) l) (row_by x l)
+row_by x (b ∷ l) = one_of (eqb x b.symbol.id) b (find_row x l) (find_by (λ (c : Basic). eqb x c.symbol.id) l) (row_by x l)
 
 -- ---- the queries, by the places of the tables
 
@@ -119,7 +119,7 @@ module _ (t : Sparse) (n : ℕ) where
   unfolding has_constraint read constraint_of place_from
   has-constraint =
       let z : ℕ = place_in (λ j. get_or t.words (constraint_numbers_at + j) 0) (constraint_count t) n in
-      ap (λ (o : Option Constraint). picked (λ _. true) false o) (constraint-by n (list_of (constraint_count t) (constraint_of t)) ∙ findBy-list (λ (c : Constraint). eqb n c.number) (constraint_count t) (constraint_of t) (λ j. get_or t.words (constraint_numbers_at + j) 0) n (λ j h. refl))
+      ap (λ (o : Option Constraint). picked (λ _. true) false o) (constraint-by n (list_of (constraint_count t) (constraint_of t)) ∙ find_by-list (λ (c : Constraint). eqb n c.number) (constraint_count t) (constraint_of t) (λ j. get_or t.words (constraint_numbers_at + j) 0) n (λ j h. refl))
       ∙ cond-picked (λ _. true) false (ltb z (constraint_count t)) (constraint_of t z) ∙ cond-true-false _
 
   module _ (form : Form t) where
@@ -142,8 +142,8 @@ module _ (t : Sparse) (n : ℕ) where
         let o : (j : ℕ) → row_places_at + (1 + j) ≡ row_places_at + 1 + j = λ j. omega arith in
         ap (λ (s : ℕ). picked (λ (r : Row). r.constant) zero64 (find_row s (basics_of t))) (ap (λ (s : Symbol). s.id) e)
         ∙ row_by x (basics_of t)
-        ∙ ap (λ (l : List Basic). picked (λ (b : Basic). b.row.constant) zero64 (findBy (λ (b : Basic). eqb x b.symbol.id) l)) (listed r)
-        ∙ ap (λ (o : Option Basic). picked (λ (b : Basic). b.row.constant) zero64 o) (findBy-list (λ (b : Basic). eqb x b.symbol.id) r g f p (λ j h. rw (o j) (same_id p (f j) l (rw (o j) at (form.rows (1 + j) (omega arith) (omega (arith, h)))))))
+        ∙ ap (λ (l : List Basic). picked (λ (b : Basic). b.row.constant) zero64 (find_by (λ (b : Basic). eqb x b.symbol.id) l)) (listed r)
+        ∙ ap (λ (o : Option Basic). picked (λ (b : Basic). b.row.constant) zero64 o) (find_by-list (λ (b : Basic). eqb x b.symbol.id) r g f p (λ j h. rw (o j) (same_id p (f j) l (rw (o j) at (form.rows (1 + j) (omega arith) (omega (arith, h)))))))
         ∙ cond-picked (λ (b : Basic). b.row.constant) zero64 (ltb (place_in f r p) r) (g (place_in f r p))
         ∙ ap (λ (i : ℕ). cond (ltb (place_in f r p) r) (get_or t.reals i nan) zero64) (omega arith)
       where
@@ -156,7 +156,7 @@ module _ (t : Sparse) (n : ℕ) where
         let v : ℕ = variable_count t in
         let f : ℕ → ℕ = λ j. get_or t.words (variable_numbers_at + j) 0 in
         let z : ℕ = place_in f v n in
-        ap (λ (o : Option Variable). picked (λ x. value_of x (basics_of t)) zero64 o) (variable-by n (list_of v (variable_of t)) ∙ findBy-list (λ (x : Variable). eqb n x.number) v (variable_of t) f n (λ j h. unfold variable_of in refl))
+        ap (λ (o : Option Variable). picked (λ x. value_of x (basics_of t)) zero64 o) (variable-by n (list_of v (variable_of t)) ∙ find_by-list (λ (x : Variable). eqb n x.number) v (variable_of t) f n (λ j h. unfold variable_of in refl))
         ∙ cond-picked (λ x. value_of x (basics_of t)) zero64 (ltb z v) (variable_of t z)
         ∙ found (ltb z v) refl
       where
@@ -169,9 +169,9 @@ module _ (t : Sparse) (n : ℕ) where
 unfoldable pub edit_in : List ℕ → List ℕ → ℕ → ℕ → ℕ → Bool
 edit_in w b v e n = cond (ltb (place_from w variable_numbers_at v n) v) (ltb (place_from b edit_variables_at e (get_or b (variable_places_at + place_from w variable_numbers_at v n) 0)) e) false
 
-edit-by : (n : ℕ) (l : List Edit) → find_edit n l ≡ findBy (λ e. eqb n e.variable) l
+edit-by : (n : ℕ) (l : List Edit) → find_edit n l ≡ find_by (λ e. eqb n e.variable) l
 unfolding find_edit
-edit-by n l = findBy-is (find_edit n) (λ e. eqb n e.variable) refl (λ x xs. refl) l
+edit-by n l = find_by-is (find_edit n) (λ e. eqb n e.variable) refl (λ x xs. refl) l
 
 module _ (t : Sparse) (form : Form t) (apart : Apart (λ j. get_or t.bytes (variable_places_at + j) 0) (variable_count t)) (n : ℕ) where
   abbrev v : ℕ
@@ -213,12 +213,12 @@ module _ (t : Sparse) (form : Form t) (apart : Apart (λ j. get_or t.bytes (vari
   has-edit =
       ap (λ (o : Option Edit). picked (λ _. true) false o) (edit-by n (list_of (edit_count t) (edit_of t))) ∙ found (ltb (place_in number v n) v) refl
     where
-      found : (b : Bool) → ltb (place_in number v n) v ≡ b → picked (λ _. true) false (findBy (λ (e : Edit). eqb n e.variable) (list_of (edit_count t) (edit_of t))) ≡ cond b (ltb (place_in edit (edit_count t) (place (place_in number v n))) (edit_count t)) false
+      found : (b : Bool) → ltb (place_in number v n) v ≡ b → picked (λ _. true) false (find_by (λ (e : Edit). eqb n e.variable) (list_of (edit_count t) (edit_of t))) ≡ cond b (ltb (place_in edit (edit_count t) (place (place_in number v n))) (edit_count t)) false
       found false h = ap (λ (o : Option Edit). picked (λ _. true) false o) (none_found (λ (e : Edit). eqb n e.variable) (edit_of t) (edit_count t) λ j k. unknown (λ l. absurd (let m = ltb-false (place_in number v n) v h in omega (arith, l, m))) j k)
       found true h =
           let l = ltb-true (place_in number v n) v h in
           let e : number (place_in number v n) ≡ n = place_is number v n l in
-          ap (λ (o : Option Edit). picked (λ _. true) false o) (findBy-list (λ (e : Edit). eqb n e.variable) (edit_count t) (edit_of t) edit (place (place_in number v n)) (λ j k. ap (λ (m : ℕ). eqb m (number_at t (edit j))) (sym e) ∙ same-variable (place_in number v n) (edit j) l (form.edited j k)))
+          ap (λ (o : Option Edit). picked (λ _. true) false o) (find_by-list (λ (e : Edit). eqb n e.variable) (edit_count t) (edit_of t) edit (place (place_in number v n)) (λ j k. ap (λ (m : ℕ). eqb m (number_at t (edit j))) (sym e) ∙ same-variable (place_in number v n) (edit j) l (form.edited j k)))
           ∙ cond-picked (λ _. true) false (ltb (place_in edit (edit_count t) (place (place_in number v n))) (edit_count t)) (edit_of t (place_in edit (edit_count t) (place (place_in number v n)))) ∙ cond-true-false _
 
 -- ---- what the code answers

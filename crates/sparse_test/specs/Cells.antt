@@ -53,8 +53,8 @@ module _ (t : Sparse) where
   abbrev value : ℕ → Float
   value j = get_or t.values j nan
 
-  abbrev placeAt : ℕ → ℕ
-  placeAt j = get_or t.bytes (row_places_at + 1 + j) 0
+  abbrev place_byte : ℕ → ℕ
+  place_byte j = get_or t.bytes (row_places_at + 1 + j) 0
 
   abbrev cell : ℕ → ℕ → Float
   cell i p = cell_at t.keys t.values n (i * row_span + p)
@@ -68,20 +68,20 @@ module _ (t : Sparse) where
 
   -- ---- what the test says of each key
 
-  open-parts : (p : ℕ) → open_at t.bytes k r p ≡ true → (1 ≤ p) × (p ≤ k) × (member p (list_of r placeAt) ≡ false)
+  open-parts : (p : ℕ) → open_at t.bytes k r p ≡ true → (1 ≤ p) × (p ≤ k) × (member p (list_of r place_byte) ≡ false)
   unfolding open_at
   open-parts p h =
       let a = both _ _ h in
       let b = both _ _ a.0 in
       (leb-true 1 p b.0, leb-true p k b.1, not-true _ a.1)
 
-  basic-member : (i : ℕ) → i < r → member (placeAt i) (list_of r placeAt) ≡ true
-  basic-member i h = member-list r placeAt (placeAt i) ∙ lt-ltb _ _ (place-live placeAt r (placeAt i) i h refl)
+  basic-member : (i : ℕ) → i < r → member (place_byte i) (list_of r place_byte) ≡ true
+  basic-member i h = member-list r place_byte (place_byte i) ∙ lt-ltb _ _ (place-live place_byte r (place_byte i) i h refl)
 
-  member-basic : (p : ℕ) → member p (list_of r placeAt) ≡ true → (place_in placeAt r p < r) × (placeAt (place_in placeAt r p) ≡ p)
+  member-basic : (p : ℕ) → member p (list_of r place_byte) ≡ true → (place_in place_byte r p < r) × (place_byte (place_in place_byte r p) ≡ p)
   member-basic p h =
-      let l = ltb-true (place_in placeAt r p) r (sym (member-list r placeAt p) ∙ h) in
-      (l, place_is placeAt r p l)
+      let l = ltb-true (place_in place_byte r p) r (sym (member-list r place_byte p) ∙ h) in
+      (l, place_is place_byte r p l)
 
   -- ---- the keys' test gives the sparse form and the state's clauses
 
@@ -128,15 +128,15 @@ module _ (t : Sparse) where
   pub cells-clear : k < row_span → RowsLive t → keys_fit t.keys t.bytes n k r ≡ true → costs_fit t.reals t.bytes r ≡ true → Clear t
   unfolding costs_fit
   cells-clear small live a c = (
-    λ i u. all-at (λ i. absent (get_or t.reals (objective_at + placeAt i) nan)) 0 r c i (omega arith) u,
+    λ i u. all-at (λ i. absent (get_or t.reals (objective_at + place_byte i) nan)) 0 r c i (omega arith) u,
     λ q x y i u. ap absent (gone q i u) ∙ absent-zero,
   )
     where
-      gone : (q i : ℕ) → i < r → cell q (placeAt i) ≡ zero64
+      gone : (q i : ℕ) → i < r → cell q (place_byte i) ≡ zero64
       gone q i u =
           let p = (live i u).1 in
-          unfold cell_at in cell-absent t.keys t.values (q * row_span + placeAt i) 0 n (omega arith) λ j v w e.
-          let o : key j % row_span ≡ placeAt i = omega (arith, e, p, small) in
+          unfold cell_at in cell-absent t.keys t.values (q * row_span + place_byte i) 0 n (omega arith) λ j v w e.
+          let o : key j % row_span ≡ place_byte i = omega (arith, e, p, small) in
           no_both (basic-member i u) (rw o at (open-parts (key j % row_span) (open-at (keys-parts a).2 j w)).2)
 
   finite-cell : values_fit t.values n ≡ true → (x : ℕ) → is_finite (cell_at t.keys t.values n x) ≡ true
@@ -186,14 +186,14 @@ module _ (t : Sparse) where
     unfolding open_at
     open-key j h =
         let p = held.places j h in
-        join (join (le-leb 1 (key j % row_span) p.0) (le-leb (key j % row_span) k p.1)) (free (member (key j % row_span) (list_of r placeAt)) refl)
+        join (join (le-leb 1 (key j % row_span) p.0) (le-leb (key j % row_span) k p.1)) (free (member (key j % row_span) (list_of r place_byte)) refl)
       where
-        free : (b : Bool) → member (key j % row_span) (list_of r placeAt) ≡ b → not b ≡ true
+        free : (b : Bool) → member (key j % row_span) (list_of r place_byte) ≡ b → not b ≡ true
         free false q = refl
         free true q =
             let m = member-basic (key j % row_span) q in
             let i = held.rows j h in
-            let c : absent (cell (key j / row_span) (placeAt (place_in placeAt r (key j % row_span)))) ≡ true = clear.1 (key j / row_span) i.0 i.1 (place_in placeAt r (key j % row_span)) m.0 in
+            let c : absent (cell (key j / row_span) (place_byte (place_in place_byte r (key j % row_span)))) ≡ true = clear.1 (key j / row_span) i.0 i.1 (place_in place_byte r (key j % row_span)) m.0 in
             absurd (present-not (value j) (held.present j h) (ap absent (sym (held-cell held j h) ∙ sym (ap (cell (key j / row_span)) m.1)) ∙ c))
 
     pub form-keys : keys_fit t.keys t.bytes n k r ≡ true

@@ -12,7 +12,7 @@ use Rattle.std.proofs.Math.ListN.{length, get_or-eq_default}
 use borrow.Author.Tests.{eqb-true, eqb-false, eq-eqb, leb-true, le-leb, ltb-true, ltb-false}
 use Rattle.laws.specs.Lists.{list_of}
 use Rattle.layout.specs.Laying.{list_ext}
-use Rattle.layout.proofs.Copied.{length-listOf, getD-listOf}
+use Rattle.layout.proofs.Copied.{length-list_of, get_or-list_of}
 use Rattle.steps.specs.Readable as steps
 use Rattle.keeps.specs.Lists.{All, all-to}
 use Rattle.layout.specs.cells.Names.{last_place, place_room}
@@ -46,11 +46,11 @@ module _ (t : Sparse) where
 
   pub code-there : (p : ℕ) → p < place_room → get_or table p 0 ≡ code_at t.bytes k p
   unfolding codes
-  code-there p h = getD-listOf place_room (code_at t.bytes k) p 0 h
+  code-there p h = get_or-list_of place_room (code_at t.bytes k) p 0 h
 
   code-beyond : (p : ℕ) → place_room ≤ p → ◌≡◌ {A = ℕ} (get_or table p 0) 0
   unfolding codes
-  code-beyond p h = get_or-eq_default table 0 (let n : length table ≡ place_room = length-listOf place_room (code_at t.bytes k) in omega (arith, n, h))
+  code-beyond p h = get_or-eq_default table 0 (let n : length table ≡ place_room = length-list_of place_room (code_at t.bytes k) in omega (arith, n, h))
 
   live-code : (p : ℕ) → k ≤ last_place → At t p → kind p ≤ 3 → get_or table p 0 ≡ kind p + 1
   live-code p few l h =
@@ -84,29 +84,29 @@ module _ (t : Sparse) where
 
   -- ---- the claims, and their places
 
-  abbrev pub tagClaims : ℕ → ℕ → ℕ → List Claim
-  tagClaims x m o = (m, x) ∷ cond (eqb o 0) [] ((o, 3) ∷ [])
+  abbrev pub tag_claims : ℕ → ℕ → ℕ → List Claim
+  tag_claims x m o = (m, x) ∷ cond (eqb o 0) [] ((o, 3) ∷ [])
 
   abbrev pub marker_at : ℕ → ℕ
   marker_at i = marker_code (byte (relations_at + i)) (byte (constraint_others_at + i))
 
-  abbrev pub variableClaim : ℕ → List Claim
-  variableClaim i = (byte (variable_places_at + i), 1) ∷ []
+  abbrev pub variable_claim : ℕ → List Claim
+  variable_claim i = (byte (variable_places_at + i), 1) ∷ []
 
-  abbrev pub constraintClaim : ℕ → List Claim
-  constraintClaim i = tagClaims (marker_at i) (byte (constraint_markers_at + i)) (byte (constraint_others_at + i))
+  abbrev pub constraint_claim : ℕ → List Claim
+  constraint_claim i = tag_claims (marker_at i) (byte (constraint_markers_at + i)) (byte (constraint_others_at + i))
 
-  abbrev pub editClaim : ℕ → List Claim
-  editClaim i = tagClaims 3 (byte (edit_markers_at + i)) (byte (edit_others_at + i))
+  abbrev pub edit_claim : ℕ → List Claim
+  edit_claim i = tag_claims 3 (byte (edit_markers_at + i)) (byte (edit_others_at + i))
 
   abbrev pub L₁ : List Claim
-  L₁ = steps.concat (list_of (variable_count t) variableClaim)
+  L₁ = steps.concat (list_of (variable_count t) variable_claim)
 
   abbrev pub L₂ : List Claim
-  L₂ = steps.concat (list_of (constraint_count t) constraintClaim)
+  L₂ = steps.concat (list_of (constraint_count t) constraint_claim)
 
   abbrev pub L₃ : List Claim
-  L₃ = steps.concat (list_of (edit_count t) editClaim)
+  L₃ = steps.concat (list_of (edit_count t) edit_claim)
 
   abbrev pub claims : List Claim
   claims = L₁ ++ (L₂ ++ L₃)
@@ -114,7 +114,7 @@ module _ (t : Sparse) where
   abbrev place_of : Claim → ℕ
   place_of c = c.0
 
-  tag-places : (x m o : ℕ) → places (tagClaims x m o) ≡ tag_places m o
+  tag-places : (x m o : ℕ) → places (tag_claims x m o) ≡ tag_places m o
   unfolding tag_places
   tag-places x m o = go (eqb o 0)
     where
@@ -130,14 +130,14 @@ module _ (t : Sparse) where
       map-append place_of L₁ (L₂ ++ L₃)
       ∙ (rw (
         map-append place_of L₂ L₃,
-        part-places (variable_count t) variableClaim (λ i. byte (variable_places_at + i) ∷ []) (λ i. refl) ∙ single (variable_count t) (λ i. byte (variable_places_at + i)),
-        part-places (constraint_count t) constraintClaim (λ i. tag_places (byte (constraint_markers_at + i)) (byte (constraint_others_at + i))) (λ i. tag-places (marker_at i) (byte (constraint_markers_at + i)) (byte (constraint_others_at + i))),
-        part-places (edit_count t) editClaim (λ i. tag_places (byte (edit_markers_at + i)) (byte (edit_others_at + i))) (λ i. tag-places 3 (byte (edit_markers_at + i)) (byte (edit_others_at + i))),
+        part-places (variable_count t) variable_claim (λ i. byte (variable_places_at + i) ∷ []) (λ i. refl) ∙ single (variable_count t) (λ i. byte (variable_places_at + i)),
+        part-places (constraint_count t) constraint_claim (λ i. tag_places (byte (constraint_markers_at + i)) (byte (constraint_others_at + i))) (λ i. tag-places (marker_at i) (byte (constraint_markers_at + i)) (byte (constraint_others_at + i))),
+        part-places (edit_count t) edit_claim (λ i. tag_places (byte (edit_markers_at + i)) (byte (edit_others_at + i))) (λ i. tag-places 3 (byte (edit_markers_at + i)) (byte (edit_others_at + i))),
       ) refl)
 
   -- ---- the loops make them
 
-  tag-claimed : (x m o : ℕ) (z : Shares) → claim_other o (claim m x z) ≡ claim_each (tagClaims x m o) z
+  tag-claimed : (x m o : ℕ) (z : Shares) → claim_other o (claim m x z) ≡ claim_each (tag_claims x m o) z
   unfolding claim_other claim_each
   tag-claimed x m o z = go (eqb o 0)
     where
@@ -147,15 +147,15 @@ module _ (t : Sparse) where
 
   variables-claimed : (s : Shares) → claim_variables t.bytes (variable_count t) s ≡ claim_each L₁ s
   unfolding claim_variables claim_each
-  variables-claimed s = run-claims _ variableClaim (variable_count t) s λ j z. refl
+  variables-claimed s = run-claims _ variable_claim (variable_count t) s λ j z. refl
 
   constraints-claimed : (s : Shares) → claim_constraints t.bytes (constraint_count t) s ≡ claim_each L₂ s
   unfolding claim_constraints
-  constraints-claimed s = run-claims _ constraintClaim (constraint_count t) s λ j z. tag-claimed _ _ _ z
+  constraints-claimed s = run-claims _ constraint_claim (constraint_count t) s λ j z. tag-claimed _ _ _ z
 
   edits-claimed : (s : Shares) → claim_edits t.bytes (edit_count t) s ≡ claim_each L₃ s
   unfolding claim_edits
-  edits-claimed s = run-claims _ editClaim (edit_count t) s λ j z. tag-claimed _ _ _ z
+  edits-claimed s = run-claims _ edit_claim (edit_count t) s λ j z. tag-claimed _ _ _ z
 
   abbrev pub s₁ : Shares
   s₁ = after₁ t.bytes k (variable_count t)
@@ -204,7 +204,7 @@ module _ (t : Sparse) where
   abbrev pub Bounded : Claim → Type 0
   Bounded c = (1 ≤ c.1) × (c.1 ≤ 4)
 
-  tag-bounded : (x m o : ℕ) → (1 ≤ x) × (x ≤ 4) → All Bounded (tagClaims x m o)
+  tag-bounded : (x m o : ℕ) → (1 ≤ x) × (x ≤ 4) → All Bounded (tag_claims x m o)
   tag-bounded x m o h = (h, go (eqb o 0))
     where
       go : (b : Bool) → All Bounded (cond b [] ((o, 3) ∷ []))
@@ -212,10 +212,10 @@ module _ (t : Sparse) where
       go false = ((omega arith, omega arith), tt)
 
   -- what holds of each owner's claims holds of all
-  pub each-claim : (P : Claim → Type 0) → ((i : ℕ) → i < variable_count t → All P (variableClaim i)) → ((i : ℕ) → i < constraint_count t → All P (constraintClaim i)) → ((i : ℕ) → i < edit_count t → All P (editClaim i)) → All P claims
+  pub each-claim : (P : Claim → Type 0) → ((i : ℕ) → i < variable_count t → All P (variable_claim i)) → ((i : ℕ) → i < constraint_count t → All P (constraint_claim i)) → ((i : ℕ) → i < edit_count t → All P (edit_claim i)) → All P claims
   each-claim P f g h =
-      both-lists P L₁ (L₂ ++ L₃) (all-lists P _ (each-list (λ (l : List Claim). All P l) variableClaim (variable_count t) f))
-      (both-lists P L₂ L₃ (all-lists P _ (each-list (λ (l : List Claim). All P l) constraintClaim (constraint_count t) g)) (all-lists P _ (each-list (λ (l : List Claim). All P l) editClaim (edit_count t) h)))
+      both-lists P L₁ (L₂ ++ L₃) (all-lists P _ (each-list (λ (l : List Claim). All P l) variable_claim (variable_count t) f))
+      (both-lists P L₂ L₃ (all-lists P _ (each-list (λ (l : List Claim). All P l) constraint_claim (constraint_count t) g)) (all-lists P _ (each-list (λ (l : List Claim). All P l) edit_claim (edit_count t) h)))
 
   pub bounded : All Bounded claims
   bounded =
@@ -243,14 +243,14 @@ module _ (t : Sparse) where
   other-error : (o : ℕ) → eqb (kind o) 2 ≡ true → (kind o ≤ 3) × (kind o + 1 ≡ 3)
   other-error o h = let e = eqb-true (kind o) 2 h in (omega (arith, e), omega (arith, e))
 
-  pub tag-shown : (x m o : ℕ) → 1 ≤ x → x ≤ 4 → All Right (tagClaims x m o) → Shown m x × ((eqb o 0 || eqb (kind o) 2) ≡ true)
+  pub tag-shown : (x m o : ℕ) → 1 ≤ x → x ≤ 4 → All Right (tag_claims x m o) → Shown m x × ((eqb o 0 || eqb (kind o) 2) ≡ true)
   tag-shown x m o a b h = (shown m x a b h.0, go (eqb o 0) h.1)
     where
       go : (b : Bool) → All Right (cond b [] ((o, 3) ∷ [])) → (b || eqb (kind o) 2) ≡ true
       go true r = refl
       go false r = let e = (shown o 3 (omega arith) (omega arith) r.0).2 in eq-eqb (kind o) 2 (omega (arith, e))
 
-  pub tag-right : (x m o : ℕ) → k ≤ last_place → Shown m x → o ≤ k → (eqb o 0 || eqb (kind o) 2) ≡ true → All Right (tagClaims x m o)
+  pub tag-right : (x m o : ℕ) → k ≤ last_place → Shown m x → o ≤ k → (eqb o 0 || eqb (kind o) 2) ≡ true → All Right (tag_claims x m o)
   tag-right x m o few s l h = (is_right m x few s, go (eqb o 0) refl h)
     where
       go : (b : Bool) → eqb o 0 ≡ b → (b || eqb (kind o) 2) ≡ true → All Right (cond b [] ((o, 3) ∷ []))

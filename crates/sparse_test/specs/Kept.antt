@@ -13,7 +13,7 @@ use Rattle.std.proofs.Math.ListN.{length, get_or}
 use borrow.Author.Tests.{eqb-true, eq-eqb, leb-true, le-leb}
 use Rattle.laws.specs.Lists.{all_in}
 use Rattle.layout.specs.Rooms.{both}
-use Rattle.layout.proofs.Copied.{length-listOf}
+use Rattle.layout.proofs.Copied.{length-list_of}
 use Rattle.layout.specs.Layout.{comparison_in}
 use Rattle.steps.specs.Strength.{required}
 use Rattle.steps.specs.Tests.{member}
@@ -54,14 +54,14 @@ module _ (t : Sparse) where
   abbrev marker_at : ℕ → ℕ
   marker_at = its.marker_at t
 
-  abbrev variableClaim : ℕ → List Claim
-  variableClaim = its.variableClaim t
+  abbrev variable_claim : ℕ → List Claim
+  variable_claim = its.variable_claim t
 
-  abbrev constraintClaim : ℕ → List Claim
-  constraintClaim = its.constraintClaim t
+  abbrev constraint_claim : ℕ → List Claim
+  constraint_claim = its.constraint_claim t
 
-  abbrev editClaim : ℕ → List Claim
-  editClaim = its.editClaim t
+  abbrev edit_claim : ℕ → List Claim
+  edit_claim = its.edit_claim t
 
   abbrev L₁ : List Claim
   L₁ = its.L₁ t
@@ -191,15 +191,15 @@ module _ (t : Sparse) where
       rest = second-list Right L₁ (L₂ ++ L₃) rights
 
       variable-of : (i : ℕ) → i < variable_count t → Shown (byte (variable_places_at + i)) 1
-      variable-of i u = its.shown t (byte (variable_places_at + i)) 1 (omega arith) (omega arith) (list-each (λ (l : List Claim). All Right l) variableClaim (variable_count t) (lists-all Right _ (first-list Right L₁ (L₂ ++ L₃) rights)) i u).0
+      variable-of i u = its.shown t (byte (variable_places_at + i)) 1 (omega arith) (omega arith) (list-each (λ (l : List Claim). All Right l) variable_claim (variable_count t) (lists-all Right _ (first-list Right L₁ (L₂ ++ L₃) rights)) i u).0
 
       constraint-of : (i : ℕ) → i < constraint_count t → Shown (byte (constraint_markers_at + i)) (marker_at i) × ((eqb (byte (constraint_others_at + i)) 0 || eqb (kind (byte (constraint_others_at + i))) 2) ≡ true)
       constraint-of i u =
           let c = its.marker-code t (byte (relations_at + i)) (byte (constraint_others_at + i)) in
-          its.tag-shown t (marker_at i) (byte (constraint_markers_at + i)) (byte (constraint_others_at + i)) c.0 c.1 (list-each (λ (l : List Claim). All Right l) constraintClaim (constraint_count t) (lists-all Right _ (first-list Right L₂ L₃ rest)) i u)
+          its.tag-shown t (marker_at i) (byte (constraint_markers_at + i)) (byte (constraint_others_at + i)) c.0 c.1 (list-each (λ (l : List Claim). All Right l) constraint_claim (constraint_count t) (lists-all Right _ (first-list Right L₂ L₃ rest)) i u)
 
       edit-of : (i : ℕ) → i < edit_count t → Shown (byte (edit_markers_at + i)) 3 × ((eqb (byte (edit_others_at + i)) 0 || eqb (kind (byte (edit_others_at + i))) 2) ≡ true)
-      edit-of i u = its.tag-shown t 3 (byte (edit_markers_at + i)) (byte (edit_others_at + i)) (omega arith) (omega arith) (list-each (λ (l : List Claim). All Right l) editClaim (edit_count t) (lists-all Right _ (second-list Right L₂ L₃ rest)) i u)
+      edit-of i u = its.tag-shown t 3 (byte (edit_markers_at + i)) (byte (edit_others_at + i)) (omega arith) (omega arith) (list-each (λ (l : List Claim). All Right l) edit_claim (edit_count t) (lists-all Right _ (second-list Right L₂ L₃ rest)) i u)
 
       tag_of : (i : ℕ) → i < constraint_count t → (steps.tag_kinds (real (constraint_strengths_at + i)) (tag_of_kinds (kind (byte (constraint_markers_at + i))) (byte (constraint_others_at + i)) (kind (byte (constraint_others_at + i)))) ≡ true) × (steps.marker_fits (comparison_in (byte (relations_at + i))) (kind_symbol (kind (byte (constraint_markers_at + i)))) ≡ true)
       tag_of i u =
@@ -276,7 +276,7 @@ module _ (t : Sparse) where
 
   pub claimed-long : length (claimed t.bytes (symbol_count t) (variable_count t) (constraint_count t) (edit_count t)) ≡ place_room
   unfolding claimed codes
-  claimed-long = ap length (sym (its.all_left t)) ∙ claims-length claims (shares table true) ∙ length-listOf place_room (code_at t.bytes k)
+  claimed-long = ap length (sym (its.all_left t)) ∙ claims-length claims (shares table true) ∙ length-list_of place_room (code_at t.bytes k)
 
   -- ---- all that passes the test
 
@@ -310,18 +310,18 @@ module _ (t : Sparse) where
         edit-test (real (edit_strengths_at + i)) (kind (byte (edit_others_at + i))) (kind (byte (edit_markers_at + i))) (byte (edit_others_at + i)) (low _ (live_of.pluses i u))
         ∙ join (at _ (edit_count t) q.errors i u) (at _ (edit_count t) q.edit_tags i u)
 
-    variable-right : k ≤ last_place → (i : ℕ) → i < variable_count t → All Right (variableClaim i)
+    variable-right : k ≤ last_place → (i : ℕ) → i < variable_count t → All Right (variable_claim i)
     unfolding externals_in
     variable-right few i u =
         let e = eqb-true (kind (byte (variable_places_at + i))) 0 (at _ (variable_count t) q.externals i u) in
         (its.is_right t (byte (variable_places_at + i)) 1 few (live_of.variables i u, low _ (live_of.variables i u), omega (arith, e)), tt)
 
-    constraint-right : k ≤ last_place → (i : ℕ) → i < constraint_count t → All Right (constraintClaim i)
+    constraint-right : k ≤ last_place → (i : ℕ) → i < constraint_count t → All Right (constraint_claim i)
     constraint-right few i u =
         let a = tag-parts _ _ _ _ _ (tag_at i u) in
         its.tag-right t (marker_at i) (byte (constraint_markers_at + i)) (byte (constraint_others_at + i)) few (live_of.markers i u, low _ (live_of.markers i u), a.0) (live_of.others i u) a.2
 
-    edit-right : k ≤ last_place → (i : ℕ) → i < edit_count t → All Right (editClaim i)
+    edit-right : k ≤ last_place → (i : ℕ) → i < edit_count t → All Right (edit_claim i)
     edit-right few i u =
         let a = edit-parts _ _ _ _ (edit-at i u) in
         its.tag-right t 3 (byte (edit_markers_at + i)) (byte (edit_others_at + i)) few (live_of.pluses i u, low _ (live_of.pluses i u), a.0) (live_of.minuses i u) a.2

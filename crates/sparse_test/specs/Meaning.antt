@@ -9,7 +9,7 @@ use Rattle.std.specs.Float.Ieee.{ne}
 use Rattle.std.proofs.Math.ListN.{get_or}
 use borrow.Author.Tests.{leb-true, le-leb, ltb-true, lt-ltb}
 use Rattle.layout.specs.Rooms.{both}
-use Rattle.layout.proofs.Copied.{length-listOf}
+use Rattle.layout.proofs.Copied.{length-list_of}
 use Rattle.steps.specs.Number.{zero64}
 use Rattle.steps.specs.State.{Constraint, Edit}
 use Rattle.steps.specs.Readable as steps
@@ -190,20 +190,20 @@ module _ (t : Sparse) where
       let u = sym (ascend-list (variable_count t) (λ j. get_or t.words (variable_numbers_at + j) 0)) ∙ sym (ap steps.ascend (numbers-are t)) ∙ x.0 in
       ascends t.words variable_numbers_at (variable_count t) u i j a b
 
-  abbrev pub fewTerms : Constraint → Bool
-  fewTerms c = leb (length c.terms) term_room
+  abbrev pub few_terms : Constraint → Bool
+  few_terms c = leb (length c.terms) term_room
 
-  few-is : (i : ℕ) → fewTerms (constraint_of t i) ≡ leb (get_or t.bytes (term_counts_at + i) 0) term_room
+  few-is : (i : ℕ) → few_terms (constraint_of t i) ≡ leb (get_or t.bytes (term_counts_at + i) 0) term_room
   unfolding constraint_of
-  few-is i = rw (length-listOf (get_or t.bytes (term_counts_at + i) 0) (term_of t (terms_from t i))) refl
+  few-is i = rw (length-list_of (get_or t.bytes (term_counts_at + i) 0) (term_of t (terms_from t i))) refl
 
-  pub few-in : steps.all fewTerms (read t).constraints ≡ true → (i : ℕ) → i < constraint_count t → get_or t.bytes (term_counts_at + i) 0 ≤ term_room
+  pub few-in : steps.all few_terms (read t).constraints ≡ true → (i : ℕ) → i < constraint_count t → get_or t.bytes (term_counts_at + i) 0 ≤ term_room
   unfolding read
-  few-in q i h = leb-true _ _ (sym (few-is i) ∙ listed_at fewTerms (constraint_count t) (constraint_of t) q i h)
+  few-in q i h = leb-true _ _ (sym (few-is i) ∙ listed_at few_terms (constraint_count t) (constraint_of t) q i h)
 
-  pub few-out : ((i : ℕ) → i < constraint_count t → get_or t.bytes (term_counts_at + i) 0 ≤ term_room) → steps.all fewTerms (read t).constraints ≡ true
+  pub few-out : ((i : ℕ) → i < constraint_count t → get_or t.bytes (term_counts_at + i) 0 ≤ term_room) → steps.all few_terms (read t).constraints ≡ true
   unfolding read
-  few-out f = at_listed fewTerms (constraint_count t) (constraint_of t) λ i h. few-is i ∙ le-leb _ _ (f i h)
+  few-out f = at_listed few_terms (constraint_count t) (constraint_of t) λ i h. few-is i ∙ le-leb _ _ (f i h)
 
   pub terms-fit : constraint_count t ≤ most_constraints → ((i : ℕ) → i < constraint_count t → get_or t.bytes (term_counts_at + i) 0 ≤ term_room) → terms_from t (constraint_count t) ≤ most_terms
   unfolding terms_from
@@ -211,7 +211,7 @@ module _ (t : Sparse) where
 
   few-terms : steps.counts_in_range (read t) ≡ true → (i : ℕ) → i < constraint_count t → get_or t.bytes (term_counts_at + i) 0 ≤ term_room
   unfolding steps.counts_in_range
-  few-terms q = few-in (and3 (leb (length (read t).changes.variables) most_variables) (leb (length (steps.tags (read t))) most_constraints) (steps.all fewTerms (read t).constraints) q).2
+  few-terms q = few-in (and3 (leb (length (read t).changes.variables) most_variables) (leb (length (steps.tags (read t))) most_constraints) (steps.all few_terms (read t).constraints) q).2
 
   pub form_in : FormParts t → ((i j : ℕ) → 1 ≤ i → i < j → j ≤ symbol_count t → get_or t.words (ids_at + i) 0 < get_or t.words (ids_at + j) 0) → ((i j : ℕ) → i < j → j < variable_count t → get_or t.words (variable_numbers_at + i) 0 < get_or t.words (variable_numbers_at + j) 0) → terms_from t (constraint_count t) ≤ most_terms → Form t
   form_in p ids numbers terms =

@@ -13,7 +13,7 @@ use Rattle.std.proofs.Math.ListN.{get_or}
 use borrow.Author.Tests.{le-leb, lt-ltb}
 use Rattle.laws.specs.Lists.{list_of, length-tab}
 use Rattle.layout.specs.Rooms.{both}
-use Rattle.layout.proofs.Copied.{length-listOf}
+use Rattle.layout.proofs.Copied.{length-list_of}
 use Rattle.steps.specs.Number.{is_finite, cutoff_fits}
 use Rattle.steps.specs.Symbol.{is_external}
 use Rattle.steps.specs.State.{Variable, Constraint, Edit}
@@ -30,14 +30,14 @@ use Rattle.sparse.specs.Form.{index_at, At}
 use Rattle.sparse_test.specs.Stretch.{ascend_in, between_in, ascends, between, in_between, most, in-most}
 use Rattle.sparse_test.specs.Reads.{live_in, named_in, reads}
 use Rattle.sparse_test.specs.Views.{owners, asked, tag-count, numbers-are, constraint-numbers-are, edit-numbers-are}
-use Rattle.sparse_test.specs.Meaning.{FormParts, form-joined, live_at, named-at, fewTerms, few-in, few-out, reads-readable, reads-parts}
+use Rattle.sparse_test.specs.Meaning.{FormParts, form-joined, live_at, named-at, few_terms, few-in, few-out, reads-readable, reads-parts}
 use Rattle.sparse_test.specs.Tested.{edits_up, tested}
 use Rattle.sparse_test.specs.Parts.{Parts, parts, joined}
 use Rattle.sparse_test.specs.Injective.{each-list, list-each, both-lists, first-list, second-list, distinct_apart}
 use Rattle.sparse_test.specs.Owners.{IdsUp, Owns, once-owns, owns-once, owns-distinct, Placed, placed, all_placed}
 use Rattle.sparse_test.specs.Kept.{kind-near}
 use Rattle.sparse_test.specs.Uses.{NumbersUp, number_is, uses-counted, counted-uses}
-use Rattle.sparse_test.specs.Records.{all-ext, externals-are, constraint-kinds-are, markers-are, groups-are, gone-ascend, notTold, returned-are, edit-kinds-are, olds-are, constraints-finite-are, edits-finite-are}
+use Rattle.sparse_test.specs.Records.{all-ext, externals-are, constraint-kinds-are, markers-are, groups-are, gone-ascend, not_told, returned-are, edit-kinds-are, olds-are, constraints-finite-are, edits-finite-are}
 use Rattle.sparse_test.specs.Tableau.{ids-in, ordered, orderly, RowsLive, rows-up, rows-live, Clear, no-basic, basic-no}
 use Rattle.sparse_test.specs.Cells.{cells-form, cells-clear, cells-finite, finite-cells, form-keys, form-costs, form-values}
 
@@ -52,11 +52,11 @@ module _ (t : Sparse) where
 
   variable-count : length (read t).changes.variables ≡ variable_count t
   unfolding read
-  variable-count = length-listOf (variable_count t) (variable_of t)
+  variable-count = length-list_of (variable_count t) (variable_of t)
 
   gone-count : length (read t).changes.gone ≡ gone_count t
   unfolding read gone_of
-  gone-count = length-listOf (gone_count t) (λ j. get_or t.words (gone_numbers_at + j) 0)
+  gone-count = length-list_of (gone_count t) (λ j. get_or t.words (gone_numbers_at + j) 0)
 
   row_count_lem : length (read t).tableau.rows ≡ row_count t
   unfolding read basics_of
@@ -272,9 +272,9 @@ module _ (t : Sparse) where
     pub reads-constraints : Ascends t.words constraint_numbers_at (constraint_count t)
     reads-constraints = ascends t.words constraint_numbers_at (constraint_count t) (sym constraints-up ∙ ups-of.1)
 
-    few-of : steps.all (fewTerms t) (read t).constraints ≡ true
+    few-of : steps.all (few_terms t) (read t).constraints ≡ true
     unfolding steps.counts_in_range
-    few-of = (and3 (leb (length (read t).changes.variables) most_variables) (leb (length (steps.tags (read t))) most_constraints) (steps.all (fewTerms t) (read t).constraints) c.counts).2
+    few-of = (and3 (leb (length (read t).changes.variables) most_variables) (leb (length (steps.tags (read t))) most_constraints) (steps.all (few_terms t) (read t).constraints) c.counts).2
 
     finite-of : (steps.tableau_finite (read t) ≡ true) × (steps.all (λ (v : Variable). is_finite v.old || is_nan v.old) (read t).changes.variables ≡ true) × (steps.all steps.constraint_finite (read t).constraints ≡ true) × (steps.all steps.edit_finite (read t).edits ≡ true)
     unfolding steps.numbers_finite
@@ -285,9 +285,9 @@ module _ (t : Sparse) where
     unfolding steps.kinds_fit
     kinds-of = and4 (steps.all (λ (v : Variable). is_external v.symbol) (read t).changes.variables) (steps.all (λ (c : Constraint). steps.tag_kinds c.strength c.tag) (read t).constraints) (steps.all (λ (c : Constraint). steps.marker_fits c.comparison c.tag.marker) (read t).constraints) (steps.all steps.edit_kinds (read t).edits) c.kinds
 
-    gone_of_lem : (leb (length (read t).changes.gone) most_gone ≡ true) × (steps.ascend (read t).changes.gone ≡ true) × (steps.all (notTold t) (read t).changes.variables ≡ true)
+    gone_of_lem : (leb (length (read t).changes.gone) most_gone ≡ true) × (steps.ascend (read t).changes.gone ≡ true) × (steps.all (not_told t) (read t).changes.variables ≡ true)
     unfolding steps.gone_fits
-    gone_of_lem = and3 (leb (length (read t).changes.gone) most_gone) (steps.ascend (read t).changes.gone) (steps.all (notTold t) (read t).changes.variables) c.gone
+    gone_of_lem = and3 (leb (length (read t).changes.gone) most_gone) (steps.ascend (read t).changes.gone) (steps.all (not_told t) (read t).changes.variables) c.gone
 
     reads-tested : tested t ≡ true
     reads-tested =

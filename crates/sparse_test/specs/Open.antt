@@ -8,7 +8,7 @@ use Rattle.std.proofs.Math.Dec.{leb}
 use Rattle.std.proofs.lemmas.List.{get_or-replicate}
 use Rattle.std.proofs.lemmas.Bool.{eqb-false}
 use Rattle.laws.specs.Lists.{tab, list_of, all_in}
-use Rattle.layout.proofs.Copied.{length-listOf, getD-listOf}
+use Rattle.layout.proofs.Copied.{length-list_of, get_or-list_of}
 use Rattle.steps.specs.Tests.{member}
 use Rattle.layout.specs.cells.Names.{row_span, last_place, place_room}
 use Rattle.rows.specs.places.Listed.{same}
@@ -74,7 +74,7 @@ pub all_coded : (b : List ℕ) (k q : ℕ) {l : List ℕ} → k ≤ q → q ≤ 
 unfolding codes
 all_coded b k q {l} h i f =
     let o : q ≡ k = omega (arith, h, i) in
-    ext_get_or 0 l (list_of place_room (code_at b k)) (f.long ∙ sym (length-listOf place_room (code_at b k))) λ p u. let m = f.long in f.tells p (omega (arith, u, m)) ∙ (rw o (sym (getD-listOf place_room (code_at b k) p 0 (omega (arith, u, m)))))
+    ext_get_or 0 l (list_of place_room (code_at b k)) (f.long ∙ sym (length-list_of place_room (code_at b k))) λ p u. let m = f.long in f.tells p (omega (arith, u, m)) ∙ (rw o (sym (get_or-list_of place_room (code_at b k) p 0 (omega (arith, u, m)))))
 
 -- ---- what is left of the codes is open
 

@@ -126,13 +126,13 @@ module _ (t : Sparse) where
   gone-ascend = ascend-list (gone_count t) gone
 
   -- not among the gone, or back and not reported
-  abbrev pub notTold : Variable → Bool
-  notTold v = not (member v.number (read t).changes.gone) || never_reported v
+  abbrev pub not_told : Variable → Bool
+  not_told v = not (member v.number (read t).changes.gone) || never_reported v
 
-  pub returned-are : steps.all notTold (read t).changes.variables ≡ returned_fit t.words t.reals (variable_count t) (gone_count t)
+  pub returned-are : steps.all not_told (read t).changes.variables ≡ returned_fit t.words t.reals (variable_count t) (gone_count t)
   unfolding read variable_of gone_of returned_fit place_from never_reported
   returned-are =
-      all_list notTold (variable_count t) (variable_of t)
+      all_list not_told (variable_count t) (variable_of t)
       ∙ all-ext _ _ 0 (variable_count t) λ j a b. ap (λ (x : Bool). not x || ne (real (old_values_at + j)) (real (old_values_at + j))) (member-list (gone_count t) gone (get_or t.words (variable_numbers_at + j) 0))
 
   errors-are : steps.all (λ (e : Edit). is_error e.tag.marker) (read t).edits ≡ errors_in t.bytes (edit_count t)

@@ -118,18 +118,18 @@ module _ (t : Sparse) where
 
   -- ---- rows by ascending id: their places ascend
 
-  abbrev placeAt : ℕ → ℕ
-  placeAt j = byte (row_places_at + 1 + j)
+  abbrev place_byte : ℕ → ℕ
+  place_byte j = byte (row_places_at + 1 + j)
 
   abbrev pub RowsLive : Type 0
-  RowsLive = (j : ℕ) → j < r → At t (placeAt j)
+  RowsLive = (j : ℕ) → j < r → At t (place_byte j)
 
   pub rows-up : IdsUp t → RowsLive → steps.ascend (steps.basic_ids (read t)) ≡ ascend_in t.bytes (row_places_at + 1) r
   unfolding ascend_in
   rows-up up live =
       ap steps.ascend (basic-ids-are t)
-      ∙ ascend-list r (λ j. word (ids_at + placeAt j))
-      ∙ all-ext _ _ 1 r λ j a b. order (placeAt (j - 1)) (placeAt j) (live (j - 1) (omega (arith, a, b))) (live j b)
+      ∙ ascend-list r (λ j. word (ids_at + place_byte j))
+      ∙ all-ext _ _ 1 r λ j a b. order (place_byte (j - 1)) (place_byte j) (live (j - 1) (omega (arith, a, b))) (live j b)
     where
       order : (p q : ℕ) → At t p → At t q → ltb (word (ids_at + p)) (word (ids_at + q)) ≡ ltb p q
       order p q l m =
@@ -146,11 +146,11 @@ module _ (t : Sparse) where
 
   pub rows-live : IdsUp t → RowsLive → steps.all_in (steps.basics (read t)) (steps.live (read t)) ≡ true
   rows-live up live =
-      let ps : List ℕ = list_of r placeAt in
+      let ps : List ℕ = list_of r place_byte in
       let ones : List ℕ = list_of k (λ j. 1 + j) in
-      let l : All (At t) ps = each-list (At t) placeAt r live in
+      let l : All (At t) ps = each-list (At t) place_byte r live in
       let o : All (At t) ones = each-list (At t) (λ j. 1 + j) k (λ j h. (omega arith, omega (arith, h))) in
-      let a : steps.basics (read t) ≡ map (code_at t) ps = basics-are t ∙ sym (map-list (code_at t) r placeAt) in
+      let a : steps.basics (read t) ≡ map (code_at t) ps = basics-are t ∙ sym (map-list (code_at t) r place_byte) in
       let b : steps.live (read t) ≡ map (code_at t) ones = lives-are t ∙ sym (map-list (code_at t) k (λ j. 1 + j)) in
       (rw (a, b) refl) ∙ members-map (code_at t) (At t) (one_place t up) ps ones l o ∙ ones_in k ps l
 
@@ -164,21 +164,21 @@ module _ (t : Sparse) where
       cell-tab (word (ids_at + p)) (symbol_at t) c k 1 p a (omega (arith, b)) refl λ j u v e. let n = up j p u v b in omega (arith, n, e)
 
   abbrev clear : (ℕ → Float) → Type 0
-  clear c = (i : ℕ) → i < r → absent (c (placeAt i)) ≡ true
+  clear c = (i : ℕ) → i < r → absent (c (place_byte i)) ≡ true
 
   clear-holds : IdsUp t → RowsLive → (c : ℕ → Float) → clear c → steps.holds_no_basic (read t) (tab c 1 k) ≡ true
   unfolding steps.holds_no_basic read symbols_of
   clear-holds up live c f =
       join (eq-eqb _ _ (length-tab c 1 k ∙ sym (length-tab (symbol_at t) 1 k)))
       (ap (steps.all (λ n. absent (coefficient_for n (symbols_of t) (tab c 1 k)))) (basic-ids-are t)
-      ∙ at_listed (λ n. absent (coefficient_for n (symbols_of t) (tab c 1 k))) r (λ j. word (ids_at + placeAt j)) λ i u. ap absent (cell-of up c (placeAt i) (live i u)) ∙ f i u)
+      ∙ at_listed (λ n. absent (coefficient_for n (symbols_of t) (tab c 1 k))) r (λ j. word (ids_at + place_byte j)) λ i u. ap absent (cell-of up c (place_byte i) (live i u)) ∙ f i u)
 
   holds-clear : IdsUp t → RowsLive → (c : ℕ → Float) → steps.holds_no_basic (read t) (tab c 1 k) ≡ true → clear c
   unfolding steps.holds_no_basic read
   holds-clear up live c q i u =
       let parts = both (eqb (length (tab c 1 k)) (length (symbols_of t))) (steps.all (λ n. absent (coefficient_for n (symbols_of t) (tab c 1 k))) (steps.basic_ids (read t))) q in
-      sym (ap absent (cell-of up c (placeAt i) (live i u)))
-      ∙ listed_at (λ n. absent (coefficient_for n (symbols_of t) (tab c 1 k))) r (λ j. word (ids_at + placeAt j)) (sym (ap (steps.all (λ n. absent (coefficient_for n (symbols_of t) (tab c 1 k)))) (basic-ids-are t)) ∙ parts.1) i u
+      sym (ap absent (cell-of up c (place_byte i) (live i u)))
+      ∙ listed_at (λ n. absent (coefficient_for n (symbols_of t) (tab c 1 k))) r (λ j. word (ids_at + place_byte j)) (sym (ap (steps.all (λ n. absent (coefficient_for n (symbols_of t) (tab c 1 k)))) (basic-ids-are t)) ∙ parts.1) i u
 
   abbrev cost : ℕ → Float
   cost p = get_or t.reals (objective_at + p) nan

@@ -6,7 +6,7 @@ use Rattle.std.proofs.Math.Nat.{sub-zero}
 use Rattle.std.proofs.lemmas.Bool.{eqb-false}
 use Rattle.laws.specs.Loops.{run, turns}
 use Rattle.laws.specs.Lists.{tab, list_of}
-use Rattle.layout.proofs.Copied.{length-listOf}
+use Rattle.layout.proofs.Copied.{length-list_of}
 use Rattle.rows.specs.places.Spent.{count_of}
 use Rattle.sparse.specs.Places.{most_terms}
 use Rattle.sparse_test.specs.Tested.{index_in, tally, count_uses, no_uses}
@@ -81,6 +81,6 @@ pub uses-most : (b : List ℕ) (v a n : ℕ) {l m : List ℕ} → l ≡ no_uses 
 unfolding no_uses count_uses
 uses-most b v a n {l} e q h p =
     let f : ℕ → ℕ = λ j. index_in b v (get_or b (a + j) 0) in
-    let c : length (list_of n f) ≡ n = length-listOf n f in
+    let c : length (list_of n f) ≡ n = length-list_of n f in
     let k : get_or (tally_each (list_of n f) (replicate 33 0)) p 0 ≤ 0 + length (list_of n f) = tally-most (list_of n f) (replicate 33 0) 0 (λ i. let z = zeros 33 i in omega (arith, z)) p in
     rw (q, e, run-tally f n (replicate 33 0)) (omega (arith, c, k, h))

@@ -40,8 +40,8 @@ module _ (t : Sparse) where
   abbrev v : ℕ
   v = variable_count t
 
-  abbrev placeAt : ℕ → ℕ
-  placeAt j = byte (variable_places_at + j)
+  abbrev place_byte : ℕ → ℕ
+  place_byte j = byte (variable_places_at + j)
 
   abbrev word : ℕ → ℕ
   word j = get_or t.words j 0
@@ -77,11 +77,11 @@ module _ (t : Sparse) where
   fit = uses_fit t.words t.bytes v (edit_count t) (term_count t.bytes (constraint_count t))
 
   abbrev Spent : Type 0
-  Spent = ((j : ℕ) → j < v → word (variable_uses_at + j) ≡ count_of (placeAt j) (asked t)) × All Named (asked t)
+  Spent = ((j : ℕ) → j < v → word (variable_uses_at + j) ≡ count_of (place_byte j) (asked t)) × All Named (asked t)
 
   index-le : (p : ℕ) → index_at t p ≤ v
   unfolding index_at place_in
-  index-le p = place-le placeAt v p
+  index-le p = place-le place_byte v p
 
   none_last : (l : List ℕ) → count_of v (map (index_at t) l) ≡ 0 → All Named l
   unfolding count_of
@@ -100,19 +100,19 @@ module _ (t : Sparse) where
       rw (ne_eqb v (index_at t x) (λ e. omega (arith, e, u))) (zero-add _ ∙ last_none l h.1)
 
   one_index : (x y : ℕ) → Named x → Named y → index_at t x ≡ index_at t y → x ≡ y
-  one_index x y p q e = sym (index-named t x p).0 ∙ ap placeAt e ∙ (index-named t y q).0
+  one_index x y p q e = sym (index-named t x p).0 ∙ ap place_byte e ∙ (index-named t y q).0
 
-  own-index : Apart placeAt v → (j : ℕ) → j < v → index_at t (placeAt j) ≡ j
+  own-index : Apart place_byte v → (j : ℕ) → j < v → index_at t (place_byte j) ≡ j
   unfolding index_at place_in
-  own-index apart j h = place_at placeAt v j apart h
+  own-index apart j h = place_at place_byte v j apart h
 
   -- a variable is counted as often as its place is named
-  counted-at : Apart placeAt v → All Named (asked t) → (j : ℕ) → j < v → count_of j indexes ≡ count_of (placeAt j) (asked t)
+  counted-at : Apart place_byte v → All Named (asked t) → (j : ℕ) → j < v → count_of j indexes ≡ count_of (place_byte j) (asked t)
   counted-at apart all j h =
       let o = own-index apart j h in
-      ap (λ (i : ℕ). count_of i indexes) (sym o) ∙ count_map (index_at t) Named one_index (placeAt j) (asked t) (rw o h) all
+      ap (λ (i : ℕ). count_of i indexes) (sym o) ∙ count_map (index_at t) Named one_index (place_byte j) (asked t) (rw o h) all
 
-  fit-spent : Apart placeAt v → v ≤ most_variables → fit ≡ true → Spent
+  fit-spent : Apart place_byte v → v ≤ most_variables → fit ≡ true → Spent
   unfolding uses_fit uses_are
   fit-spent apart few h =
       let q : uses_are t.words (tally_each indexes no_uses) v ≡ true = rw uses-tallied at h in
@@ -120,7 +120,7 @@ module _ (t : Sparse) where
       let all = none_last (asked t) (sym (tallied-at few v (omega arith)) ∙ eqb-true _ _ f.1) in
       (λ j u. eqb-true _ _ (all-at (λ i. eqb (word (variable_uses_at + i)) (get_or (tally_each indexes no_uses) i 0)) 0 v f.0 j (omega arith) u) ∙ tallied-at few j (omega (arith, u)) ∙ counted-at apart all j u, all)
 
-  spent-fit : Apart placeAt v → v ≤ most_variables → Spent → fit ≡ true
+  spent-fit : Apart place_byte v → v ≤ most_variables → Spent → fit ≡ true
   unfolding uses_fit uses_are
   spent-fit apart few q =
       rw uses-tallied (join
@@ -145,23 +145,23 @@ module _ (t : Sparse) where
       let a = index-named t x p in
       let b = index-named t y q in
       let i : index_at t x ≡ index_at t y = same_index up (index_at t x) (index_at t y) p q (sym a.1 ∙ e ∙ b.1) in
-      sym a.0 ∙ ap placeAt i ∙ b.0
+      sym a.0 ∙ ap place_byte i ∙ b.0
 
-  own-number : Apart placeAt v → (j : ℕ) → j < v → number_at t (placeAt j) ≡ word (variable_numbers_at + j)
+  own-number : Apart place_byte v → (j : ℕ) → j < v → number_at t (place_byte j) ≡ word (variable_numbers_at + j)
   own-number apart j h =
       let i = own-index apart j h in
-      (index-named t (placeAt j) (rw i h)).1 ∙ ap (λ (i : ℕ). word (variable_numbers_at + i)) i
+      (index-named t (place_byte j) (rw i h)).1 ∙ ap (λ (i : ℕ). word (variable_numbers_at + i)) i
 
   -- a variable is used as often as its number stands in the terms
-  used : NumbersUp → Apart placeAt v → All Named (asked t) → (j : ℕ) → j < v → steps.uses_in (word (variable_numbers_at + j)) (steps.stored_terms (read t)) ≡ count_of (placeAt j) (asked t)
+  used : NumbersUp → Apart place_byte v → All Named (asked t) → (j : ℕ) → j < v → steps.uses_in (word (variable_numbers_at + j)) (steps.stored_terms (read t)) ≡ count_of (place_byte j) (asked t)
   used up apart all j h =
       uses-count (word (variable_numbers_at + j)) (steps.stored_terms (read t))
       ∙ ap (count_of (word (variable_numbers_at + j))) (stored-are t)
       ∙ ap (λ (n : ℕ). count_of n (map (number_at t) (asked t))) (sym (own-number apart j h))
-      ∙ count_map (number_at t) Named (one_place up) (placeAt j) (asked t) (rw (own-index apart j h) h) all
+      ∙ count_map (number_at t) Named (one_place up) (place_byte j) (asked t) (rw (own-index apart j h) h) all
 
-  abbrev usedRight : Variable → Bool
-  usedRight x = eqb x.uses (steps.uses_in x.number (steps.stored_terms (read t)))
+  abbrev used_right : Variable → Bool
+  used_right x = eqb x.uses (steps.uses_in x.number (steps.stored_terms (read t)))
 
   known : All Named (asked t) → steps.all_in (map variable_of_term (steps.stored_terms (read t))) (steps.numbers (read t)) ≡ true
   unfolding steps.all_in
@@ -174,30 +174,30 @@ module _ (t : Sparse) where
         mapped l h.1,
       )
 
-  pub uses-counted : NumbersUp → Apart placeAt v → v ≤ most_variables → fit ≡ true → (steps.uses_counted (read t) ≡ true) × All Named (asked t)
+  pub uses-counted : NumbersUp → Apart place_byte v → v ≤ most_variables → fit ≡ true → (steps.uses_counted (read t) ≡ true) × All Named (asked t)
   unfolding steps.uses_counted
   uses-counted up apart few h =
       let q = fit-spent apart few h in
       (join (counted q) (known q.1), q.1)
     where
-      counted : Spent → steps.all usedRight (read t).changes.variables ≡ true
-      counted q = unfold read variable_of in at_listed usedRight v (variable_of t) λ j h. eq-eqb _ _ (q.0 j h ∙ sym (used up apart q.1 j h))
+      counted : Spent → steps.all used_right (read t).changes.variables ≡ true
+      counted q = unfold read variable_of in at_listed used_right v (variable_of t) λ j h. eq-eqb _ _ (q.0 j h ∙ sym (used up apart q.1 j h))
 
-  pub counted-uses : NumbersUp → Apart placeAt v → v ≤ most_variables → All Named (asked t) → steps.uses_counted (read t) ≡ true → fit ≡ true
+  pub counted-uses : NumbersUp → Apart place_byte v → v ≤ most_variables → All Named (asked t) → steps.uses_counted (read t) ≡ true → fit ≡ true
   unfolding steps.uses_counted
   counted-uses up apart few all h =
       spent-fit apart few ((λ j u. eqb-true _ _ (at j u) ∙ used up apart all j u), all)
     where
       at : (j : ℕ) → j < v → eqb (word (variable_uses_at + j)) (steps.uses_in (word (variable_numbers_at + j)) (steps.stored_terms (read t))) ≡ true
-      at j u = unfold read variable_of in listed_at usedRight v (variable_of t) (both (steps.all usedRight (read t).changes.variables) _ h).0 j u
+      at j u = unfold read variable_of in listed_at used_right v (variable_of t) (both (steps.all used_right (read t).changes.variables) _ h).0 j u
 
   -- ---- a number by the place of its variable's symbol
 
   number-none : (p : ℕ) → (index_at t p < variable_count t → ⊥) → number_at t p ≡ 0
   unfolding number_at index_at
   number-none p f =
-      first-elim (λ v. eqb p (placeAt v)) (λ v. word (variable_numbers_at + v)) 0 (λ (z : ℕ). z ≡ 0) 0 v (omega arith)
-      (λ r a b e g. absurd (f (found r (first-at (λ v. eqb p (placeAt v)) (λ v. v) v 0 v r a b e g) b)))
+      first-elim (λ v. eqb p (place_byte v)) (λ v. word (variable_numbers_at + v)) 0 (λ (z : ℕ). z ≡ 0) 0 v (omega arith)
+      (λ r a b e g. absurd (f (found r (first-at (λ v. eqb p (place_byte v)) (λ v. v) v 0 v r a b e g) b)))
       (λ g. refl)
     where
       found : (r : ℕ) → index_at t p ≡ r → r < v → index_at t p < v

@@ -10,7 +10,7 @@ use Rattle.std.proofs.Math.Option.{none, some}
 use Rattle.std.proofs.Math.ListN.{get_or}
 use Rattle.laws.specs.Lists.{tab, list_of}
 use Rattle.layout.specs.Laying.{list_ext}
-use Rattle.layout.proofs.Copied.{length-listOf}
+use Rattle.layout.proofs.Copied.{length-list_of}
 use Rattle.steps.specs.Symbol.{Symbol}
 use Rattle.steps.specs.State.{Term, Tag, Basic, Variable, Constraint, Edit}
 use Rattle.steps.specs.Edit.{edit_terms}
@@ -106,8 +106,8 @@ module _ (t : Sparse) where
   tag-count =
       let a : List Tag = list_of (constraint_count t) (λ i. tag_at (byte (constraint_markers_at + i)) (byte (constraint_others_at + i))) in
       let b : List Tag = list_of (edit_count t) (λ i. tag_at (byte (edit_markers_at + i)) (byte (edit_others_at + i))) in
-      let la : length a ≡ constraint_count t = length-listOf _ _ in
-      let lb : length b ≡ edit_count t = length-listOf _ _ in
+      let la : length a ≡ constraint_count t = length-list_of _ _ in
+      let lb : length b ≡ edit_count t = length-list_of _ _ in
       let ab : length (a ++ b) ≡ length a + length b = length-append a b in
       ap length tags-are ∙ ab ∙ (rw (la, lb) refl)
 

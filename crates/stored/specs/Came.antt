@@ -8,7 +8,7 @@ use Rattle.laws.specs.Lists.{list_of, sum_in}
 use Rattle.layout.specs.Layout.{comparison_in, term_room}
 use Rattle.layout.specs.Copy.{most16}
 use Rattle.layout.specs.Laying.{list_ext}
-use Rattle.layout.proofs.Copied.{length-listOf, getD-listOf}
+use Rattle.layout.proofs.Copied.{length-list_of, get_or-list_of}
 use Rattle.steps.specs.Number.{zero64}
 use Rattle.steps.specs.State.{Tag, Constraint, Edit}
 use Rattle.steps.specs.Tests.{keep_constraint, keep_edit}
@@ -165,7 +165,7 @@ module _ (t w : Sparse) (ready : Ready t w) (uw ub : List ℕ) (ur : List Float)
   module _ (few : p.count ≤ term_room) (holds : HoldsC w y) where
     known : (j : ℕ) → j < p.count → Known w (get_or p.vars j 0)
     known j h = unfold terms.terms_of terms.term_of terms.term_in in
-        (rw (getD-listOf (most16 p.count) (λ j. terms.term_of (terms.term_in p j)) j no_term (rw (sixteen p.count few) h)) at (holds.terms j (rw (length-listOf (most16 p.count) (λ j. terms.term_of (terms.term_in p j)), sixteen p.count few) h)))
+        (rw (get_or-list_of (most16 p.count) (λ j. terms.term_of (terms.term_in p j)) j no_term (rw (sixteen p.count few) h)) at (holds.terms j (rw (length-list_of (most16 p.count) (λ j. terms.term_of (terms.term_in p j)), sixteen p.count few) h)))
 
     variable-in : (j : ℕ) → j < p.count → (index_at u (get_or ub (terms_at + (s.at + j)) 0) < variable_count u) × (number_at u (get_or ub (terms_at + (s.at + j)) 0) ≡ get_or p.vars j 0)
     variable-in j h = rw (byte-in j h) (placed-known t w u ready.lent o bu (get_or p.vars j 0) (get_or raw.mb (terms_at + (s.at + j)) 0) (unfold terms_plan in raw.put.terms j h) (known j h))

@@ -6,7 +6,7 @@ use Rattle.std.proofs.Math.Path.{refl}
 use Rattle.std.proofs.Common.{sym, arith, ltb-true, ltb-false}
 use Rattle.laws.specs.Lists.{list_of, sum_in}
 use Rattle.layout.specs.Laying.{list_ext}
-use Rattle.layout.proofs.Copied.{length-listOf, getD-listOf}
+use Rattle.layout.proofs.Copied.{length-list_of, get_or-list_of}
 use Rattle.sparse.specs.Places.{constraint_markers_at, constraint_others_at, edit_variables_at, edit_markers_at, edit_others_at, terms_at, relations_at}
 use Rattle.sparse.specs.Sparse.{Sparse, symbol_count, variable_count, constraint_count, edit_count, symbol_at, other_at, number_at, terms_from, term_of, constraint_of, edit_of}
 use Rattle.sparse.specs.Concat.{sum-in, sum-le}
@@ -79,7 +79,7 @@ module _ (t w u : Sparse) (form : Form t) (o : Own w) (b : Beside w u) (c e : Pl
           rw (← from-t k j l i) (at-term q)
         where
           at-term : ((j : ℕ) → j < length (constraint_of t (source c k)).terms → Known w (get_or (constraint_of t (source c k)).terms j no_term).variable) → Known w (number_at t (get_or t.bytes (terms_at + (terms_from t (source c k) + j)) 0))
-          at-term q = unfold constraint_of term_of in (rw (getD-listOf (h k) (term_of t (terms_from t (source c k))) j no_term i) at (q j (rw (length-listOf (h k) (term_of t (terms_from t (source c k)))) i)))
+          at-term q = unfold constraint_of term_of in (rw (get_or-list_of (h k) (term_of t (terms_from t (source c k))) j no_term i) at (q j (rw (length-list_of (h k) (term_of t (terms_from t (source c k)))) i)))
 
       named-term : (k j : ℕ) → k < size c → j < h k → index_at t (get_or t.bytes (terms_at + source s (sum_in h 0 k + j)) 0) < variable_count t
       named-term k j l i =

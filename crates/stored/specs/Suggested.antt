@@ -7,7 +7,7 @@ use Rattle.std.specs.Float.Ieee.{nan}
 use Rattle.std.proofs.Math.Seq.{get_or-set_same}
 use Rattle.laws.specs.Lists.{tab, tab-ext, list_of}
 use Rattle.layout.specs.Laying.{list_ext}
-use Rattle.layout.proofs.Copied.{length-listOf, getD-listOf}
+use Rattle.layout.proofs.Copied.{length-list_of, get_or-list_of}
 use Rattle.steps.specs.State.{Constraint, Edit}
 use Rattle.steps.specs.Tests.{keep_edit, drop_edit}
 use Rattle.sparse.specs.Places.{most_constraints, term_counts_at, edit_markers_at, edit_others_at, constraint_strengths_at, edit_strengths_at, suggestions_at, coefficients_at, constraint_constants_at}
@@ -207,7 +207,7 @@ module _ (w u : Sparse) (cs : List Constraint) (es : List Edit) (r : ℕ) (kept 
       listed = sym kept.edits ∙ edits-read u
 
       lengths : length es ≡ edit_count u
-      lengths = rw listed (length-listOf (edit_count u) (edit_of u))
+      lengths = rw listed (length-list_of (edit_count u) (edit_of u))
 
       at_j : (get_or es j no_edit).variable ≡ (edit_of u j).variable
-      at_j = rw listed (ap (λ (e : Edit). e.variable) (getD-listOf (edit_count u) (edit_of u) j no_edit in-range))
+      at_j = rw listed (ap (λ (e : Edit). e.variable) (get_or-list_of (edit_count u) (edit_of u) j no_edit in-range))

@@ -11,7 +11,7 @@ use Rattle.std.proofs.Math.ListN.{get_or, length-set}
 use Rattle.std.proofs.Math.Seq.{get_or-set_other}
 use Rattle.std.proofs.lemmas.Bool.{eqb-false}
 use Rattle.laws.specs.Loops.{run}
-use Rattle.laws.specs.Lists.{tab, list_of, tab-ext, getD-tab}
+use Rattle.laws.specs.Lists.{tab, list_of, tab-ext, get_or-tab}
 use Rattle.steps.specs.Number.{objective_bound, Mark, all_whole, worse}
 use Rattle.steps.specs.Row.{Row, Cell, cell_value, cell_mark, cell_values, cell_marks, insert_cell, insert_symbol, insert_cells}
 use Rattle.steps.specs.State.{Basic, Variable}
@@ -134,7 +134,7 @@ module _ (art : Bool) (t : Sparse) (so : Sound art t) (j : ℕ) (live : j < symb
 
   old : get_or (objective_of t) j nan ≡ get_or t.reals (objective_at + (1 + j)) nan
   unfolding objective_of
-  old = getD-tab (λ p. get_or t.reals (objective_at + p) nan) 1 (symbol_count t) j nan live
+  old = get_or-tab (λ p. get_or t.reals (objective_at + p) nan) 1 (symbol_count t) j nan live
 
   alone : GoalAlone t.reals r
   unfolding symbol_goal

@@ -4,8 +4,8 @@ use Rattle.std.specs.Prelude.{ℕ, ◌+◌, ◌-◌, ◌*◌, ◌%◌, ◌≤◌
 use Rattle.std.proofs.Math.Path.{refl}
 use Rattle.std.proofs.Common.{sym, ◌∙◌, subst, arith, ltb-true, ltb-false}
 use Rattle.std.specs.Float.{nan}
-use Rattle.laws.specs.Loops.{mapIn}
-use Rattle.laws.specs.Places.{length-mapIn, mapIn-at, mapIn-before}
+use Rattle.laws.specs.Loops.{map_in}
+use Rattle.laws.specs.Places.{length-map_in, map_in-at, map_in-before}
 use Rattle.steps.specs.Symbol.{absent}
 use Rattle.sparse.specs.Places.{most_rows}
 use Rattle.layout.specs.cells.Names.{row_span, last_place}
@@ -58,23 +58,23 @@ module _ (lines n i : ℕ) (keys : List ℕ) (vals : List Float) (h : Held lines
 
     -- a key after: one before the line, or one past it, lowered
     each : (P : ℕ → Type 0) → ((j : ℕ) → j < n → get_or keys j 0 < i * row_span → P (get_or keys j 0)) → ((j : ℕ) → j < n → i * row_span + row_span ≤ get_or keys j 0 → P (get_or keys j 0 - row_span))
-        → (j : ℕ) → j < n - e + a → P (get_or (mapIn (λ x. x - row_span) a (n - e + a) (moved e a (n - e) keys)) j 0)
+        → (j : ℕ) → j < n - e + a → P (get_or (map_in (λ x. x - row_span) a (n - e + a) (moved e a (n - e) keys)) j 0)
     each P old new j l = go (ltb j a) refl
       where
         f : (a ≤ e) × (e ≤ n)
         f = ends
 
-        go : (b : Bool) → ltb j a ≡ b → P (get_or (mapIn (λ x. x - row_span) a (n - e + a) (moved e a (n - e) keys)) j 0)
+        go : (b : Bool) → ltb j a ≡ b → P (get_or (map_in (λ x. x - row_span) a (n - e + a) (moved e a (n - e) keys)) j 0)
         go true q =
             let u = ltb-true j a q in
-            subst P (sym (mapIn-before (λ x. x - row_span) a (n - e + a) (moved e a (n - e) keys) j 0 u ∙ moved_before e a (n - e) keys j 0 c₁ c₂ u)) (old j (omega (arith, u, f)) (r.0.2 j (omega arith) u))
+            subst P (sym (map_in-before (λ x. x - row_span) a (n - e + a) (moved e a (n - e) keys) j 0 u ∙ moved_before e a (n - e) keys j 0 c₁ c₂ u)) (old j (omega (arith, u, f)) (r.0.2 j (omega arith) u))
         go false q =
             let u = ltb-false j a q in
             let w = length_moved e a (n - e) keys c₁ c₂ in
             let o : a + (j - a) ≡ j = omega (arith, u) in
             let p : get_or (moved e a (n - e) keys) (a + (j - a)) 0 ≡ get_or keys (e + (j - a)) 0 = moved_in e a (n - e) keys (j - a) 0 c₁ c₂ (omega (arith, l, u)) in
             let p₁ : get_or (moved e a (n - e) keys) j 0 ≡ get_or keys (e + (j - a)) 0 = rw o at p in
-            subst P (sym (mapIn-at (λ x. x - row_span) a (n - e + a) (moved e a (n - e) keys) j 0 u l (omega (arith, l, w, c₂)) ∙ rw p₁ refl))
+            subst P (sym (map_in-at (λ x. x - row_span) a (n - e + a) (moved e a (n - e) keys) j 0 u l (omega (arith, l, w, c₂)) ∙ rw p₁ refl))
             (new (e + (j - a)) (omega (arith, l, u, f)) (run_past keys n i a e (e + (j - a)) h.up r (omega arith) (omega (arith, l, u, f))))
 
     there : (j : ℕ) → j < n - e + a → absent (get_or (moved e a (n - e) vals) j nan) ≡ false
@@ -101,7 +101,7 @@ module _ (lines n i : ℕ) (keys : List ℕ) (vals : List Float) (h : Held lines
       placed = each (λ x. (1 ≤ x % row_span) × (x % row_span ≤ last_place)) (λ j l u. h.placed j l) (λ j l u. lowered (get_or keys j 0) (h.placed j l) u);
       low = each (λ x. row_span ≤ x) (λ j l u. h.low j l) (λ j l u. omega (arith, u, first));
       high = each (λ x. x < (lines - 1 + 1) * row_span) (λ j l u. omega (arith, u, last, first)) (λ j l u. let g = h.high j l in omega (arith, g, u, last, first));
-      wide = length-mapIn (λ x. x - row_span) a (n - e + a) (moved e a (n - e) keys) ∙ length_moved e a (n - e) keys c₁ c₂ ∙ h.wide;
+      wide = length-map_in (λ x. x - row_span) a (n - e + a) (moved e a (n - e) keys) ∙ length_moved e a (n - e) keys c₁ c₂ ∙ h.wide;
       wides = length_moved e a (n - e) vals d₁ d₂ ∙ h.wides;
     }
       where
@@ -122,14 +122,14 @@ module _ (lines n i : ℕ) (keys : List ℕ) (vals : List Float) (h : Held lines
     abbrev b : ℕ
     b = lower_in keys (i * row_span) 0 n
 
-    raised : (P : ℕ → Type 0) → ((j : ℕ) → j < n → get_or keys j 0 < i * row_span → P (get_or keys j 0)) → ((j : ℕ) → j < n → P (get_or keys j 0 + row_span)) → (j : ℕ) → j < n → P (get_or (mapIn row_after b n keys) j 0)
+    raised : (P : ℕ → Type 0) → ((j : ℕ) → j < n → get_or keys j 0 < i * row_span → P (get_or keys j 0)) → ((j : ℕ) → j < n → P (get_or keys j 0 + row_span)) → (j : ℕ) → j < n → P (get_or (map_in row_after b n keys) j 0)
     raised P old new j l = go (ltb j b) refl
       where
-        go : (c : Bool) → ltb j b ≡ c → P (get_or (mapIn row_after b n keys) j 0)
-        go true q = let u = ltb-true j b q in subst P (sym (mapIn-before row_after b n keys j 0 u)) (old j l ((lower-bound keys (i * row_span) 0 n (omega arith)).2 j (omega arith) u))
+        go : (c : Bool) → ltb j b ≡ c → P (get_or (map_in row_after b n keys) j 0)
+        go true q = let u = ltb-true j b q in subst P (sym (map_in-before row_after b n keys j 0 u)) (old j l ((lower-bound keys (i * row_span) 0 n (omega arith)).2 j (omega arith) u))
         go false q =
             let f = in-keys in
-            subst P (sym (mapIn-at row_after b n keys j 0 (ltb-false j b q) l (omega (arith, l, f)) ∙ after_is (get_or keys j 0) (raisable j l))) (new j l)
+            subst P (sym (map_in-at row_after b n keys j 0 (ltb-false j b q) l (omega (arith, l, f)) ∙ after_is (get_or keys j 0) (raisable j l))) (new j l)
 
     pub held-opened : Held (lines + 1) n (opened n i keys) vals
     unfolding opened Placed
@@ -139,7 +139,7 @@ module _ (lines n i : ℕ) (keys : List ℕ) (vals : List Float) (h : Held lines
       placed = raised (λ x. (1 ≤ x % row_span) × (x % row_span ≤ last_place)) (λ j l u. h.placed j l) (λ j l. lifted (get_or keys j 0) (h.placed j l));
       low = raised (λ x. row_span ≤ x) (λ j l u. h.low j l) (λ j l. omega arith);
       high = raised (λ x. x < (lines + 1 + 1) * row_span) (λ j l u. let g = h.high j l in omega (arith, g)) (λ j l. let g = h.high j l in omega (arith, g));
-      wide = length-mapIn row_after b n keys ∙ h.wide;
+      wide = length-map_in row_after b n keys ∙ h.wide;
       wides = h.wides;
     }
       where

@@ -9,7 +9,7 @@ use Rattle.std.proofs.Math.Dec.{eqb}
 use Rattle.std.specs.Float.Ieee.{nan}
 use Rattle.std.proofs.Math.ListN.{length, get_or, length-set}
 use borrow.Author.Tests.{ltb-true, ltb-false, eq-eqb, ne_eqb}
-use Rattle.laws.specs.Lists.{tab, tab-ext, length-tab, getD-tab}
+use Rattle.laws.specs.Lists.{tab, tab-ext, length-tab, get_or-tab}
 use Rattle.laws.specs.Places.{Every, every-at, at_every}
 use Rattle.steps.specs.Number.{zero64, minus_one64, ◌*₆₄◌, Mark, worse}
 use Rattle.steps.specs.Symbol.{Symbol, is_symbol, absent, clear_cell}
@@ -174,7 +174,7 @@ module _ (art : Bool) (i p : ℕ) (t : Sparse) (so : Sound art t) (low : 1 ≤ i
     before-fine =
         at_every Fine (tab (λ x. cell_at t.keys t.values (cell_count t) (i * row_span + x)) 1 w) nan λ x h.
         let n = length-tab (λ x. cell_at t.keys t.values (cell_count t) (i * row_span + x)) 1 w in
-        rw (getD-tab (λ x. cell_at t.keys t.values (cell_count t) (i * row_span + x)) 1 w x nan (omega (arith, h, n))) (cell-settled t.keys t.values (cell_count t) (i * row_span + (1 + x)) 0 (cell_count t) so.held.present (omega arith) (omega arith))
+        rw (get_or-tab (λ x. cell_at t.keys t.values (cell_count t) (i * row_span + x)) 1 w x nan (omega (arith, h, n))) (cell-settled t.keys t.values (cell_count t) (i * row_span + (1 + x)) 0 (cell_count t) so.held.present (omega arith) (omega arith))
 
     after-fine : Every Fine (cells_of w row₂)
     unfolding dense.row_of
@@ -187,7 +187,7 @@ module _ (art : Bool) (i p : ℕ) (t : Sparse) (so : Sound art t) (low : 1 ≤ i
         let n = length-tab (λ y. get_or row₂ y nan) 1 w in
         let o : 1 + (x - 1) ≡ x = omega (arith, a) in
         let g : Fine (get_or (tab (λ y. get_or row₂ y nan) 1 w) (x - 1) nan) = every-at Fine (tab (λ y. get_or row₂ y nan) 1 w) nan d (x - 1) (omega (arith, n, a, b)) in
-        let k : get_or (tab (λ y. get_or row₂ y nan) 1 w) (x - 1) nan ≡ get_or row₂ x nan = getD-tab (λ y. get_or row₂ y nan) 1 w (x - 1) nan (omega (arith, a, b)) ∙ ap (λ (z : ℕ). get_or row₂ z nan) o in
+        let k : get_or (tab (λ y. get_or row₂ y nan) 1 w) (x - 1) nan ≡ get_or row₂ x nan = get_or-tab (λ y. get_or row₂ y nan) 1 w (x - 1) nan (omega (arith, a, b)) ∙ ap (λ (z : ℕ). get_or row₂ z nan) o in
         subst Fine k g
 
     found : find_row l (basics_of t) ≡ some (basic_of t i).row

@@ -6,7 +6,7 @@ use Rattle.std.proofs.Common.{sym, ap, ◌∙◌, arith}
 use Rattle.std.proofs.Math.Bool.{false}
 use Rattle.std.specs.Float.{nan}
 use borrow.Author.Tests.{ne_eqb}
-use Rattle.laws.specs.Loops.{mapIn}
+use Rattle.laws.specs.Loops.{map_in}
 use Rattle.laws.specs.Lists.{tab}
 use Rattle.steps.specs.Number.{Mark}
 use Rattle.steps.specs.Symbol.{is_symbol}
@@ -91,13 +91,13 @@ module _ (p : ℕ) (t : Sparse) (so : Sound false t) (low : 1 ≤ p) (high : p �
 
 module _ (p : ℕ) (t : Sparse) (so : Sound false t) (low : 1 ≤ p) (high : p ≤ symbol_count t) (free : Free p t) (unowned : Unowned p t) where
   tables-by : (left : ℕ) (ws ks bs bs₁ bs₂ : List ℕ) (rs vs : List Float) → cells ks vs left ≡ purged_cells (cell_count t) p t.keys t.values → ws ≡ closed 0 (ids_at + p) (ids_at + symbol_count t) t.words
-      → bs ≡ closed 0 (kinds_at + p) (kinds_at + symbol_count t) t.bytes → bs₁ ≡ mapIn (near_place p) (row_places_at + 1) (row_places_at + 1 + row_count t) bs → bs₂ ≡ mapIn (near_place p) variable_places_at (variable_places_at + variable_count t) bs₁
+      → bs ≡ closed 0 (kinds_at + p) (kinds_at + symbol_count t) t.bytes → bs₁ ≡ map_in (near_place p) (row_places_at + 1) (row_places_at + 1 + row_count t) bs → bs₂ ≡ map_in (near_place p) variable_places_at (variable_places_at + variable_count t) bs₁
       → rs ≡ closed nan (objective_at + p) (objective_at + symbol_count t) t.reals → sparse (set (set ws symbol_count_at (symbol_count t - 1)) cell_count_at left) ks bs₂ rs vs ≡ closed_in p t
   unfolding closed_in
   tables-by left ws ks bs bs₁ bs₂ rs vs c e f g h i = rw (h, g, f, e, i, ← c) refl
 
   pub close-calls : (left : ℕ) (ws ks bs bs₁ bs₂ : List ℕ) (rs vs : List Float) → cells ks vs left ≡ purged_cells (cell_count t) p t.keys t.values → ws ≡ closed 0 (ids_at + p) (ids_at + symbol_count t) t.words
-      → bs ≡ closed 0 (kinds_at + p) (kinds_at + symbol_count t) t.bytes → bs₁ ≡ mapIn (near_place p) (row_places_at + 1) (row_places_at + 1 + row_count t) bs → bs₂ ≡ mapIn (near_place p) variable_places_at (variable_places_at + variable_count t) bs₁
+      → bs ≡ closed 0 (kinds_at + p) (kinds_at + symbol_count t) t.bytes → bs₁ ≡ map_in (near_place p) (row_places_at + 1) (row_places_at + 1 + row_count t) bs → bs₂ ≡ map_in (near_place p) variable_places_at (variable_places_at + variable_count t) bs₁
       → rs ≡ closed nan (objective_at + p) (objective_at + symbol_count t) t.reals → Closes p t (sparse (set (set ws symbol_count_at (symbol_count t - 1)) cell_count_at left) ks bs₂ rs vs)
   close-calls left ws ks bs bs₁ bs₂ rs vs c e f g h i =
       subst (Closes p t) (sym (tables-by left ws ks bs bs₁ bs₂ rs vs c e f g h i)) (close-reads p t (closed_in p t) (closing p t so low high) so low high free unowned)

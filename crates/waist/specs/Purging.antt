@@ -130,22 +130,22 @@ module _ (p : ℕ) (t u : Sparse) (gl : Closing p t u) (so : Sound false t) (low
 
   -- cells along the symbols
   module _ (g g' : ℕ → Float) (same : (q : ℕ) → 1 ≤ q → q < p → g' q ≡ g q) (next : (q : ℕ) → p ≤ q → q < k → g' q ≡ g (suc q)) where
-    abbrev cellsFrom : ℕ → ℕ → List Float
-    cellsFrom i m = tab (λ j. g (1 + j)) i m
+    abbrev cells_from : ℕ → ℕ → List Float
+    cells_from i m = tab (λ j. g (1 + j)) i m
 
     abbrev symbols_from : ℕ → ℕ → List Symbol
     symbols_from i m = tab (λ j. symbol_at t (1 + j)) i m
 
-    abbrev lookCells : ℕ → ℕ → List Float
-    lookCells i m = delete_cell id (symbols_from i m) (cellsFrom i m)
+    abbrev look_cells : ℕ → ℕ → List Float
+    look_cells i m = delete_cell id (symbols_from i m) (cells_from i m)
 
-    cells-end : (i : ℕ) → lookCells i zero ≡ []
+    cells-end : (i : ℕ) → look_cells i zero ≡ []
     unfolding tab delete_cell
     cells-end i = refl
 
-    cells-step : (i m : ℕ) → lookCells i (suc m) ≡ cond (asked (1 + i)) (cellsFrom (suc i) m) (g (1 + i) ∷ lookCells (suc i) m)
+    cells-step : (i m : ℕ) → look_cells i (suc m) ≡ cond (asked (1 + i)) (cells_from (suc i) m) (g (1 + i) ∷ look_cells (suc i) m)
     unfolding tab delete_cell is_symbol
-    cells-step i m = as-cond (eqb id (symbol_at t (1 + i)).id) (cellsFrom (suc i) m) (g (1 + i) ∷ lookCells (suc i) m)
+    cells-step i m = as-cond (eqb id (symbol_at t (1 + i)).id) (cells_from (suc i) m) (g (1 + i) ∷ look_cells (suc i) m)
 
     cut_cells : tab g' 1 (k - 1) ≡ delete_cell id (symbols_of t) (tab g 1 k)
     unfolding symbols_of
@@ -154,22 +154,22 @@ module _ (p : ℕ) (t u : Sparse) (gl : Closing p t u) (so : Sound false t) (low
         let b : tab (λ j. g (1 + j)) 0 k ≡ tab g 1 k = tab-from g 1 0 k in
         let s : tab (λ j. symbol_at t (1 + j)) 0 k ≡ tab (symbol_at t) 1 k = tab-from (symbol_at t) 1 0 k in
         let a : tab (λ j. g' (1 + j)) 0 (k - 1) ≡ tab g' 1 (k - 1) = tab-from g' 1 0 (k - 1) in
-        let walk : lookCells 0 (suc (k - 1)) ≡ tab (λ j. g' (1 + j)) 0 (k - 1) =
-        drop-walk 1 asked (λ j. g (1 + j)) (λ j. g' (1 + j)) lookCells cells-end cells-step (k - 1) p found
+        let walk : look_cells 0 (suc (k - 1)) ≡ tab (λ j. g' (1 + j)) 0 (k - 1) =
+        drop-walk 1 asked (λ j. g (1 + j)) (λ j. g' (1 + j)) look_cells cells-end cells-step (k - 1) p found
         (λ j l. same (1 + j) (omega arith) l)
         (λ j l m. let o : suc (1 + j) ≡ 1 + suc j = omega arith in (rw o at (next (1 + j) l (omega (arith, m))))) in
-        sym a ∙ sym walk ∙ ap (lookCells 0) e ∙ rw (b, s) refl
+        sym a ∙ sym walk ∙ ap (look_cells 0) e ∙ rw (b, s) refl
 
-  abbrev lookSymbols : ℕ → ℕ → List Symbol
-  lookSymbols i m = delete_symbol id (tab (λ j. symbol_at t (1 + j)) i m)
+  abbrev look_symbols : ℕ → ℕ → List Symbol
+  look_symbols i m = delete_symbol id (tab (λ j. symbol_at t (1 + j)) i m)
 
-  symbols-end : (i : ℕ) → lookSymbols i zero ≡ []
+  symbols-end : (i : ℕ) → look_symbols i zero ≡ []
   unfolding tab delete_symbol
   symbols-end i = refl
 
-  symbols-step : (i m : ℕ) → lookSymbols i (suc m) ≡ cond (asked (1 + i)) (tab (λ j. symbol_at t (1 + j)) (suc i) m) (symbol_at t (1 + i) ∷ lookSymbols (suc i) m)
+  symbols-step : (i m : ℕ) → look_symbols i (suc m) ≡ cond (asked (1 + i)) (tab (λ j. symbol_at t (1 + j)) (suc i) m) (symbol_at t (1 + i) ∷ look_symbols (suc i) m)
   unfolding tab delete_symbol is_symbol
-  symbols-step i m = as-cond (eqb id (symbol_at t (1 + i)).id) (tab (λ j. symbol_at t (1 + j)) (suc i) m) (symbol_at t (1 + i) ∷ lookSymbols (suc i) m)
+  symbols-step i m = as-cond (eqb id (symbol_at t (1 + i)).id) (tab (λ j. symbol_at t (1 + j)) (suc i) m) (symbol_at t (1 + i) ∷ look_symbols (suc i) m)
 
   symbols-are : symbols_of u ≡ delete_symbol id (symbols_of t)
   unfolding symbols_of
@@ -177,11 +177,11 @@ module _ (p : ℕ) (t u : Sparse) (gl : Closing p t u) (so : Sound false t) (low
       let e : suc (k - 1) ≡ k = omega (arith, low, high) in
       let s : tab (λ j. symbol_at t (1 + j)) 0 k ≡ tab (symbol_at t) 1 k = tab-from (symbol_at t) 1 0 k in
       let a : tab (λ j. symbol_at u (1 + j)) 0 (k - 1) ≡ tab (symbol_at u) 1 (k - 1) = tab-from (symbol_at u) 1 0 (k - 1) in
-      let walk : lookSymbols 0 (suc (k - 1)) ≡ tab (λ j. symbol_at u (1 + j)) 0 (k - 1) =
-      drop-walk 1 asked (λ j. symbol_at t (1 + j)) (λ j. symbol_at u (1 + j)) lookSymbols symbols-end symbols-step (k - 1) p found
+      let walk : look_symbols 0 (suc (k - 1)) ≡ tab (λ j. symbol_at u (1 + j)) 0 (k - 1) =
+      drop-walk 1 asked (λ j. symbol_at t (1 + j)) (λ j. symbol_at u (1 + j)) look_symbols symbols-end symbols-step (k - 1) p found
       (λ j l. symbol-before (1 + j) l)
       (λ j l m. let o : suc (1 + j) ≡ 1 + suc j = omega arith in (rw o at (symbol-inside (1 + j) l (omega (arith, m))))) in
-      rw gl.less (sym a ∙ sym walk ∙ ap (lookSymbols 0) e ∙ ap (delete_symbol id) s)
+      rw gl.less (sym a ∙ sym walk ∙ ap (look_symbols 0) e ∙ ap (delete_symbol id) s)
 
   objective-is : objective_of u ≡ delete_cell id (symbols_of t) (objective_of t)
   unfolding objective_of

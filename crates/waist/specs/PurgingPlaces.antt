@@ -8,8 +8,8 @@ use native.Mathlib.Omega.{arith}
 use Rattle.std.specs.Float.Ieee.{nan}
 use Rattle.std.proofs.Math.ListN.{length-set}
 use Rattle.std.proofs.Math.Seq.{get_or-set_same, get_or-set_other}
-use Rattle.laws.specs.Loops.{mapIn}
-use Rattle.laws.specs.Places.{length-mapIn, mapIn-at, mapIn-before, mapIn-after}
+use Rattle.laws.specs.Loops.{map_in}
+use Rattle.laws.specs.Places.{length-map_in, map_in-at, map_in-before, map_in-after}
 use Rattle.rows.specs.moves.Close.{closed}
 use Rattle.rows.specs.moves.Moved.{closed-before, closed-inside, closed_after, length-closed}
 use Rattle.sparse.specs.Places.{symbol_count_at, cell_count_at, ids_at, variable_numbers_at, kinds_at, row_places_at, variable_places_at, changed_at, objective_at, cutoff_at}
@@ -25,7 +25,7 @@ unfoldable pub closed_in : ℕ → Sparse → Sparse
 closed_in p t =
     let c : Cells = purged_cells (cell_count t) p t.keys t.values in
     sparse (set (set (closed 0 (ids_at + p) (ids_at + symbol_count t) t.words) symbol_count_at (symbol_count t - 1)) cell_count_at c.size) c.keys
-    (mapIn (near_place p) variable_places_at (variable_places_at + variable_count t) (mapIn (near_place p) (row_places_at + 1) (row_places_at + 1 + row_count t) (closed 0 (kinds_at + p) (kinds_at + symbol_count t) t.bytes)))
+    (map_in (near_place p) variable_places_at (variable_places_at + variable_count t) (map_in (near_place p) (row_places_at + 1) (row_places_at + 1 + row_count t) (closed 0 (kinds_at + p) (kinds_at + symbol_count t) t.bytes)))
     (closed nan (objective_at + p) (objective_at + symbol_count t) t.reals) c.vals
 
 -- the same, place by place
@@ -123,13 +123,13 @@ module _ (p : ℕ) (t : Sparse) (so : Sound false t) (low : 1 ≤ p) (high : p �
   b₁ = closed 0 (kinds_at + p) (kinds_at + k) t.bytes
 
   abbrev b₂ : List ℕ
-  b₂ = mapIn (near_place p) (row_places_at + 1) (row_places_at + 1 + r) b₁
+  b₂ = map_in (near_place p) (row_places_at + 1) (row_places_at + 1 + r) b₁
 
   wide₁ : length b₁ ≡ length t.bytes
   wide₁ = length-closed 0 (kinds_at + p) (kinds_at + k) t.bytes (omega (arith, high)) bytes-room 0
 
   wide₂ : length b₂ ≡ length t.bytes
-  wide₂ = length-mapIn (near_place p) (row_places_at + 1) (row_places_at + 1 + r) b₁ ∙ wide₁
+  wide₂ = length-map_in (near_place p) (row_places_at + 1) (row_places_at + 1 + r) b₁ ∙ wide₁
 
   byte_past : (q : ℕ) → row_places_at ≤ q → get_or b₁ q 0 ≡ get_or t.bytes q 0
   byte_past q h = let l = narrow in closed_after 0 (kinds_at + p) (kinds_at + k) t.bytes (omega (arith, high)) bytes-room 0 q (omega (arith, h, l))
@@ -137,7 +137,7 @@ module _ (p : ℕ) (t : Sparse) (so : Sound false t) (low : 1 ≤ p) (high : p �
   byte_low : (q : ℕ) → q ≤ row_places_at → get_or u.bytes q 0 ≡ get_or b₁ q 0
   unfolding closed_in
   byte_low q h =
-      mapIn-before (near_place p) variable_places_at (variable_places_at + variable_count t) b₂ q 0 (omega (arith, h)) ∙ mapIn-before (near_place p) (row_places_at + 1) (row_places_at + 1 + r) b₁ q 0 (omega (arith, h))
+      map_in-before (near_place p) variable_places_at (variable_places_at + variable_count t) b₂ q 0 (omega (arith, h)) ∙ map_in-before (near_place p) (row_places_at + 1) (row_places_at + 1 + r) b₁ q 0 (omega (arith, h))
 
   row-place : (i : ℕ) → 1 ≤ i → i ≤ r → get_or u.bytes (row_places_at + i) 0 ≡ near_place p (at i)
   unfolding closed_in
@@ -145,8 +145,8 @@ module _ (p : ℕ) (t : Sparse) (so : Sound false t) (low : 1 ≤ p) (high : p �
       let f = so.few in
       let l = so.named.wide in
       let s = wide₁ in
-      mapIn-before (near_place p) variable_places_at (variable_places_at + variable_count t) b₂ (row_places_at + i) 0 (omega (arith, b, f))
-      ∙ mapIn-at (near_place p) (row_places_at + 1) (row_places_at + 1 + r) b₁ (row_places_at + i) 0 (omega (arith, a)) (omega (arith, b)) (omega (arith, b, f, l, s))
+      map_in-before (near_place p) variable_places_at (variable_places_at + variable_count t) b₂ (row_places_at + i) 0 (omega (arith, b, f))
+      ∙ map_in-at (near_place p) (row_places_at + 1) (row_places_at + 1 + r) b₁ (row_places_at + i) 0 (omega (arith, a)) (omega (arith, b)) (omega (arith, b, f, l, s))
       ∙ ap (near_place p) (byte_past (row_places_at + i) (omega arith))
 
   own-place : (v : ℕ) → v < variable_count t → get_or u.bytes (variable_places_at + v) 0 ≡ near_place p (own v)
@@ -156,16 +156,16 @@ module _ (p : ℕ) (t : Sparse) (so : Sound false t) (low : 1 ≤ p) (high : p �
       let g = so.named.few-variables in
       let l = so.named.wide in
       let s = wide₂ in
-      mapIn-at (near_place p) variable_places_at (variable_places_at + variable_count t) b₂ (variable_places_at + v) 0 (omega arith) (omega (arith, a)) (omega (arith, a, g, l, s))
-      ∙ ap (near_place p) (mapIn-after (near_place p) (row_places_at + 1) (row_places_at + 1 + r) b₁ (variable_places_at + v) 0 (omega (arith, f)) ∙ byte_past (variable_places_at + v) (omega arith))
+      map_in-at (near_place p) variable_places_at (variable_places_at + variable_count t) b₂ (variable_places_at + v) 0 (omega arith) (omega (arith, a)) (omega (arith, a, g, l, s))
+      ∙ ap (near_place p) (map_in-after (near_place p) (row_places_at + 1) (row_places_at + 1 + r) b₁ (variable_places_at + v) 0 (omega (arith, f)) ∙ byte_past (variable_places_at + v) (omega arith))
 
   byte-later : (q : ℕ) → changed_at ≤ q → get_or u.bytes q 0 ≡ get_or t.bytes q 0
   unfolding closed_in
   byte-later q h =
       let f = so.few in
       let g = so.named.few-variables in
-      mapIn-after (near_place p) variable_places_at (variable_places_at + variable_count t) b₂ q 0 (omega (arith, h, g))
-      ∙ mapIn-after (near_place p) (row_places_at + 1) (row_places_at + 1 + r) b₁ q 0 (omega (arith, h, f))
+      map_in-after (near_place p) variable_places_at (variable_places_at + variable_count t) b₂ q 0 (omega (arith, h, g))
+      ∙ map_in-after (near_place p) (row_places_at + 1) (row_places_at + 1 + r) b₁ q 0 (omega (arith, h, f))
       ∙ byte_past q (omega (arith, h))
 
   kind-before : (q : ℕ) → q < p → get_or u.bytes (kinds_at + q) 0 ≡ get_or t.bytes (kinds_at + q) 0
@@ -202,7 +202,7 @@ module _ (p : ℕ) (t : Sparse) (so : Sound false t) (low : 1 ≤ p) (high : p �
 
   bytes-wide : length u.bytes ≡ length t.bytes
   unfolding closed_in
-  bytes-wide = length-mapIn (near_place p) variable_places_at (variable_places_at + variable_count t) b₂ ∙ wide₂
+  bytes-wide = length-map_in (near_place p) variable_places_at (variable_places_at + variable_count t) b₂ ∙ wide₂
 
   reals-same : length u.reals ≡ length t.reals
   unfolding closed_in

@@ -9,7 +9,7 @@ use native.Mathlib.Omega.{arith}
 use Rattle.std.specs.Float.Ieee.{Float, nan, lt, neg}
 use Rattle.std.proofs.Math.ListN.{get_or}
 use Rattle.laws.specs.Loops.{run}
-use Rattle.laws.specs.Lists.{tab, length-tab, getD-tab}
+use Rattle.laws.specs.Lists.{tab, length-tab, get_or-tab}
 use Rattle.steps.specs.Number.{zero64, ◌/₆₄◌, below_zero}
 use Rattle.steps.specs.Symbol.{is_external, is_restricted, is_dummy, coefficient_for}
 use Rattle.steps.specs.State.{Basic}
@@ -103,7 +103,7 @@ column-reads art t so p low high i =
     let q : 1 + (p - 1) ≡ p = omega (arith, low) in
     let j = live-place t so.named (p - 1) (omega (arith, low, high)) in
     rw q at (coefficient-at (symbol_at t (1 + (p - 1))).id (symbols_of t) (p - 1) (tab (λ x. cell_at t.keys t.values (cell_count t) (i * row_span + x)) 1 (symbol_count t)) nan j (length-tab _ 1 (symbol_count t) ∙ sym (symbols-read t))
-    ∙ getD-tab (λ x. cell_at t.keys t.values (cell_count t) (i * row_span + x)) 1 (symbol_count t) (p - 1) nan (omega (arith, low, high)))
+    ∙ get_or-tab (λ x. cell_at t.keys t.values (cell_count t) (i * row_span + x)) 1 (symbol_count t) (p - 1) nan (omega (arith, low, high)))
 
 -- ---- along a dense row, with the objective
 

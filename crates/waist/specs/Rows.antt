@@ -30,20 +30,20 @@ unfoldable pub row_for : ℕ → List ℕ → List ℕ → Found
 row_for p words bytes = first (λ i. eqb p (get_or bytes (row_places_at + i) 0)) At Nothing 1 (1 + get_or words row_count_at 0)
 
 module _ (t : Sparse) (p : ℕ) where
-  abbrev byPlace : ℕ → Bool
-  byPlace i = eqb p (get_or t.bytes (row_places_at + i) 0)
+  abbrev by_place : ℕ → Bool
+  by_place i = eqb p (get_or t.bytes (row_places_at + i) 0)
 
   pub row-free : row_for p t.words t.bytes ≡ Nothing → Free p t
   unfolding row_for
   row-free e q a b f =
       clash (eq-eqb p (get_or t.bytes (row_places_at + q) 0) (sym f))
-      (first-elim byPlace At Nothing (λ (r : Found). r ≡ Nothing → byPlace q ≡ false) 1 (1 + row_count t) (omega arith) (λ r u v w x z. let o : ◌≡◌ {A = Bool} true false = cc in absurd (clash refl o)) (λ x z. x q a (omega (arith, b))) e)
+      (first-elim by_place At Nothing (λ (r : Found). r ≡ Nothing → by_place q ≡ false) 1 (1 + row_count t) (omega arith) (λ r u v w x z. let o : ◌≡◌ {A = Bool} true false = cc in absurd (clash refl o)) (λ x z. x q a (omega (arith, b))) e)
 
   pub row_at : (i : ℕ) → row_for p t.words t.bytes ≡ At i → get_or t.bytes (row_places_at + i) 0 ≡ p
   unfolding row_for
   row_at i e =
       sym (eqb-true p (get_or t.bytes (row_places_at + i) 0)
-      (first-elim byPlace At Nothing (λ (r : Found). r ≡ At i → byPlace i ≡ true) 1 (1 + row_count t) (omega arith) (λ r u v w x z. let o : r ≡ i = cc in rw (← o) w) (λ x z. let o : ◌≡◌ {A = Bool} true false = cc in absurd (clash refl o)) e))
+      (first-elim by_place At Nothing (λ (r : Found). r ≡ At i → by_place i ≡ true) 1 (1 + row_count t) (omega arith) (λ r u v w x z. let o : r ≡ i = cc in rw (← o) w) (λ x z. let o : ◌≡◌ {A = Bool} true false = cc in absurd (clash refl o)) e))
 
 module _ (art : Bool) (t : Sparse) (so : Sound art t) (p : ℕ) (low : 1 ≤ p) (high : p ≤ symbol_count t) where
   abbrev by_id : ℕ → Bool
@@ -52,7 +52,7 @@ module _ (art : Bool) (t : Sparse) (so : Sound art t) (p : ℕ) (low : 1 ≤ p) 
   look-same : first by_id At Nothing 1 (1 + row_count t) ≡ row_for p t.words t.bytes
   unfolding row_for
   look-same =
-      first-moved by_id (byPlace t p) At At Nothing (row_count t) 1 1
+      first-moved by_id (by_place t p) At At Nothing (row_count t) 1 1
       (λ j l. let r = so.rows (1 + j) (omega arith) (omega (arith, l)) in sym (same_place t.words t.bytes so.named p (get_or t.bytes (row_places_at + (1 + j)) 0) low high r.0 r.1))
       (λ j l. refl)
 

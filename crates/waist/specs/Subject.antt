@@ -106,14 +106,14 @@ module _ (t : Sparse) (n : Named t.words t.bytes) (row : List Float) where
       by true = refl
       by false = refl
 
-  abbrev otherTaken : Option Symbol → Option Symbol
-  otherTaken o = picked (λ (s : Symbol). if_so (is_pivotable s && below_zero (cell s)) s) none o
+  abbrev other_taken : Option Symbol → Option Symbol
+  other_taken o = picked (λ (s : Symbol). if_so (is_pivotable s && below_zero (cell s)) s) none o
 
-  other-chosen : (o : ℕ) → o ≤ symbol_count t → otherTaken (other_at t o) ≡ named t (cond (eqb o 0) Nothing (negative_of o t.bytes row))
+  other-chosen : (o : ℕ) → o ≤ symbol_count t → other_taken (other_at t o) ≡ named t (cond (eqb o 0) Nothing (negative_of o t.bytes row))
   unfolding other_at
   other-chosen o high = by (eqb o 0) refl
     where
-      by : (b : Bool) → eqb o 0 ≡ b → otherTaken (cond b none (some (symbol_at t o))) ≡ named t (cond b Nothing (negative_of o t.bytes row))
+      by : (b : Bool) → eqb o 0 ≡ b → other_taken (cond b none (some (symbol_at t o))) ≡ named t (cond b Nothing (negative_of o t.bytes row))
       by true e = refl
       by false e = let d = eqb-false o 0 e in tag-chosen o (omega (arith, d)) high
 
@@ -129,7 +129,7 @@ module _ (t : Sparse) (n : Named t.words t.bytes) (row : List Float) where
         let o : Found = cond (eqb other 0) Nothing (negative_of other t.bytes row) in
         let e : Found = look_of want.External false t.words t.bytes row in
         let b : Bool = is_pivotable (symbol_at t marker) && below_zero (cell (symbol_at t marker)) in
-        let c : Option Symbol = otherTaken (other_at t other) in
+        let c : Option Symbol = other_taken (other_at t other) in
         ap (λ (z : Option Symbol). is_first_of z (elim b [ true ↦ some (symbol_at t marker) | false ↦ c ])) (look-chosen t want.External false row)
         ∙ ap (λ (z : Option Symbol). is_first_of (named t e) z) (so-first b (symbol_at t marker) c
         ∙ ap (λ (z : Option Symbol). is_first_of z c) (tag-chosen marker low high)

@@ -28,13 +28,13 @@ use Rattle.sparse.specs.Widths.{symbols-read}
 use Rattle.layout.specs.cells.Names.{row_span, last_place}
 use Rattle.layout.specs.cells.Cells.{row_of, cell_at}
 use Rattle.waist.specs.merging.Merge.{other_cell}
-use Rattle.waist.specs.substituting.Lines.{Lines, lines, held_by, linesIn}
+use Rattle.waist.specs.substituting.Lines.{Lines, lines, held_by, lines_in}
 use Rattle.waist.specs.substituting.LinesRead.{line_of, step_of, step-changed, lines-held, lines-row, lines-mark, lines-beyond, lines_long}
 use Rattle.waist.specs.substituting.Objective.{Aim, objective_in, objective_along, objective-cells, objective-mark, objective-beyond, objective-long}
 use Rattle.waist.specs.substituting.Notes.{Noted, noted, changes, note_rows}
 use Rattle.waist.specs.substituting.Gone.{gone-kept}
 use Rattle.waist.specs.substituting.Named.{Named, NotesKept, named-kept}
-use Rattle.waist.specs.substituting.NotesRead.{note_in, steppedRow, notes-read, notes-kept}
+use Rattle.waist.specs.substituting.NotesRead.{note_in, stepped_row, notes-read, notes-kept}
 use Rattle.waist.specs.substituting.Held.{Held}
 use Rattle.waist.specs.Working.{artificial_of, work_of, cutoff_of, work, work-parts, lines_of, lines_same, dense-cells, Sound, named-words, lines-few, rows-lines, live-place, basic-symbol}
 use Rattle.waist.specs.Owning.{Inside, Kept, Low, owners-by, low_rows}
@@ -68,7 +68,7 @@ module _ (art : Bool) (j : ℕ) (row : List Float) (t : Sparse) (so : Sound art 
   l₀ = lines t.keys t.values (cell_count t) t.reals all_whole
 
   abbrev l₁ : Lines
-  l₁ = linesIn cutoff (1 + j) m y cols others count l₀
+  l₁ = lines_in cutoff (1 + j) m y cols others count l₀
 
   abbrev o : Aim
   o = objective_in cutoff (1 + j) w row l₁.reals
@@ -77,14 +77,14 @@ module _ (art : Bool) (j : ℕ) (row : List Float) (t : Sparse) (so : Sound art 
   s = note_rows (1 + j) y (cell_count t) t.keys t.values r (noted t.words t.bytes)
 
   -- what the code leaves
-  unfoldable pub substitutedIn : Sparse
-  substitutedIn = record { words = set s.words cell_count_at l₁.size; keys = l₁.keys; bytes = s.bytes; reals = o.reals; values = l₁.vals }
+  unfoldable pub substituted_in : Sparse
+  substituted_in = record { words = set s.words cell_count_at l₁.size; keys = l₁.keys; bytes = s.bytes; reals = o.reals; values = l₁.vals }
 
-  unfoldable pub substitutedMark : Mark
-  substitutedMark = worse l₁.mark o.mark
+  unfoldable pub substituted_mark : Mark
+  substituted_mark = worse l₁.mark o.mark
 
   abbrev u : Sparse
-  u = substitutedIn
+  u = substituted_in
 
   place : PlaceOf id symbols j
   place = live-place t so.named j live
@@ -109,15 +109,15 @@ module _ (art : Bool) (j : ℕ) (row : List Float) (t : Sparse) (so : Sound art 
   kept = notes-kept (1 + j) y (cell_count t) t.keys t.values r t so.named so.rows rows_short step changed
 
   pub word : (q : ℕ) → (q ≡ should_clear_at → ⊥) → (q ≡ cell_count_at → ⊥) → get_or u.words q 0 ≡ get_or t.words q 0
-  unfolding substitutedIn
+  unfolding substituted_in
   word q a b = get_or-set_other s.words cell_count_at q l₁.size 0 b ∙ kept.words q a
 
   pub size_is : cell_count u ≡ l₁.size
-  unfolding substitutedIn
+  unfolding substituted_in
   size_is = let n = kept.long in let l = so.named.long in get_or-set_same s.words cell_count_at l₁.size 0 (omega (arith, n, l))
 
   pub byte : (q : ℕ) → q < changed_at → get_or u.bytes q 0 ≡ get_or t.bytes q 0
-  unfolding substitutedIn
+  unfolding substituted_in
   byte q a = kept.before q a
 
   symbol : (p : ℕ) → p ≤ last_place → symbol_at u p ≡ symbol_at t p
@@ -134,12 +134,12 @@ module _ (art : Bool) (j : ℕ) (row : List Float) (t : Sparse) (so : Sound art 
   long₁ = lines_long cutoff id symbols j w m y cols others place (symbols-read t) narrow past count l₀ few so.held so.long
 
   real : (q : ℕ) → q < objective_at + 1 → get_or u.reals q nan ≡ get_or l₁.reals q nan
-  unfolding substitutedIn
+  unfolding substituted_in
   real q h = objective-beyond cutoff id symbols j w row l₁.reals place (symbols-read t) narrow long₁ q (λ p a b e. omega (arith, a, e, h))
 
   -- past the objective, the cutoff among them, the reals stay
   past-real : (q : ℕ) → cutoff_at ≤ q → get_or u.reals q nan ≡ get_or t.reals q nan
-  unfolding substitutedIn
+  unfolding substituted_in
   past-real q h =
       objective-beyond cutoff id symbols j w row l₁.reals place (symbols-read t) narrow long₁ q (λ p a b e. omega (arith, b, e, h, narrow))
       ∙ lines-beyond cutoff id symbols j w m y cols others place (symbols-read t) narrow past count l₀ few so.held so.long q (omega (arith, h, few))
@@ -148,7 +148,7 @@ module _ (art : Bool) (j : ℕ) (row : List Float) (t : Sparse) (so : Sound art 
   cutoff-is = past-real cutoff_at (omega arith)
 
   lined : (i : ℕ) → record { constant = get_or l₁.reals (constants_at + i) nan; cells = row_of u.keys u.values l₁.size w i } ≡ line_of w l₁ i
-  unfolding line_of substitutedIn
+  unfolding line_of substituted_in
   lined i = refl
 
   line : (i : ℕ) → 1 ≤ i → i ≤ count → (basic_of u i).row ≡ (step i).row
@@ -158,10 +158,10 @@ module _ (art : Bool) (j : ℕ) (row : List Float) (t : Sparse) (so : Sound art 
       (lined i ∙ lines-row cutoff id symbols j w m y cols others place (symbols-read t) narrow past count l₀ few so.held so.long i a b)
 
   abbrev sub : ℕ → Substituted
-  sub = steppedRow (1 + j) y (cell_count t) t.keys t.values r t so.named so.rows rows_short step changed
+  sub = stepped_row (1 + j) y (cell_count t) t.keys t.values r t so.named so.rows rows_short step changed
 
   basic : (i : ℕ) → 1 ≤ i → i ≤ r → basic_of u i ≡ record { symbol = (sub i).symbol; row = (sub i).written.row }
-  unfolding steppedRow
+  unfolding stepped_row
   basic i a b =
       let c = rows-lines art t in
       let f = so.few in
@@ -189,7 +189,7 @@ module _ (art : Bool) (j : ℕ) (row : List Float) (t : Sparse) (so : Sound art 
   line_before i = refl
 
   rows_step : substitute_in_rows cutoff id symbols other (basics_of t) ≡ tab sub 1 r
-  unfolding basics_of steppedRow step
+  unfolding basics_of stepped_row step
   rows_step = rows-tab cutoff id symbols other (basic_of t) sub (λ i. sub_by (basic-symbol t i) (ap (substitute_in_row cutoff id symbols other) (line_before i))) r 1
     where
       sub_by : {a b : Symbol} {p q : Written} → a ≡ b → p ≡ q → ◌≡◌ {A = Substituted} (record { symbol = b; written = q }) (record { symbol = a; written = p })
@@ -225,7 +225,7 @@ module _ (art : Bool) (j : ℕ) (row : List Float) (t : Sparse) (so : Sound art 
   before-along = tab-ext _ (λ p. get_or t.reals (objective_at + p) nan) 1 w λ p a b. lines-beyond cutoff id symbols j w m y cols others place (symbols-read t) narrow past count l₀ few so.held so.long (objective_at + p) (omega (arith, few))
 
   after-along : objective_of u ≡ objective_along w o.reals
-  unfolding objective_along objective_of substitutedIn
+  unfolding objective_along objective_of substituted_in
   after-along = rw (word symbol_count_at (λ e. omega (arith, e)) (λ e. omega (arith, e))) refl
 
   abbrev aimed : List Cell
@@ -241,18 +241,18 @@ module _ (art : Bool) (j : ℕ) (row : List Float) (t : Sparse) (so : Sound art 
   -- ---- the changed set
 
   noted-word : (q : ℕ) → (q ≡ cell_count_at → ⊥) → get_or u.words q 0 ≡ get_or s.words q 0
-  unfolding substitutedIn
+  unfolding substituted_in
   noted-word q b = get_or-set_other s.words cell_count_at q l₁.size 0 b
 
   old-real : (v : ℕ) → v < most_variables → get_or u.reals (old_values_at + v) nan ≡ get_or t.reals (old_values_at + v) nan
   old-real v h = real (old_values_at + v) (omega (arith, h)) ∙ lines-beyond cutoff id symbols j w m y cols others place (symbols-read t) narrow past count l₀ few so.held so.long (old_values_at + v) (omega (arith, few))
 
   noted-symbol : (p : ℕ) → symbol_at u p ≡ symbol_at (note_in s t) p
-  unfolding symbol_at substitutedIn
+  unfolding symbol_at substituted_in
   noted-symbol p = rw (get_or-set_other s.words cell_count_at (ids_at + p) l₁.size 0 (λ e. omega (arith, e))) refl
 
   same_bytes : u.bytes ≡ s.bytes
-  unfolding substitutedIn
+  unfolding substituted_in
   same_bytes = refl
 
   noted-variable : (v : ℕ) → v < most_variables → variable_of u v ≡ variable_of (note_in s t) v
@@ -282,7 +282,7 @@ module _ (art : Bool) (j : ℕ) (row : List Float) (t : Sparse) (so : Sound art 
   marks = marks_of (tab sub 1 r)
 
   rows-marked : run (λ q a. worse a (step q).mark) 1 (1 + r) all_whole ≡ marks
-  unfolding steppedRow worse
+  unfolding stepped_row worse
   rows-marked = marks-from sub r 1 all_whole
 
   lines-marked : l₁.mark ≡ cond art (worse marks (step (1 + r)).mark) marks
@@ -297,8 +297,8 @@ module _ (art : Bool) (j : ℕ) (row : List Float) (t : Sparse) (so : Sound art 
           let e : lines_of false t + 1 ≡ 1 + r = let c = row-line-count t in omega (arith, c) in
           rw e rows-marked
 
-  marked : substitutedMark ≡ worse marks (worse (cell_marks objective_bound aimed) (cond art (step (1 + r)).mark all_whole))
-  unfolding substitutedMark
+  marked : substituted_mark ≡ worse marks (worse (cell_marks objective_bound aimed) (cond art (step (1 + r)).mark all_whole))
+  unfolding substituted_mark
   marked = rw (lines-marked, objective-marked) (marks-whole marks (step (1 + r)).mark (cell_marks objective_bound aimed) art)
 
   -- ---- the theorem
@@ -312,41 +312,41 @@ module _ (art : Bool) (j : ℕ) (row : List Float) (t : Sparse) (so : Sound art 
       work cutoff symbols (get_or t.words next_id_at 0) (rows_of (tab sub 1 r)) (cell_values aimed) (all_changed (noted_of (tab sub 1 r)) (read t).changes) (cond art (some (step (1 + r)).row) none)
       (worse a (worse marks (worse (cell_marks objective_bound aimed) (cond art (step (1 + r)).mark all_whole)))) v
 
-  after_is : (a : Mark) (v : ℕ) → work_of art (worse a substitutedMark) v u ≡ result a v
+  after_is : (a : Mark) (v : ℕ) → work_of art (worse a substituted_mark) v u ≡ result a v
   after_is a v =
-      work-parts art (worse a substitutedMark) v u
+      work-parts art (worse a substituted_mark) v u
       ∙ rw (cutoff-is, symbols-are, word next_id_at (λ e. omega (arith, e)) (λ e. omega (arith, e)), rows_are, objective-is, changes-are, artificial-is, marked) refl
 
   steps-are : (a : Mark) (v : ℕ) → substitute id other (work cutoff symbols (get_or t.words next_id_at 0) (basics_of t) (objective_of t) (read t).changes (artificial_of art t) a v) ≡ result a v
   unfolding step
   steps-are a v = rw artificial-before (steps-whole cutoff id symbols other (get_or t.words next_id_at 0) (basics_of t) (objective_of t) (read t).changes (line_of w l₀ (1 + r)) a v art ∙ rw rows_step refl)
 
-  pub substitute-reads : (a : Mark) (v : ℕ) → work_of art (worse a substitutedMark) v u ≡ substitute id (dense.row_of w row) (work_of art a v t)
+  pub substitute-reads : (a : Mark) (v : ℕ) → work_of art (worse a substituted_mark) v u ≡ substitute id (dense.row_of w row) (work_of art a v t)
   substitute-reads a v = after_is a v ∙ sym (ap (substitute id (dense.row_of w row)) (work-parts art a v t) ∙ rw (← loose-is) (steps-are a v))
 
   -- ---- the tables can be worked on further
 
   words_long : length u.words ≡ length s.words
-  unfolding substitutedIn
+  unfolding substituted_in
   words_long = length-set s.words cell_count_at l₁.size
 
   cells-held : Held count l₁.size u.keys u.values
-  unfolding substitutedIn
+  unfolding substituted_in
   cells-held = lines-held cutoff id symbols j w m y cols others place (symbols-read t) narrow past count l₀ few so.held so.long
 
   reals-long : length u.reals ≡ reals_size
-  unfolding substitutedIn
+  unfolding substituted_in
   reals-long = objective-long cutoff id symbols j w row l₁.reals place (symbols-read t) narrow long₁
 
   pub later-byte : (q : ℕ) → changed_at + most_variables ≤ q → get_or u.bytes q 0 ≡ get_or t.bytes q 0
-  unfolding substitutedIn
+  unfolding substituted_in
   later-byte q h = kept.after q h
 
   pub later-real : (q : ℕ) → constraint_strengths_at ≤ q → get_or u.reals q nan ≡ get_or t.reals q nan
   later-real q h = past-real q (omega (arith, h))
 
   keys-within : Inside t → (i : ℕ) → i < l₁.size → get_or u.keys i 0 % row_span ≤ w
-  unfolding substitutedIn
+  unfolding substituted_in
   keys-within h = lines-within cutoff w (1 + j) m y cols others past count few l₀ so.held h
 
   flags-low : Low (noted t.words t.bytes) → Low (noted u.words u.bytes)

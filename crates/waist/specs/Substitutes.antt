@@ -13,7 +13,7 @@ use Rattle.sparse.specs.Sparse.{Sparse, symbol_count, row_count, cell_count, sym
 use Rattle.layout.specs.cells.Names.{cell_room, row_room, last_place}
 use Rattle.layout.specs.cells.Cells.{cells, packed, row_of}
 use Rattle.waist.specs.merging.Merge.{other_cell}
-use Rattle.waist.specs.substituting.Lines.{Lines, lines, linesIn}
+use Rattle.waist.specs.substituting.Lines.{Lines, lines, lines_in}
 use Rattle.waist.specs.substituting.Passed.{Alike}
 use Rattle.waist.specs.substituting.Loose.{SettledRow, loose_none, loose-reads}
 use Rattle.waist.specs.substituting.Objective.{aim, objective_in}
@@ -21,7 +21,7 @@ use Rattle.waist.specs.substituting.Notes.{noted, note_rows}
 use Rattle.waist.specs.Working.{sparse, work_of, cutoff_of, lines_of, Sound}
 use Rattle.waist.specs.Owning.{Kept}
 use Rattle.waist.specs.Agreeing.{work-same, sound-same, kept_same}
-use Rattle.waist.specs.SubstituteReads.{substitutedIn, substitutedMark, size_is, word, byte, later-byte, later-real, substitute-reads, substitute-keeps, substitute-sound}
+use Rattle.waist.specs.SubstituteReads.{substituted_in, substituted_mark, size_is, word, byte, later-byte, later-real, substitute-reads, substitute-keeps, substitute-sound}
 
 -- but for the notes' flag and the count of cells, the words stay; so do the bytes but for the flags, and the reals of the stored constraints and edits
 pub record Stays (t u : Sparse) : Type 0 where
@@ -58,12 +58,12 @@ module _ (art : Bool) (at : ℕ) (row : List Float) (t : Sparse) (so : Sound art
   same = loose-reads (symbol_count t) row cols₀ cols others₀ others m so.named.few-symbols lc lo e ok
 
   abbrev u : Sparse
-  u = substitutedIn art j row t so live m cols others past same
+  u = substituted_in art j row t so live m cols others past same
 
-  done : Substitutes art at row t u (substitutedMark art j row t so live m cols others past same)
+  done : Substitutes art at row t u (substituted_mark art j row t so live m cols others past same)
   done = record {
     reads = λ a v.
-        subst (λ (x : ℕ). work_of art (worse a (substitutedMark art j row t so live m cols others past same)) v u ≡ substitute (symbol_at t x).id (dense.row_of (symbol_count t) row) (work_of art a v t)) from-1
+        subst (λ (x : ℕ). work_of art (worse a (substituted_mark art j row t so live m cols others past same)) v u ≡ substitute (symbol_at t x).id (dense.row_of (symbol_count t) row) (work_of art a v t)) from-1
         (substitute-reads art j row t so live m cols others past same a v);
     sound = substitute-sound art j row t so live m cols others past same;
     stays = record {
@@ -79,25 +79,25 @@ module _ (art : Bool) (at : ℕ) (row : List Float) (t : Sparse) (so : Sound art
   Notes ws bs = noted ws bs ≡ note_rows at y (cell_count t) t.keys t.values (row_count t) (noted t.words t.bytes)
 
   abbrev Merges : List ℕ → List Float → ℕ → List Float → Mark → Type 0
-  Merges ks vs size rs a = lines ks vs size rs a ≡ linesIn (cutoff_of t) at m y cols others (lines_of art t) (lines t.keys t.values (cell_count t) t.reals all_whole)
+  Merges ks vs size rs a = lines ks vs size rs a ≡ lines_in (cutoff_of t) at m y cols others (lines_of art t) (lines t.keys t.values (cell_count t) t.reals all_whole)
 
   abbrev Aims : List Float → List Float → Mark → Type 0
   Aims rs rs' b = aim rs' b ≡ objective_in (cutoff_of t) at (symbol_count t) row rs
 
   tables-are : (ws ws' ks bs : List ℕ) (rs rs' vs : List Float) (size : ℕ) (a b : Mark) → Notes ws bs → Merges ks vs size rs a → Aims rs rs' b → ws' ≡ set ws cell_count_at size → sparse ws' ks bs rs' vs ≡ u
-  unfolding substitutedIn
+  unfolding substituted_in
   tables-are ws ws' ks bs rs rs' vs size a b n l o h = rw (from-1, ← n, ← l, ← o, h) refl
 
-  mark-is : (ks : List ℕ) (rs rs' vs : List Float) (size : ℕ) (a b : Mark) → Merges ks vs size rs a → Aims rs rs' b → worse a b ≡ substitutedMark art j row t so live m cols others past same
-  unfolding substitutedMark
+  mark-is : (ks : List ℕ) (rs rs' vs : List Float) (size : ℕ) (a b : Mark) → Merges ks vs size rs a → Aims rs rs' b → worse a b ≡ substituted_mark art j row t so live m cols others past same
+  unfolding substituted_mark
   mark-is ks rs rs' vs size a b l o = rw (from-1, ← l, ← o) refl
 
   -- the lines, as the definitions have them
   abbrev l₁ : Lines
-  l₁ = linesIn (cutoff_of t) at m y cols others (lines_of art t) (lines t.keys t.values (cell_count t) t.reals all_whole)
+  l₁ = lines_in (cutoff_of t) at m y cols others (lines_of art t) (lines t.keys t.values (cell_count t) t.reals all_whole)
 
   size-now : cell_count u ≡ l₁.size
-  size-now = subst (λ (x : ℕ). cell_count u ≡ (linesIn (cutoff_of t) x m y cols others (lines_of art t) (lines t.keys t.values (cell_count t) t.reals all_whole)).size) from-1 (size_is art j row t so live m cols others past same)
+  size-now = subst (λ (x : ℕ). cell_count u ≡ (lines_in (cutoff_of t) x m y cols others (lines_of art t) (lines t.keys t.values (cell_count t) t.reals all_whole)).size) from-1 (size_is art j row t so live m cols others past same)
 
   -- what the code leaves has the same cells, whatever stands past them
   same-substitutes : (ws ks bs : List ℕ) (rs vs : List Float) (c : Mark) → get_or ws cell_count_at 0 ≡ l₁.size → ((q : ℕ) → q < l₁.size → get_or ks q 0 ≡ get_or l₁.keys q 0) → ((q : ℕ) → q < l₁.size → get_or vs q nan ≡ get_or l₁.vals q nan)
@@ -113,14 +113,14 @@ module _ (art : Bool) (at : ℕ) (row : List Float) (t : Sparse) (so : Sound art
       }
 
   pub substitute-calls : (count : ℕ) (ws ws' ks bs : List ℕ) (rs rs' vs : List Float) (size : ℕ) (a b : Mark) {c : Mark} → count ≡ lines_of art t → Notes ws bs
-      → Alike (lines ks vs size rs a) (linesIn (cutoff_of t) at m y cols others count (lines t.keys t.values (cell_count t) t.reals all_whole)) → Aims rs rs' b → ws' ≡ set ws cell_count_at size → c ≡ worse a b → Substitutes art at row t (sparse ws' ks bs rs' vs) c
+      → Alike (lines ks vs size rs a) (lines_in (cutoff_of t) at m y cols others count (lines t.keys t.values (cell_count t) t.reals all_whole)) → Aims rs rs' b → ws' ≡ set ws cell_count_at size → c ≡ worse a b → Substitutes art at row t (sparse ws' ks bs rs' vs) c
   substitute-calls count ws ws' ks bs rs rs' vs size a b {c} f n g o h q =
-      let l : Alike (lines ks vs size rs a) l₁ = subst (λ (z : ℕ). Alike (lines ks vs size rs a) (linesIn (cutoff_of t) at m y cols others z (lines t.keys t.values (cell_count t) t.reals all_whole))) f g in
+      let l : Alike (lines ks vs size rs a) l₁ = subst (λ (z : ℕ). Alike (lines ks vs size rs a) (lines_in (cutoff_of t) at m y cols others z (lines t.keys t.values (cell_count t) t.reals all_whole))) f g in
       let o₁ : Aims l₁.reals rs' b = subst (λ (z : List Float). Aims z rs' b) l.reals o in
       let h₁ : ws' ≡ set ws cell_count_at l₁.size = h ∙ ap (set ws cell_count_at) l.size in
       let e : sparse ws' l₁.keys bs rs' l₁.vals ≡ u = tables-are ws ws' l₁.keys bs l₁.reals rs' l₁.vals l₁.size l₁.mark b n refl o₁ h₁ in
       let z : get_or ws' cell_count_at 0 ≡ l₁.size = ap (λ (s : Sparse). get_or s.words cell_count_at 0) e ∙ size-now in
-      let k : c ≡ substitutedMark art j row t so live m cols others past same = q ∙ ap (λ (x : Mark). worse x b) l.mark ∙ mark-is l₁.keys l₁.reals rs' l₁.vals l₁.size l₁.mark b refl o₁ in
+      let k : c ≡ substituted_mark art j row t so live m cols others past same = q ∙ ap (λ (x : Mark). worse x b) l.mark ∙ mark-is l₁.keys l₁.reals rs' l₁.vals l₁.size l₁.mark b refl o₁ in
       same-substitutes ws' ks bs rs' vs c z l.keys l.vals l.wide l.wides
       (subst (λ (x : Mark). Substitutes art at row t (sparse ws' l₁.keys bs rs' l₁.vals) x) (sym k)
-      (subst (λ (x : Sparse). Substitutes art at row t x (substitutedMark art j row t so live m cols others past same)) (sym e) done))
+      (subst (λ (x : Sparse). Substitutes art at row t x (substituted_mark art j row t so live m cols others past same)) (sym e) done))

@@ -9,7 +9,7 @@ use Rattle.std.proofs.Math.Dec.{ltb}
 use Rattle.std.specs.Float.{nan}
 use Rattle.std.proofs.Math.ListN.{get_or}
 use borrow.Author.Tests.{ltb-true, ltb-false, eqb-true, eqb-false}
-use Rattle.laws.specs.Lists.{getD-tab}
+use Rattle.laws.specs.Lists.{get_or-tab}
 use Rattle.steps.specs.Number.{zero64}
 use Rattle.steps.specs.Symbol.{absent}
 use Rattle.sparse.specs.Places.{most_rows}
@@ -26,7 +26,7 @@ use Rattle.waist.specs.merging.Merge.{Placed, own_value, own_cell, other_cell, m
 use Rattle.waist.specs.merging.Merging.{inserted-none, row_at}
 use Rattle.waist.specs.merging.Substituted.{settled-absent}
 use Rattle.waist.specs.substituting.Held.{Held, held-room}
-use Rattle.waist.specs.substituting.Lines.{Lines, held_by, line_with, line_in, linesIn, HeldIn, held-line}
+use Rattle.waist.specs.substituting.Lines.{Lines, held_by, line_with, line_in, lines_in, HeldIn, held-line}
 
 -- no key of the first n names a place past w
 abbrev pub Within : ℕ → List ℕ → ℕ → Type 0
@@ -58,7 +58,7 @@ cell-of : (keys : List ℕ) (vals : List Float) (n i p : ℕ) → 1 ≤ p → p 
 unfolding row_of
 cell-of keys vals n i p a b =
     let o : 1 + (p - 1) ≡ p = omega (arith, a) in
-    getD-tab (λ q. cell_at keys vals n (i * row_span + q)) 1 last_place (p - 1) nan (omega (arith, a, b)) ∙ ap (λ (q : ℕ). cell_at keys vals n (i * row_span + q)) o
+    get_or-tab (λ q. cell_at keys vals n (i * row_span + q)) 1 last_place (p - 1) nan (omega (arith, a, b)) ∙ ap (λ (q : ℕ). cell_at keys vals n (i * row_span + q)) o
 
 -- ---- merged lines
 
@@ -104,7 +104,7 @@ module _ (cutoff : Float) (w at m : ℕ) (y : Float) (cols : List ℕ) (others :
             subst (λ (z : ℕ). cell_at c.keys c.vals c.size (z * row_span + p) ≡ zero64) (sym o)
             (sym (cell-of c.keys c.vals c.size i p low v)
             ∙ ap (λ (l : List Float). get_or l (p - 1) nan) (replaced-own s.size i last_place (merged_row cutoff k own (other_cell cols others m)) s.keys s.vals (h.up, omega arith, room, rooms))
-            ∙ getD-tab (λ x. settled (get_or (merged_row cutoff k own (other_cell cols others m)) x nan)) 1 last_place (p - 1) nan x
+            ∙ get_or-tab (λ x. settled (get_or (merged_row cutoff k own (other_cell cols others m)) x nan)) 1 last_place (p - 1) nan x
             ∙ ap (λ (x : ℕ). settled (get_or (merged_row cutoff k own (other_cell cols others m)) x nan)) f
             ∙ ap settled (row_at cutoff k own (other_cell cols others m) p low v ∙ rw (past p u v, own-none p u v) (inserted-none cutoff k zero64))
             ∙ settled-absent zero64 zero-absent)
@@ -122,8 +122,8 @@ module _ (cutoff : Float) (w at m : ℕ) (y : Float) (cols : List ℕ) (others :
       go true = b
       go false = merged-bare s h b i (held_by cutoff at m y cols others i s)
 
-  pub lines-within : (s : Lines) → HeldIn count s → Within w s.keys s.size → Within w (linesIn cutoff at m y cols others count s).keys (linesIn cutoff at m y cols others count s).size
-  unfolding linesIn
+  pub lines-within : (s : Lines) → HeldIn count s → Within w s.keys s.size → Within w (lines_in cutoff at m y cols others count s).keys (lines_in cutoff at m y cols others count s).size
+  unfolding lines_in
   lines-within s h b =
       let r = run-inv (λ (i : ℕ) (t : Lines). HeldIn count t × BareIn t) (line_in cutoff at m y cols others) 1 (count + 1) s (omega arith) (λ i t u v g. (held-line cutoff at m y cols others count i few u (omega (arith, v)) t g.0, line-bare t g.0 g.1 i)) (h, bare_of w s.keys s.vals s.size b) in
       within_of w count _ _ _ r.0 r.1

@@ -8,7 +8,7 @@ use Rattle.std.proofs.Math.Option.{Option, none, some}
 use Rattle.std.specs.Float.{nan}
 use Rattle.std.proofs.Math.ListN.{get_or}
 use Rattle.std.specs.Borrow.{Bor}
-use Rattle.laws.specs.Lists.{tab, list_of, getD-tab}
+use Rattle.laws.specs.Lists.{tab, list_of, get_or-tab}
 use Rattle.steps.specs.Number.{Mark}
 use Rattle.steps.specs.Symbol.{Symbol, is_symbol}
 use Rattle.steps.specs.Row.{Row}
@@ -118,7 +118,7 @@ id-at t p = refl
 module _ (t : Sparse) (n : Named t.words t.bytes) where
   symbol-at : (i : ℕ) (d : Symbol) → i < symbol_count t → get_or (symbols_of t) i d ≡ symbol_at t (1 + i)
   unfolding symbols_of
-  symbol-at i d h = getD-tab (symbol_at t) 1 (symbol_count t) i d h
+  symbol-at i d h = get_or-tab (symbol_at t) 1 (symbol_count t) i d h
 
   pub live-place : (j : ℕ) → j < symbol_count t → PlaceOf (symbol_at t (1 + j)).id (symbols_of t) j
   unfolding is_symbol

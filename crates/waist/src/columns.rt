@@ -1,6 +1,6 @@
 // A place that goes out of the sparse tables: the cells and the names of the places past it come one place down.
 ghost use Rattle.std.specs.Prelude.{◌≡◌, ◌+◌, ◌≤◌, ◌<◌, length};
-ghost use Rattle.laws.specs.Loops.{mapIn};
+ghost use Rattle.laws.specs.Loops.{map_in};
 ghost use Rattle.rows.specs.moves.Close.{closed};
 ghost use Rattle.layout.specs.cells.Names.{cell_room};
 ghost use Rattle.layout.specs.cells.Cells.{nearer_of, cells};
@@ -64,7 +64,7 @@ fn near_place(x: u8, p: u8) -> u8
 // The bytes from a up to e name places.
 pub fn lower_places(bytes: &mut Bytes, a: usize, e: usize, p: u8)
     requires { e ≤ bytes_size }
-    ensures { bytes.new ≡ mapIn (near_place p) a e bytes.old }
+    ensures { bytes.new ≡ map_in (near_place p) a e bytes.old }
 {
     let mut j = a;
     while j < e {

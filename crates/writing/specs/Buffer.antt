@@ -2,7 +2,7 @@
 use Rattle.std.specs.Prelude.{◌≡◌, ℕ, zero, suc, ◌+◌, ◌-◌, ◌/◌, ◌%◌, ◌<◌, ◌≤◌, List, [], ◌∷◌, ◌++◌, length, replicate, ◌≢◌, slice_set, refl}
 use Rattle.std.proofs.Common.{sym, ap, ◌∙◌, subst, append_assoc, append-nil, arith, lt-ltb, le-ltb, length-append, length-set}
 use Rattle.std.proofs.lemmas.List.{length-replicate}
-use Rattle.laws.specs.Loops.{mapIn}
+use Rattle.laws.specs.Loops.{map_in}
 use Rattle.grammar.specs.plain.Plain.{room}
 use Rattle.grammar.specs.plain.Decimal.{decimal_in}
 
@@ -39,8 +39,8 @@ length_more : (l : List ℕ) (b : ℕ) → length (l ++ (b ∷ [])) ≡ suc (len
 length_more l b = rw length-append (omega arith)
 
 -- zeros at every place
-pub zeros : (l : List ℕ) → mapIn (λ (x : ℕ). 0) 0 (length l) l ≡ replicate (length l) 0
-unfolding mapIn
+pub zeros : (l : List ℕ) → map_in (λ (x : ℕ). 0) 0 (length l) l ≡ replicate (length l) 0
+unfolding map_in
 zeros [] = refl
 zeros (x ∷ l) = ap (λ (r : List ℕ). 0 ∷ r) (zeros l)
 

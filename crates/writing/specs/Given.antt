@@ -32,20 +32,20 @@ module _ (vs : List ℕ) (cs : List Float) where
   abbrev pub term_at : ℕ → Term
   term_at j = record { variable = slice_index vs j; coefficient = val (slice_index_or cs j nan) }
 
-  unfoldable pub wholeFrom : ℕ → ℕ → Bool
-  wholeFrom i zero = true
-  wholeFrom i (suc k) = is_figure (slice_index_or cs i nan) && wholeFrom (suc i) k
+  unfoldable pub whole_from : ℕ → ℕ → Bool
+  whole_from i zero = true
+  whole_from i (suc k) = is_figure (slice_index_or cs i nan) && whole_from (suc i) k
 
-  abbrev pub okAt : ℕ → ℕ → Bool
-  okAt n i = ok_figure (figure_of (slice_index_or cs i nan)) (slice_index vs i) && rises_at vs n i
+  abbrev pub ok_at : ℕ → ℕ → Bool
+  ok_at n i = ok_figure (figure_of (slice_index_or cs i nan)) (slice_index vs i) && rises_at vs n i
 
-  unfoldable pub allUpTo : ℕ → ℕ → Bool
-  allUpTo n zero = true
-  allUpTo n (suc i) = allUpTo n i && okAt n i
+  unfoldable pub all_up_to : ℕ → ℕ → Bool
+  all_up_to n zero = true
+  all_up_to n (suc i) = all_up_to n i && ok_at n i
 
-  okFrom : ℕ → ℕ → ℕ → Bool
-  okFrom n i zero = true
-  okFrom n i (suc k) = okAt n i && okFrom n (suc i) k
+  ok_from : ℕ → ℕ → ℕ → Bool
+  ok_from n i zero = true
+  ok_from n i (suc k) = ok_at n i && ok_from n (suc i) k
 
 and-true : (b : Bool) → b && true ≡ b
 and-true true = refl
@@ -83,34 +83,34 @@ module _ (vs : List ℕ) (cs : List Float) where
       by true = rw (abs-zero (val x)) (and_assoc (not (eq_zb (val x) (pos 0))) (nat_le (unsigned_abs (val x)) most) (nat_le v most_name))
       by false = refl
 
-  from_place : (n i k : ℕ) → allUpTo vs cs n (i + k) ≡ allUpTo vs cs n i && okFrom vs cs n i k
-  unfolding okFrom allUpTo
-  from_place n i zero = rw add-zero (sym (and-true (allUpTo vs cs n i)))
+  from_place : (n i k : ℕ) → all_up_to vs cs n (i + k) ≡ all_up_to vs cs n i && ok_from vs cs n i k
+  unfolding ok_from all_up_to
+  from_place n i zero = rw add-zero (sym (and-true (all_up_to vs cs n i)))
   from_place n i (suc k) =
       let e : i + suc k ≡ suc i + k = omega arith in
-      ap (allUpTo vs cs n) e ∙ (from_place n (suc i) k ∙ and_assoc (allUpTo vs cs n i) (okAt vs cs n i) (okFrom vs cs n (suc i) k))
+      ap (all_up_to vs cs n) e ∙ (from_place n (suc i) k ∙ and_assoc (all_up_to vs cs n i) (ok_at vs cs n i) (ok_from vs cs n (suc i) k))
 
   rises : (n i k : ℕ) → i + suc k ≡ n → rises_at vs n i ≡ below_first (slice_index vs i) (tab term (suc i) k)
   unfolding tab
   rises n i zero e = rw (le-ltb (i + 1) n (omega arith))
   rises n i (suc k) e = rw (lt-ltb (i + 1) n (omega arith), add-one i)
 
-  terms-said : (n i k : ℕ) → i + k ≡ n → okFrom vs cs n i k ≡ wholeFrom vs cs i k && (ascends (tab term i k) && terms_said (tab term i k))
-  unfolding okFrom wholeFrom ascends terms_said tab
+  terms-said : (n i k : ℕ) → i + k ≡ n → ok_from vs cs n i k ≡ whole_from vs cs i k && (ascends (tab term i k) && terms_said (tab term i k))
+  unfolding ok_from whole_from ascends terms_said tab
   terms-said n i zero e = refl
   terms-said n i (suc k) e =
       rw (figure-said (slice_index_or cs i nan) (slice_index vs i), rises n i k e, terms-said n (suc i) k (omega arith))
-      (shuffle (is_figure (slice_index_or cs i nan)) (term_said (term i)) (below_first (slice_index vs i) (tab term (suc i) k)) (wholeFrom vs cs (suc i) k) (ascends (tab term (suc i) k)) (terms_said (tab term (suc i) k)))
+      (shuffle (is_figure (slice_index_or cs i nan)) (term_said (term i)) (below_first (slice_index vs i) (tab term (suc i) k)) (whole_from vs cs (suc i) k) (ascends (tab term (suc i) k)) (terms_said (tab term (suc i) k)))
 
-  pub all_said : (n : ℕ) → allUpTo vs cs n n ≡ wholeFrom vs cs 0 n && (ascends (tab term 0 n) && terms_said (tab term 0 n))
-  unfolding allUpTo
+  pub all_said : (n : ℕ) → all_up_to vs cs n n ≡ whole_from vs cs 0 n && (ascends (tab term 0 n) && terms_said (tab term 0 n))
+  unfolding all_up_to
   all_said n =
       let e : 0 + n ≡ n = omega arith in
-      sym (ap (allUpTo vs cs n) e) ∙ (from_place n 0 n ∙ terms-said n 0 n e)
+      sym (ap (all_up_to vs cs n) e) ∙ (from_place n 0 n ∙ terms-said n 0 n e)
 
   -- one place more
-  pub said-next : (n i : ℕ) {f : Figure} {ok b r : Bool} → ok ≡ allUpTo vs cs n i → f ≡ figure_of (slice_index_or cs i nan) → b ≡ ok_figure f (slice_index vs i) → r ≡ rises_at vs n i → ok && (b && r) ≡ allUpTo vs cs n (i + 1)
-  unfolding allUpTo
+  pub said-next : (n i : ℕ) {f : Figure} {ok b r : Bool} → ok ≡ all_up_to vs cs n i → f ≡ figure_of (slice_index_or cs i nan) → b ≡ ok_figure f (slice_index vs i) → r ≡ rises_at vs n i → ok && (b && r) ≡ all_up_to vs cs n (i + 1)
+  unfolding all_up_to
   said-next n i a f b r = rw (add-one i, a, b, r, f)
 
   -- ---- their text
@@ -135,11 +135,11 @@ module _ (vs : List ℕ) (cs : List Float) where
       by true h = refl
       by false h = absurd h
 
-  rest-is : (i k : ℕ) → T (wholeFrom vs cs (suc i) k) → rest (suc i) k ≡ next_text (tab term (suc i) k)
-  unfolding rest next_text tab wholeFrom sign_text
+  rest-is : (i k : ℕ) → T (whole_from vs cs (suc i) k) → rest (suc i) k ≡ next_text (tab term (suc i) k)
+  unfolding rest next_text tab whole_from sign_text
   rest-is i zero h = refl
   rest-is i (suc k) h =
-      let g = both (is_figure (slice_index_or cs (suc i) nan)) (wholeFrom vs cs (suc (suc i)) k) h in
+      let g = both (is_figure (slice_index_or cs (suc i) nan)) (whole_from vs cs (suc (suc i)) k) h in
       ap₂ (λ (x y : List ℕ). x ++ y) (place_is (suc i) g.0 ∙ ap (λ (b : Bool). sign_text (is_negative (term (suc i)).coefficient) b ++ term_text (term (suc i))) (ne_eqb (suc i) 0 (λ e. omega arith))) (rest-is (suc i) k g.1)
       ∙ append_assoc (next_sign (term (suc i)).coefficient) (term_text (term (suc i))) (next_text (tab term (suc (suc i)) k))
 
@@ -154,11 +154,11 @@ module _ (vs : List ℕ) (cs : List Float) where
       by true h false = rw (abs-zero (val x))
 
   -- the terms and the constant
-  pub sum_is : (n : ℕ) (x : Float) → T (wholeFrom vs cs 0 n) → T (is_figure x) → up_to vs cs n ++ const_text (figure_of x) (n == 0) ≡ sum_text (val x) (tab term 0 n)
-  unfolding up_to tab wholeFrom sign_text
+  pub sum_is : (n : ℕ) (x : Float) → T (whole_from vs cs 0 n) → T (is_figure x) → up_to vs cs n ++ const_text (figure_of x) (n == 0) ≡ sum_text (val x) (tab term 0 n)
+  unfolding up_to tab whole_from sign_text
   sum_is zero x w h = constant-is x true h
   sum_is (suc k) x w h =
-      let g = both (is_figure (slice_index_or cs 0 nan)) (wholeFrom vs cs 1 k) w in
+      let g = both (is_figure (slice_index_or cs 0 nan)) (whole_from vs cs 1 k) w in
       let e : suc k ≡ 1 + k = omega arith in
       let terms : up_to vs cs (suc k) ≡ (first_sign (term 0).coefficient ++ term_text (term 0)) ++ next_text (tab term 1 k)
       = ap (up_to vs cs) e ∙ (rest_from 1 k ∙ ap₂ (λ (p q : List ℕ). p ++ q) (place_is 0 g.0) (rest-is 0 k g.1)) in

@@ -22,7 +22,7 @@ use Rattle.writing.specs.declared.said.Related.{Related}
 use Rattle.writing.specs.Buffer.{padded, Holds, fits, passed, Adds}
 use Rattle.writing.specs.Figures.{is_figure, figure_of}
 use Rattle.writing.specs.Texts.{up_to, const_text, relation_text, line_text}
-use Rattle.writing.specs.Given.{term_at, wholeFrom, allUpTo, all_said, sum_is}
+use Rattle.writing.specs.Given.{term_at, whole_from, all_up_to, all_said, sum_is}
 
 -- ---- the call
 
@@ -47,7 +47,7 @@ constraint_of r g x p =
 
 -- all of them are whole, there are at most 16 terms, and the strength is not below 0
 unfoldable pub numbers_in : Given → Float → Pack → Bool
-numbers_in r x p = (p.finite && nat_le p.count 16) && (wholeFrom p.vars p.coefs 0 p.count && (is_figure x && (is_figure (strength_in r) && not (is_negative (val (strength_in r))))))
+numbers_in r x p = (p.finite && nat_le p.count 16) && (whole_from p.vars p.coefs 0 p.count && (is_figure x && (is_figure (strength_in r) && not (is_negative (val (strength_in r))))))
 
 unfoldable pub writes : Given → ℕ → Float → Pack → Written
 writes r g x p = cond (numbers_in r x p) (write_line (constraint_of r g x p)) (refused 36)
@@ -81,7 +81,7 @@ abbrev pub strength_said : Figure → Bool
 strength_said s = (s.whole && not s.negative) && nat_le s.size required
 
 unfoldable pub said_in : Pack → Figure → Figure → ℕ → Bool
-said_in p c s g = cond (p.finite && nat_le p.count 16) (((allUpTo p.vars p.coefs p.count p.count && number_said c) && strength_said s) && is_group g) false
+said_in p c s g = cond (p.finite && nat_le p.count 16) (((all_up_to p.vars p.coefs p.count p.count && number_said c) && strength_said s) && is_group g) false
 
 number-said : (x : Float) → number_said (figure_of x) ≡ is_figure x && nat_le (unsigned_abs (val x)) most
 unfolding figure_of
@@ -125,7 +125,7 @@ module _ (r : Given) (g : ℕ) (x : Float) (p : Pack) where
   y = strength_in r
 
   abbrev whole : Bool
-  whole = wholeFrom p.vars p.coefs 0 p.count
+  whole = whole_from p.vars p.coefs 0 p.count
 
   abbrev few : Bool
   few = p.finite && nat_le p.count 16
@@ -162,7 +162,7 @@ module _ (r : Given) (g : ℕ) (x : Float) (p : Pack) where
   tested = said_in p (figure_of x) (figure_of y) g
 
   abbrev terms : Bool
-  terms = allUpTo p.vars p.coefs p.count p.count
+  terms = all_up_to p.vars p.coefs p.count p.count
 
   abbrev rest : Bool
   rest = ((terms && number_said (figure_of x)) && strength_said (figure_of y)) && is_group g
@@ -271,12 +271,12 @@ pub said-few : (p : Pack) (c s : Figure) (g : ℕ) → said_in p c s g ≡ true 
 unfolding said_in
 said-few p c s g e = by (p.finite && nat_le p.count 16) refl e
   where
-    by : (t : Bool) → p.finite && nat_le p.count 16 ≡ t → cond t (((allUpTo p.vars p.coefs p.count p.count && number_said c) && strength_said s) && is_group g) false ≡ true → p.count ≤ 16
+    by : (t : Bool) → p.finite && nat_le p.count 16 ≡ t → cond t (((all_up_to p.vars p.coefs p.count p.count && number_said c) && strength_said s) && is_group g) false ≡ true → p.count ≤ 16
     by true q e = leb→le p.count 16 (both p.finite (nat_le p.count 16) (rw q tt)).1
     by false q e = absurd (subst T (sym e) tt)
 
 module _ (p : Pack) (c s : Figure) (g : ℕ) where
-  pub said-yes : {t : Bool} → p.finite && nat_le p.count 16 ≡ true → t ≡ allUpTo p.vars p.coefs p.count p.count → ((t && number_said c) && strength_said s) && is_group g ≡ said_in p c s g
+  pub said-yes : {t : Bool} → p.finite && nat_le p.count 16 ≡ true → t ≡ all_up_to p.vars p.coefs p.count p.count → ((t && number_said c) && strength_said s) && is_group g ≡ said_in p c s g
   unfolding said_in
   said-yes e q = rw (e, q)
 

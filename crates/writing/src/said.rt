@@ -1,6 +1,6 @@
 // What a line can say.
 ghost use Rattle.std.specs.Prelude.{◌≡◌, ◌≤◌};
-ghost use Rattle.writing.specs.Given.{ok_figure, rises_at, allUpTo};
+ghost use Rattle.writing.specs.Given.{ok_figure, rises_at, all_up_to};
 ghost use Rattle.writing.specs.Writes.{related_of, said_in};
 
 use crate::figures::{Figure, REQUIRED, figure_of};
@@ -63,7 +63,7 @@ fn rises_at(vars: [u32; 16], n: usize, i: usize) -> bool
 
 fn terms_said(p: Pack, n: usize) -> bool
     requires { n ≤ 16 }
-    ensures { result ≡ allUpTo p.vars p.coefs n n }
+    ensures { result ≡ all_up_to p.vars p.coefs n n }
 {
     let vars = p.vars;
     let coefs = p.coefs;

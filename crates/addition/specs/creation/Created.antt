@@ -7,9 +7,9 @@ use Rattle.std.proofs.Math.Bool.{false}
 use Rattle.std.proofs.Math.Option.{none}
 use Rattle.std.specs.Float.{nan}
 use Rattle.std.proofs.lemmas.Bool.{eqb-false}
-use Rattle.laws.specs.Loops.{mapIn}
-use Rattle.laws.specs.Lists.{tab, tab-ext, map-tab, length-tab, getD-tab}
-use Rattle.laws.specs.Places.{Every, every-at, length-mapIn, mapIn-at}
+use Rattle.laws.specs.Loops.{map_in}
+use Rattle.laws.specs.Lists.{tab, tab-ext, map-tab, length-tab, get_or-tab}
+use Rattle.laws.specs.Places.{Every, every-at, length-map_in, map_in-at}
 use Rattle.steps.specs.Number.{zero64, below_zero, is_finite, Mark}
 use Rattle.steps.specs.Row.{Row, reverse_sign}
 use Rattle.steps.specs.State.{Term, Variable, Relation}
@@ -95,13 +95,13 @@ opening-ready a terms constant t o s = record { standing = o.standing; few-varia
 
 -- "Row constant is the constraint's."
 unfoldable pub started_row : Float → ℕ → List Float → List Float
-started_row constant k row = set (mapIn (λ _. zero64) 1 (k + 1) row) 0 constant
+started_row constant k row = set (map_in (λ _. zero64) 1 (k + 1) row) 0 constant
 
 abbrev pub bare : Float → List Float → Row
 bare constant cells = record { constant = constant; cells = cells }
 
 -- the code's writes put together
-pub started-is : (constant : Float) (k : ℕ) (row : List Float) {z : List Float} → z ≡ mapIn (λ _. zero64) 1 (k + 1) row → set z 0 constant ≡ started_row constant k row
+pub started-is : (constant : Float) (k : ℕ) (row : List Float) {z : List Float} → z ≡ map_in (λ _. zero64) 1 (k + 1) row → set z 0 constant ≡ started_row constant k row
 unfolding started_row
 started-is constant k row e = rw e refl
 
@@ -110,13 +110,13 @@ pub start-reads : (constant : Float) (a : Mark) (t : Sparse) (row : List Float) 
 unfolding building_of started_row dense.row_of work_of read symbols_of
 start-reads constant a t row s wide =
     let k : ℕ = symbol_count t in
-    let l : List Float = mapIn (λ _. zero64) 1 (k + 1) row in
+    let l : List Float = map_in (λ _. zero64) 1 (k + 1) row in
     let f = s.sound.named.few-symbols in
-    let m : length l ≡ length row = length-mapIn (λ _. zero64) 1 (k + 1) row in
+    let m : length l ≡ length row = length-map_in (λ _. zero64) 1 (k + 1) row in
     let c : get_or (set l 0 constant) 0 nan ≡ constant = get_or-set_same l 0 constant nan (omega (arith, m, wide)) in
     let d : cells_of k (set l 0 constant) ≡ map (λ _. zero64) (tab (symbol_at t) 1 k) =
     dense-cells k (set l 0 constant)
-    ∙ tab-ext (λ p. get_or (set l 0 constant) p nan) (λ _. zero64) 1 k (λ p x y. get_or-set_other l 0 p constant nan (λ e. omega (arith, e, x)) ∙ mapIn-at (λ _. zero64) 1 (k + 1) row p nan x (omega (arith, y)) (omega (arith, y, f, wide)))
+    ∙ tab-ext (λ p. get_or (set l 0 constant) p nan) (λ _. zero64) 1 k (λ p x y. get_or-set_other l 0 p constant nan (λ e. omega (arith, e, x)) ∙ map_in-at (λ _. zero64) 1 (k + 1) row p nan x (omega (arith, y)) (omega (arith, y, f, wide)))
     ∙ sym (map-tab (λ _. zero64) (symbol_at t) 1 k) in
     rw (c, d) refl
 
@@ -196,7 +196,7 @@ module _ (terms : List Term) (constant : Float) (relation : Relation) (a b : Mar
       let d : Every Plain (tab (λ q. get_or row₂ q nan) 1 k) = subst (Every Plain) (dense-cells k row₂) cells-plain in
       let n : length (tab (λ q. get_or row₂ q nan) 1 k) ≡ k = length-tab (λ q. get_or row₂ q nan) 1 k in
       let o₁ : 1 + (p - 1) ≡ p = omega (arith, low) in
-      let y : get_or (tab (λ q. get_or row₂ q nan) 1 k) (p - 1) nan ≡ get_or row₂ p nan = getD-tab (λ q. get_or row₂ q nan) 1 k (p - 1) nan (omega (arith, low, high)) ∙ ap (λ (q : ℕ). get_or row₂ q nan) o₁ in
+      let y : get_or (tab (λ q. get_or row₂ q nan) 1 k) (p - 1) nan ≡ get_or row₂ p nan = get_or-tab (λ q. get_or row₂ q nan) 1 k (p - 1) nan (omega (arith, low, high)) ∙ ap (λ (q : ℕ). get_or row₂ q nan) o₁ in
       subst Plain y (every-at Plain (tab (λ q. get_or row₂ q nan) 1 k) nan d (p - 1) (omega (arith, low, high, n)))
 
   pub creates : Creates terms constant relation a t v row₂ r

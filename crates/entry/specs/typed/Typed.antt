@@ -10,7 +10,7 @@ use Rattle.std.specs.Float.{binary64}
 use Rattle.std.specs.Float.Ieee.{neg, of_int}
 use Rattle.laws.specs.Z.{PN-sub, abs_is, ext}
 use Rattle.laws.specs.Loops.{run}
-use Rattle.laws.specs.Lists.{list_of, listOf-is}
+use Rattle.laws.specs.Lists.{list_of, list_of-is}
 use Rattle.grammar.specs.Sums as grammar
 use Rattle.grammar.specs.Sums.{most, small_terms}
 use Rattle.reader.specs.sums.Held.{zero_at, value_of}
@@ -131,4 +131,4 @@ module _ (r : grammar.Reading) (few : length r.terms ≤ term_room) (small : sma
 
   pub terms-read : terms_read (as_read (grammar.reads r)) ≡ typed_terms ts
   unfolding terms_read
-  terms-read = ap (λ (n : ℕ). list_of n (term_read (as_read (grammar.reads r)))) (most-few (length ts) few ∙ sym (length-typed ts)) ∙ listOf-is (term_read (as_read (grammar.reads r))) (typed_terms ts) no_term term-at
+  terms-read = ap (λ (n : ℕ). list_of n (term_read (as_read (grammar.reads r)))) (most-few (length ts) few ∙ sym (length-typed ts)) ∙ list_of-is (term_read (as_read (grammar.reads r))) (typed_terms ts) no_term term-at

@@ -19,7 +19,7 @@ use Rattle.sparse_test.specs.Stretch.{most_in, in-most}
 use Rattle.sparse_test.specs.Tested.{number_in, term_count}
 use Rattle.sparse_test.specs.Uses.{number_is}
 use Rattle.sparse_test.specs.Reads.{reads, greatest_u32}
-use Rattle.sparse_test.specs.Meaning.{reads-readable, reads-parts, reads-form, few-in, fewTerms}
+use Rattle.sparse_test.specs.Meaning.{reads-readable, reads-parts, reads-form, few-in, few_terms}
 use Rattle.fetches.specs.shown.Shown.{Line, line, said}
 use Rattle.fetches.specs.shown.Filled.{filled}
 
@@ -57,7 +57,7 @@ strength-of no_less s = refl
 module _ (t : Sparse) (ok : reads t ≡ true) where
   few : (i : ℕ) → i < constraint_count t → get_or t.bytes (term_counts_at + i) 0 ≤ term_room
   unfolding steps.counts_in_range
-  few = few-in t (and3 (leb (length (read t).changes.variables) most_variables) (leb (length (steps.tags (read t))) most_constraints) (steps.all (fewTerms t) (read t).constraints) (clauses-in (read t) (reads-readable t ok)).counts).2
+  few = few-in t (and3 (leb (length (read t).changes.variables) most_variables) (leb (length (steps.tags (read t))) most_constraints) (steps.all (few_terms t) (read t).constraints) (clauses-in (read t) (reads-readable t ok)).counts).2
 
   pub few-variables : variable_count t ≤ most_variables
   few-variables = (reads-form t ok).counts.variables

@@ -8,7 +8,7 @@ use Rattle.std.proofs.Math.Dec.{eqb}
 use Rattle.grammar.specs.Bytes.{strange, kind_of}
 use Rattle.grammar.specs.Sums.{Relation, Sums, one, turned}
 use Rattle.grammar.specs.Reader.{Mode, first, spaced, wanted, lettered, number, numbered, named, closed, apart, half, Around, part, sum, inside, left, right, room_of, Next, stop, halts, step, read, halted, flushed, is_bare, is_read, finished, follow, run, read_sum}
-use Rattle.grammar.specs.Descent.{over, Fits, rested, Inner, Alike, goes, ended, stops, behindRest, Behind}
+use Rattle.grammar.specs.Descent.{over, Fits, rested, Inner, Alike, goes, ended, stops, behind_rest, Behind}
 use Rattle.grammar.proofs.Descent.{alike, behind-is, unread, drop-tail}
 use Rattle.grammar.specs.edition.Steps.{State, head, stepped, closing, move, unended, last, onward, pass}
 use Rattle.grammar.specs.edition.Descent.{pass_from, resumed}
@@ -76,7 +76,7 @@ module _ (line : List ℕ) (b : Around) where
   from [] at m a s i h e = at-end at (is_read m) (is_bare m) a (flushed m s) (behind-is m) h e
   from (c ∷ w) at m a s i h e = by (eqb c 64) (eqb-true c 64) refl (λ m' a' s' i' h'. from w (suc at) m' a' s' i' h' (drop-tail at line e))
     where
-      on_alike : eqb c 64 ≡ false → (x y : Next) → Alike b (behindRest b m s (kind_of c)) x y
+      on_alike : eqb c 64 ≡ false → (x y : Next) → Alike b (behind_rest b m s (kind_of c)) x y
           → ((m' : Mode) (a' : Around) (s' : Sums) → Inner m' → Fits a' b → pass w (suc at) (head m' (over a' b) s') ≡ resumed line b (run w (suc at) m' a' s'))
           → onward at (stepped x) (pass w (suc at)) ≡ resumed line b (follow at m s y (run w (suc at)))
       on_alike o _ _ (goes {m = m'} {a = a'} {s = s'} i' h') next = next m' a' s' i' h'

@@ -76,13 +76,13 @@ module _ (n x : ℕ) (h : n ≤ most) (g : x ≤ most_name) where
 -- ---- a part joined to a sum under its sign, or first
 
 module _ (z : ℤ) (u : Tree a_part) where
-  abbrev joinTree : Tree a_sum → Tree a_sum
-  joinTree = specs.joinTree z u
+  abbrev join_tree : Tree a_sum → Tree a_sum
+  join_tree = specs.join_tree z u
 
-  abbrev firstTree : Tree a_sum
-  firstTree = specs.firstTree z u
+  abbrev first_tree : Tree a_sum
+  first_tree = specs.first_tree z u
 
-  join-bytes : (s : Tree a_sum) → bytes_of (joinTree s) ≡ bytes_of s ++ (next_sign z ++ bytes_of u)
+  join-bytes : (s : Tree a_sum) → bytes_of (join_tree s) ≡ bytes_of s ++ (next_sign z ++ bytes_of u)
   unfolding bytes_of
   join-bytes s = by (is_negative z)
     where
@@ -90,7 +90,7 @@ module _ (z : ℤ) (u : Tree a_part) where
       by true = refl
       by false = refl
 
-  first-bytes : bytes_of firstTree ≡ first_sign z ++ bytes_of u
+  first-bytes : bytes_of first_tree ≡ first_sign z ++ bytes_of u
   unfolding bytes_of
   first-bytes = by (is_negative z)
     where
@@ -98,7 +98,7 @@ module _ (z : ℤ) (u : Tree a_part) where
       by true = refl
       by false = refl
 
-  join-faultless : (s : Tree a_sum) (room : ℕ) → ((at : ℕ) → fault_of room 1 at s ≡ none) → ((at : ℕ) → fault_of room 1 at u ≡ none) → (at : ℕ) → fault_of room 1 at (joinTree s) ≡ none
+  join-faultless : (s : Tree a_sum) (room : ℕ) → ((at : ℕ) → fault_of room 1 at s ≡ none) → ((at : ℕ) → fault_of room 1 at u ≡ none) → (at : ℕ) → fault_of room 1 at (join_tree s) ≡ none
   unfolding fault_of
   join-faultless s room f g at = by (is_negative z)
     where
@@ -106,7 +106,7 @@ module _ (z : ℤ) (u : Tree a_part) where
       by true = rw (f at) (g _)
       by false = rw (f at) (g _)
 
-  first-faultless : (room : ℕ) → ((at : ℕ) → fault_of room 1 at u ≡ none) → (at : ℕ) → fault_of room 1 at firstTree ≡ none
+  first-faultless : (room : ℕ) → ((at : ℕ) → fault_of room 1 at u ≡ none) → (at : ℕ) → fault_of room 1 at first_tree ≡ none
   unfolding fault_of
   first-faultless room g at = by (is_negative z)
     where
@@ -115,7 +115,7 @@ module _ (z : ℤ) (u : Tree a_part) where
       by false = g at
 
   -- what they say: any of the tree's numbers that is additive
-  join-constant : (s : Tree a_sum) → constant_of (joinTree s) ≡ constant_of s +ℤ cond (is_negative z) (neg_ℤ (constant_of u)) (constant_of u)
+  join-constant : (s : Tree a_sum) → constant_of (join_tree s) ≡ constant_of s +ℤ cond (is_negative z) (neg_ℤ (constant_of u)) (constant_of u)
   unfolding constant_of
   join-constant s = by (is_negative z)
     where
@@ -123,7 +123,7 @@ module _ (z : ℤ) (u : Tree a_part) where
       by true = ring (constant_of s ∷ constant_of u ∷ []) (v 0 ⊟⊟ v 1) (v 0 ⊞ ⊟ v 1) tt
       by false = refl
 
-  first-constant : constant_of firstTree ≡ cond (is_negative z) (neg_ℤ (constant_of u)) (constant_of u)
+  first-constant : constant_of first_tree ≡ cond (is_negative z) (neg_ℤ (constant_of u)) (constant_of u)
   unfolding constant_of
   first-constant = by (is_negative z)
     where
@@ -131,7 +131,7 @@ module _ (z : ℤ) (u : Tree a_part) where
       by true = refl
       by false = refl
 
-  join-coefficient : (x : ℕ) (s : Tree a_sum) → coefficient_of x (joinTree s) ≡ coefficient_of x s +ℤ cond (is_negative z) (neg_ℤ (coefficient_of x u)) (coefficient_of x u)
+  join-coefficient : (x : ℕ) (s : Tree a_sum) → coefficient_of x (join_tree s) ≡ coefficient_of x s +ℤ cond (is_negative z) (neg_ℤ (coefficient_of x u)) (coefficient_of x u)
   unfolding coefficient_of
   join-coefficient x s = by (is_negative z)
     where
@@ -139,7 +139,7 @@ module _ (z : ℤ) (u : Tree a_part) where
       by true = ring (coefficient_of x s ∷ coefficient_of x u ∷ []) (v 0 ⊟⊟ v 1) (v 0 ⊞ ⊟ v 1) tt
       by false = refl
 
-  first-coefficient : (x : ℕ) → coefficient_of x firstTree ≡ cond (is_negative z) (neg_ℤ (coefficient_of x u)) (coefficient_of x u)
+  first-coefficient : (x : ℕ) → coefficient_of x first_tree ≡ cond (is_negative z) (neg_ℤ (coefficient_of x u)) (coefficient_of x u)
   unfolding coefficient_of
   first-coefficient x = by (is_negative z)
     where
@@ -170,7 +170,7 @@ next-bytes : (ts : List Term) (h : AllSaid ts) (s : Tree a_sum) → bytes_of (ne
 unfolding next_tree next_text
 next-bytes [] h s = sym (append-nil (bytes_of s))
 next-bytes (t ∷ ts) h s =
-    next-bytes ts h.1 (joinTree t.coefficient (term_tree t h.0) s)
+    next-bytes ts h.1 (join_tree t.coefficient (term_tree t h.0) s)
     ∙ (ap (λ (w : List ℕ). w ++ next_text ts) (join-bytes t.coefficient (term_tree t h.0) s ∙ ap (λ (w : List ℕ). bytes_of s ++ (next_sign t.coefficient ++ w)) (part_bytes (nat_abs t.coefficient) t.variable h.0.0 h.0.1))
     ∙ by (bytes_of s) (next_sign t.coefficient) (term_text t) (next_text ts))
   where
@@ -181,7 +181,7 @@ next-constant : (ts : List Term) (h : AllSaid ts) (s : Tree a_sum) → constant_
 unfolding next_tree
 next-constant [] h s = refl
 next-constant (t ∷ ts) h s =
-    next-constant ts h.1 (joinTree t.coefficient (term_tree t h.0) s)
+    next-constant ts h.1 (join_tree t.coefficient (term_tree t h.0) s)
     ∙ (join-constant t.coefficient (term_tree t h.0) s ∙ (ap (λ (z : ℤ). constant_of s +ℤ z) (signed-constant t h.0) ∙ ring (constant_of s ∷ []) (v 0 ⊞ k (pos 0)) (v 0) tt))
 
 next-coefficient : (x : ℕ) (ts : List Term) (h : AllSaid ts) (s : Tree a_sum) → coefficient_of x (next_tree ts h s) ≡ coefficient_of x s +ℤ total_of x ts
@@ -189,7 +189,7 @@ unfolding next_tree total_of
 next-coefficient x [] h s = ring (coefficient_of x s ∷ []) (v 0) (v 0 ⊞ k (pos 0)) tt
 next-coefficient x (t ∷ ts) h s =
     let z = cond (eqb x t.variable) t.coefficient (pos 0) in
-    next-coefficient x ts h.1 (joinTree t.coefficient (term_tree t h.0) s)
+    next-coefficient x ts h.1 (join_tree t.coefficient (term_tree t h.0) s)
     ∙ (ap (λ (y : ℤ). y +ℤ total_of x ts) (join-coefficient t.coefficient (term_tree t h.0) x s ∙ ap (λ (y : ℤ). coefficient_of x s +ℤ y) (signed-coefficient t h.0 x))
     ∙ ring (coefficient_of x s ∷ z ∷ total_of x ts ∷ []) (v 0 ⊞ v 1 ⊞ v 2) (v 0 ⊞ (v 1 ⊞ v 2)) tt)
 
@@ -197,14 +197,14 @@ next-faultless : (room : ℕ) (ts : List Term) (h : AllSaid ts) (s : Tree a_sum)
 unfolding next_tree
 next-faultless room [] h s f = f
 next-faultless room (t ∷ ts) h s f =
-    next-faultless room ts h.1 (joinTree t.coefficient (term_tree t h.0) s)
+    next-faultless room ts h.1 (join_tree t.coefficient (term_tree t h.0) s)
     (join-faultless t.coefficient (term_tree t h.0) s room f (part-faultless (nat_abs t.coefficient) t.variable h.0.0 h.0.1 room))
 
 -- ---- the sum
 
 module _ (c : ℤ) (small-c : nat_abs c ≤ most) where
-  abbrev sumTree : (ts : List Term) → AllSaid ts → Tree a_sum
-  sumTree = specs.sumTree c small-c
+  abbrev sum_tree : (ts : List Term) → AllSaid ts → Tree a_sum
+  sum_tree = specs.sum_tree c small-c
 
   abbrev number : Tree a_part
   number = amount (digits_of (nat_abs c) (wide (nat_abs c) small-c))
@@ -218,42 +218,42 @@ module _ (c : ℤ) (small-c : nat_abs c ≤ most) where
   number-constant = rw (worth-is (nat_abs c) (wide (nat_abs c) small-c)) (sized c)
 
   -- the constant behind terms
-  abbrev withConstant : Tree a_sum → Tree a_sum
-  withConstant s = cond (eq_zb c (pos 0)) s (joinTree c number s)
+  abbrev with_constant : Tree a_sum → Tree a_sum
+  with_constant s = cond (eq_zb c (pos 0)) s (join_tree c number s)
 
-  constant-bytes : (s : Tree a_sum) → bytes_of (withConstant s) ≡ bytes_of s ++ constant_text c
+  constant-bytes : (s : Tree a_sum) → bytes_of (with_constant s) ≡ bytes_of s ++ constant_text c
   unfolding bytes_of
   constant-bytes s = by (eq_zb c (pos 0))
     where
-      by : (t : Bool) → bytes_of (cond t s (joinTree c number s)) ≡ bytes_of s ++ cond t [] (next_sign c ++ decimal (nat_abs c))
+      by : (t : Bool) → bytes_of (cond t s (join_tree c number s)) ≡ bytes_of s ++ cond t [] (next_sign c ++ decimal (nat_abs c))
       by true = sym (append-nil (bytes_of s))
       by false = join-bytes c number s
 
-  pub sum-bytes : (ts : List Term) (h : AllSaid ts) → bytes_of (sumTree ts h) ≡ sum_text c ts
+  pub sum-bytes : (ts : List Term) (h : AllSaid ts) → bytes_of (sum_tree ts h) ≡ sum_text c ts
   unfolding bytes_of
   sum-bytes [] h = first-bytes c number
   sum-bytes (t ∷ ts) h =
       let u = term_tree t h.0 in
-      constant-bytes (next_tree ts h.1 (firstTree t.coefficient u))
+      constant-bytes (next_tree ts h.1 (first_tree t.coefficient u))
       ∙ (ap (λ (w : List ℕ). w ++ constant_text c)
-      (next-bytes ts h.1 (firstTree t.coefficient u)
+      (next-bytes ts h.1 (first_tree t.coefficient u)
       ∙ ap (λ (w : List ℕ). w ++ next_text ts) (first-bytes t.coefficient u ∙ ap (λ (w : List ℕ). first_sign t.coefficient ++ w) (part_bytes (nat_abs t.coefficient) t.variable h.0.0 h.0.1)))
       ∙ by (first_sign t.coefficient) (term_text t) (next_text ts) (constant_text c))
     where
       by : (a b d e : List ℕ) → ((a ++ b) ++ d) ++ e ≡ a ++ (b ++ (d ++ e))
       by a b d e = simp append_assoc
 
-  pub sum-constant : (ts : List Term) (h : AllSaid ts) → constant_of (sumTree ts h) ≡ c
+  pub sum-constant : (ts : List Term) (h : AllSaid ts) → constant_of (sum_tree ts h) ≡ c
   sum-constant [] h = first-constant c number ∙ number-constant
   sum-constant (t ∷ ts) h = by (eq_zb c (pos 0)) (eq_zb→ c (pos 0))
     where
       terms : Tree a_sum
-      terms = next_tree ts h.1 (firstTree t.coefficient (term_tree t h.0))
+      terms = next_tree ts h.1 (first_tree t.coefficient (term_tree t h.0))
 
       none-in-terms : constant_of terms ≡ pos 0
-      none-in-terms = next-constant ts h.1 (firstTree t.coefficient (term_tree t h.0)) ∙ (first-constant t.coefficient (term_tree t h.0) ∙ signed-constant t h.0)
+      none-in-terms = next-constant ts h.1 (first_tree t.coefficient (term_tree t h.0)) ∙ (first-constant t.coefficient (term_tree t h.0) ∙ signed-constant t h.0)
 
-      by : (b : Bool) → (T b → c ≡ pos 0) → constant_of (cond b terms (joinTree c number terms)) ≡ c
+      by : (b : Bool) → (T b → c ≡ pos 0) → constant_of (cond b terms (join_tree c number terms)) ≡ c
       by true e = none-in-terms ∙ sym (e tt)
       by false e = join-constant c number terms ∙ (ap₂ (λ (y z : ℤ). y +ℤ z) none-in-terms number-constant ∙ ring (c ∷ []) (k (pos 0) ⊞ v 0) (v 0) tt)
 
@@ -261,31 +261,31 @@ module _ (c : ℤ) (small-c : nat_abs c ≤ most) where
   unfolding coefficient_of
   number-coefficient x = signed-zero (is_negative c)
 
-  pub sum-coefficient : (x : ℕ) (ts : List Term) (h : AllSaid ts) → coefficient_of x (sumTree ts h) ≡ total_of x ts
+  pub sum-coefficient : (x : ℕ) (ts : List Term) (h : AllSaid ts) → coefficient_of x (sum_tree ts h) ≡ total_of x ts
   unfolding total_of
   sum-coefficient x [] h = first-coefficient c number x ∙ number-coefficient x
   sum-coefficient x (t ∷ ts) h = by (eq_zb c (pos 0))
     where
       terms : Tree a_sum
-      terms = next_tree ts h.1 (firstTree t.coefficient (term_tree t h.0))
+      terms = next_tree ts h.1 (first_tree t.coefficient (term_tree t h.0))
 
       in-terms : coefficient_of x terms ≡ cond (eqb x t.variable) t.coefficient (pos 0) +ℤ total_of x ts
-      in-terms = next-coefficient x ts h.1 (firstTree t.coefficient (term_tree t h.0)) ∙ ap (λ (y : ℤ). y +ℤ total_of x ts) (first-coefficient t.coefficient (term_tree t h.0) x ∙ signed-coefficient t h.0 x)
+      in-terms = next-coefficient x ts h.1 (first_tree t.coefficient (term_tree t h.0)) ∙ ap (λ (y : ℤ). y +ℤ total_of x ts) (first-coefficient t.coefficient (term_tree t h.0) x ∙ signed-coefficient t h.0 x)
 
-      by : (b : Bool) → coefficient_of x (cond b terms (joinTree c number terms)) ≡ cond (eqb x t.variable) t.coefficient (pos 0) +ℤ total_of x ts
+      by : (b : Bool) → coefficient_of x (cond b terms (join_tree c number terms)) ≡ cond (eqb x t.variable) t.coefficient (pos 0) +ℤ total_of x ts
       by true = in-terms
       by false = join-coefficient c number x terms ∙ (ap (λ (y : ℤ). coefficient_of x terms +ℤ y) (number-coefficient x) ∙ (ring (coefficient_of x terms ∷ []) (v 0 ⊞ k (pos 0)) (v 0) tt ∙ in-terms))
 
-  pub sum-faultless : (room : ℕ) (ts : List Term) (h : AllSaid ts) (at : ℕ) → fault_of room 1 at (sumTree ts h) ≡ none
+  pub sum-faultless : (room : ℕ) (ts : List Term) (h : AllSaid ts) (at : ℕ) → fault_of room 1 at (sum_tree ts h) ≡ none
   sum-faultless room [] h = first-faultless c number room (number-faultless room)
   sum-faultless room (t ∷ ts) h = by (eq_zb c (pos 0))
     where
       terms : Tree a_sum
-      terms = next_tree ts h.1 (firstTree t.coefficient (term_tree t h.0))
+      terms = next_tree ts h.1 (first_tree t.coefficient (term_tree t h.0))
 
       in-terms : (at : ℕ) → fault_of room 1 at terms ≡ none
-      in-terms = next-faultless room ts h.1 (firstTree t.coefficient (term_tree t h.0)) (first-faultless t.coefficient (term_tree t h.0) room (part-faultless (nat_abs t.coefficient) t.variable h.0.0 h.0.1 room))
+      in-terms = next-faultless room ts h.1 (first_tree t.coefficient (term_tree t h.0)) (first-faultless t.coefficient (term_tree t h.0) room (part-faultless (nat_abs t.coefficient) t.variable h.0.0 h.0.1 room))
 
-      by : (b : Bool) (at : ℕ) → fault_of room 1 at (cond b terms (joinTree c number terms)) ≡ none
+      by : (b : Bool) (at : ℕ) → fault_of room 1 at (cond b terms (join_tree c number terms)) ≡ none
       by true = in-terms
       by false = join-faultless c number terms room in-terms (number-faultless room)

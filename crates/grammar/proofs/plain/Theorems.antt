@@ -19,7 +19,7 @@ use Rattle.grammar.specs.edition.Steps.{read_second}
 use Rattle.grammar.proofs.edition.Theorems.{accepts}
 use Rattle.grammar.specs.plain.Decimal.{decimal}
 use Rattle.grammar.specs.plain.Plain.{sum_text, ending_text, plain_text, ascends, terms_said, reading_said, sayable, wrote, refused, room, write_line}
-use Rattle.grammar.specs.plain.Forms.{tight, digits_of, AllSaid, sumTree}
+use Rattle.grammar.specs.plain.Forms.{tight, digits_of, AllSaid, sum_tree}
 use Rattle.grammar.proofs.plain.Forms.{worth-is, sum-bytes, sum-constant, sum-coefficient, sum-faultless}
 use Rattle.grammar.specs.plain.Said.{ascending, totals, all_said, none-zero, small-terms}
 use Rattle.grammar.specs.plain.Theorems.{Says, Wrote, Plain}
@@ -71,7 +71,7 @@ module _ (c : Constraint) (s : Says c) where
   nought = one-digit 48 tt
 
   line : Line
-  line = record { left_side = sumTree c.reading.constant small ts terms-said; gap = tight; relation = c.reading.relation; right_side = single (amount nought) }
+  line = record { left_side = sum_tree c.reading.constant small ts terms-said; gap = tight; relation = c.reading.relation; right_side = single (amount nought) }
 
   strong : c.strength ≤ most_name
   strong = let h = leb→le c.strength required s.strength in omega arith
@@ -131,7 +131,7 @@ module _ (c : Constraint) (s : Says c) where
   is-reading : IsReading line c.reading
   unfolding line constant_of coefficient_of worth_from nought
   is-reading =
-      let l = sumTree c.reading.constant small ts terms-said in
+      let l = sum_tree c.reading.constant small ts terms-said in
       let a = ascending ts s.rising in
       record {
         related = refl;

@@ -32,11 +32,11 @@ module _ (n x : ℕ) (h : n ≤ most) (g : x ≤ most_name) where
 -- ---- a part joined to a sum under its sign, or first
 
 module _ (z : ℤ) (u : Tree a_part) where
-  abbrev pub joinTree : Tree a_sum → Tree a_sum
-  joinTree s = cond (is_negative z) (subtracted s tight u) (added s tight u)
+  abbrev pub join_tree : Tree a_sum → Tree a_sum
+  join_tree s = cond (is_negative z) (subtracted s tight u) (added s tight u)
 
-  abbrev pub firstTree : Tree a_sum
-  firstTree = cond (is_negative z) (single (negated tight u)) (single u)
+  abbrev pub first_tree : Tree a_sum
+  first_tree = cond (is_negative z) (single (negated tight u)) (single u)
 
 -- ---- the terms
 
@@ -53,7 +53,7 @@ term_tree t h = part_of (nat_abs t.coefficient) t.variable h.0 h.1
 
 unfoldable pub next_tree : (ts : List Term) → AllSaid ts → Tree a_sum → Tree a_sum
 next_tree [] h s = s
-next_tree (t ∷ ts) h s = next_tree ts h.1 (joinTree t.coefficient (term_tree t h.0) s)
+next_tree (t ∷ ts) h s = next_tree ts h.1 (join_tree t.coefficient (term_tree t h.0) s)
 
 -- the coefficients of x, summed
 unfoldable pub total_of : ℕ → List Term → ℤ
@@ -67,9 +67,9 @@ module _ (c : ℤ) (small-c : nat_abs c ≤ most) where
   number = amount (digits_of (nat_abs c) (wide (nat_abs c) small-c))
 
   -- the constant behind terms
-  abbrev withConstant : Tree a_sum → Tree a_sum
-  withConstant s = cond (eq_zb c (pos 0)) s (joinTree c number s)
+  abbrev with_constant : Tree a_sum → Tree a_sum
+  with_constant s = cond (eq_zb c (pos 0)) s (join_tree c number s)
 
-  abbrev pub sumTree : (ts : List Term) → AllSaid ts → Tree a_sum
-  sumTree [] h = firstTree c number
-  sumTree (t ∷ ts) h = withConstant (next_tree ts h.1 (firstTree t.coefficient (term_tree t h.0)))
+  abbrev pub sum_tree : (ts : List Term) → AllSaid ts → Tree a_sum
+  sum_tree [] h = first_tree c number
+  sum_tree (t ∷ ts) h = with_constant (next_tree ts h.1 (first_tree t.coefficient (term_tree t h.0)))

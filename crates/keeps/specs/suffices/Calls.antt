@@ -19,7 +19,7 @@ use Rattle.steps.specs.Calls.{Result, begin, finish, refused_by, accepted_as, co
 use Rattle.steps.specs.Changing.{Changing, adds, removes, drops, adds_edit, removes_edit, suggests, made}
 use Rattle.steps.specs.Readable.{code, tag_symbols, tag_kinds, edit_kinds}
 use Rattle.keeps.specs.Lists.{All, all-zip, times, left, right}
-use Rattle.keeps.specs.Keys.{findBy, find-all, drop-total, find_constraint-is, find_edit-is}
+use Rattle.keeps.specs.Keys.{find_by, find-all, drop-total, find_constraint-is, find_edit-is}
 use Rattle.keeps.specs.Cells.{Fine, zero-finite}
 use Rattle.keeps.specs.Codes.{codes, codes-mem}
 use Rattle.keeps.specs.Places.{times-all}
@@ -151,7 +151,7 @@ stored-informed n c b s e r i =
     concluded s (remove_steps b c.tag c.strength c.terms (begin s)) (drop_constraint n s.constraints) s.edits i
     (remove-sees b c.tag c.strength c.terms (begin s) (begin-sees s r i) (plain s) (tag-others s r c.tag few (kinds-others c.strength c.tag kinds)))
   where
-    by : ◌≡◌ {A = Option Constraint} (findBy con_number n s.constraints) (some c)
+    by : ◌≡◌ {A = Option Constraint} (find_by con_number n s.constraints) (some c)
     by = sym (find_constraint-is n s.constraints) ∙ e
 
     few : (m : ℕ) → tag_code m c.tag ≤ tags_by m s.constraints s.edits
@@ -181,7 +181,7 @@ remove_edit-informed n b s r i = go (find_edit n s.edits) refl
         concluded s (remove_steps b c.tag c.strength (edit_terms n) (begin s)) s.constraints (drop_edit n s.edits) i
         (remove-sees b c.tag c.strength (edit_terms n) (begin s) (begin-sees s r i) (plain s) (tag-others s r c.tag few (kinds-others c.strength c.tag (right (is_error c.tag.marker) (tag_kinds c.strength c.tag) (unfold edit_kinds in kinds)))))
       where
-        by : ◌≡◌ {A = Option Edit} (findBy edit_number n s.edits) (some c)
+        by : ◌≡◌ {A = Option Edit} (find_by edit_number n s.edits) (some c)
         by = sym (find_edit-is n s.edits) ∙ e
 
         few : (m : ℕ) → tag_code m c.tag ≤ tags_by m s.constraints s.edits

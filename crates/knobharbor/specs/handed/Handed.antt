@@ -5,7 +5,7 @@ use Rattle.std.proofs.Common.{sym, ◌∙◌, arith, ne_eqb, leb-true}
 use Rattle.std.proofs.Math.Option.{Option, none, some}
 use Rattle.std.proofs.Math.Nat.{zero-add, suc-add}
 use Rattle.std.specs.Float.Ieee.{of_bits, of_int}
-use Rattle.laws.specs.Loops.{zipIn}
+use Rattle.laws.specs.Loops.{zip_in}
 use Rattle.grammar.specs.Sums.{Relation, at_most, equal, at_least, Term, Reading, most, small_terms}
 use Rattle.laws.specs.streams.Lines.{grown}
 use Rattle.reader.specs.sums.Held.{zero_at, value_of}
@@ -88,8 +88,8 @@ words_in t = t.taken ∷ t.answer.reading.number ∷ t.answer.reading.offset ∷
 abbrev pub reals_in : Taken → List Float
 reals_in t = whole_at t.answer.reading.constant ∷ whole_of (pos t.answer.strength) ∷ []
 
-pub wholes-start : (n : ℕ) (l : List Float) (x : List ℕ) → length l ≡ n → length x ≡ n → zipIn (λ _ y. whole_at y) 0 n l x ≡ map whole_at x
-unfolding zipIn
+pub wholes-start : (n : ℕ) (l : List Float) (x : List ℕ) → length l ≡ n → length x ≡ n → zip_in (λ _ y. whole_at y) 0 n l x ≡ map whole_at x
+unfolding zip_in
 wholes-start n [] [] e f = refl
 wholes-start n [] (y ∷ x) e f = absurd (omega arith)
 wholes-start n (k ∷ l) [] e f = absurd (omega arith)

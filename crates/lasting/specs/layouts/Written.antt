@@ -20,7 +20,7 @@ use Rattle.layout.specs.Layout.{Tables, read, write, over, write_names, write_re
 use Rattle.layout.specs.Rooms.{lengths-right, Lengths, Wide, Named, Fits}
 use Rattle.layout.specs.ReadBack.{no_variable, no_constraint}
 use Rattle.layout.proofs.ReadBack.{read-write}
-use Rattle.layout.proofs.Copied.{length-listOf, getD-listOf, write-counts, write-coded, write-lengths}
+use Rattle.layout.proofs.Copied.{length-list_of, get_or-list_of, write-counts, write-coded, write-lengths}
 use Rattle.layout.specs.cells.Names.{last_place}
 use Rattle.rows.specs.places.Finding.{at_all}
 use Rattle.sparse_test.specs.zeros.Fitting.{few-symbols}
@@ -141,8 +141,8 @@ module _ (s : State) (t : Tables) (r : Reads s) (y : Sayable s) (n : Narrow s) (
   variable-u32 j k =
       let g : ℕ → Variable = λ i. variable_of (get_or u.names i []) (get_or u.reals i []) in
       let e : list_of (variable_count u.head) g ≡ s.changes.variables = ap (λ (x : State). x.changes.variables) written-reads in
-      let i : j < length (list_of (variable_count u.head) g) = omega (arith, length-listOf (variable_count u.head) g) in
-      ap (λ (v : Variable). is_u32 v.number) (sym (getD-listOf (variable_count u.head) g j no_variable k))
+      let i : j < length (list_of (variable_count u.head) g) = omega (arith, length-list_of (variable_count u.head) g) in
+      ap (λ (v : Variable). is_u32 v.number) (sym (get_or-list_of (variable_count u.head) g j no_variable k))
       ∙ all-place (λ (v : Variable). is_u32 v.number ≡ true) (list_of (variable_count u.head) g) no_variable j i (subst (λ (vs : List Variable). All (λ (v : Variable). is_u32 v.number ≡ true) vs) (sym e) n.variables)
 
   constraint-u32 : (j : ℕ) → j < constraint_count u.head → is_u32 (number_of (get_or u.names (constraints_at + j) [])) ≡ true
@@ -150,8 +150,8 @@ module _ (s : State) (t : Tables) (r : Reads s) (y : Sayable s) (n : Narrow s) (
   constraint-u32 j k =
       let g : ℕ → Constraint = λ i. constraint_of (get_or u.names (constraints_at + i) []) (get_or u.reals (constraints_at + i) []) in
       let e : list_of (constraint_count u.head) g ≡ s.constraints = ap (λ (x : State). x.constraints) written-reads in
-      let i : j < length (list_of (constraint_count u.head) g) = omega (arith, length-listOf (constraint_count u.head) g) in
-      ap (λ (c : Constraint). is_u32 c.number) (sym (getD-listOf (constraint_count u.head) g j no_constraint k))
+      let i : j < length (list_of (constraint_count u.head) g) = omega (arith, length-list_of (constraint_count u.head) g) in
+      ap (λ (c : Constraint). is_u32 c.number) (sym (get_or-list_of (constraint_count u.head) g j no_constraint k))
       ∙ all-place (λ (c : Constraint). is_u32 c.number ≡ true) (list_of (constraint_count u.head) g) no_constraint j i (subst (λ (cs : List Constraint). All (λ (c : Constraint). is_u32 c.number ≡ true) cs) (sym e) n.constraints)
 
   id-u32 : is_u32 (next_id_of u.head) ≡ true

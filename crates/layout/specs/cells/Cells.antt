@@ -4,7 +4,7 @@ use Rattle.std.specs.Float.{nan}
 use Rattle.std.specs.Float.Ieee.{ne}
 use Rattle.steps.specs.Number.{zero64}
 use Rattle.steps.specs.Symbol.{absent}
-use Rattle.laws.specs.Loops.{first, run, mapIn}
+use Rattle.laws.specs.Loops.{first, run, map_in}
 use Rattle.laws.specs.Lists.{tab, all_in}
 use Rattle.layout.specs.cells.Names.{row_span, keys_end}
 
@@ -88,11 +88,11 @@ ascends_of keys n = all_in (λ j. ltb (get_or keys (j - 1) 0) (get_or keys j 0))
 
 -- the cells of row i, laid into a row that is zero over the places 1 to k
 unfoldable pub loaded : ℕ → ℕ → ℕ → List ℕ → List Float → List Float → List Float
-loaded n i k keys vals row = expanded keys vals (lower_in keys (i * row_span) 0 n) (lower_in keys (i * row_span + row_span) 0 n) (mapIn (λ _. zero64) 1 (k + 1) row)
+loaded n i k keys vals row = expanded keys vals (lower_in keys (i * row_span) 0 n) (lower_in keys (i * row_span + row_span) 0 n) (map_in (λ _. zero64) 1 (k + 1) row)
 
 -- row i goes, where its cells stand from place a up to e: the cells past it move, and their keys name the row before theirs
 unfoldable pub dropped_at : ℕ → ℕ → ℕ → List ℕ → List Float → Cells
-dropped_at a e n keys vals = cells (mapIn (λ x. x - row_span) a (n - e + a) (moved e a (n - e) keys)) (moved e a (n - e) vals) (n - e + a)
+dropped_at a e n keys vals = cells (map_in (λ x. x - row_span) a (n - e + a) (moved e a (n - e) keys)) (moved e a (n - e) vals) (n - e + a)
 
 unfoldable pub dropped : ℕ → ℕ → List ℕ → List Float → Cells
 dropped n i keys vals = dropped_at (lower_in keys (i * row_span) 0 n) (lower_in keys (i * row_span + row_span) 0 n) n keys vals
@@ -111,7 +111,7 @@ row_after x = cond (ltb x keys_end) (x + row_span) x
 
 -- row i comes: the keys from its place on name the row after theirs
 unfoldable pub opened : ℕ → ℕ → List ℕ → List ℕ
-opened n i keys = mapIn row_after (lower_in keys (i * row_span) 0 n) n keys
+opened n i keys = map_in row_after (lower_in keys (i * row_span) 0 n) n keys
 
 -- ---- a column
 

@@ -6,9 +6,9 @@ use Rattle.std.proofs.Common.{◌∙◌, subst, ltb-true, ltb-false, eqb-true, e
 use native.Mathlib.Omega.{arith}
 use Rattle.std.specs.Float.Ieee.{nan}
 use Rattle.std.proofs.lemmas.Bool.{eqb-false}
-use Rattle.laws.specs.Loops.{mapIn}
+use Rattle.laws.specs.Loops.{map_in}
 use Rattle.laws.specs.Lists.{tab-ext}
-use Rattle.laws.specs.Places.{mapIn-at, mapIn-before}
+use Rattle.laws.specs.Places.{map_in-at, map_in-before}
 use Rattle.layout.specs.cells.Names.{row_span}
 use Rattle.layout.specs.cells.Cells.{Ascending, cells, lower_in, cell_in, cell_at, row_of, moved, dropped_at, dropped}
 use Rattle.layout.specs.cells.Slide.{length_moved, moved_before, moved_in}
@@ -16,7 +16,7 @@ use Rattle.layout.specs.cells.Reads.{ascending-lt, RowRun, run-le, run-low, run_
 use Rattle.layout.specs.cells.Replace.{row-run}
 
 pub dropped-is : (n i : ℕ) (keys : List ℕ) (vals : List Float) (a e : ℕ) (ks : List ℕ) (vs : List Float) {r : List ℕ}
-    → a ≡ lower_in keys (i * row_span) 0 n → e ≡ lower_in keys (i * row_span + row_span) 0 n → ks ≡ moved e a (n - e) keys → vs ≡ moved e a (n - e) vals → r ≡ mapIn (λ x. x - row_span) a (n - e + a) ks → cells r vs (n - e + a) ≡ dropped n i keys vals
+    → a ≡ lower_in keys (i * row_span) 0 n → e ≡ lower_in keys (i * row_span + row_span) 0 n → ks ≡ moved e a (n - e) keys → vs ≡ moved e a (n - e) vals → r ≡ map_in (λ x. x - row_span) a (n - e + a) ks → cells r vs (n - e + a) ≡ dropped n i keys vals
 unfolding dropped dropped_at
 dropped-is n i keys vals a e ks vs h₁ h₂ h₃ h₄ h₅ = rw (h₅, h₄, h₃, h₂, h₁)
 
@@ -29,7 +29,7 @@ eqb-lowered x y h = go (eqb (x + row_span) y) refl
 
 module _ (n i a e : ℕ) (keys : List ℕ) (vals : List Float) (up : Ascending keys n) (r : RowRun keys n i a e) (lk : n ≤ length keys) (lv : n ≤ length vals) where
   ks : List ℕ
-  ks = mapIn (λ x. x - row_span) a (n - e + a) (moved e a (n - e) keys)
+  ks = map_in (λ x. x - row_span) a (n - e + a) (moved e a (n - e) keys)
 
   vs : List Float
   vs = moved e a (n - e) vals
@@ -42,7 +42,7 @@ module _ (n i a e : ℕ) (keys : List ℕ) (vals : List Float) (up : Ascending k
 
   lead : (j : ℕ) → j < a → get_or ks j 0 ≡ get_or keys j 0
   unfolding ks
-  lead j u = mapIn-before (λ x. x - row_span) a (n - e + a) (moved e a (n - e) keys) j 0 u ∙ moved_before e a (n - e) keys j 0 inside.0 inside.1 u
+  lead j u = map_in-before (λ x. x - row_span) a (n - e + a) (moved e a (n - e) keys) j 0 u ∙ moved_before e a (n - e) keys j 0 inside.0 inside.1 u
 
   leads : (j : ℕ) → j < a → get_or vs j nan ≡ get_or vals j nan
   unfolding vs
@@ -51,7 +51,7 @@ module _ (n i a e : ℕ) (keys : List ℕ) (vals : List Float) (up : Ascending k
   tail : (j : ℕ) → j < n - e → get_or ks (a + j) 0 ≡ get_or keys (e + j) 0 - row_span
   unfolding ks
   tail j u =
-      mapIn-at (λ x. x - row_span) a (n - e + a) (moved e a (n - e) keys) (a + j) 0 (omega arith) (omega arith) (omega (arith, length_moved e a (n - e) keys inside.0 inside.1, inside.1, u))
+      map_in-at (λ x. x - row_span) a (n - e + a) (moved e a (n - e) keys) (a + j) 0 (omega arith) (omega arith) (omega (arith, length_moved e a (n - e) keys inside.0 inside.1, inside.1, u))
       ∙ ap (λ (x : ℕ). x - row_span) (moved_in e a (n - e) keys j 0 inside.0 inside.1 u)
 
   tails : (j : ℕ) → j < n - e → get_or vs (a + j) nan ≡ get_or vals (e + j) nan

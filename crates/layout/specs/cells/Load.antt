@@ -4,9 +4,9 @@ use Rattle.std.specs.Prelude.{ℕ, zero, suc, ◌+◌, ◌-◌, ◌*◌, ◌≤�
 use Rattle.std.proofs.Common.{subst, add-zero, arith, ltb-true}
 use Rattle.std.specs.Float.{nan}
 use Rattle.std.specs.Float.Ieee.{eq, ne}
-use Rattle.laws.specs.Loops.{mapIn}
+use Rattle.laws.specs.Loops.{map_in}
 use Rattle.laws.specs.Lists.{tab, all_from, all_in}
-use Rattle.laws.specs.Places.{mapIn-at, length-mapIn}
+use Rattle.laws.specs.Places.{map_in-at, length-map_in}
 use Rattle.steps.specs.Number.{zero64}
 use Rattle.layout.specs.cells.Names.{row_span}
 use Rattle.steps.specs.Symbol.{absent}
@@ -72,12 +72,12 @@ unfolding Narrow
 narrow-part keys w n a e f h j u v = f j (omega arith) (omega arith)
 
 pub loaded-is : (n i k : ℕ) (keys : List ℕ) (vals row : List Float) (a e : ℕ) (z : List Float) {r : List Float}
-    → a ≡ lower_in keys (i * row_span) 0 n → e ≡ lower_in keys (i * row_span + row_span) 0 n → z ≡ mapIn (λ _. zero64) 1 (k + 1) row → r ≡ expanded keys vals a e z → r ≡ loaded n i k keys vals row
+    → a ≡ lower_in keys (i * row_span) 0 n → e ≡ lower_in keys (i * row_span + row_span) 0 n → z ≡ map_in (λ _. zero64) 1 (k + 1) row → r ≡ expanded keys vals a e z → r ≡ loaded n i k keys vals row
 unfolding loaded
 loaded-is n i k keys vals row a e z h₁ h₂ h₃ h₄ = rw (h₄, h₃, h₂, h₁)
 
 pub loaded-reads : (n i k : ℕ) (keys : List ℕ) (vals row : List Float) → Ascending keys n → k < row_span → k < length row → tab (λ p. get_or (loaded n i k keys vals row) p nan) 1 k ≡ row_of keys vals n k i
 unfolding loaded
 loaded-reads n i k keys vals row up h l =
-    expand-reads keys vals (mapIn (λ _. zero64) 1 (k + 1) row) n k i (lower_in keys (i * row_span) 0 n) (lower_in keys (i * row_span + row_span) 0 n) up (row-run keys n i refl refl) h (rw (length-mapIn (λ (_ : Float). zero64) 1 (k + 1) row) l) λ p u v.
-    mapIn-at (λ _. zero64) 1 (k + 1) row p nan u (omega arith) (omega arith)
+    expand-reads keys vals (map_in (λ _. zero64) 1 (k + 1) row) n k i (lower_in keys (i * row_span) 0 n) (lower_in keys (i * row_span + row_span) 0 n) up (row-run keys n i refl refl) h (rw (length-map_in (λ (_ : Float). zero64) 1 (k + 1) row) l) λ p u v.
+    map_in-at (λ _. zero64) 1 (k + 1) row p nan u (omega arith) (omega arith)

@@ -8,9 +8,9 @@ use native.Mathlib.Omega.{arith}
 use Rattle.std.proofs.Math.Dec.{ltb}
 use Rattle.std.proofs.Math.ListN.{get_or}
 use borrow.Author.Tests.{ltb-true, ltb-false, lt-ltb, eqb-true, eqb-false, eq-eqb, ne_eqb}
-use Rattle.laws.specs.Loops.{mapIn}
+use Rattle.laws.specs.Loops.{map_in}
 use Rattle.laws.specs.Lists.{tab, tab-ext}
-use Rattle.laws.specs.Places.{mapIn-at, mapIn-before}
+use Rattle.laws.specs.Places.{map_in-at, map_in-before}
 use Rattle.steps.specs.Number.{zero64}
 use Rattle.layout.specs.cells.Names.{row_span, keys_end}
 use Rattle.layout.specs.cells.Cells.{Ascending, lower_in, cell_in, cell_at, row_of, row_after, opened}
@@ -34,15 +34,15 @@ Raisable keys n = (j : ℕ) → j < n → get_or keys j 0 < keys_end
 
 module _ (n i a : ℕ) (keys : List ℕ) (vals : List Float) (up : Ascending keys n) (b : Bound keys (i * row_span) 0 n a) (lk : n ≤ length keys) (low : Raisable keys n) where
   ks : List ℕ
-  ks = mapIn row_after a n keys
+  ks = map_in row_after a n keys
 
   lead : (j : ℕ) → j < a → get_or ks j 0 ≡ get_or keys j 0
   unfolding ks
-  lead j u = mapIn-before row_after a n keys j 0 u
+  lead j u = map_in-before row_after a n keys j 0 u
 
   tail : (j : ℕ) → a ≤ j → j < n → get_or ks j 0 ≡ get_or keys j 0 + row_span
   unfolding ks
-  tail j u v = mapIn-at row_after a n keys j 0 u v (omega (arith, v, lk)) ∙ after_is (get_or keys j 0) (low j v)
+  tail j u v = map_in-at row_after a n keys j 0 u v (omega (arith, v, lk)) ∙ after_is (get_or keys j 0) (low j v)
 
   past : (j : ℕ) → a ≤ j → j < n → i * row_span ≤ get_or keys j 0
   past j u v =
@@ -121,5 +121,5 @@ module _ (n i : ℕ) (keys : List ℕ) (vals : List Float) where
   opened_after q k h l f =
       tab-ext _ (λ p. cell_at keys vals n (q * row_span + p)) 1 k λ p u v.
       let o : q * row_span + p + row_span ≡ (q + 1) * row_span + p = omega arith in
-      sym (ap (cell_at (mapIn row_after (lower_in keys (i * row_span) 0 n) n keys) vals n) o)
+      sym (ap (cell_at (map_in row_after (lower_in keys (i * row_span) 0 n) n keys) vals n) o)
       ∙ at_above n i _ keys vals f.0 (lower-bound keys (i * row_span) 0 n (omega arith)) f.1 f.2 (q * row_span + p) (omega arith)

@@ -1,7 +1,7 @@
 // One row: its run of cells as a dense row, and a dense row as its run.
 ghost use Rattle.std.specs.Prelude.{◌≡◌, cond, ◌+◌, ◌<◌, ◌≤◌};
 ghost use Rattle.std.specs.Float.Ieee.{ne};
-ghost use Rattle.laws.specs.Loops.{mapIn};
+ghost use Rattle.laws.specs.Loops.{map_in};
 ghost use Rattle.steps.specs.Number.{zero64};
 ghost use Rattle.layout.specs.cells.Names.{cell_room, row_room, top_row};
 ghost use Rattle.layout.specs.cells.Cells.{loaded, counted, replaced, Ascending, Narrow, expanded, cells, put_if, packed};
@@ -34,7 +34,7 @@ pub fn expand(
 // The places 1 to k of a row become zero.
 pub fn zero_cells(row: &mut [f64; ROW_ROOM], k: usize)
     requires { k < row_room }
-    ensures { row.new ≡ mapIn (λ _. zero64) 1 (k + 1) row.old }
+    ensures { row.new ≡ map_in (λ _. zero64) 1 (k + 1) row.old }
 {
     let mut p = 1;
     while p <= k {

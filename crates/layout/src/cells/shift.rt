@@ -1,6 +1,6 @@
 // Rows and places that go, or come.
 ghost use Rattle.std.specs.Prelude.{◌≡◌, ◌-◌, ◌<◌, ◌≤◌};
-ghost use Rattle.laws.specs.Loops.{mapIn};
+ghost use Rattle.laws.specs.Loops.{map_in};
 ghost use Rattle.layout.specs.cells.Names.{cell_room, row_span, top_row};
 ghost use Rattle.layout.specs.cells.Cells.{nearer_of, row_after, opened, dropped, Ascending, cells};
 
@@ -20,7 +20,7 @@ fn row_before(key: u16) -> u16
 // The keys from place a up to n name the row before theirs.
 fn lower_rows(keys: &mut [u16; CELL_ROOM], a: usize, n: usize)
     requires { n ≤ cell_room }
-    ensures { keys.new ≡ mapIn (λ x. x - row_span) a n keys.old }
+    ensures { keys.new ≡ map_in (λ x. x - row_span) a n keys.old }
 {
     let mut j = a;
     while j < n {
@@ -57,7 +57,7 @@ fn row_after(key: u16) -> u16
 // The keys from place a up to n name the row after theirs.
 fn raise_rows(keys: &mut [u16; CELL_ROOM], a: usize, n: usize)
     requires { n ≤ cell_room }
-    ensures { keys.new ≡ mapIn row_after a n keys.old }
+    ensures { keys.new ≡ map_in row_after a n keys.old }
 {
     let mut j = a;
     while j < n {
@@ -88,7 +88,7 @@ fn nearer(key: u16, p: u8) -> u16
 // Place p goes out of every row, which has no cell there: the places after it come one place down.
 pub fn close_place(keys: &mut [u16; CELL_ROOM], n: usize, p: u8)
     requires { n ≤ cell_room }
-    ensures { keys.new ≡ mapIn (nearer_of p) 0 n keys.old }
+    ensures { keys.new ≡ map_in (nearer_of p) 0 n keys.old }
 {
     let mut j = 0;
     while j < n {

@@ -10,7 +10,7 @@ use Rattle.std.proofs.Math.Dec.{ltb}
 use Rattle.std.specs.Float.Ieee.{nan}
 use Rattle.std.proofs.Math.ListN.{length, get_or}
 use borrow.Author.Tests.{ltb-true, ltb-false}
-use Rattle.laws.specs.Lists.{tab, tab-ext, tab-getD, length-tab, getD-tab, laid_in, laid-before, laid-after}
+use Rattle.laws.specs.Lists.{tab, tab-ext, tab-get_or, length-tab, get_or-tab, laid_in, laid-before, laid-after}
 use Rattle.layout.specs.Layout.{over}
 use Rattle.sparse.specs.Places.{next_id_at, row_places_at, changed_at, constants_at, objective_at, suggestions_at}
 use Rattle.sparse.specs.Sparse.{Sparse, symbol_count, row_count, cell_count, variable_count, edit_count}
@@ -46,7 +46,7 @@ module _ {A : Type 0} (d : A) where
   part_in from a n to j h k l =
       let g : ℕ → A = λ i. get_or from i d in
       let o : a + (j - a) ≡ j = omega (arith, h) in
-      over-in a (tab g a n) to j h (rw (length-tab g a n) k) l ∙ getD-tab g a n (j - a) d (omega (arith, h, k)) ∙ ap g o
+      over-in a (tab g a n) to j h (rw (length-tab g a n) k) l ∙ get_or-tab g a n (j - a) d (omega (arith, h, k)) ∙ ap g o
 
   pub part_out : (from : List A) (a n : ℕ) (to : List A) (j : ℕ) → Outside a n j → get_or (put_part d from a n to) j d ≡ get_or to j d
   unfolding put_part
@@ -67,7 +67,7 @@ module _ {A : Type 0} (d : A) where
   Own u (s ∷ ss) = ((i : ℕ) → i < length s.list → get_or s.list i d ≡ get_or u (s.at + i) d) × Own u ss
 
   own : (u : List A) (a n i : ℕ) → i < length (tab (λ j. get_or u j d) a n) → get_or (tab (λ j. get_or u j d) a n) i d ≡ get_or u (a + i) d
-  own u a n i h = getD-tab (λ j. get_or u j d) a n i d (rw (length-tab (λ j. get_or u j d) a n) at h)
+  own u a n i h = get_or-tab (λ j. get_or u j d) a n i d (rw (length-tab (λ j. get_or u j d) a n) at h)
 
   lay_at : (u : List A) (ss : List (Stretch A)) (m : List A) (j : ℕ) → j < length m → Own u ss → (Off ss j → get_or m j d ≡ get_or u j d) → get_or (lay ss m) j d ≡ get_or u j d
   unfolding lay
@@ -91,8 +91,8 @@ module _ {A : Type 0} (d : A) where
 
   pub same-list : (l m : List A) → length l ≡ length m → ((j : ℕ) → j < length m → get_or l j d ≡ get_or m j d) → l ≡ m
   same-list l m e h =
-      let a : tab (λ j. get_or l j d) 0 (length m) ≡ l = rw e at (tab-getD l d) in
-      sym a ∙ tab-ext (λ j. get_or l j d) (λ j. get_or m j d) 0 (length m) (λ j b c. h j (omega (arith, c))) ∙ tab-getD m d
+      let a : tab (λ j. get_or l j d) 0 (length m) ≡ l = rw e at (tab-get_or l d) in
+      sym a ∙ tab-ext (λ j. get_or l j d) (λ j. get_or m j d) 0 (length m) (λ j b c. h j (omega (arith, c))) ∙ tab-get_or m d
 
   lay-becomes : (u : List A) (ss : List (Stretch A)) (m : List A) → length m ≡ length u → Own u ss → ((j : ℕ) → Off ss j → get_or m j d ≡ get_or u j d) → lay ss m ≡ u
   lay-becomes u ss m e o h = same-list (lay ss m) u (length-lay ss m ∙ e) (λ j l. lay_at u ss m j (omega (arith, l, e)) o (h j))

@@ -9,7 +9,7 @@ use Rattle.std.proofs.Math.Option.{Option, none, some}
 use Rattle.std.proofs.Math.Dec.{eqb}
 use Rattle.std.specs.Float.Ieee.{Float, nan, neg}
 use borrow.Author.Tests.{eqb-false, ne_eqb}
-use Rattle.laws.specs.Lists.{tab, length-tab, getD-tab}
+use Rattle.laws.specs.Lists.{tab, length-tab, get_or-tab}
 use Rattle.steps.specs.Number.{◌*₆₄◌, Mark}
 use Rattle.steps.specs.Symbol.{Symbol, is_symbol, absent, coefficient_for}
 use Rattle.steps.specs.Row.{Row}
@@ -83,7 +83,7 @@ module _ (art : Bool) (t : Sparse) (so : Sound art t) where
       let o : 1 + (p - 1) ≡ p = omega (arith, l) in
       let place : PlaceOf (symbol_at t p).id (symbols_of t) (p - 1) = subst (λ (z : ℕ). PlaceOf (symbol_at t z).id (symbols_of t) (p - 1)) o (live-place t so.named (p - 1) (omega (arith, l, h))) in
       coefficient-at (symbol_at t p).id (symbols_of t) (p - 1) (tab (λ q. cell_at t.keys t.values (cell_count t) (i * row_span + q)) 1 (symbol_count t)) nan place (length-tab _ 1 (symbol_count t) ∙ sym (symbols-read t))
-      ∙ getD-tab (λ q. cell_at t.keys t.values (cell_count t) (i * row_span + q)) 1 (symbol_count t) (p - 1) nan (omega (arith, l, h))
+      ∙ get_or-tab (λ q. cell_at t.keys t.values (cell_count t) (i * row_span + q)) 1 (symbol_count t) (p - 1) nan (omega (arith, l, h))
       ∙ ap (λ (q : ℕ). cell_at t.keys t.values (cell_count t) (i * row_span + q)) o
 
   cells_is : (p : ℕ) (x : Float) (i : ℕ) → 1 ≤ p → p ≤ symbol_count t → cell_shift (symbol_at t p) x (symbols_of t) (basic_of t i) ≡ gotten (by_cells p x) i

@@ -73,14 +73,14 @@ module _ (art : Bool) (d : Drag) (t : Sparse) (so : Sound art t) (a : Mark) wher
   abbrev count : ℕ
   count = row_count t
 
-  abbrev placeAt : ℕ → ℕ
-  placeAt i = get_or t.bytes (row_places_at + i) 0
+  abbrev place_byte : ℕ → ℕ
+  place_byte i = get_or t.bytes (row_places_at + i) 0
 
   unfoldable pub gotten : ℕ → Option Float
-  gotten i = shift_by d (cell_count t) t.keys t.values (placeAt i) i
+  gotten i = shift_by d (cell_count t) t.keys t.values (place_byte i) i
 
   unfoldable pub sub : ℕ → Substituted
-  sub i = record { symbol = symbol_at t (placeAt i); written = shift_row (basic_of t i).row (gotten i) }
+  sub i = record { symbol = symbol_at t (place_byte i); written = shift_row (basic_of t i).row (gotten i) }
 
   pub rows-tab : (shift : Basic → Option Float) → ((i : ℕ) → 1 ≤ i → i ≤ count → shift (basic_of t i) ≡ gotten i) → (k i : ℕ) → 1 ≤ i → i + k ≤ count + 1 → shift_rows shift (tab (basic_of t) i k) ≡ tab sub i k
   unfolding shift_rows tab sub
@@ -105,16 +105,16 @@ module _ (art : Bool) (d : Drag) (t : Sparse) (so : Sound art t) (a : Mark) wher
     pub rest : (q : ℕ) → ((p : ℕ) → 1 ≤ p → p < i → q ≡ constants_at + p → ⊥) → get_or s.reals q nan ≡ get_or t.reals q nan
     pub long : length s.reals ≡ reals_size
 
-  abbrev onOf : ℕ → Bool
-  onOf i = is_external (sub i).symbol && (sub i).written.constant_changed
+  abbrev on_of : ℕ → Bool
+  on_of i = is_external (sub i).symbol && (sub i).written.constant_changed
 
-  turn_is : (i : ℕ) (s : Shifted) → NotesKept s₀ s.notes → 1 ≤ i → i ≤ count → turn i s ≡ shifted (var_changed_if (onOf i) (placeAt i) s.notes) (shift_reals (gotten i) i s.reals) (worse s.mark (shift_mark (gotten i) i s.reals))
+  turn_is : (i : ℕ) (s : Shifted) → NotesKept s₀ s.notes → 1 ≤ i → i ≤ count → turn i s ≡ shifted (var_changed_if (on_of i) (place_byte i) s.notes) (shift_reals (gotten i) i s.reals) (worse s.mark (shift_mark (gotten i) i s.reals))
   unfolding shift_turn sub gotten
   turn_is i s k l h =
       let v = so.rows i l h in
       let f = so.named.few-symbols in
       let g = so.few in
-      rw (k.before (row_places_at + i) (omega (arith, h, g)), k.before (kinds_at + placeAt i) (omega (arith, v, f)), external-at t (placeAt i), one-changed (shift_by d (cell_count t) t.keys t.values (placeAt i) i) (basic_of t i).row) refl
+      rw (k.before (row_places_at + i) (omega (arith, h, g)), k.before (kinds_at + place_byte i) (omega (arith, v, f)), external-at t (place_byte i), one-changed (shift_by d (cell_count t) t.keys t.values (place_byte i) i) (basic_of t i).row) refl
 
   row-constant : (i : ℕ) → (basic_of t i).row.constant ≡ get_or t.reals (constants_at + i) nan
   unfolding basic_of
@@ -133,7 +133,7 @@ module _ (art : Bool) (d : Drag) (t : Sparse) (so : Sound art t) (a : Mark) wher
     abbrev o : Option Float
     o = gotten i
 
-    live : (1 ≤ placeAt i) × (placeAt i ≤ symbol_count t)
+    live : (1 ≤ place_byte i) × (place_byte i ≤ symbol_count t)
     live = so.rows i l (omega (arith, h))
 
     here : get_or s.reals (constants_at + i) nan ≡ (basic_of t i).row.constant
@@ -143,19 +143,19 @@ module _ (art : Bool) (d : Drag) (t : Sparse) (so : Sound art t) (a : Mark) wher
     in-reals = let f = so.few in let z = g.long in omega (arith, h, f, z)
 
     abbrev next : Noted
-    next = var_changed_if (onOf i) (placeAt i) s.notes
+    next = var_changed_if (on_of i) (place_byte i) s.notes
 
     named : Named s.notes.words s.notes.bytes
     named = named-kept g.kept so.named
 
-    changed : (read (note_in next t)).changes ≡ cond (onOf i) (var_changed (sub i).symbol.id (read (note_in s.notes t)).changes) (read (note_in s.notes t)).changes
+    changed : (read (note_in next t)).changes ≡ cond (on_of i) (var_changed (sub i).symbol.id (read (note_in s.notes t)).changes) (read (note_in s.notes t)).changes
     unfolding sub
     changed =
         let f = so.named.few-symbols in
         let v = live in
         let c : get_or s.notes.words symbol_count_at 0 ≡ symbol_count t = g.kept.words symbol_count_at (λ z. omega (arith, z)) in
-        changed-if-read (onOf i) (placeAt i) s.notes t named v.0 (omega (arith, v, c))
-        ∙ ap (λ (z : Symbol). cond (onOf i) (var_changed z.id (read (note_in s.notes t)).changes) (read (note_in s.notes t)).changes) (symbol-kept t g.kept (placeAt i) (omega (arith, v, f)))
+        changed-if-read (on_of i) (place_byte i) s.notes t named v.0 (omega (arith, v, c))
+        ∙ ap (λ (z : Symbol). cond (on_of i) (var_changed z.id (read (note_in s.notes t)).changes) (read (note_in s.notes t)).changes) (symbol-kept t g.kept (place_byte i) (omega (arith, v, f)))
 
     mark-is : shift_mark o i s.reals ≡ (sub i).written.mark
     unfolding sub
@@ -179,8 +179,8 @@ module _ (art : Bool) (d : Drag) (t : Sparse) (so : Sound art t) (a : Mark) wher
           ∙ rw mark-is refl
           ∙ ap (worse s.mark) (sym (ap marks_of (left-first i h) ∙ marks-cons (sub i) (tab sub (suc i) (count + 1 - suc i))))
           ∙ g.marks;
-      kept = notes-then g.kept (note-if-kept (onOf i) (placeAt i) s.notes named);
-      low = λ z. low-if (onOf i) (placeAt i) s.notes named (g.low z);
+      kept = notes-then g.kept (note-if-kept (on_of i) (place_byte i) s.notes named);
+      low = λ z. low-if (on_of i) (place_byte i) s.notes named (g.low z);
       done = λ q u v. done q u v (ltb q i) refl;
       rest = λ q z. one-other o i s.reals q (z i l (omega arith)) ∙ g.rest q (λ p a b. z p a (omega (arith, b)));
       long = one-long o i s.reals ∙ g.long;

@@ -27,8 +27,8 @@ use Rattle.reader.specs.declared.second.ends.Second.TheVariants.{Whole, Refused}
 -- ---- it takes the first edition's steps up to an `@`
 
 module _ (w : List ℕ) where
-  abbrev pub headFrom : ℕ → Mode → Around → Sums → Found
-  headFrom at m a s = pass_from w at (head m a s)
+  abbrev pub head_from : ℕ → Mode → Around → Sums → Found
+  head_from at m a s = pass_from w at (head m a s)
 
   either : (at : ℕ) (x : State) {o : Found} → (at < length w → pass_from w at x ≡ o) → (length w ≤ at → pass_from w at x ≡ o) → pass_from w at x ≡ o
   either at x {o} f g = by (ltb at (length w)) (ltb-true at (length w)) (ltb-false at (length w))
@@ -37,13 +37,13 @@ module _ (w : List ℕ) where
       by true p q = f (p refl)
       by false p q = g (q refl)
 
-  unmarked : (at : ℕ) (m : Mode) (a : Around) (s : Sums) {x : Next} → at < length w → (get_or w at 0 ≡ 64 → ⊥) → step m a s (kind_of (get_or w at 0)) ≡ x → headFrom at m a s ≡ onward at (stepped x) (λ y. pass_from w (at + 1) y)
+  unmarked : (at : ℕ) (m : Mode) (a : Around) (s : Sums) {x : Next} → at < length w → (get_or w at 0 ≡ 64 → ⊥) → step m a s (kind_of (get_or w at 0)) ≡ x → head_from at m a s ≡ onward at (stepped x) (λ y. pass_from w (at + 1) y)
   unmarked at m a s h n e = byte w at (head m a s) h ∙ rw (ne_eqb (get_or w at 0) 64 n, e)
 
-  pub follows : Follows w headFrom met
+  pub follows : Follows w head_from met
   follows = record { goes = λ at m a s h n e. unmarked at m a s h n e; begins = begins; strays = strays }
     where
-      begins : (s : Sums) → (get_or w 0 0 ≡ 32 → ⊥) → headFrom 0 first left s ≡ headFrom 0 (wanted one) left s
+      begins : (s : Sums) → (get_or w 0 0 ≡ 32 → ⊥) → head_from 0 first left s ≡ head_from 0 (wanted one) left s
       begins s n =
           either 0 (head first left s)
           (λ h. byte w 0 (head first left s) h
@@ -55,7 +55,7 @@ module _ (w : List ℕ) where
       refuses true s = refl
       refuses false s = refl
 
-      strays : (at : ℕ) (m : Mode) (s : Sums) → at ≤ length w → step m left s (kind_of (get_or w at 0)) ≡ stop 20 → headFrom at m left s ≡ met 20 at
+      strays : (at : ℕ) (m : Mode) (s : Sums) → at ≤ length w → step m left s (kind_of (get_or w at 0)) ≡ stop 20 → head_from at m left s ≡ met 20 at
       strays at m s h e =
           either at (head m left s)
           (λ k. byte w at (head m left s) k ∙ rw (refuses (is_read m) (flushed m s), e) (same (eqb (get_or w at 0) 64)))
@@ -65,7 +65,7 @@ module _ (w : List ℕ) where
           same true = refl
           same false = refl
 
-  pub descends : Descends w headFrom met (resumed w)
+  pub descends : Descends w head_from met (resumed w)
   descends = record { follows = follows; stops = λ a n b. refl; rests = λ a at t s. refl; lefts = λ at s. left-sum w at s; rights = λ at s r. right-sum w at s r }
 
 -- ---- the end
@@ -84,7 +84,7 @@ Counted (Whole m p n g) = p.count ≤ 1366
 Counted (Refused n b) = Unit {0}
 
 pub record EndIs (w : List ℕ) (m : Mark) (e : Place) (l : Second) : Type 0 where
-  pub outcome : (numbers sums : List ℕ) → Agrees numbers sums l (headFrom w e.at (rested e.bare) (right (relation_of m)) (sums_of numbers sums e))
+  pub outcome : (numbers sums : List ℕ) → Agrees numbers sums l (head_from w e.at (rested e.bare) (right (relation_of m)) (sums_of numbers sums e))
   pub counted : Counted l
 
 module _ (w : List ℕ) (m : Mark) (e : Place) (h : Reached w e) where
@@ -92,7 +92,7 @@ module _ (w : List ℕ) (m : Mark) (e : Place) (h : Reached w e) where
   at = e.at
 
   abbrev behind : Bool → Sums → Found
-  behind t s = headFrom w at (rested t) (right (relation_of m)) s
+  behind t s = head_from w at (rested t) (right (relation_of m)) s
 
   to-ending : get_or w at 0 ≡ 64 → at < length w → (t : Bool) (s : Sums) → behind t s ≡ pass_from w (at + 1) (tail (relation_of m) s opened)
   to-ending c k true s = byte w at (head (rested true) (right (relation_of m)) s) k ∙ rw c
@@ -127,14 +127,14 @@ module _ (w : List ℕ) (m : Mark) (e : Place) (h : Reached w e) where
 -- ---- the whole line
 
 module _ (w numbers sums : List ℕ) (x : Sides) (h : SidesIs w numbers sums x) where
-  goes_on_lem : pass_from w 0 start ≡ goes_on w (headFrom w) met (resumed w) (descends w) (reach_of numbers sums x)
-  goes_on_lem = sided-is w (headFrom w) met (resumed w) (descends w) h.sided
+  goes_on_lem : pass_from w 0 start ≡ goes_on w (head_from w) met (resumed w) (descends w) (reach_of numbers sums x)
+  goes_on_lem = sided-is w (head_from w) met (resumed w) (descends w) h.sided
 
   pub reached : {m : Mark} {e : Place} → x ≡ Both m e → Reached w e
   reached e = subst (Far w) e h.far
 
   pub line-sides : {m : Mark} {e : Place} (l : Second) → x ≡ Both m e → EndIs w m e l → Agrees numbers sums l (pass_from w 0 start) × Counted l
-  line-sides l e k = (subst (Agrees numbers sums l) (sym (goes_on_lem ∙ ap (λ (z : Sides). goes_on w (headFrom w) met (resumed w) (descends w) (reach_of numbers sums z)) e)) (k.outcome numbers sums), k.counted)
+  line-sides l e k = (subst (Agrees numbers sums l) (sym (goes_on_lem ∙ ap (λ (z : Sides). goes_on w (head_from w) met (resumed w) (descends w) (reach_of numbers sums z)) e)) (k.outcome numbers sums), k.counted)
 
   pub line-halted : {n b : ℕ} → x ≡ Neither n b → (pass_from w 0 start ≡ met n b) × Unit {0}
-  line-halted e = (goes_on_lem ∙ ap (λ (z : Sides). goes_on w (headFrom w) met (resumed w) (descends w) (reach_of numbers sums z)) e, tt)
+  line-halted e = (goes_on_lem ∙ ap (λ (z : Sides). goes_on w (head_from w) met (resumed w) (descends w) (reach_of numbers sums z)) e, tt)

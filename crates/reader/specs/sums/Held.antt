@@ -3,7 +3,7 @@ use Rattle.std.specs.Prelude.{ℕ, zero, suc, ◌+◌, ◌-◌, ◌≤◌, ◌<�
 use Rattle.std.proofs.Common.{sym, ap, ◌∙◌, not-suc-le-zero, le_of_suc-le-suc, zero-lt-suc, arith, lt-ltb, le-ltb, eq-eqb, ne_eqb}
 use Rattle.std.proofs.Math.IntN.{sub_ℕ}
 use Rattle.laws.specs.Z.{at, ◌⊕◌, ⊖◌, eq_z, PN-sub, abs_is, abs-add, abs_neg}
-use Rattle.laws.specs.Loops.{delete, insertAt}
+use Rattle.laws.specs.Loops.{delete, insert_at}
 use Rattle.grammar.specs.Sums.{Term, add_to, signed}
 
 -- a coefficient stands as what it is above this, 2 to the power of 53
@@ -22,14 +22,14 @@ held [] sums (suc n) = []
 held (v ∷ vs) [] (suc n) = []
 held (v ∷ vs) (x ∷ xs) (suc n) = term_of v x ∷ held vs xs n
 
-front : {A : Type 0} (l : List A) (y : A) → insertAt 0 y l ≡ y ∷ l
-unfolding insertAt
+front : {A : Type 0} (l : List A) (y : A) → insert_at 0 y l ≡ y ∷ l
+unfolding insert_at
 front l y = refl
 
 -- a term put in at the place i
 held-open : (vs xs : List ℕ) (n i v x : ℕ) → i ≤ n → n < length vs → n < length xs
-    → held (insertAt i v (delete n vs)) (insertAt i x (delete n xs)) (suc n) ≡ insertAt i (term_of v x) (held vs xs n)
-unfolding held insertAt delete
+    → held (insert_at i v (delete n vs)) (insert_at i x (delete n xs)) (suc n) ≡ insert_at i (term_of v x) (held vs xs n)
+unfolding held insert_at delete
 held-open [] xs n i v x h p q = absurd (not-suc-le-zero p)
 held-open (w ∷ vs) [] n i v x h p q = absurd (not-suc-le-zero q)
 held-open (w ∷ vs) (y ∷ xs) zero zero v x h p q = refl
@@ -45,12 +45,12 @@ held-open (w ∷ vs) (y ∷ xs) (suc n) (suc i) v x h p q = ap (λ (l : List Ter
 
 -- a new variable: all before the place are below it, and the one there, if any, is above it
 pub put-new : (vs xs : List ℕ) (n i v x : ℕ) → i ≤ n → n < length vs → n < length xs → ((j : ℕ) → j < i → get_or vs j 0 < v) → (i < n → v < get_or vs i 0)
-    → held (insertAt i v (delete n vs)) (insertAt i x (delete n xs)) (suc n) ≡ add_to v (value_of x) (held vs xs n)
-unfolding held insertAt add_to
+    → held (insert_at i v (delete n vs)) (insert_at i x (delete n xs)) (suc n) ≡ add_to v (value_of x) (held vs xs n)
+unfolding held insert_at add_to
 put-new vs xs n i v x h p q b a = held-open vs xs n i v x h p q ∙ there vs xs n i h p q b a
   where
     there : (vs xs : List ℕ) (n i : ℕ) → i ≤ n → n < length vs → n < length xs → ((j : ℕ) → j < i → get_or vs j 0 < v) → (i < n → v < get_or vs i 0)
-        → insertAt i (term_of v x) (held vs xs n) ≡ add_to v (value_of x) (held vs xs n)
+        → insert_at i (term_of v x) (held vs xs n) ≡ add_to v (value_of x) (held vs xs n)
     there [] xs n i h p q b a = absurd (not-suc-le-zero p)
     there (w ∷ vs) [] n i h p q b a = absurd (not-suc-le-zero q)
     there (w ∷ vs) (y ∷ xs) zero zero h p q b a = refl

@@ -3,8 +3,8 @@
 use Rattle.std.specs.Prelude.{◌≡◌, ℕ, zero, suc, ◌<◌, ◌≤◌, List, [], ◌∷◌, length, get_or, slice_index_or}
 use Rattle.std.proofs.Math.Path.{refl}
 use Rattle.std.proofs.Common.{◌∙◌, not-suc-le-zero, le_of_suc-le-suc, arith}
-use Rattle.laws.specs.Loops.{delete, insertAt}
-use Rattle.laws.specs.Places.{length-delete, length-insertAt}
+use Rattle.laws.specs.Loops.{delete, insert_at}
+use Rattle.laws.specs.Places.{length-delete, length-insert_at}
 use Rattle.rows.specs.moves.Close.{closed, opened}
 
 module _ {A : Type 0} where
@@ -22,21 +22,21 @@ module _ {A : Type 0} where
   delete-after (suc i) (y ∷ l) zero x h = absurd (not-suc-le-zero h)
   delete-after (suc i) (y ∷ l) (suc j) x h = delete-after i l j x (le_of_suc-le-suc h)
 
-  insert-before : (i : ℕ) (y : A) (l : List A) (j : ℕ) (x : A) → j < i → i ≤ length l → slice_index_or (insertAt i y l) j x ≡ slice_index_or l j x
-  unfolding insertAt
+  insert-before : (i : ℕ) (y : A) (l : List A) (j : ℕ) (x : A) → j < i → i ≤ length l → slice_index_or (insert_at i y l) j x ≡ slice_index_or l j x
+  unfolding insert_at
   insert-before zero y l j x h k = absurd (not-suc-le-zero h)
   insert-before (suc i) y [] j x h k = absurd (not-suc-le-zero k)
   insert-before (suc i) y (z ∷ l) zero x h k = refl
   insert-before (suc i) y (z ∷ l) (suc j) x h k = insert-before i y l j x (le_of_suc-le-suc h) (le_of_suc-le-suc k)
 
-  insert-at : (i : ℕ) (y : A) (l : List A) (x : A) → i ≤ length l → slice_index_or (insertAt i y l) i x ≡ y
-  unfolding insertAt
+  insert-at : (i : ℕ) (y : A) (l : List A) (x : A) → i ≤ length l → slice_index_or (insert_at i y l) i x ≡ y
+  unfolding insert_at
   insert-at zero y l x k = refl
   insert-at (suc i) y [] x k = absurd (not-suc-le-zero k)
   insert-at (suc i) y (z ∷ l) x k = insert-at i y l x (le_of_suc-le-suc k)
 
-  insert-after : (i : ℕ) (y : A) (l : List A) (j : ℕ) (x : A) → i ≤ j → i ≤ length l → slice_index_or (insertAt i y l) (suc j) x ≡ slice_index_or l j x
-  unfolding insertAt
+  insert-after : (i : ℕ) (y : A) (l : List A) (j : ℕ) (x : A) → i ≤ j → i ≤ length l → slice_index_or (insert_at i y l) (suc j) x ≡ slice_index_or l j x
+  unfolding insert_at
   insert-after zero y l j x h k = refl
   insert-after (suc i) y [] j x h k = absurd (not-suc-le-zero k)
   insert-after (suc i) y (z ∷ l) zero x h k = absurd (not-suc-le-zero h)
@@ -65,7 +65,7 @@ module _ {A : Type 0} where
 
     pub length-closed : length (closed d i e l) ≡ length l
     unfolding closed
-    length-closed = length-insertAt e (slice_index_or l e d) (delete i l) ∙ length-delete i l (omega arith)
+    length-closed = length-insert_at e (slice_index_or l e d) (delete i l) ∙ length-delete i l (omega arith)
 
   -- ---- y came to place i, into the free place e
   module _ (i e : ℕ) (y : A) (l : List A) (below : i ≤ e) (room : e < length l) (x : A) where
@@ -96,4 +96,4 @@ module _ {A : Type 0} where
 
     pub length-opened : length (opened i e y l) ≡ length l
     unfolding opened
-    length-opened = length-insertAt i y (delete e l) ∙ length-delete e l room
+    length-opened = length-insert_at i y (delete e l) ∙ length-delete e l room

@@ -10,7 +10,7 @@ use Rattle.steps.specs.Readable as steps
 use Rattle.laws.specs.Lists.{list_of, laid, laid_in, laid-after, length-laid}
 use Rattle.layout.specs.Rooms.{and_left, and_right}
 use Rattle.layout.specs.Laying.{remade, run-list}
-use Rattle.layout.proofs.Copied.{length-listOf, getD-listOf}
+use Rattle.layout.proofs.Copied.{length-list_of, get_or-list_of}
 use Rattle.rows.specs.places.Finding.{place_in, Apart, all-at, at_all, place_is, never}
 use Rattle.rows.specs.places.Listed.{join, member-list, at_listed, listed_at}
 use Rattle.rows.specs.places.Shares.{Shares, shares, none_left, stock}
@@ -28,12 +28,12 @@ module _ (g : ℕ → ℕ) (n : ℕ) (l : List ℕ) where
 
   pub stock-at : (j : ℕ) → j < n → n ≤ length l → slice_index (stock g n l) j ≡ g j
   stock-at j h k =
-      let m : length (list_of n g) ≡ n = length-listOf n g in
-      rw stock-laid ((rw (zero-add j) at (laid_in (λ x _. x) 0 (list_of n g) l j 0 0 (omega arith) (omega arith))) ∙ getD-listOf n g j 0 h)
+      let m : length (list_of n g) ≡ n = length-list_of n g in
+      rw stock-laid ((rw (zero-add j) at (laid_in (λ x _. x) 0 (list_of n g) l j 0 0 (omega arith) (omega arith))) ∙ get_or-list_of n g j 0 h)
 
   pub stock-after : (j : ℕ) → n ≤ j → slice_index (stock g n l) j ≡ slice_index l j
   stock-after j h =
-      let m : length (list_of n g) ≡ n = length-listOf n g in
+      let m : length (list_of n g) ≡ n = length-list_of n g in
       rw stock-laid (laid-after (λ x _. x) 0 (list_of n g) l j 0 (omega arith))
 
 none-at : (l : List ℕ) (n : ℕ) → none_left l n ≡ true → (j : ℕ) → j < n → slice_index l j ≡ 0

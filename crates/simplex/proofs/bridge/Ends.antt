@@ -66,14 +66,14 @@ module _ (n : ℕ) (kind : ℕ → KindZ) (ids : List ℕ) (asc : Asc ids) (cove
       free e c false p = p
       free e c true p = absurd (clash c (≼-of-eq (sym (GT.clear e p))))
 
-      isRowless : Look → Type 0
-      isRowless done = ⊥
-      isRowless (no_row e) = Unit
-      isRowless (go_on l e) = ⊥
+      is_rowless : Look → Type 0
+      is_rowless done = ⊥
+      is_rowless (no_row e) = Unit
+      is_rowless (go_on l e) = ⊥
 
       go : (t : Look) → Looked kind ids (after kind ids S m) t → (e : ℕ) → t ≡ no_row e → ⊥
-      go t (at_rest h) e p = subst isRowless (sym p) tt
-      go t (chosen l e' E L) e p = subst isRowless (sym p) tt
+      go t (at_rest h) e p = subst is_rowless (sym p) tt
+      go t (chosen l e' E L) e p = subst is_rowless (sym p) tt
       go t (rowless e' E h) e p =
           never-15 n kind (after kind ids S m).B (after kind ids S m).R (after kind ids S m).o cs e' DT (free e' E.cell ((after kind ids S m).B e') refl) (inside e' (cover e' E.is-slack))
           (λ j d. GT.dummies j e' d E.is-slack) E.cell h

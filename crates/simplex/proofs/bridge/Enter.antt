@@ -26,7 +26,7 @@ use Rattle.steps.specs.Work.{Work, marking, with_tableau, find_row, keep_row, ap
 use Rattle.steps.specs.Substitute.{substitute_in_row, substitute_in_cells, substitute_in_rows, rows_of, marks_of, enter_basis}
 use Rattle.simplex.specs.bridge.Nums.{worse-l, worse-r, zero64-z, stored-z}
 use Rattle.simplex.specs.bridge.Rows.{Reads, NotIn, In, Up, Outside, Sym?, is, isnt, sym?, zb-to, ReadsRow, reads-to, cleared, Whole}
-use Rattle.simplex.proofs.bridge.Rows.{row-to, solveForSymbol-z, substitute_in_row-z, substitute_in_cells-z, insert_row-z, insert_symbol_in_row-z}
+use Rattle.simplex.proofs.bridge.Rows.{row-to, solve_for_symbol-z, substitute_in_row-z, substitute_in_cells-z, insert_row-z, insert_symbol_in_row-z}
 use Rattle.simplex.specs.bridge.Finds.{UpRows, find-hit, find-miss, find_none, find-keep-same, find-keep-other, after-sub, find-sub, find-mark, sub-up, sub-all, keep-up, keep_all}
 use Rattle.simplex.specs.bridge.Table.{kind_of, RowAt, ArtAt, Live, ReadsTable, ReadsWork, in-above, in-nonzero, art-mark, Parts}
 use Rattle.simplex.proofs.bridge.Table.{enter-parts, clash-bool, moved}
@@ -120,7 +120,7 @@ module _ (kind : ℕ → KindZ) (w : Work) (B : Mask) (R : ℕ → Vec) (o a : V
       let late : worse m2 (worse m3 m4) ≡ all_whole = worse-r m1 (worse m2 (worse m3 m4)) all in
       let last : worse m3 m4 ≡ all_whole = worse-r m2 (worse m3 m4) late in
       let early : worse w.mark solved.mark ≡ all_whole = worse-l m1 (worse m2 (worse m3 m4)) all in
-      let S = solveForSymbol-z e.id xs row r (in-nonzero e.id xs H.up live.0) H.up reads (worse-r w.mark solved.mark early) in
+      let S = solve_for_symbol-z e.id xs row r (in-nonzero e.id xs H.up live.0) H.up reads (worse-r w.mark solved.mark early) in
       let solved-z = row-to xs solved.row (λ j. neg_ℤ (r e.id) *ℤ cleared e.id r j) (out e.id (r e.id) r (δ e.id)) (λ j. solved-row e.id (r e.id) r j refl S.unit) S.row in
       let table = enter-table kind w.tableau.cutoff xs bs cs w.artificial B R o a H e he live unit solved.row r (r e.id) reads.outside solved-z (worse-l m2 (worse m3 m4) late) (worse-l m3 m4 last) (worse-r m3 m4 last) in
       (S.unit, moved p.cutoff p.symbols p.rows p.objective p.artificial table)

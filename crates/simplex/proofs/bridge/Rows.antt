@@ -211,32 +211,32 @@ module _ (s : ℕ) (xs : List Symbol) (mine : Row) (f : Vec) (n : s ≢ 0) (u : 
     outside = λ i ni m. ap (λ (z : ℤ). neg_ℤ (f s) *ℤ z) (less.outside i ni m) ∙ ring (f s ∷ []) ((⊟ v 0) ⊠ κ 0ℤ) (κ 0ℤ) tt;
   }
 
-  pub solveForSymbol-z : (solve_for_symbol s xs mine).mark ≡ all_whole → Solved s xs f (solve_for_symbol s xs mine)
+  pub solve_for_symbol-z : (solve_for_symbol s xs mine).mark ≡ all_whole → Solved s xs f (solve_for_symbol s xs mine)
   unfolding solve_for_symbol
-  solveForSymbol-z e =
+  solve_for_symbol-z e =
       let rest : Mark = worse (mark_write constant_bound (mine.constant *₆₄ factor)) (cell_marks cell_bound scaled) in
       let one = unit-cell factor cell.isz (worse-l (factor_mark (coefficient_for s xs mine.cells) factor) rest e) in
       record { unit = one; row = solved-by one (worse-r (factor_mark (coefficient_for s xs mine.cells) factor) rest e) }
 
 -- "insert its old symbol with -1, solve for entering": the theory's row of the entering column
 module _ (cut : Float) (fits : cutoff_fits cut ≡ true) (l e : ℕ) (xs : List Symbol) (mine : Row) (f : Vec) (nl : l ≢ 0) (ne : e ≢ 0) (le : l ≢ e) (i : In l xs) (u : Up 0 xs) (h : ReadsRow xs mine f) where
-  abbrev lessOwn : Vec
-  lessOwn = plus f (negsuc 0) (δ l)
+  abbrev less_own : Vec
+  less_own = plus f (negsuc 0) (δ l)
 
-  at-e : lessOwn e ≡ f e
+  at-e : less_own e ≡ f e
   at-e = ap (λ (z : ℤ). f e +ℤ negsuc 0 *ℤ z) (δ-other le) ∙ ring (f e ∷ []) (v 0 ⊞ κ (negsuc 0) ⊠ κ 0ℤ) (v 0) tt
 
-  pub solveForSymbols-z : (solve_for_symbols cut l e xs mine).mark ≡ all_whole
+  pub solve_for_symbols-z : (solve_for_symbols cut l e xs mine).mark ≡ all_whole
       → (f e *ℤ f e ≡ 1ℤ) × ReadsRow xs (solve_for_symbols cut l e xs mine).row (out e (f e) (plus f (negsuc 0) (δ l)) (δ e))
   unfolding solve_for_symbols
-  solveForSymbols-z m =
+  solve_for_symbols-z m =
       let row' : Row = (insert_symbol_in_row cut l minus_one64 xs mine).row in
       let m1 : Mark = (insert_symbol_in_row cut l minus_one64 xs mine).mark in
       let m2 : Mark = (solve_for_symbol e xs (insert_symbol_in_row cut l minus_one64 xs mine).row).mark in
       let inserted = insert_symbol_in_row-z cut fits l xs mine f nl i minus_one64-z (lit≤ tt) h (worse-l m1 m2 m) in
-      let solved = solveForSymbol-z e xs row' lessOwn ne u inserted (worse-r m1 m2 m) in
+      let solved = solve_for_symbol-z e xs row' less_own ne u inserted (worse-r m1 m2 m) in
       let one : f e *ℤ f e ≡ 1ℤ = ap (λ (z : ℤ). z *ℤ z) (sym at-e) ∙ solved.unit in (
         one,
-        row-to xs (solve_for_symbol e xs row').row (λ j. neg_ℤ (lessOwn e) *ℤ cleared e lessOwn j) (out e (f e) lessOwn (δ e))
-            (λ j. ap (λ (z : ℤ). neg_ℤ z *ℤ (lessOwn j -ℤ z *ℤ δ e j)) at-e ∙ solved-row e (f e) lessOwn j at-e one) solved.row,
+        row-to xs (solve_for_symbol e xs row').row (λ j. neg_ℤ (less_own e) *ℤ cleared e less_own j) (out e (f e) less_own (δ e))
+            (λ j. ap (λ (z : ℤ). neg_ℤ z *ℤ (less_own j -ℤ z *ℤ δ e j)) at-e ∙ solved-row e (f e) less_own j at-e one) solved.row,
       )

@@ -23,7 +23,7 @@ use Rattle.steps.specs.Changes.{note}
 use Rattle.steps.specs.Substitute.{substitute_in_row, substitute_in_cells, substitute_in_rows, rows_of, marks_of, substitute, enter_basis, pivot}
 use Rattle.simplex.specs.bridge.Nums.{worse-l, worse-r}
 use Rattle.simplex.specs.bridge.Rows.{In, Outside, Sym?, is, isnt, sym?, ReadsRow, reads-to, cleared}
-use Rattle.simplex.proofs.bridge.Rows.{row-to, substitute_in_row-z, substitute_in_cells-z, solveForSymbols-z}
+use Rattle.simplex.proofs.bridge.Rows.{row-to, substitute_in_row-z, substitute_in_cells-z, solve_for_symbols-z}
 use Rattle.simplex.specs.bridge.Finds.{none≢some, find-miss, find_none, find-drop-same, find-drop-other, find-keep-same, find-keep-other, after-sub, find-sub, find-mark, sub-up, sub-all, drop-up, drop_all, keep-up, keep_all}
 use Rattle.simplex.specs.bridge.Table.{RowAt, ArtAt, Live, ReadsTable, ReadsWork, in-above, in-nonzero, in-not_in, art-mark, Parts}
 
@@ -114,7 +114,7 @@ module _ (kind : ℕ → KindZ) (cut : Float) (xs : List Symbol) (bs : List Basi
 
   module _ (m-solve : (solve_for_symbols cut l e.id xs row).mark ≡ all_whole) where
     solves : (R l e.id *ℤ R l e.id ≡ 1ℤ) × ReadsRow xs solved (pivoted l e.id R (δ e.id))
-    solves = solveForSymbols-z cut H.cutoff l e.id xs row (R l) l≢0 e≢0 l≢e l-in H.up row-l m-solve
+    solves = solve_for_symbols-z cut H.cutoff l e.id xs row (R l) l≢0 e≢0 l≢e l-in H.up row-l m-solve
 
     pub pivot-unit : R l e.id *ℤ R l e.id ≡ 1ℤ
     pivot-unit = solves.0

@@ -6,7 +6,7 @@ use mathlib.Core.List.{append_assoc, append-nil}
 use Rattle.std.specs.Float.{nan, binary64}
 use Rattle.std.proofs.lemmas.List.{length-map}
 use Rattle.std.proofs.Math.ListN.{get_or-append, get_or-map}
-use Rattle.laws.specs.Lists.{tab, list_of, listOf-is}
+use Rattle.laws.specs.Lists.{tab, list_of, list_of-is}
 use Rattle.rows.specs.choose.Walk.{tab-snoc}
 use Rattle.steps.specs.State.{Term, Relation, at_most, equal, at_least, strength_of, comparison_of}
 use Rattle.layout.specs.Layout.{comparison_code}
@@ -157,7 +157,7 @@ module _ (ts : List Term) (vs : List ℕ) (ks : List Float) where
       refl
 
   terms-back : terms_in (length ts) (map (λ t. t.variable) ts ++ vs) (map (λ t. t.coefficient) ts ++ ks) ≡ terms_text ts
-  terms-back = terms-listed (length ts) _ _ ∙ ap terms_text (listOf-is (term_at (map (λ t. t.variable) ts ++ vs) (map (λ t. t.coefficient) ts ++ ks)) ts no_term term-back)
+  terms-back = terms-listed (length ts) _ _ ∙ ap terms_text (list_of-is (term_at (map (λ t. t.variable) ts ++ vs) (map (λ t. t.coefficient) ts ++ ks)) ts no_term term-back)
 
   pub given-shown : (g : ℕ) (k : Float) (r : Relation)
       → shown_text (0 ∷ 0 ∷ 0 ∷ kind_of r ∷ length ts ∷ g ∷ []) (k ∷ strength_of r ∷ []) (map (λ t. t.variable) ts ++ vs) (map (λ t. t.coefficient) ts ++ ks) ≡ given_text g ts k r

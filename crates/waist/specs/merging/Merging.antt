@@ -6,7 +6,7 @@ use Rattle.std.proofs.Common.{◌∙◌, subst, arith, ltb-true, ltb-false}
 use Rattle.std.specs.Float.Ieee.{nan, ne}
 use Rattle.std.proofs.Math.ListN.{get_or}
 use Rattle.laws.specs.Loops.{run, run-next, run-last}
-use Rattle.laws.specs.Lists.{tab, getD-tab}
+use Rattle.laws.specs.Lists.{tab, get_or-tab}
 use Rattle.steps.specs.Number.{zero64, Mark, all_whole}
 use Rattle.steps.specs.Symbol.{open_symbol}
 use Rattle.steps.specs.Row.{cell_value}
@@ -46,7 +46,7 @@ row_at cutoff k c o p h l =
     let e : p ≡ suc (p - 1) = omega arith in
     let d : 1 + (p - 1) ≡ p = omega arith in
     ap (λ (z : ℕ). get_or (zero64 ∷ tab (λ p. inserted_value cutoff k (c p) (o p)) 1 last_place) z nan) e
-    ∙ getD-tab (λ p. inserted_value cutoff k (c p) (o p)) 1 last_place (p - 1) nan (omega arith)
+    ∙ get_or-tab (λ p. inserted_value cutoff k (c p) (o p)) 1 last_place (p - 1) nan (omega arith)
     ∙ ap (λ (z : ℕ). inserted_value cutoff k (c z) (o z)) d
 
 pub put-value : (key : ℕ) (v v' : Float) (s : Cells) {t : Cells} → t ≡ put_if key v s → v ≡ v' → t ≡ put_if key v' s

@@ -9,7 +9,7 @@ use native.Mathlib.Omega.{arith}
 use Rattle.std.specs.Float.{nan}
 use Rattle.std.specs.Float.Ieee.{ne}
 use Rattle.laws.specs.Loops.{turns, run}
-use Rattle.laws.specs.Lists.{tab, tab-ext, length-tab, getD-tab}
+use Rattle.laws.specs.Lists.{tab, tab-ext, length-tab, get_or-tab}
 use Rattle.steps.specs.Number.{zero64, cell_bound, constant_bound, ◌+₆₄◌, ◌*₆₄◌, near_zero, Mark, all_whole, worse, mark_write}
 use Rattle.steps.specs.Symbol.{Symbol, absent, coefficient_for, clear_cell}
 use Rattle.steps.specs.Row.{Row, kept, wrote, stored, cell_value, cell_values, cell_mark, cell_marks, goes_if_near_zero, insert_cell, insert_times, insert_cells, insert_row}
@@ -183,7 +183,7 @@ module _ (cutoff : Float) (n i j m w : ℕ) (k : Float) (keys : List ℕ) (vals 
       tab-ext f g 1 w λ p u v.
       let o : 1 + (p - 1) ≡ p = omega (arith, u) in
       let l : p - 1 < last_place = omega (arith, u, v, lw) in
-      let x : f (1 + (p - 1)) ≡ g (1 + (p - 1)) = sym (getD-tab f 1 last_place (p - 1) nan l) ∙ ap (λ (z : List Float). get_or z (p - 1) nan) q ∙ getD-tab g 1 last_place (p - 1) nan l in
+      let x : f (1 + (p - 1)) ≡ g (1 + (p - 1)) = sym (get_or-tab f 1 last_place (p - 1) nan l) ∙ ap (λ (z : List Float). get_or z (p - 1) nan) q ∙ get_or-tab g 1 last_place (p - 1) nan l in
       rw o at x
 
   pub merged-cells : row_of t.keys t.vals t.size w i ≡ cell_values (insert_cells cutoff k (row_of cols others m w 0) (tab own 1 w))

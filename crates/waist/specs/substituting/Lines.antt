@@ -41,8 +41,8 @@ module _ (cutoff : Float) (at m : ℕ) (y : Float) (cols : List ℕ) (others : L
   unfoldable pub line_in : ℕ → Lines → Lines
   line_in i s = cond (absent (held_by i s)) s (line_with (held_by i s) i s)
 
-  unfoldable pub linesIn : ℕ → Lines → Lines
-  linesIn count s = run line_in 1 (count + 1) s
+  unfoldable pub lines_in : ℕ → Lines → Lines
+  lines_in count s = run line_in 1 (count + 1) s
 
 -- ---- the cells can be worked on further
 

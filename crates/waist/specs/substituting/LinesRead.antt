@@ -9,7 +9,7 @@ use Rattle.std.specs.Float.Ieee.{nan, ne}
 use Rattle.std.proofs.Math.ListN.{length, get_or, length-set}
 use Rattle.std.proofs.Math.Seq.{get_or-set_same, get_or-set_other}
 use Rattle.laws.specs.Loops.{run, run-next, run-last}
-use Rattle.laws.specs.Lists.{tab, length-tab, getD-tab}
+use Rattle.laws.specs.Lists.{tab, length-tab, get_or-tab}
 use Rattle.steps.specs.Number.{zero64, ◌*₆₄◌, Mark, worse}
 use Rattle.steps.specs.Symbol.{Symbol, absent, coefficient_for}
 use Rattle.steps.specs.Row.{Row, Written, untouched}
@@ -25,7 +25,7 @@ use Rattle.waist.specs.merging.Merge.{other_cell, merged_row, own_in, merged_int
 use Rattle.waist.specs.merging.Substituted.{substituted}
 use Rattle.waist.specs.substituting.Held.{held-room}
 use Rattle.waist.specs.substituting.Notes.{changes}
-use Rattle.waist.specs.substituting.Lines.{Lines, held_by, total_of, line_with, line_in, linesIn, HeldIn, held-line}
+use Rattle.waist.specs.substituting.Lines.{Lines, held_by, total_of, line_with, line_in, lines_in, HeldIn, held-line}
 
 -- line q as the steps have it, along w symbols
 unfoldable pub line_of : ℕ → Lines → ℕ → Row
@@ -62,7 +62,7 @@ module _ (cutoff : Float) (s : ℕ) (symbols : List Symbol) (j w m : ℕ) (y : F
     unfolding held_by row_of
     held-is =
         sym (coefficient-at s symbols j (tab (λ p. cell_at t.keys t.vals t.size (i * row_span + p)) 1 w) nan place (length-tab _ 1 w ∙ sym ls)
-        ∙ getD-tab (λ p. cell_at t.keys t.vals t.size (i * row_span + p)) 1 w j nan below)
+        ∙ get_or-tab (λ p. cell_at t.keys t.vals t.size (i * row_span + p)) 1 w j nan below)
 
     room : t.size + last_place ≤ length t.keys
     room = let f = held-room count t.size t.keys t.vals h few in let v = h.wide in omega (arith, f, v)
@@ -178,10 +178,10 @@ module _ (cutoff : Float) (s : ℕ) (symbols : List Symbol) (j w m : ℕ) (y : F
 
     module _ (h : HeldIn count t₀) (long₀ : length t₀.reals ≡ reals_size) where
       abbrev t₁ : Lines
-      t₁ = linesIn cutoff (1 + j) m y cols others count t₀
+      t₁ = lines_in cutoff (1 + j) m y cols others count t₀
 
       going : Going (count + 1) t₁
-      unfolding linesIn
+      unfolding lines_in
       going =
           run-inv Going turn 1 (count + 1) t₀ (omega arith) going_on
           record { held = h; done = λ q a b. absurd (omega (arith, a, b)); rest = λ q b. refl; marks = refl; beyond = λ q b. refl; long = long₀ }

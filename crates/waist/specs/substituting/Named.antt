@@ -7,8 +7,8 @@ use Rattle.std.proofs.Math.Bool.{true, false, cond}
 use Rattle.std.proofs.Math.ListN.{length, get_or, length-set}
 use Rattle.std.proofs.Math.Seq.{get_or-set_other}
 use Rattle.std.proofs.lemmas.Bool.{eqb-false}
-use Rattle.laws.specs.Loops.{mapIn}
-use Rattle.laws.specs.Places.{length-mapIn, mapIn-at, mapIn-before, mapIn-after}
+use Rattle.laws.specs.Loops.{map_in}
+use Rattle.laws.specs.Places.{length-map_in, map_in-at, map_in-before, map_in-after}
 use Rattle.sparse.specs.Places.{most_variables, symbol_count_at, variable_count_at, should_clear_at, ids_at, variable_places_at, changed_at, words_size, bytes_size}
 use Rattle.layout.specs.cells.Names.{last_place}
 use Rattle.layout.specs.cells.Seek.{run-inv}
@@ -137,32 +137,32 @@ module _ (p : ℕ) (s : Noted) (n : Named s.words s.bytes) where
   unfolding cleared_if
   bare-wide = go on
     where
-      go : (b : Bool) → length (cond b (mapIn (λ _. 0) changed_at (changed_at + count) s.bytes) s.bytes) ≡ bytes_size
-      go true = length-mapIn (λ _. 0) changed_at (changed_at + count) s.bytes ∙ n.wide
+      go : (b : Bool) → length (cond b (map_in (λ _. 0) changed_at (changed_at + count) s.bytes) s.bytes) ≡ bytes_size
+      go true = length-map_in (λ _. 0) changed_at (changed_at + count) s.bytes ∙ n.wide
       go false = n.wide
 
   bare-at : (v : ℕ) → v < count → get_or bare (changed_at + v) 0 ≡ cond on 0 (get_or s.bytes (changed_at + v) 0)
   unfolding cleared_if
   bare-at v a = go on
     where
-      go : (b : Bool) → get_or (cond b (mapIn (λ _. 0) changed_at (changed_at + count) s.bytes) s.bytes) (changed_at + v) 0 ≡ cond b 0 (get_or s.bytes (changed_at + v) 0)
-      go true = let few = n.few-variables in let w = n.wide in mapIn-at (λ _. 0) changed_at (changed_at + count) s.bytes (changed_at + v) 0 (omega arith) (omega (arith, a)) (omega (arith, a, few, w))
+      go : (b : Bool) → get_or (cond b (map_in (λ _. 0) changed_at (changed_at + count) s.bytes) s.bytes) (changed_at + v) 0 ≡ cond b 0 (get_or s.bytes (changed_at + v) 0)
+      go true = let few = n.few-variables in let w = n.wide in map_in-at (λ _. 0) changed_at (changed_at + count) s.bytes (changed_at + v) 0 (omega arith) (omega (arith, a)) (omega (arith, a, few, w))
       go false = refl
 
   bare-before : (q : ℕ) → q < changed_at → get_or bare q 0 ≡ get_or s.bytes q 0
   unfolding cleared_if
   bare-before q a = go on
     where
-      go : (b : Bool) → get_or (cond b (mapIn (λ _. 0) changed_at (changed_at + count) s.bytes) s.bytes) q 0 ≡ get_or s.bytes q 0
-      go true = mapIn-before (λ _. 0) changed_at (changed_at + count) s.bytes q 0 a
+      go : (b : Bool) → get_or (cond b (map_in (λ _. 0) changed_at (changed_at + count) s.bytes) s.bytes) q 0 ≡ get_or s.bytes q 0
+      go true = map_in-before (λ _. 0) changed_at (changed_at + count) s.bytes q 0 a
       go false = refl
 
   bare-after : (q : ℕ) → changed_at + most_variables ≤ q → get_or bare q 0 ≡ get_or s.bytes q 0
   unfolding cleared_if
   bare-after q a = go on
     where
-      go : (b : Bool) → get_or (cond b (mapIn (λ _. 0) changed_at (changed_at + count) s.bytes) s.bytes) q 0 ≡ get_or s.bytes q 0
-      go true = let few = n.few-variables in mapIn-after (λ _. 0) changed_at (changed_at + count) s.bytes q 0 (omega (arith, a, few))
+      go : (b : Bool) → get_or (cond b (map_in (λ _. 0) changed_at (changed_at + count) s.bytes) s.bytes) q 0 ≡ get_or s.bytes q 0
+      go true = let few = n.few-variables in map_in-after (λ _. 0) changed_at (changed_at + count) s.bytes q 0 (omega (arith, a, few))
       go false = refl
 
   pub note-kept : NotesKept s (var_changed_at p s)

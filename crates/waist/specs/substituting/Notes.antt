@@ -2,7 +2,7 @@
 use Rattle.std.specs.Prelude.{ℕ, ◌+◌, ◌*◌, ◌≡◌, refl, Bool, true, false, not, ◌&&◌, cond, List, eqb, Float, get_or, set}
 use Rattle.std.proofs.Common.{sym, arith, get_or-set_other, eq-eqb, ne_eqb}
 use Rattle.std.specs.Float.Ieee.{ne}
-use Rattle.laws.specs.Loops.{run, mapIn}
+use Rattle.laws.specs.Loops.{run, map_in}
 use Rattle.steps.specs.Number.{zero64, ◌*₆₄◌}
 use Rattle.steps.specs.Symbol.{External, Slack, Error, Dummy, is_external, absent}
 use Rattle.layout.specs.Layout.{kind_of}
@@ -24,7 +24,7 @@ unfoldable pub flagged_in : ℕ → ℕ → List ℕ → List ℕ
 flagged_in p count b = run (flag_turn p) 0 count b
 
 unfoldable pub cleared_if : Bool → ℕ → List ℕ → List ℕ
-cleared_if on count b = cond on (mapIn (λ _. 0) changed_at (changed_at + count) b) b
+cleared_if on count b = cond on (map_in (λ _. 0) changed_at (changed_at + count) b) b
 
 -- the crate's var_changed, of the variable whose symbol stands at place p
 unfoldable pub var_changed_at : ℕ → Noted → Noted

@@ -130,37 +130,37 @@ module _ (at : ℕ) (y : Float) (size : ℕ) (keys : List ℕ) (vals : List Floa
   abbrev s₀ : Noted
   s₀ = noted t.words t.bytes
 
-  abbrev placeAt : ℕ → ℕ
-  placeAt i = get_or t.bytes (row_places_at + i) 0
+  abbrev place_byte : ℕ → ℕ
+  place_byte i = get_or t.bytes (row_places_at + i) 0
 
-  unfoldable pub steppedRow : ℕ → Substituted
-  steppedRow i = record { symbol = symbol_at t (placeAt i); written = steps i }
+  unfoldable pub stepped_row : ℕ → Substituted
+  stepped_row i = record { symbol = symbol_at t (place_byte i); written = steps i }
 
   abbrev note : ℕ → Noted → Noted
   note = note_row at y size keys vals
 
-  abbrev onOf : ℕ → Bool
-  onOf i = is_external (symbol_at t (placeAt i)) && (steps i).constant_changed
+  abbrev on_of : ℕ → Bool
+  on_of i = is_external (symbol_at t (place_byte i)) && (steps i).constant_changed
 
-  turn_is : (i : ℕ) (s : Noted) → NotesKept s₀ s → 1 ≤ i → i ≤ count → note i s ≡ var_changed_if (onOf i) (placeAt i) s
+  turn_is : (i : ℕ) (s : Noted) → NotesKept s₀ s → 1 ≤ i → i ≤ count → note i s ≡ var_changed_if (on_of i) (place_byte i) s
   unfolding note_row
   turn_is i s k a b =
       let l = live i a b in
       let f = n.few-symbols in
-      rw (k.before (row_places_at + i) (omega (arith, b, few)), k.before (kinds_at + placeAt i) (omega (arith, l, f)), external-at t (placeAt i), same i a b) refl
+      rw (k.before (row_places_at + i) (omega (arith, b, few)), k.before (kinds_at + place_byte i) (omega (arith, l, f)), external-at t (place_byte i), same i a b) refl
 
-  run_on : (i k : ℕ) (s : Noted) → NotesKept s₀ s → 1 ≤ i → i + suc k ≤ count + 1 → run note i (i + suc k) s ≡ run note (suc i) (suc i + k) (var_changed_if (onOf i) (placeAt i) s)
+  run_on : (i k : ℕ) (s : Noted) → NotesKept s₀ s → 1 ≤ i → i + suc k ≤ count + 1 → run note i (i + suc k) s ≡ run note (suc i) (suc i + k) (var_changed_if (on_of i) (place_byte i) s)
   run_on i k s h a b =
       let e : i + 1 ≡ suc i = omega arith in
       let e₁ : i + suc k ≡ suc i + k = omega arith in
-      let turn : run note (i + 1) (i + suc k) (var_changed_if (onOf i) (placeAt i) s) ≡ run note i (i + suc k) s = run-next note i (i + suc k) s (omega arith) (sym (turn_is i s h a (omega (arith, b)))) refl in
+      let turn : run note (i + 1) (i + suc k) (var_changed_if (on_of i) (place_byte i) s) ≡ run note i (i + suc k) s = run-next note i (i + suc k) s (omega arith) (sym (turn_is i s h a (omega (arith, b)))) refl in
       sym turn ∙ rw (e, e₁) refl
 
-  next-kept : (i : ℕ) (s : Noted) → NotesKept s₀ s → NotesKept s₀ (var_changed_if (onOf i) (placeAt i) s)
-  next-kept i s h = notes-then h (note-if-kept (onOf i) (placeAt i) s (named-kept h n))
+  next-kept : (i : ℕ) (s : Noted) → NotesKept s₀ s → NotesKept s₀ (var_changed_if (on_of i) (place_byte i) s)
+  next-kept i s h = notes-then h (note-if-kept (on_of i) (place_byte i) s (named-kept h n))
 
-  notes-from : (k i : ℕ) (s : Noted) → NotesKept s₀ s → 1 ≤ i → i + k ≤ count + 1 → ((read (note_in (run note i (i + k) s) t)).changes ≡ all_changed (noted_of (tab steppedRow i k)) (read (note_in s t)).changes) × NotesKept s₀ (run note i (i + k) s)
-  unfolding tab noted_of all_changed steppedRow
+  notes-from : (k i : ℕ) (s : Noted) → NotesKept s₀ s → 1 ≤ i → i + k ≤ count + 1 → ((read (note_in (run note i (i + k) s) t)).changes ≡ all_changed (noted_of (tab stepped_row i k)) (read (note_in s t)).changes) × NotesKept s₀ (run note i (i + k) s)
+  unfolding tab noted_of all_changed stepped_row
   notes-from zero i s h a b =
       let e : s ≡ run note i (i + 0) s = run-last note i (i + 0) s (omega arith) refl in
       rw (← e) (refl, h)
@@ -168,13 +168,13 @@ module _ (at : ℕ) (y : Float) (size : ℕ) (keys : List ℕ) (vals : List Floa
       let l = live i a (omega (arith, b)) in
       let c : get_or s.words symbol_count_at 0 ≡ get_or t.words symbol_count_at 0 = h.words symbol_count_at (λ z. omega (arith, z)) in
       let f = n.few-symbols in
-      let r = notes-from k (suc i) (var_changed_if (onOf i) (placeAt i) s) (next-kept i s h) (omega arith) (omega (arith, b)) in
-      let sym₁ : symbol_at (note_in s t) (placeAt i) ≡ symbol_at t (placeAt i) = symbol-kept t h (placeAt i) (omega (arith, l, f)) in
-      let w : (read (note_in (var_changed_if (onOf i) (placeAt i) s) t)).changes ≡ cond (onOf i) (var_changed (symbol_at t (placeAt i)).id (read (note_in s t)).changes) (read (note_in s t)).changes =
-      changed-if-read (onOf i) (placeAt i) s t (named-kept h n) l.0 (rw c l.1) ∙ ap (λ (z : Symbol). cond (onOf i) (var_changed z.id (read (note_in s t)).changes) (read (note_in s t)).changes) sym₁ in
-      rw (run_on i k s h a b) (r.0 ∙ ap (all_changed (noted_of (tab steppedRow (suc i) k))) w ∙ sym (noted-cons (steppedRow i) (tab steppedRow (suc i) k) (read (note_in s t)).changes), r.1)
+      let r = notes-from k (suc i) (var_changed_if (on_of i) (place_byte i) s) (next-kept i s h) (omega arith) (omega (arith, b)) in
+      let sym₁ : symbol_at (note_in s t) (place_byte i) ≡ symbol_at t (place_byte i) = symbol-kept t h (place_byte i) (omega (arith, l, f)) in
+      let w : (read (note_in (var_changed_if (on_of i) (place_byte i) s) t)).changes ≡ cond (on_of i) (var_changed (symbol_at t (place_byte i)).id (read (note_in s t)).changes) (read (note_in s t)).changes =
+      changed-if-read (on_of i) (place_byte i) s t (named-kept h n) l.0 (rw c l.1) ∙ ap (λ (z : Symbol). cond (on_of i) (var_changed z.id (read (note_in s t)).changes) (read (note_in s t)).changes) sym₁ in
+      rw (run_on i k s h a b) (r.0 ∙ ap (all_changed (noted_of (tab stepped_row (suc i) k))) w ∙ sym (noted-cons (stepped_row i) (tab stepped_row (suc i) k) (read (note_in s t)).changes), r.1)
 
-  pub notes-read : (read (note_in (note_rows at y size keys vals count s₀) t)).changes ≡ all_changed (noted_of (tab steppedRow 1 count)) (read t).changes
+  pub notes-read : (read (note_in (note_rows at y size keys vals count s₀) t)).changes ≡ all_changed (noted_of (tab stepped_row 1 count)) (read t).changes
   unfolding note_rows
   notes-read =
       let e : 1 + count ≡ count + 1 = omega arith in

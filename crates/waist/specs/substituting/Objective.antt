@@ -12,7 +12,7 @@ use Rattle.std.proofs.Math.ListN.{length, get_or, length-set}
 use Rattle.std.proofs.Math.Seq.{get_or-set_other}
 use borrow.Author.Tests.{ltb-true, ltb-false, eqb-true, eqb-false}
 use Rattle.laws.specs.Loops.{run, run-next, run-last}
-use Rattle.laws.specs.Lists.{tab, tab-ext, length-tab, getD-tab}
+use Rattle.laws.specs.Lists.{tab, tab-ext, length-tab, get_or-tab}
 use Rattle.steps.specs.Number.{zero64, objective_bound, Mark, all_whole}
 use Rattle.steps.specs.Symbol.{Symbol, absent, coefficient_for, clear_cell}
 use Rattle.steps.specs.Row.{kept, cell_values, cell_marks, insert_times, insert_cells}
@@ -143,7 +143,7 @@ module _ (cutoff : Float) (s : ℕ) (symbols : List Symbol) (j w : ℕ) (row rea
 
   k-is : k ≡ coefficient_for s symbols mine
   unfolding objective_along
-  k-is = sym (coefficient-at s symbols j (tab (λ p. get_or reals (objective_at + p) nan) 1 w) nan place (length-tab _ 1 w ∙ sym ls) ∙ getD-tab (λ p. get_or reals (objective_at + p) nan) 1 w j nan below)
+  k-is = sym (coefficient-at s symbols j (tab (λ p. get_or reals (objective_at + p) nan) 1 w) nan place (length-tab _ 1 w ∙ sym ls) ∙ get_or-tab (λ p. get_or reals (objective_at + p) nan) 1 w j nan below)
 
   cleared-is : tab (λ p. get_or cleared (objective_at + p) nan) 1 w ≡ clear_cell s symbols mine
   unfolding objective_along own_value

@@ -21,7 +21,7 @@ use Rattle.layout.specs.cells.Edges.{Begins}
 use Rattle.layout.specs.cells.Spots.{Spots, spot-absent}
 use Rattle.waist.specs.merging.Skip.{run-skip}
 use Rattle.waist.specs.substituting.Held.{held-room}
-use Rattle.waist.specs.substituting.Lines.{Lines, lines, held_by, line_in, linesIn, HeldIn, held-line}
+use Rattle.waist.specs.substituting.Lines.{Lines, lines, held_by, line_in, lines_in, HeldIn, held-line}
 use Rattle.waist.specs.substituting.Apart.{far, Apart, Ready, apart-room, apart_ready}
 use Rattle.waist.specs.substituting.Carried.{Carries}
 
@@ -63,13 +63,13 @@ module _ (cutoff : Float) (at m : ℕ) (y : Float) (cols : List ℕ) (others : L
   turn = line_in cutoff at m y cols others
 
   -- the lines before the first one that holds it
-  pub lines_from : (vals₀ rs : List Float) (a : Mark) (r : ℕ) → FirstSpot spots n count r → linesIn cutoff at m y cols others count (lines keys₀ vals₀ n rs a) ≡ run turn r (count + 1) (lines keys₀ vals₀ n rs a)
-  unfolding linesIn held_by
+  pub lines_from : (vals₀ rs : List Float) (a : Mark) (r : ℕ) → FirstSpot spots n count r → lines_in cutoff at m y cols others count (lines keys₀ vals₀ n rs a) ≡ run turn r (count + 1) (lines keys₀ vals₀ n rs a)
+  unfolding lines_in held_by
   lines_from vals₀ rs a r f =
       run-skip turn 1 r (count + 1) (lines keys₀ vals₀ n rs a) f.low λ q u v w.
       stays cutoff at m y cols others q (lines keys₀ vals₀ n rs a) (sym (spot-absent keys₀ vals₀ n at q spots sp (omega (arith, w, few)) (f.none q u v)))
 
-  pub none-hold : (vals₀ rs : List Float) (a : Mark) (r : ℕ) → FirstSpot spots n count r → count < r → HeldIn count (lines keys₀ vals₀ n rs a) → Alike (lines keys₀ vals₀ n rs a) (linesIn cutoff at m y cols others count (lines keys₀ vals₀ n rs a))
+  pub none-hold : (vals₀ rs : List Float) (a : Mark) (r : ℕ) → FirstSpot spots n count r → count < r → HeldIn count (lines keys₀ vals₀ n rs a) → Alike (lines keys₀ vals₀ n rs a) (lines_in cutoff at m y cols others count (lines keys₀ vals₀ n rs a))
   none-hold vals₀ rs a r f l h =
       let e = run-last turn r (count + 1) (lines keys₀ vals₀ n rs a) (omega (arith, l)) refl in
       subst (Alike (lines keys₀ vals₀ n rs a)) (e ∙ sym (lines_from vals₀ rs a r f))
@@ -227,7 +227,7 @@ module _ (cutoff : Float) (at m : ℕ) (y : Float) (cols : List ℕ) (others : L
     moved-key : (j : ℕ) → j < n - b → get_or k₁ (b + far n + j) 0 ≡ get_or keys₀ (b + j) 0
     moved-key j u = ap (λ (x : List ℕ). get_or x (b + far n + j) 0) h₁ ∙ moved_in b (b + far n) (n - b) keys₀ j 0 tight.0 tight.1 u
 
-    pub going-begin : Going r (b + far n) (lines k₁ v₁ b rs a) (linesIn cutoff at m y cols others count (lines keys₀ vals₀ n rs a))
+    pub going-begin : Going r (b + far n) (lines k₁ v₁ b rs a) (lines_in cutoff at m y cols others count (lines keys₀ vals₀ n rs a))
     going-begin =
         let w = within in
         record {
@@ -279,5 +279,5 @@ module _ (cutoff : Float) (at m : ℕ) (y : Float) (cols : List ℕ) (others : L
     leads-over q keys₀ goal few sp g = going-over cutoff at m y cols others count n keys₀ spots few sp i s u goal (f keys₀ goal few sp g) l q
 
 pub alike-whole : (cutoff : Float) (at m : ℕ) (y : Float) (cols : List ℕ) (others : List Float) (count n : ℕ) (keys : List ℕ) (vals rs : List Float) (a : Mark) (u : Lines) → a ≡ all_whole
-    → Alike u (linesIn cutoff at m y cols others count (lines keys vals n rs a)) → Alike u (linesIn cutoff at m y cols others count (lines keys vals n rs all_whole))
-alike-whole cutoff at m y cols others count n keys vals rs a u e h = subst (λ (x : Mark). Alike u (linesIn cutoff at m y cols others count (lines keys vals n rs x))) e h
+    → Alike u (lines_in cutoff at m y cols others count (lines keys vals n rs a)) → Alike u (lines_in cutoff at m y cols others count (lines keys vals n rs all_whole))
+alike-whole cutoff at m y cols others count n keys vals rs a u e h = subst (λ (x : Mark). Alike u (lines_in cutoff at m y cols others count (lines keys vals n rs x))) e h

@@ -1,6 +1,6 @@
 // The changed set: a flag for each variable, and whether the set is to be cleared first.
 ghost use Rattle.std.specs.Prelude.{◌≡◌, cond, ◌&&◌, ◌+◌, ◌≤◌, ◌<◌, get_or};
-ghost use Rattle.laws.specs.Loops.{mapIn};
+ghost use Rattle.laws.specs.Loops.{map_in};
 ghost use Rattle.sparse.specs.Places.{most_rows, most_variables, variable_count_at, kinds_at, changed_at};
 ghost use Rattle.layout.specs.cells.Names.{last_place};
 ghost use Rattle.layout.specs.cells.Spots.{Spots};
@@ -16,7 +16,7 @@ use sparse::{
 
 fn clear_changed(bytes: &mut Bytes, count: usize)
     requires { count ≤ most_variables }
-    ensures { bytes.new ≡ mapIn (λ _. 0) changed_at (changed_at + count) bytes.old }
+    ensures { bytes.new ≡ map_in (λ _. 0) changed_at (changed_at + count) bytes.old }
 {
     let mut v = CHANGED;
     while v < CHANGED + count {
@@ -27,7 +27,7 @@ fn clear_changed(bytes: &mut Bytes, count: usize)
 
 fn clear_changed_if(on: bool, bytes: &mut Bytes, count: usize)
     requires { count ≤ most_variables }
-    ensures { bytes.new ≡ cond on (mapIn (λ _. 0) changed_at (changed_at + count) bytes.old) bytes.old }
+    ensures { bytes.new ≡ cond on (map_in (λ _. 0) changed_at (changed_at + count) bytes.old) bytes.old }
 {
     if on {
         clear_changed(bytes, count);

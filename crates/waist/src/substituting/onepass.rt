@@ -7,7 +7,7 @@ ghost use Rattle.layout.specs.cells.Names.{cell_room, row_room, lines_room, last
 ghost use Rattle.layout.specs.cells.Spots.{Spots};
 ghost use Rattle.waist.specs.merging.Merge.{RunOf};
 ghost use Rattle.waist.specs.substituting.Held.{Held};
-ghost use Rattle.waist.specs.substituting.Lines.{lines, linesIn};
+ghost use Rattle.waist.specs.substituting.Lines.{lines, lines_in};
 ghost use Rattle.waist.specs.substituting.Apart.{Ready};
 ghost use Rattle.waist.specs.substituting.Carried.{Carries};
 ghost use Rattle.waist.specs.substituting.Passed.{FirstSpot, Alike};
@@ -122,7 +122,7 @@ pub fn substitute_lines(
     requires held { Held count n keys.old values.old }
     requires spots { Spots keys.old n at spots.now }
     requires run_of { RunOf cols.now 0 0 m }
-    ensures { Alike (lines keys.new values.new result.size reals.new (mark_of result.wrote)) (linesIn cutoff at m y cols.now others.now count (lines keys.old values.old n reals.old all_whole)) }
+    ensures { Alike (lines keys.new values.new result.size reals.new (mark_of result.wrote)) (lines_in cutoff at m y cols.now others.now count (lines keys.old values.old n reals.old all_whole)) }
 {
     let mut w = nothing();
     let mut i = first_line(spots, n, count);

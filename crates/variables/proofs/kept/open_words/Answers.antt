@@ -1,7 +1,7 @@
 use mathlib.Core.Path.{◌≡◌, refl, ap, ◌∙◌}
 use native.Mathlib.Omega.{arith}
 use lib.ListN.{length-set}
-use Rattle.laws.specs.Loops.{insertAt, delete-down, put}
+use Rattle.laws.specs.Loops.{insert_at, delete-down, put}
 use Rattle.rows.specs.moves.Close.{opened}
 use Rattle.std.proofs.Common.{rules}
 use Rattle.variables.proofs.kept.open_words.Goals as goal
@@ -14,4 +14,4 @@ loop-j-preserved c = (delete-down _ _ 0 (omega arith) (omega arith) ∙ c.loop-j
 
 pub returns : goal.returns
 unfolding opened
-returns c = let q : c.loop-j.j ≡ c.args.i = omega arith in put _ _ _ (omega arith) ∙ ap (insertAt _ _) (rw q at c.loop-j.invariant.0)
+returns c = let q : c.loop-j.j ≡ c.args.i = omega arith in put _ _ _ (omega arith) ∙ ap (insert_at _ _) (rw q at c.loop-j.invariant.0)

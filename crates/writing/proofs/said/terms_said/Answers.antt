@@ -1,9 +1,9 @@
 use Rattle.std.proofs.Common.{◌≡◌, refl, arith}
-use Rattle.writing.specs.Given.{allUpTo, said-next}
+use Rattle.writing.specs.Given.{all_up_to, said-next}
 use Rattle.writing.proofs.said.terms_said.Goals as goal
 
 pub loop-i-init : goal.loop-i-init
-unfolding allUpTo
+unfolding all_up_to
 loop-i-init c = (omega arith, refl)
 
 pub loop-i-preserved : goal.loop-i-preserved
