@@ -1,4 +1,5 @@
--- The calls behind the test are the public calls: theorems on `Held`.
+-- THE SECOND DOOR GIVES WHAT THE FIRST GIVES: on tables that hold a state a call behind the test answers as the tested call does, and the set of tables that is in hand after it, the room where the call is accepted and
+-- the tables where it is refused, holds the state that the tested call leaves. So every promise of runs of the public calls holds of it, call by call. Assumes nothing.
 use Rattle.std.specs.Prelude.{ℕ, ◌≡◌, refl, Bool, true, false, cond, List, eqb}
 use Rattle.std.proofs.Common.{sym, ap, ◌∙◌, eqb-true}
 use Rattle.std.proofs.lemmas.Bool.{eqb-false}
@@ -20,6 +21,7 @@ use Rattle.knobharbor.specs.Held.{HeldBy}
 use Rattle.lasting.specs.Promises.{fetch-holds}
 use Rattle.lasting.specs.Held.{in_hand}
 
+-- a changing call with numbers of its types, beside what `call-holds` says of the tested one
 module _ (c : Changing) (s : State) (p : List ℕ) (t u : Sparse) (typed : Typed c) (holds : Holds s t) (len : Lengths u) (held : HeldBy (made c) p t u) where
   pub held-answers : (w : Sparse) → p ≡ in_places (call_of (made c) w t).answer
   held-answers w = held.answers ∙ ap (λ (x : State). in_places (made c x).answer) holds.state ∙ ap in_places (sym (call-holds c s w t typed holds).0)

@@ -1,4 +1,4 @@
--- Theorems on definitions of specs/: where an edit of a definition is tried, they are what refuses it.
+-- What holds of any sequence of public calls: an edit of a definition in specs/ is tried against what stands here.
 pub mod Held
 pub mod Runs
 pub mod Never

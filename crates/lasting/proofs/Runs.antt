@@ -1,4 +1,7 @@
--- What holds of any sequence of public calls over lent tables: theorems on `Runs`.
+-- DEMANDS 2 AND 3 of the public calls: any sequence of calls over lent tables, from a reset with any cutoff in its range on. What a call answers and leaves is what its contract says, whatever
+-- the working room held; the tables then read as the state of the run of the steps that the fit calls make, so what is proved of runs
+-- (`run`, `stall`) holds of what the firmware has in hand. A call with lists or a kind that are unfit is answered 18 and changes nothing; a line that
+-- does not read is answered its own number and changes nothing. Assumes nothing.
 use Rattle.std.specs.Prelude.{ℕ, ◌≤◌, ◌≡◌, ◌≢◌, Float}
 use Rattle.std.proofs.Math.Path.{refl}
 use Rattle.std.proofs.Math.Bool.{true}

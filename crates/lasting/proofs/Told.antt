@@ -1,4 +1,6 @@
--- Changes suffice, of the public calls: theorems on `Told`.
+-- CHANGES SUFFICE, of the public calls: a reader beside any sequence of them over lent tables, from a reset on, that is given what each fetch writes into its three lists and nothing else,
+-- "holds after each fetch the same numbers, compared as numbers, as asking every live variable one by one". Calls accepted or refused stand in it, resets, drops, lines of text and fetches; a query may stand
+-- anywhere, since it borrows the tables to read them. Assumes nothing.
 use Rattle.std.specs.Prelude.{ℕ, ◌≡◌, Bool, true, eqb, Float}
 use Rattle.std.proofs.Math.Path.{refl, ap}
 use Rattle.std.proofs.Math.Bool.{false}

@@ -1,7 +1,4 @@
--- DEMANDS 2 AND 3 of the public calls: any sequence of calls over lent tables, from a reset with any cutoff in its range on. What a call answers and leaves is what its contract says, whatever
--- the working room held; the tables then read as the state of the run of the steps that the fit calls make, so what is proved of runs
--- (`run`, `stall`) holds of what the firmware has in hand. A call with lists or a kind that are unfit is answered 18 and changes nothing; a line that
--- does not read is answered its own number and changes nothing. Assumes nothing.
+-- Sequences of the public calls over lent tables, from a reset on: the tables after them, what a call answers, and the run of the steps that the fit calls make.
 use Rattle.std.specs.Prelude.{◌≡◌, Float}
 use Rattle.std.proofs.Math.Bool.{true}
 use mathlib.Core.List.{List, [], ◌∷◌}

@@ -1,6 +1,5 @@
--- CHANGES SUFFICE, of the public calls: a reader beside any sequence of them over lent tables, from a reset on, that is given what each fetch writes into its three lists and nothing else,
--- "holds after each fetch the same numbers, compared as numbers, as asking every live variable one by one". Calls accepted or refused stand in it, resets, drops, lines of text and fetches; a query may stand
--- anywhere, since it borrows the tables to read them. Assumes nothing.
+-- A reader beside a sequence of the public calls, that is given what each fetch writes into its three lists and nothing else: what it makes of the calls, and when it
+-- "holds after each fetch the same numbers, compared as numbers, as asking every live variable one by one".
 use Rattle.std.specs.Prelude.{ℕ, ◌≡◌, true, cond, eqb, Float}
 use mathlib.Core.List.{List, [], ◌∷◌}
 use Rattle.std.proofs.Math.Option.{Option, none, some}
