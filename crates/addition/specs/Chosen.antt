@@ -17,8 +17,8 @@ use Rattle.keeps.specs.Creating.{subject-free}
 use Rattle.rows.specs.declared.number.Wrote.{Wrote}
 use Rattle.rows.specs.Marks.{mark_of}
 use Rattle.rows.specs.Reading as dense
-use Rattle.rows.specs.declared.choose.Found.{Found}
-use Rattle.rows.specs.declared.choose.Found.TheVariants.{At, Nothing}
+use Rattle.rows.specs.choose.Choose.{Found}
+use Rattle.std.specs.Prelude.{Some, None}
 use Rattle.rows.specs.choose.Better.{within}
 use Rattle.rows.specs.choose.Choose.{Within, on_found}
 use Rattle.sparse.specs.Sparse.{Sparse, symbol_count, symbol_at, read}
@@ -95,7 +95,7 @@ module _ (past : Wrote) (t : Sparse) (row : List Float) where
       marker-open = open_by marker m.low m.high (unfold tag_at in m.tagged.marker)
 
       module _ {f : Found} (q : choose_subject c ≡ on_found (λ p. some (symbol_at t p)) none f) where
-        module _ (p : ℕ) (e : f ≡ At p) where
+        module _ (p : ℕ) (e : f ≡ Some p) where
           chosen_is : choose_subject c ≡ some (symbol_at t p)
           chosen_is = q ∙ ap (on_found (λ p. some (symbol_at t p)) none) e
 
@@ -105,5 +105,5 @@ module _ (past : Wrote) (t : Sparse) (row : List Float) where
           pub chosen-added : (budget : ℕ) (r : Ended) (z : Sparse) → outcome_of false r z ≡ add_with_subject (symbol_at t p) c → outcome_of false r z ≡ add_created budget c
           chosen-added budget r z o = o ∙ ap (chosen budget c) (sym chosen_is) ∙ created-is budget c
 
-        pub unchosen-added : f ≡ Nothing → (budget : ℕ) (r : Ended) (z : Sparse) → outcome_of false r z ≡ unchosen_of budget c → outcome_of false r z ≡ add_created budget c
+        pub unchosen-added : f ≡ None → (budget : ℕ) (r : Ended) (z : Sparse) → outcome_of false r z ≡ unchosen_of budget c → outcome_of false r z ≡ add_created budget c
         unchosen-added e budget r z o = o ∙ ap (chosen budget c) (sym (q ∙ ap (on_found (λ p. some (symbol_at t p)) none) e)) ∙ created-is budget c

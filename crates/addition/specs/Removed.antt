@@ -15,8 +15,8 @@ use Rattle.steps.specs.Substitute.{pivot}
 use Rattle.steps.specs.Artificial.{any_pivotable_symbol, is_empty_row, remove_temporary, artificial_constant_near_zero}
 use Rattle.rows.specs.declared.number.Wrote.{Wrote}
 use Rattle.rows.specs.Marks.{mark_of}
-use Rattle.rows.specs.declared.choose.Found.{Found}
-use Rattle.rows.specs.declared.choose.Found.TheVariants.{At, Nothing}
+use Rattle.rows.specs.choose.Choose.{Found}
+use Rattle.std.specs.Prelude.{Some, None}
 use Rattle.rows.specs.choose.Choose.{on_found}
 use Rattle.sparse.specs.Places.{row_places_at, constants_at}
 use Rattle.sparse.specs.Sparse.{Sparse, symbol_count, row_count, symbol_at, basic_of, basics_of, read}
@@ -49,12 +49,12 @@ removal-is t w = refl
 
 pub record Looked (p : ℕ) (t : Sparse) (f : Found) : Type 0 where
   pub row : find_row (symbol_at t p).id (basics_of t) ≡ on_found (λ i. some (basic_of t i).row) none f
-  pub own : (i : ℕ) → f ≡ At i → get_or t.bytes (row_places_at + i) 0 ≡ p
+  pub own : (i : ℕ) → f ≡ Some i → get_or t.bytes (row_places_at + i) 0 ≡ p
 
 pub looked-by : (p : ℕ) (t : Sparse) → Sound false t → Temporary p t → {f : Found} → f ≡ row_for p t.words t.bytes → Looked p t f
 looked-by p t so x e = record { row = row-found false t so p x.low x.high ∙ ap (on_found (λ i. some (basic_of t i).row) none) (sym e); own = λ i q. row_at t p i (sym e ∙ q) }
 
-pub looked-at : {p i : ℕ} {t : Sparse} {f : Found} → Looked p t f → f ≡ At i → Looked p t (At i)
+pub looked-at : {p i : ℕ} {t : Sparse} {f : Found} → Looked p t f → f ≡ Some i → Looked p t (Some i)
 looked-at l e = rw e at l
 
 module _ (past : Wrote) (pivots : ℕ) (t : Sparse) where
@@ -75,19 +75,19 @@ module _ (past : Wrote) (pivots : ℕ) (t : Sparse) where
 
   -- ---- row i, of the symbol at place p
 
-  module _ (p i : ℕ) {f : Found} (look : Looked p t f) (at : f ≡ At i) where
+  module _ (p i : ℕ) {f : Found} (look : Looked p t f) (at : f ≡ Some i) where
     row-symbol : row_symbol t i ≡ symbol_at t p
     row-symbol = basic-symbol t i ∙ ap (symbol_at t) (look.own i at)
 
     module _ {g : Found} (choice : Chooses false (any_pivotable_symbol (basic_of t i).row) (symbol_at t) (symbol_count t) t g) where
-      pub pivotable-none : g ≡ Nothing → (outcome_of false (ended 12 pivots past) t ≡ out_of (symbol_at t p).id i) × Goes false (ended 12 pivots past) t
+      pub pivotable-none : g ≡ None → (outcome_of false (ended 12 pivots past) t ≡ out_of (symbol_at t p).id i) × Goes false (ended 12 pivots past) t
       pivotable-none e = (
         is-refused false (ended 12 pivots past) t refl ∙ twelve-is
             ∙ ap (pivoted_out (symbol_at t p).id work) (sym (choice.is (mark_of past) pivots ∙ ap (on_found (λ k. some (symbol_at t k)) none) e)),
         tt,
       )
 
-      module _ (q : ℕ) (e : g ≡ At q) where
+      module _ (q : ℕ) (e : g ≡ Some q) where
         chosen : (a : Mark) (v : ℕ) → any_pivotable_symbol (basic_of t i).row (work_of false a v t) ≡ some (symbol_at t q)
         chosen a v = choice.is a v ∙ ap (on_found (λ k. some (symbol_at t k)) none) e
 
@@ -120,10 +120,10 @@ module _ (past : Wrote) (pivots : ℕ) (t : Sparse) where
     removed-is : removal (symbol_at t p).id work (on_found (λ i. some (basic_of t i).row) none f) ≡ remove_temporary (symbol_at t p) work
     removed-is = ap (removal (symbol_at t p).id work) (sym look.row ∙ ap (find_row (symbol_at t p).id) (sym (rows_are false (mark_of past) pivots t))) ∙ removal-is (symbol_at t p) work
 
-    pub not-basic : f ≡ Nothing → outcome_of false r z ≡ going (purge (symbol_at t p).id work) → Goes false r z → Removes
+    pub not-basic : f ≡ None → outcome_of false r z ≡ going (purge (symbol_at t p).id work) → Goes false r z → Removes
     not-basic e o g = (o ∙ ap (λ (x : Found). removal (symbol_at t p).id work (on_found (λ i. some (basic_of t i).row) none x)) (sym e) ∙ removed-is, g)
 
-    module _ (i : ℕ) (e : f ≡ At i) {b : Bool} (k : (a : Mark) (v : ℕ) → b ≡ is_empty_row (basic_of t i).row (work_of false a v t)) where
+    module _ (i : ℕ) (e : f ≡ Some i) {b : Bool} (k : (a : Mark) (v : ℕ) → b ≡ is_empty_row (basic_of t i).row (work_of false a v t)) where
       emptied-is : (x : Bool) → b ≡ x → emptied (symbol_at t p).id work (basic_of t i).row x ≡ remove_temporary (symbol_at t p) work
       emptied-is x y =
           ap (emptied (symbol_at t p).id work (basic_of t i).row) (sym y ∙ k (mark_of past) pivots)

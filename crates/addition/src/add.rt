@@ -6,12 +6,13 @@ ghost use Rattle.steps.specs.Add.{add_steps};
 ghost use Rattle.rows.specs.Marks.{mark_of};
 ghost use Rattle.layout.specs.cells.Names.{row_room};
 ghost use Rattle.sparse.specs.Sparse.{symbol_count};
-ghost use Rattle.waist.specs.Working.{work_of, sparse};
+ghost use Rattle.waist.specs.Working.{work_of};
 ghost use Rattle.waist.specs.Ending.{Goes};
 ghost use Rattle.changes.specs.tags.Tags.{relation_of};
 ghost use Rattle.changes.specs.terms.Terms.{terms_of};
 ghost use Rattle.addition.specs.creation.Created.{Opening, Spare};
 ghost use Rattle.addition.specs.Whole.{added_of};
+ghost use Rattle.sparse.specs.Tables.{held, Same};
 
 use crate::creation::create::create_row;
 use crate::inputs::mark_inputs;
@@ -20,7 +21,7 @@ use changes::tags::Relation;
 use changes::terms::Pack;
 use layout::cells::ROW_ROOM;
 use rows::number::Wrote;
-use sparse::{Bytes, Keys, Reals, Values, Words};
+use sparse::tables::TablesMut;
 use waist::ending::Ended;
 
 // How the steps end, and the places of the constraint's symbols, other 0 if there is none.
@@ -40,33 +41,37 @@ fn zero_row() -> [f64; ROW_ROOM]
 
 // The seven steps, the last of which is: "Optimise the objective."
 pub fn add_steps(
-    words: &mut Words,
-    keys: &mut Keys,
-    bytes: &mut Bytes,
-    reals: &mut Reals,
-    values: &mut Values,
+    room: &mut TablesMut,
     p: Pack,
     constant: f64,
     relation: Relation,
     budget: u32,
     before: Wrote,
 ) -> Added
-    requires opening { Opening (mark_of before) (terms_of p) constant (sparse words.old keys.old bytes.old reals.old values.old) }
-    requires spare { Spare (sparse words.old keys.old bytes.old reals.old values.old) }
-    ensures values_value { added_of result (sparse words.new keys.new bytes.new reals.new values.new) ≡ add_steps budget (terms_of p) constant (relation_of relation) (work_of false (mark_of before) 0 (sparse words.old keys.old bytes.old reals.old values.old)) }
-    ensures goes { Goes false result.ended (sparse words.new keys.new bytes.new reals.new values.new) }
-    ensures then { Then (eqb result.ended.number 0) ((1 ≤ result.marker) × (result.marker ≤ symbol_count (sparse words.new keys.new bytes.new reals.new values.new)) × (result.other ≤ symbol_count (sparse words.new keys.new bytes.new reals.new values.new))) }
+    requires opening { Opening (mark_of before) (terms_of p) constant (held room.old) }
+    requires spare { Spare (held room.old) }
+    ensures values_value { added_of result (held room.new) ≡ add_steps budget (terms_of p) constant (relation_of relation) (work_of false (mark_of before) 0 (held room.old)) }
+    ensures goes { Goes false result.ended (held room.new) }
+    ensures then { Then (eqb result.ended.number 0) ((1 ≤ result.marker) × (result.marker ≤ symbol_count (held room.new)) × (result.other ≤ symbol_count (held room.new))) }
+    ensures same { Same room.old room.new }
 {
     let first = mark_inputs(p, constant, relation, before);
     let mut row = zero_row();
     let made = create_row(
-        words, keys, bytes, reals, values, &mut row, p, constant, relation, first,
+        room.words,
+        room.keys,
+        room.bytes,
+        room.reals,
+        room.values,
+        &mut row,
+        p,
+        constant,
+        relation,
+        first,
     );
     let marker = made.marker;
     let other = made.other;
-    let ended = add_row(
-        words, keys, bytes, reals, values, &mut row, marker, other, budget, made.wrote,
-    );
+    let ended = add_row(room, &mut row, marker, other, budget, made.wrote);
     Added {
         ended,
         marker,

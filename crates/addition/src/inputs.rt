@@ -18,10 +18,8 @@ fn whole_terms(p: Pack) -> bool
     let n = shown(p);
     let coefs = p.coefs;
     let mut ok = true;
-    let mut i = 0;
-    while i < n {
+    for i in 0..n {
         ok = ok & whole_within(CELL_BOUND, coefs[i]);
-        i += 1;
     }
     ok
 }

@@ -3,41 +3,38 @@ ghost use Rattle.std.specs.Prelude.{◌≡◌, false};
 ghost use Rattle.steps.specs.Add.{add_created};
 ghost use Rattle.rows.specs.Marks.{mark_of};
 ghost use Rattle.sparse.specs.Sparse.{symbol_at};
-ghost use Rattle.waist.specs.Working.{sparse};
 ghost use Rattle.waist.specs.Ending.{outcome_of, Goes};
 ghost use Rattle.addition.specs.Adding.{created_by, Fitting, Open, Made};
 ghost use Rattle.addition.specs.Chosen.{dummies_of, unchosen_of};
 ghost use Rattle.addition.specs.Stepped.{added_row};
+ghost use Rattle.sparse.specs.Tables.{held, Same};
 
 use crate::subject::add_with_subject;
 use crate::temporary::add_with_artificial;
 use layout::cells::ROW_ROOM;
 use optimising::optimise;
-use rows::choose::Found;
 use rows::number::{Wrote, near_zero};
-use sparse::{Bytes, CUTOFF, Keys, Reals, Values, Words};
+use sparse::CUTOFF;
+use sparse::tables::TablesMut;
 use waist::ending::{Ended, check_finite};
 use waist::subject::{all_dummies, choose_subject};
 
 // "refuse 12 unless the constant is near zero, else the subject is the marker"
 fn add_dummies(
-    words: &mut Words,
-    keys: &mut Keys,
-    bytes: &mut Bytes,
-    reals: &mut Reals,
-    values: &mut Values,
+    room: &mut TablesMut,
     row: &mut [f64; ROW_ROOM],
     marker: u8,
     other: u8,
     before: Wrote,
 ) -> Ended
-    requires fitting { Fitting (mark_of before) (sparse words.old keys.old bytes.old reals.old values.old) row.old }
-    requires fact { Open marker (sparse words.old keys.old bytes.old reals.old values.old) }
-    ensures values_value { outcome_of false result (sparse words.new keys.new bytes.new reals.new values.new) ≡ dummies_of (symbol_at (sparse words.old keys.old bytes.old reals.old values.old) marker) (created_by (mark_of before) marker other (sparse words.old keys.old bytes.old reals.old values.old) row.old) }
-    ensures goes { Goes false result (sparse words.new keys.new bytes.new reals.new values.new) }
+    requires fitting { Fitting (mark_of before) (held room.old) row.old }
+    requires fact { Open marker (held room.old) }
+    ensures values_value { outcome_of false result (held room.new) ≡ dummies_of (symbol_at (held room.old) marker) (created_by (mark_of before) marker other (held room.old) row.old) }
+    ensures goes { Goes false result (held room.new) }
+    ensures same { Same room.old room.new }
 {
-    if near_zero(reals[CUTOFF], row[0]) {
-        return add_with_subject(words, keys, bytes, reals, values, row, marker, before);
+    if near_zero(room.reals[CUTOFF], row[0]) {
+        return add_with_subject(room, row, marker, before);
     }
     Ended {
         number: 12,
@@ -47,84 +44,67 @@ fn add_dummies(
 }
 
 fn add_without_subject(
-    words: &mut Words,
-    keys: &mut Keys,
-    bytes: &mut Bytes,
-    reals: &mut Reals,
-    values: &mut Values,
+    room: &mut TablesMut,
     row: &mut [f64; ROW_ROOM],
     marker: u8,
     other: u8,
     budget: u32,
     before: Wrote,
 ) -> Ended
-    requires fitting { Fitting (mark_of before) (sparse words.old keys.old bytes.old reals.old values.old) row.old }
-    requires fact { Open marker (sparse words.old keys.old bytes.old reals.old values.old) }
-    ensures values_value { outcome_of false result (sparse words.new keys.new bytes.new reals.new values.new) ≡ unchosen_of budget (created_by (mark_of before) marker other (sparse words.old keys.old bytes.old reals.old values.old) row.old) }
-    ensures goes { Goes false result (sparse words.new keys.new bytes.new reals.new values.new) }
+    requires fitting { Fitting (mark_of before) (held room.old) row.old }
+    requires fact { Open marker (held room.old) }
+    ensures values_value { outcome_of false result (held room.new) ≡ unchosen_of budget (created_by (mark_of before) marker other (held room.old) row.old) }
+    ensures goes { Goes false result (held room.new) }
+    ensures same { Same room.old room.new }
 {
-    if all_dummies(words, bytes, row) {
-        return add_dummies(
-            words, keys, bytes, reals, values, row, marker, other, before,
-        );
+    if all_dummies(room.words, room.bytes, row) {
+        return add_dummies(room, row, marker, other, before);
     }
-    add_with_artificial(words, keys, bytes, reals, values, row, budget, before)
+    add_with_artificial(room, row, budget, before)
 }
 
 // "Subject: .. If none and all cells are dummies: ..": then step 5 or 6.
 fn add_created(
-    words: &mut Words,
-    keys: &mut Keys,
-    bytes: &mut Bytes,
-    reals: &mut Reals,
-    values: &mut Values,
+    room: &mut TablesMut,
     row: &mut [f64; ROW_ROOM],
     marker: u8,
     other: u8,
     budget: u32,
     before: Wrote,
 ) -> Ended
-    requires { Made (mark_of before) marker other (sparse words.old keys.old bytes.old reals.old values.old) row.old }
-    ensures values_value { outcome_of false result (sparse words.new keys.new bytes.new reals.new values.new) ≡ add_created budget (created_by (mark_of before) marker other (sparse words.old keys.old bytes.old reals.old values.old) row.old) }
-    ensures goes { Goes false result (sparse words.new keys.new bytes.new reals.new values.new) }
+    requires { Made (mark_of before) marker other (held room.old) row.old }
+    ensures values_value { outcome_of false result (held room.new) ≡ add_created budget (created_by (mark_of before) marker other (held room.old) row.old) }
+    ensures goes { Goes false result (held room.new) }
+    ensures same { Same room.old room.new }
 {
-    let f = choose_subject(words, bytes, row, marker, other);
-    let Found::At(p) = f else {
-        return add_without_subject(
-            words, keys, bytes, reals, values, row, marker, other, budget, before,
-        );
+    let f = choose_subject(room.words, room.bytes, row, marker, other);
+    let Some(p) = f else {
+        return add_without_subject(room, row, marker, other, budget, before);
     };
-    add_with_subject(words, keys, bytes, reals, values, row, p as u8, before)
+    add_with_subject(room, row, p as u8, before)
 }
 
 // What follows once the row is created; the two passes share one budget.
 pub fn add_row(
-    words: &mut Words,
-    keys: &mut Keys,
-    bytes: &mut Bytes,
-    reals: &mut Reals,
-    values: &mut Values,
+    room: &mut TablesMut,
     row: &mut [f64; ROW_ROOM],
     marker: u8,
     other: u8,
     budget: u32,
     before: Wrote,
 ) -> Ended
-    requires { Made (mark_of before) marker other (sparse words.old keys.old bytes.old reals.old values.old) row.old }
-    ensures values_value { outcome_of false result (sparse words.new keys.new bytes.new reals.new values.new) ≡ added_row budget (created_by (mark_of before) marker other (sparse words.old keys.old bytes.old reals.old values.old) row.old) }
-    ensures goes { Goes false result (sparse words.new keys.new bytes.new reals.new values.new) }
+    requires { Made (mark_of before) marker other (held room.old) row.old }
+    ensures values_value { outcome_of false result (held room.new) ≡ added_row budget (created_by (mark_of before) marker other (held room.old) row.old) }
+    ensures goes { Goes false result (held room.new) }
+    ensures same { Same room.old room.new }
 {
     let c = check_finite(0, before);
     if c.number != 0 {
         return c;
     }
-    let e = add_created(
-        words, keys, bytes, reals, values, row, marker, other, budget, before,
-    );
+    let e = add_created(room, row, marker, other, budget, before);
     if e.number != 0 {
         return e;
     }
-    optimise(
-        false, words, keys, bytes, reals, values, budget, e.pivots, e.wrote,
-    )
+    optimise(false, room, budget, e.pivots, e.wrote)
 }

@@ -3,14 +3,15 @@ ghost use Rattle.std.specs.Prelude.{◌≡◌, false, ℕ};
 ghost use Rattle.steps.specs.Add.{add_with_subject};
 ghost use Rattle.rows.specs.Marks.{mark_of};
 ghost use Rattle.sparse.specs.Sparse.{symbol_at};
-ghost use Rattle.waist.specs.Working.{sparse};
 ghost use Rattle.waist.specs.Ending.{outcome_of, Goes};
 ghost use Rattle.addition.specs.Adding.{created_by, Fitting, Open};
+ghost use Rattle.sparse.specs.Tables.{held, Same};
 
 use layout::cells::ROW_ROOM;
 use rows::number::{Wrote, joined};
 use rows::row::{solve_for, wide};
-use sparse::{Bytes, Keys, Reals, SYMBOL_COUNT, Values, Words};
+use sparse::SYMBOL_COUNT;
+use sparse::tables::TablesMut;
 use waist::ending::{Ended, check_finite};
 use waist::holding::enter_on;
 
@@ -23,24 +24,21 @@ fn index(p: u8) -> usize
 
 // "With a subject: solve, substitute, note an External with non-zero constant, keep the row." The tag plays no part.
 pub fn add_with_subject(
-    words: &mut Words,
-    keys: &mut Keys,
-    bytes: &mut Bytes,
-    reals: &mut Reals,
-    values: &mut Values,
+    room: &mut TablesMut,
     row: &mut [f64; ROW_ROOM],
     p: u8,
     before: Wrote,
 ) -> Ended
-    requires fitting { Fitting (mark_of before) (sparse words.old keys.old bytes.old reals.old values.old) row.old }
-    requires fact { Open p (sparse words.old keys.old bytes.old reals.old values.old) }
-    ensures by_index { (marker other : ℕ) → outcome_of false result (sparse words.new keys.new bytes.new reals.new values.new) ≡ add_with_subject (symbol_at (sparse words.old keys.old bytes.old reals.old values.old) p) (created_by (mark_of before) marker other (sparse words.old keys.old bytes.old reals.old values.old) row.old) }
-    ensures goes { Goes false result (sparse words.new keys.new bytes.new reals.new values.new) }
+    requires fitting { Fitting (mark_of before) (held room.old) row.old }
+    requires fact { Open p (held room.old) }
+    ensures by_index { (marker other : ℕ) → outcome_of false result (held room.new) ≡ add_with_subject (symbol_at (held room.old) p) (created_by (mark_of before) marker other (held room.old) row.old) }
+    ensures goes { Goes false result (held room.new) }
+    ensures same { Same room.old room.new }
 {
     wide(row);
-    let width = words[SYMBOL_COUNT] as usize;
+    let width = room.words[SYMBOL_COUNT] as usize;
     let u = solve_for(row, index(p), width);
     let past = joined(before, u);
-    let all = enter_on(words, keys, bytes, reals, values, p, row, past);
+    let all = enter_on(room, p, row, past);
     check_finite(0, all)
 }

@@ -33,7 +33,7 @@ fn flush<R, W: Write>(duplex: &mut Duplex<R, W>, out: &Out, p: Place) -> Place
     let ok = write_front(duplex, out, p.at);
     Place {
         at: 0,
-        open: p.open & ok,
+        open: p.open && ok,
     }
 }
 
@@ -53,16 +53,12 @@ fn put_taken<R, W: Write>(duplex: &mut Duplex<R, W>, out: &mut Out, p: Place, t:
     requires { p.at ≤ 8192 }
     ensures { result.at ≤ 8192 }
 {
-    if t.answered {
-        let q = with_room(duplex, out, p);
-        let answer = t.answer;
-        let end = put_second(out, q.at, answer);
-        return Place {
-            at: end,
-            open: q.open,
-        };
-    }
-    p
+    let Some(answer) = t.answer else {
+        return p;
+    };
+    let q = with_room(duplex, out, p);
+    let at = put_second(out, q.at, answer);
+    Place { at, ..q }
 }
 
 // A step behind the bytes taken so far.

@@ -2,14 +2,13 @@
 use Prim.Native.Nat.{ℕ, zero, suc, ◌+◌, ◌-◌, ◌≤◌, ◌<◌}
 use Rattle.std.specs.Prelude.{◌≡◌, Bool, true, false, cond, eqb, leb, ltb, take, drop, replicate}
 use Rattle.std.proofs.Math.Path.{refl}
-use Rattle.std.proofs.Common.{sym, ap, ◌∙◌, not-suc-le-zero, le_of_suc-le-suc, suc-add, arith, le-leb, leb-true, ltb-true, length-append, length-take, drop-cons}
+use Rattle.std.proofs.Common.{sym, ap, ◌∙◌, suc-add, arith, le-leb, leb-true, ltb-true, length-append, length-take, drop-cons}
 use mathlib.Core.List.{List, [], ◌∷◌, ◌++◌}
 use Rattle.std.proofs.Math.Option.{Option, none, some}
 use Rattle.std.proofs.Math.Numerals.{unary_clauses}
 use Rattle.std.proofs.lemmas.Bool.{lt-leb}
-use Rattle.std.proofs.Math.ListN.{length, get_or, set, length-set}
-use Rattle.std.proofs.Math.Seq.{get_or-set_same, drop-length, length-take-le}
-use Rattle.laws.specs.Loops.{map_in}
+use Rattle.std.proofs.Math.ListN.{length, get_or, set, length-set, length-drop}
+use Rattle.std.proofs.Math.Seq.{get_or-set_same, drop-length, drop-drop, length-take-le}
 use Rattle.laws.specs.streams.Lines.{grown}
 use Rattle.cable_lines.specs.Cable.{limit, new, answer_of, further, takes}
 use Rattle.cable_lines.specs.State.{held_by}
@@ -26,35 +25,30 @@ new-zeros = refl
 
 -- ---- the code clears what stands behind the line's bytes
 
-clear-between : (i e : ℕ) (l : List ℕ) → i ≤ e → e ≤ length l → map_in (λ _. 0) i e l ≡ take i l ++ (replicate (e - i) 0 ++ drop e l)
-unfolding map_in
-clear-between zero zero [] h k = refl
-clear-between i (suc e) [] h k = absurd (not-suc-le-zero k)
-clear-between (suc i) zero l h k = absurd (not-suc-le-zero h)
-clear-between zero zero (x ∷ l) h k = refl
-clear-between zero (suc e) (x ∷ l) h k = simp unary_clauses (ap (λ (r : List ℕ). 0 ∷ r) (simp unary_clauses at (clear-between zero e l (omega arith) (le_of_suc-le-suc k))))
-clear-between (suc i) (suc e) (x ∷ l) h k = simp unary_clauses (ap (λ (r : List ℕ). x ∷ r) (clear-between i e l (le_of_suc-le-suc h) (le_of_suc-le-suc k)))
-
 last_byte : (s : List ℕ) → length s ≡ 201 → drop 200 s ≡ get_or s 200 0 ∷ []
 last_byte s long =
     let e : drop 201 s ≡ [] = ap (λ (n : ℕ). drop n s) (sym long) ∙ drop-length s in
     drop-cons s 200 0 (omega arith) ∙ ap (λ (r : List ℕ). get_or s 200 0 ∷ r) e
 
 module _ (s : List ℕ) (long : length s ≡ 201) where
-  pub cleared-within : get_or s 200 0 ≤ 200 → map_in (λ _. 0) (get_or s 200 0) 200 s ≡ bytes_of (held_by s)
+  pub cleared-within : {ys : List ℕ} → get_or s 200 0 ≤ 200 → ys ≡ replicate (length (take (200 - get_or s 200 0) (drop (get_or s 200 0) s))) 0
+      → take (get_or s 200 0) s ++ (ys ++ drop (200 - get_or s 200 0) (drop (get_or s 200 0) s)) ≡ bytes_of (held_by s)
   unfolding bytes_of
-  cleared-within h =
+  cleared-within h q =
       let n : ℕ = get_or s 200 0 in
       let l : length (take n s) ≡ n = length-take-le n s (omega arith) in
-      clear-between n 200 s h (omega arith) ∙ rw (le-leb n 200 h, l, last_byte s long) refl
+      let k : length (take (200 - n) (drop n s)) ≡ 200 - n = length-take-le (200 - n) (drop n s) (rw length-drop (omega arith)) in
+      let e : n + (200 - n) ≡ 200 = omega arith in
+      rw (q, k, drop-drop (200 - n) n s, e, le-leb n 200 h, l, last_byte s long) refl
 
-  pub cleared-over : 200 < get_or s 200 0 → map_in (λ _. 0) 0 200 (set s 200 201) ≡ bytes_of (held_by s)
+  pub cleared-over : {ys : List ℕ} → 200 < get_or s 200 0 → ys ≡ replicate (length (take 200 (set s 200 201))) 0 → ys ++ drop 200 (set s 200 201) ≡ bytes_of (held_by s)
   unfolding bytes_of
-  cleared-over h =
+  cleared-over h q =
       let t : List ℕ = set s 200 201 in
       let l : length t ≡ 201 = length-set s 200 201 ∙ long in
+      let k : length (take 200 t) ≡ 200 = length-take-le 200 t (omega arith) in
       let g : get_or t 200 0 ≡ 201 = get_or-set_same s 200 201 0 (omega arith) in
-      clear-between 0 200 t (omega arith) (omega arith) ∙ rw (lt-leb (get_or s 200 0) 200 h, last_byte t l, g) refl
+      rw (q, k, lt-leb (get_or s 200 0) 200 h, last_byte t l, g) refl
 
 -- ---- a call reads what the call before it left
 

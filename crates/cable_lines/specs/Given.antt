@@ -1,19 +1,17 @@
 -- What the code gives, by the definition's step.
-use Rattle.std.specs.Prelude.{ℕ, suc, ◌≤◌, ◌<◌, ◌≡◌, refl, Bool, true, false, cond, List, [], ◌∷◌, eqb, length}
+use Rattle.std.specs.Prelude.{ℕ, suc, ◌≤◌, ◌<◌, ◌≡◌, refl, Bool, true, false, cond, List, [], ◌∷◌, eqb, length, Some, None}
 use Rattle.std.proofs.Common.{ap, ◌∙◌, arith}
 use Rattle.std.proofs.Math.Option.{Option, none, some}
 use Rattle.laws.specs.streams.Lines.{grown}
 use Rattle.grammar.specs.edition.Endings.{Reply as Answer}
-use Rattle.reader.specs.Answers.{refusal}
-use Rattle.reader.specs.second.Replies.{unread, as_reply}
+use Rattle.reader.specs.second.Replies.{as_reply}
 use Rattle.cable_lines.specs.declared.Taken.{Taken}
 use Rattle.cable_lines.specs.Cable.{limit, new, answer_of, Step, further, takes}
 use Rattle.cable_lines.specs.Bytes.{bytes_of}
 
--- no answer stands as an answer of nothing, which is to be passed over
 abbrev pub as_taken : Option Answer → ℕ → Taken
-as_taken none n = record { answered = false; answer = unread (refusal 0 0); taken = n }
-as_taken (some a) n = record { answered = true; answer = as_reply a; taken = n }
+as_taken none n = record { answer = None; taken = n }
+as_taken (some a) n = record { answer = Some (as_reply a); taken = n }
 
 -- what is handed back, and the bytes that then stand in the lent table
 pub record Given : Type 0 where

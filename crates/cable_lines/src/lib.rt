@@ -8,18 +8,18 @@ ghost use Rattle.cable_lines.specs.Cable.{answer_of, takes, closes};
 ghost use Rattle.cable_lines.specs.State.{held_by};
 ghost use Rattle.cable_lines.specs.Given.{given, as_given, begun, as_begun};
 
-use crate::state::{LIMIT, State, keep_line, long, renew};
+use crate::state::{LIMIT, State, keep_line, renew};
 use crate::tidy::tidy;
+use reader::fault::Refusal;
 use reader::second::{Reply, read_second, refuse};
 
 pub mod state;
 mod tidy;
 
-// Whether a line was answered, its answer (to be passed over if none was), and how many bytes were taken.
+// A line's answer, if one was answered, and how many bytes were taken.
 #[derive(Clone, Copy)]
 pub struct Taken {
-    pub answered: bool,
-    pub answer: Reply,
+    pub answer: Option<Reply>,
     pub taken: usize,
 }
 
@@ -38,7 +38,7 @@ fn answer_held(s: &State) -> Reply
     if n <= 200 {
         return read_front(s, n as usize);
     }
-    refuse(32, 0)
+    refuse(Refusal::CableLineTooLong)
 }
 
 fn step(s: &mut State, piece: &[u8]) -> Taken
@@ -47,16 +47,14 @@ fn step(s: &mut State, piece: &[u8]) -> Taken
     let at = keep_line(s, piece);
     if at == piece.len() {
         return Taken {
-            answered: false,
-            answer: refuse(0, 0),
+            answer: None,
             taken: at,
         };
     }
     let answer = answer_held(s);
     renew(s);
     Taken {
-        answered: true,
-        answer: answer,
+        answer: Some(answer),
         taken: at + 1,
     }
 }
@@ -64,19 +62,17 @@ fn step(s: &mut State, piece: &[u8]) -> Taken
 fn closing(s: &mut State) -> Taken
     ensures { begun result (held_by s.new) ≡ as_begun (closes (held_by s.old)) }
 {
-    long(s);
     let n = s[LIMIT];
     renew(s);
     if n == 0 {
         return Taken {
-            answered: false,
-            answer: refuse(0, 0),
+            answer: None,
             taken: 0,
         };
     }
+    let answer = refuse(Refusal::Unended);
     Taken {
-        answered: true,
-        answer: refuse(33, 0),
+        answer: Some(answer),
         taken: 0,
     }
 }

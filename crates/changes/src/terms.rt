@@ -1,5 +1,6 @@
 // The terms that a caller hands in: a lent list of records, gathered into a pack that goes by value.
 ghost use Rattle.std.specs.Prelude.{◌≡◌, ◌<◌, ◌≤◌, length, get_or};
+ghost use Rattle.laws.specs.Loops.{run};
 ghost use Rattle.layout.specs.Copy.{most16};
 ghost use Rattle.layout.specs.Layout.{term_room};
 ghost use Rattle.changes.specs.terms.Terms.{no_term, no_pack, pushed, pack_of, term_in, pushed_kept, kept_of, shown_in, listed};
@@ -15,6 +16,7 @@ pub struct Term {
 }
 
 // The first sixteen terms of a list; how many there are, 17 for more than 16; and whether every coefficient is finite, those past the sixteenth too.
+// (Memory is fixed, so the count stands beside room for sixteen; a caller may fill one by hand, so the fields stay.)
 #[derive(Clone, Copy)]
 pub struct Pack {
     pub count: usize,
@@ -63,11 +65,8 @@ pub fn collect(terms: &[Term]) -> Pack
     ensures { result ≡ pack_of terms.now }
 {
     let mut p = none();
-    let mut i: usize = 0;
-    while i < terms.len() {
-        let t = term_at(terms, i);
-        p = push(p, t);
-        i += 1;
+    for t in terms {
+        p = push(p, *t);
     }
     p
 }
@@ -96,6 +95,19 @@ pub fn shown(p: Pack) -> usize
     if n <= TERM_ROOM { n } else { TERM_ROOM }
 }
 
+// What `put` makes of the terms that the pack shows, one by one, from no pack on.
+fn gathered<F: Fn(Pack, Term) -> Pack>(p: Pack, put: F) -> Pack
+    requires { F.IsAlwaysCallable put }
+    ensures { (h : Pack → Term → Pack) → ((q : Pack) (t : Term) (r : Pack) → F.post put q t r → r ≡ h q t) → result ≡ run (λ j q. h q (term_in p j)) 0 (most16 p.count) no_pack }
+{
+    let mut q = none();
+    for i in 0..shown(p) {
+        let t = packed(p, i);
+        q = put(q, t);
+    }
+    q
+}
+
 fn push_kept(cutoff: f64, p: Pack, t: Term) -> Pack
     ensures { result ≡ pushed_kept cutoff p t }
 {
@@ -110,15 +122,7 @@ fn push_kept(cutoff: f64, p: Pack, t: Term) -> Pack
 pub fn kept(cutoff: f64, p: Pack) -> Pack
     ensures { result ≡ kept_of cutoff p }
 {
-    let n = shown(p);
-    let mut q = none();
-    let mut i = 0;
-    while i < n {
-        let t = packed(p, i);
-        q = push_kept(cutoff, q, t);
-        i += 1;
-    }
-    q
+    gathered(p, |q, t| push_kept(cutoff, q, t))
 }
 
 // ---- any pack, one filled by hand too
@@ -127,15 +131,7 @@ pub fn kept(cutoff: f64, p: Pack) -> Pack
 fn shown_again(p: Pack) -> Pack
     ensures { result ≡ pack_of (shown_in p) }
 {
-    let n = shown(p);
-    let mut q = none();
-    let mut i = 0;
-    while i < n {
-        let t = packed(p, i);
-        q = push(q, t);
-        i += 1;
-    }
-    q
+    gathered(p, push)
 }
 
 // The pack of the list that it stands for: what it says of its count and of its coefficients is said of terms.

@@ -20,60 +20,14 @@ use changes::Change;
 use changes::terms::Pack;
 use lending::Answer;
 use sparse::lengths::once;
+use sparse::tables::TablesMut;
 use sparse::{Bytes, Keys, Reals, Values, Words};
 
-fn clear_all_words(work: &mut [Words])
-    ensures { work.new ≡ each (zeroes words_size 0) work.old }
+fn clear_all<T: Copy, const N: usize>(work: &mut [[T; N]], zero: T)
+    ensures { work.new ≡ each (zeroes N zero) work.old }
 {
-    let n = work.len();
-    let mut i = 0;
-    while i < n {
-        lending::sparse_copy::clear::clear_words(&mut work[i]);
-        i += 1;
-    }
-}
-
-fn clear_all_keys(work: &mut [Keys])
-    ensures { work.new ≡ each (zeroes cell_room 0) work.old }
-{
-    let n = work.len();
-    let mut i = 0;
-    while i < n {
-        lending::sparse_copy::clear::clear_keys(&mut work[i]);
-        i += 1;
-    }
-}
-
-fn clear_all_bytes(work: &mut [Bytes])
-    ensures { work.new ≡ each (zeroes bytes_size 0) work.old }
-{
-    let n = work.len();
-    let mut i = 0;
-    while i < n {
-        lending::sparse_copy::clear::clear_bytes(&mut work[i]);
-        i += 1;
-    }
-}
-
-fn clear_all_reals(work: &mut [Reals])
-    ensures { work.new ≡ each (zeroes reals_size zero64) work.old }
-{
-    let n = work.len();
-    let mut i = 0;
-    while i < n {
-        lending::sparse_copy::clear::clear_reals(&mut work[i]);
-        i += 1;
-    }
-}
-
-fn clear_all_values(work: &mut [Values])
-    ensures { work.new ≡ each (zeroes cell_room zero64) work.old }
-{
-    let n = work.len();
-    let mut i = 0;
-    while i < n {
-        lending::sparse_copy::clear::clear_values(&mut work[i]);
-        i += 1;
+    for room in work.iter_mut() {
+        lending::room::blank(room, zero);
     }
 }
 
@@ -86,11 +40,11 @@ fn clear(
 )
     ensures { lists wwords.new wkeys.new wbytes.new wreals.new wvalues.new ≡ zeroed (lists wwords.old wkeys.old wbytes.old wreals.old wvalues.old) }
 {
-    clear_all_words(wwords);
-    clear_all_keys(wkeys);
-    clear_all_bytes(wbytes);
-    clear_all_reals(wreals);
-    clear_all_values(wvalues);
+    clear_all(wwords, 0);
+    clear_all(wkeys, 0);
+    clear_all(wbytes, 0);
+    clear_all(wreals, 0.0);
+    clear_all(wvalues, 0.0);
 }
 
 // Each lent once: the call over arrays. The room is told its lengths, so that what is cleared is all of it.
@@ -112,10 +66,22 @@ fn change_once(
     ensures values_value { called (answer_of result) (sparse words.new keys.new bytes.new reals.new values.new) ≡ call_of (made (changing_of c p budget)) (sparse wwords.old wkeys.old wbytes.old wreals.old wvalues.old) (sparse words.old keys.old bytes.old reals.old values.old) }
     ensures wvalues_value { sparse wwords.new wkeys.new wbytes.new wreals.new wvalues.new ≡ zero_room }
 {
-    lending::room::long(wwords, wkeys, wbytes, wreals, wvalues);
-    solver::change(
-        words, keys, bytes, reals, values, wwords, wkeys, wbytes, wreals, wvalues, c, p, budget,
-    )
+    let mut tables = TablesMut {
+        words,
+        keys,
+        bytes,
+        reals,
+        values,
+    };
+    let mut room = TablesMut {
+        words: wwords,
+        keys: wkeys,
+        bytes: wbytes,
+        reals: wreals,
+        values: wvalues,
+    };
+    room.long();
+    solver::change(&mut tables, &mut room, c, p, budget)
 }
 
 pub fn change(
@@ -175,12 +141,12 @@ pub fn reset(
     if !ok {
         return lending::refuse18();
     }
-    lending::reset(
-        &mut words[0],
-        &mut keys[0],
-        &mut bytes[0],
-        &mut reals[0],
-        &mut values[0],
-        cutoff,
-    )
+    let mut tables = TablesMut {
+        words: &mut words[0],
+        keys: &mut keys[0],
+        bytes: &mut bytes[0],
+        reals: &mut reals[0],
+        values: &mut values[0],
+    };
+    lending::reset(&mut tables, cutoff)
 }

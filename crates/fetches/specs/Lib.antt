@@ -1,5 +1,4 @@
 -- Fetch changes over the sparse tables: what it leaves, its loop over the variables among the gone ones, that the two are the same, and that the lists have room.
-pub mod Lent
 pub mod Fetch
 pub mod Few
 pub mod Lists

@@ -24,7 +24,7 @@ use Rattle.sparse.specs.Places.{most_rows, row_count_at, variable_numbers_at, go
 use Rattle.sparse.specs.Lookup.{place_from}
 use Rattle.sparse.specs.Sparse.{Sparse, row_count, variable_count, gone_count, symbol_at, variable_of, gone_of}
 use Rattle.sparse_test.specs.Asked.{constant_of}
-use Rattle.fetches.specs.declared.listing.Told as code
+use Rattle.fetches.specs.declared.listing.Listed as code
 use Rattle.fetches.specs.Lists.{Lists, lists, append, fill}
 use Rattle.fetches.specs.Telling.{gone_to, tell_gone, rest, gone-to-from, gone-rest, gone-before}
 
@@ -38,8 +38,8 @@ abbrev pub listing : List Float → Lists → ℕ → Listing
 listing r l e = record { reals = r; lists = l; told = e }
 
 -- .. as the code has them
-abbrev pub listing_by : List Float → List ℕ → List Float → List ℕ → code.Told → Listing
-listing_by r n v g c = listing r (lists n v g c.count) c.gone
+abbrev pub entries : code.Listed → Lists
+entries l = lists l.numbers l.moved l.gone l.count
 
 -- the reals and the lists at the end
 pub record Ended : Type 0 where

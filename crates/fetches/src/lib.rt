@@ -10,6 +10,8 @@ ghost use Rattle.sparse_test.specs.Whole.{tables};
 ghost use Rattle.fetches.specs.Seen.{cleared_by};
 ghost use Rattle.fetches.specs.Fetch.{places, fetch, fetch_by, fetch_in, fetch_of};
 
+use listing::Listed;
+use sparse::tables::Tables;
 use sparse::{
     Bytes, CHANGED, GONE_COUNT, Keys, Reals, SHOULD_CLEAR, VARIABLE_COUNT, Values, Words,
 };
@@ -39,11 +41,7 @@ fn clear_changed(bytes: &mut Bytes, count: usize)
     requires { count ≤ most_variables }
     ensures { bytes.new ≡ map_in (λ _. 0) changed_at (changed_at + count) bytes.old }
 {
-    let mut v = CHANGED;
-    while v < CHANGED + count {
-        bytes[v] = 0;
-        v += 1;
-    }
+    bytes[CHANGED..CHANGED + count].fill(0);
 }
 
 // A set that a fetch has reported is cleared.
@@ -56,31 +54,18 @@ fn clear_reported(words: &Words, bytes: &mut Bytes)
     }
 }
 
-// On tables that read as a state, and lists of zeros. None wait among the gone afterwards.
-fn fetch_in(
-    words: &mut Words,
-    keys: &Keys,
-    bytes: &mut Bytes,
-    reals: &mut Reals,
-    values: &Values,
-    numbers: &mut Numbers,
-    moved: &mut Moved,
-    gone: &mut Flags,
-) -> u32
-    requires values_value { reads (tables words.old keys.now bytes.old reals.old values.now) ≡ true }
-    requires numbers_value { numbers.old ≡ replicate places 0 }
-    requires moved_value { moved.old ≡ replicate places zero64 }
-    requires gone_value { gone.old ≡ replicate places 0 }
-    ensures { fetch 0 result numbers.new moved.new gone.new (tables words.new keys.now bytes.new reals.new values.now) ≡ fetch_in (tables words.old keys.now bytes.old reals.old values.now) }
+fn clear_lists(numbers: &mut Numbers, moved: &mut Moved, gone: &mut Flags)
+    ensures numbers_after { numbers.new ≡ replicate places 0 }
+    ensures moved_after { moved.new ≡ replicate places zero64 }
+    ensures gone_after { gone.new ≡ replicate places 0 }
 {
-    clear_reported(words, bytes);
-    let count = listing::list_changes(words, bytes, reals, numbers, moved, gone);
-    words[SHOULD_CLEAR] = 1 - words[SHOULD_CLEAR];
-    words[GONE_COUNT] = 0;
-    count
+    *numbers = [0; PLACES];
+    *moved = [0.0; PLACES];
+    *gone = [0; PLACES];
 }
 
-// On tables that are known to read as a state, and any lists.
+// The tables are parameters of their own here: the C names `knobharbor_fetch` and `knobharbor_held_fetch` are lent keys and values to be read alone, of which no `TablesMut` can be made.
+// On tables that are known to read as a state, and any lists. None wait among the gone afterwards.
 pub fn fetch_held(
     words: &mut Words,
     keys: &Keys,
@@ -94,10 +79,15 @@ pub fn fetch_held(
     requires { reads (tables words.old keys.now bytes.old reals.old values.now) ≡ true }
     ensures { fetch 0 result numbers.new moved.new gone.new (tables words.new keys.now bytes.new reals.new values.now) ≡ fetch_in (tables words.old keys.now bytes.old reals.old values.now) }
 {
-    *numbers = [0; PLACES];
-    *moved = [0.0; PLACES];
-    *gone = [0; PLACES];
-    fetch_in(words, keys, bytes, reals, values, numbers, moved, gone)
+    clear_reported(words, bytes);
+    let mut out = Listed::empty();
+    listing::list_changes(words, bytes, reals, &mut out);
+    words[SHOULD_CLEAR] = 1 - words[SHOULD_CLEAR];
+    words[GONE_COUNT] = 0;
+    *numbers = out.numbers;
+    *moved = out.moved;
+    *gone = out.gone;
+    out.count
 }
 
 // "Fetch fills lists of 64 places, zero past its count, all zero on 18." Three wrong answers that this shuts out: the same list once more from a second fetch straight after, a gone variable told twice or not at all, and numbers that the lender had in the lists left there past the count or beside 18.
@@ -113,18 +103,20 @@ pub fn fetch_changes(
 ) -> Fetched
     ensures { fetch_by result numbers.new moved.new gone.new (tables words.new keys.now bytes.new reals.new values.now) ≡ fetch_of (tables words.old keys.now bytes.old reals.old values.now) }
 {
-    if !sparse_test::reads_as_state(words, keys, bytes, reals, values) {
-        *numbers = [0; PLACES];
-        *moved = [0.0; PLACES];
-        *gone = [0; PLACES];
+    let tables = Tables {
+        words,
+        keys,
+        bytes,
+        reals,
+        values,
+    };
+    if !sparse_test::reads_as_state(&tables) {
+        clear_lists(numbers, moved, gone);
         return Fetched {
             number: 18,
             count: 0,
         };
     }
     let count = fetch_held(words, keys, bytes, reals, values, numbers, moved, gone);
-    Fetched {
-        number: 0,
-        count: count,
-    }
+    Fetched { number: 0, count }
 }

@@ -1,24 +1,53 @@
 // The list of a fetch: the variables by ascending number, and the gone ones among them, "gone before a value of the same number".
-ghost use Rattle.std.specs.Prelude.{◌≡◌, ◌+◌, ◌-◌, ◌<◌, ◌≤◌, get_or};
+ghost use Rattle.std.specs.Prelude.{◌≡◌, ◌+◌, ◌-◌, ◌<◌, ◌≤◌, get_or, set, replicate};
+ghost use Rattle.std.specs.Int.{from_bool};
+ghost use Rattle.steps.specs.Number.{zero64};
 ghost use Rattle.sparse.specs.Places.{most_rows, most_variables, most_gone, row_count_at, variable_count_at, gone_count_at, gone_numbers_at};
 ghost use Rattle.sparse.specs.Lookup.{Ascends};
 ghost use Rattle.fetches.specs.Fetch.{places};
 ghost use Rattle.fetches.specs.Lists.{lists};
 ghost use Rattle.fetches.specs.Telling.{gone_to, tell_gone};
-ghost use Rattle.fetches.specs.Listing.{ended, listing, listing_by, returned, list_news, list_all};
+ghost use Rattle.fetches.specs.Listing.{ended, entries, listing, returned, list_news, list_all};
 
-use crate::{Flags, Moved, Numbers};
+use crate::{Flags, Moved, Numbers, PLACES};
 use sparse::lookup::look_up;
 use sparse::{
     Bytes, CHANGED, GONE_COUNT, GONE_NUMBERS, OLD_VALUES, ROW_COUNT, Reals, VARIABLE_COUNT,
     VARIABLE_NUMBERS, VARIABLE_PLACES, Words,
 };
 
-// How many places of the lists are filled, and how many of the gone ones are told.
+// The lists of a fetch, and how many of their places are filled.
 #[derive(Clone, Copy)]
-pub struct Told {
+pub struct Listed {
+    pub numbers: Numbers,
+    pub moved: Moved,
+    pub gone: Flags,
     pub count: u32,
-    pub gone: usize,
+}
+
+impl Listed {
+    pub fn empty() -> Listed
+        ensures { entries result ≡ lists (replicate places 0) (replicate places zero64) (replicate places 0) 0 }
+    {
+        Listed {
+            numbers: [0; PLACES],
+            moved: [0.0; PLACES],
+            gone: [0; PLACES],
+            count: 0,
+        }
+    }
+
+    // One entry more.
+    fn push(&mut self, number: u64, value: f64, gone: bool)
+        requires { self.old.count < places }
+        ensures after { entries self.new ≡ lists (set self.old.numbers self.old.count number) (set self.old.moved self.old.count value) (set self.old.gone self.old.count (from_bool gone)) (self.old.count + 1) }
+    {
+        let i = self.count as usize;
+        self.numbers[i] = number;
+        self.moved[i] = value;
+        self.gone[i] = u8::from(gone);
+        self.count += 1;
+    }
 }
 
 // One that is live and among the g gone ones went and has returned.
@@ -38,64 +67,45 @@ fn gone_to(words: &Words, g: usize, e: usize, n: u64) -> usize
     ensures lower_bound { e ≤ result }
     ensures upper_bound { result ≤ g }
 {
-    let mut j = e;
-    while j < g {
+    for j in e..g {
         if n < words[GONE_NUMBERS + j] {
             return j;
         }
-        j += 1;
     }
     g
 }
 
 // The gone ones from the place a up to the place b.
-fn tell_gone(
-    words: &Words,
-    numbers: &mut Numbers,
-    moved: &mut Moved,
-    gone: &mut Flags,
-    a: usize,
-    b: usize,
-    count: u32,
-) -> u32
+fn tell_gone(words: &Words, out: &mut Listed, a: usize, b: usize)
     requires a_le_b { a ≤ b }
     requires b_le_most_gone { b ≤ most_gone }
-    requires a_bound { count + (b - a) ≤ places }
-    ensures result_after { lists numbers.new moved.new gone.new result ≡ tell_gone words.now a b (lists numbers.old moved.old gone.old count) }
-    ensures value { result ≡ count + (b - a) }
+    requires a_bound { out.old.count + (b - a) ≤ places }
+    ensures after { entries out.new ≡ tell_gone words.now a b (entries out.old) }
+    ensures count { out.new.count ≡ out.old.count + (b - a) }
 {
-    let mut c = count;
-    let mut j = a;
-    while j < b {
-        numbers[c as usize] = words[GONE_NUMBERS + j];
-        moved[c as usize] = 0.0;
-        gone[c as usize] = 1;
-        c += 1;
-        j += 1;
+    for j in a..b {
+        out.push(words[GONE_NUMBERS + j], 0.0, true);
     }
-    c
 }
 
-// One variable: a changed one whose value is not its old one, or one that has returned, goes on the lists behind the gone ones up to its number, and its old value is the value now.
+// One variable: a changed one whose value is not its old one, or one that has returned, goes on the lists behind the gone ones up to its number, and its old value is the value now. `told` of the gone ones are told before, and the result's afterwards.
 fn note_news(
     words: &Words,
     bytes: &Bytes,
     reals: &mut Reals,
-    numbers: &mut Numbers,
-    moved: &mut Moved,
-    gone: &mut Flags,
+    out: &mut Listed,
     i: usize,
-    told: Told,
-) -> Told
+    told: usize,
+) -> usize
     requires row_count_at_bound { get_or words.now row_count_at 0 ≤ most_rows }
     requires gone_count_at_bound { get_or words.now gone_count_at 0 ≤ most_gone }
     requires ascends { Ascends words.now gone_numbers_at (get_or words.now gone_count_at 0) }
     requires i_lt_most_variables { i < most_variables }
-    requires gone_bound { told.gone ≤ get_or words.now gone_count_at 0 }
-    requires count_bound { told.count ≤ i + told.gone }
-    ensures result_after { listing_by reals.new numbers.new moved.new gone.new result ≡ list_news words.now bytes.now (get_or words.now gone_count_at 0) i (listing_by reals.old numbers.old moved.old gone.old told) }
-    ensures gone_bound_2 { result.gone ≤ get_or words.now gone_count_at 0 }
-    ensures count_bound_2 { result.count ≤ i + 1 + result.gone }
+    requires told_bound { told ≤ get_or words.now gone_count_at 0 }
+    requires count_bound { out.old.count ≤ i + told }
+    ensures result_after { listing reals.new (entries out.new) result ≡ list_news words.now bytes.now (get_or words.now gone_count_at 0) i (listing reals.old (entries out.old) told) }
+    ensures told_bound_2 { result ≤ get_or words.now gone_count_at 0 }
+    ensures count_bound_2 { out.new.count ≤ i + 1 + result }
 {
     let g = words[GONE_COUNT] as usize;
     let n = words[VARIABLE_NUMBERS + i];
@@ -112,40 +122,27 @@ fn note_news(
     if !((reals[OLD_VALUES + i] != x) | back) {
         return told;
     }
-    let e = gone_to(words, g, told.gone, n);
-    let c = tell_gone(words, numbers, moved, gone, told.gone, e, told.count);
-    numbers[c as usize] = n;
-    moved[c as usize] = x;
-    gone[c as usize] = 0;
+    let e = gone_to(words, g, told, n);
+    tell_gone(words, out, told, e);
+    out.push(n, x, false);
     reals[OLD_VALUES + i] = x;
-    Told {
-        count: c + 1,
-        gone: e,
-    }
+    e
 }
 
-// All variables, and the gone ones that come after the last of them.
-pub fn list_changes(
-    words: &Words,
-    bytes: &Bytes,
-    reals: &mut Reals,
-    numbers: &mut Numbers,
-    moved: &mut Moved,
-    gone: &mut Flags,
-) -> u32
+// From the first place of the lists on: all variables, and the gone ones that come after the last of them.
+pub fn list_changes(words: &Words, bytes: &Bytes, reals: &mut Reals, out: &mut Listed)
     requires row_count_at_bound { get_or words.now row_count_at 0 ≤ most_rows }
     requires variable_count_at_bound { get_or words.now variable_count_at 0 ≤ most_variables }
     requires gone_count_at_bound { get_or words.now gone_count_at 0 ≤ most_gone }
     requires ascends { Ascends words.now gone_numbers_at (get_or words.now gone_count_at 0) }
-    ensures { ended reals.new (lists numbers.new moved.new gone.new result) ≡ list_all words.now bytes.now (get_or words.now gone_count_at 0) (get_or words.now variable_count_at 0) (listing reals.old (lists numbers.old moved.old gone.old 0) 0) }
+    ensures { ended reals.new (entries out.new) ≡ list_all words.now bytes.now (get_or words.now gone_count_at 0) (get_or words.now variable_count_at 0) (listing reals.old (lists out.old.numbers out.old.moved out.old.gone 0) 0) }
 {
+    out.count = 0;
     let k = words[VARIABLE_COUNT] as usize;
-    let mut told = Told { count: 0, gone: 0 };
-    let mut i = 0;
-    while i < k {
-        told = note_news(words, bytes, reals, numbers, moved, gone, i, told);
-        i += 1;
+    let mut told = 0;
+    for i in 0..k {
+        told = note_news(words, bytes, reals, out, i, told);
     }
     let g = words[GONE_COUNT] as usize;
-    tell_gone(words, numbers, moved, gone, told.gone, g, told.count)
+    tell_gone(words, out, told, g);
 }

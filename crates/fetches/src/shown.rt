@@ -10,10 +10,12 @@ ghost use Rattle.sparse_test.specs.Whole.{tables};
 ghost use Rattle.fetches.specs.shown.Shown.{line, without, show_of};
 ghost use Rattle.fetches.specs.shown.Filled.{filled};
 ghost use Rattle.fetches.specs.shown.Stored.{variable_at, coefficient_at, line_in};
+ghost use Rattle.sparse.specs.Tables.{lent};
 
 use layout::TERM_ROOM;
 use sparse::lookup::look_up;
-use sparse::{Bytes, Keys, Reals, Values, Words};
+use sparse::tables::Tables;
+use sparse::{Bytes, Reals, Words};
 use sparse_test::asking::byte_from;
 use sparse_test::reads_as_state;
 use sparse_test::stretch::wide;
@@ -41,10 +43,8 @@ fn terms_before(bytes: &Bytes, i: usize) -> usize
     ensures term_room_bound { result + term_room ≤ most_terms }
 {
     let mut m = 0;
-    let mut j = 0;
-    while j < i {
+    for j in 0..i {
         m += wide(bytes[sparse::TERM_COUNTS + j]);
-        j += 1;
     }
     m
 }
@@ -71,10 +71,8 @@ fn variables_of(words: &Words, bytes: &Bytes, from: usize, n: usize) -> Variable
 {
     let v = words[sparse::VARIABLE_COUNT] as usize;
     let mut r = [0u32; TERM_ROOM];
-    let mut j = 0;
-    while j < n {
+    for j in 0..n {
         r[j] = number_of(words, bytes, v, bytes[sparse::TERMS + (from + j)]);
-        j += 1;
     }
     r
 }
@@ -84,12 +82,9 @@ fn coefficients_of(reals: &Reals, from: usize, n: usize) -> Coefficients
     requires term_room_bound { from + term_room ≤ most_terms }
     ensures { result ≡ filled zero64 (coefficient_at reals.now from) n }
 {
+    let a = sparse::COEFFICIENTS + from;
     let mut r = [0.0f64; TERM_ROOM];
-    let mut j = 0;
-    while j < n {
-        r[j] = reals[sparse::COEFFICIENTS + (from + j)];
-        j += 1;
-    }
+    r[..n].copy_from_slice(&reals[a..a + n]);
     r
 }
 
@@ -145,29 +140,25 @@ fn refuse(
 
 // 18 for tables that do not read as a state, then 5 for a number that is not live.
 pub fn show(
-    words: &Words,
-    keys: &Keys,
-    bytes: &Bytes,
-    reals: &Reals,
-    values: &Values,
+    tables: &Tables,
     number: u32,
     lwords: &mut LineWords,
     lreals: &mut LineReals,
     variables: &mut Variables,
     coefficients: &mut Coefficients,
 )
-    ensures { line lwords.new lreals.new variables.new coefficients.new ≡ show_of number (tables words.now keys.now bytes.now reals.now values.now) }
+    ensures { line lwords.new lreals.new variables.new coefficients.new ≡ show_of number (lent tables.now) }
 {
-    if !reads_as_state(words, keys, bytes, reals, values) {
+    if !reads_as_state(tables) {
         return refuse(18, lwords, lreals, variables, coefficients);
     }
-    let c = words[sparse::CONSTRAINT_COUNT] as usize;
-    let i = look_up(words, sparse::CONSTRAINT_NUMBERS, c, number as u64);
+    let c = tables.words[sparse::CONSTRAINT_COUNT] as usize;
+    let i = look_up(tables.words, sparse::CONSTRAINT_NUMBERS, c, number as u64);
     if i < c {
         return hand_over(
-            words,
-            bytes,
-            reals,
+            tables.words,
+            tables.bytes,
+            tables.reals,
             i,
             lwords,
             lreals,

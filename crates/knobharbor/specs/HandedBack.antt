@@ -28,7 +28,7 @@ use Rattle.changes.specs.terms.Terms.{pack_of, term_of, terms_in, term_in, terms
 use Rattle.changes.specs.terms.Packed.{pack-finite, pack-few, pack-terms, most-few}
 use Rattle.writing.specs.Figures.{is_figure}
 use Rattle.writing.specs.Given.{term_at, whole_from}
-use Rattle.writing.specs.Writes.{relation_in, related_of, constraint_of, numbers_in, writes}
+use Rattle.writing.specs.Writes.{relation_in, strength_in, constraint_of, numbers_in, writes}
 use Rattle.entry.specs.typed.Typed.{whole_of, whole-exact, typed_term, typed_terms}
 use Rattle.knobharbor.specs.handed.Handed.{kind_of, Handed, said, handed_of, read_by}
 use Rattle.knobharbor.specs.HandedOn.{front, length-of, given-terms, kind_fits}
@@ -156,8 +156,8 @@ strength-exact : (n : ℕ) → n ≤ required → IsZ (whole_of (pos n)) (pos n)
 unfolding whole_of
 strength-exact n h = of_int-z (pos n) (omega (arith, h))
 
-strength-of : (m : Relation) (s : Float) → (related_of (related_by (kind_of m) s)).strength ≡ s
-unfolding related_of
+strength-of : (m : Relation) (s : Float) → strength_in (related_by (kind_of m) s) ≡ s
+unfolding strength_in
 strength-of at_most s = refl
 strength-of equal s = refl
 strength-of at_least s = refl

@@ -4,6 +4,7 @@ pub mod Given
 pub mod Places
 pub mod Adding
 pub mod Held
+pub mod Together
 pub mod Dragged
 pub mod HandedOn
 pub mod Written

@@ -23,7 +23,7 @@ use Rattle.changes.specs.declared.terms.Pack.{Pack}
 use Rattle.changes.specs.terms.Terms.{pack_of, term_of, terms_in, term_in, terms_of, no_term}
 use Rattle.changes.specs.terms.Packed.{pack-few, pack-terms, most-few}
 use Rattle.writing.specs.Given.{term_at}
-use Rattle.writing.specs.Writes.{relation_in, related_of, constraint_of}
+use Rattle.writing.specs.Writes.{relation_in, strength_in, constraint_of}
 use Rattle.knobharbor.specs.handed.Handed.{handed, read_by, said as lineSaid}
 use Rattle.fetches.specs.shown.Shown.{Line, said, line_of, show_of}
 use Rattle.fetches.specs.shown.Few.{few-shown}
@@ -120,8 +120,8 @@ relation-as (at_most s) = refl
 relation-as (equal s) = refl
 relation-as (at_least s) = refl
 
-strength-as : (r : Relation) → (related_of (related_as r)).strength ≡ strength_of r
-unfolding comparison_code comparison_of strength_of related_of
+strength-as : (r : Relation) → strength_in (related_as r) ≡ strength_of r
+unfolding comparison_code comparison_of strength_of strength_in
 strength-as (at_most s) = refl
 strength-as (equal s) = refl
 strength-as (at_least s) = refl

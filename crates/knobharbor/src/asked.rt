@@ -1,16 +1,18 @@
 // Reset, the queries, fetch, and strengths.
+// The tables are parameters of their own in each `knobharbor_*`: those are C names, and so the C interface has them.
 ghost use Rattle.std.specs.Prelude.{◌≡◌, false};
 ghost use Rattle.steps.specs.Number.{zero64};
 ghost use Rattle.steps.specs.Strength.{create, clip};
 ghost use Rattle.steps.specs.Changes.{value};
 ghost use Rattle.steps.specs.Tests.{has_constraint, has_edit};
-ghost use Rattle.waist.specs.Working.{lent, sparse};
+ghost use Rattle.waist.specs.Working.{sparse};
 ghost use Rattle.sparse_test.specs.Asked.{asked};
 ghost use Rattle.lending.specs.Reset.{reset_of};
 ghost use Rattle.fetches.specs.Fetch.{fetch_of};
 ghost use Rattle.knobharbor.specs.Places.{placed, placed_by, placed_list, placed_fetch};
 
 use crate::places::{put, put_fetched};
+use crate::together::{to_read, to_write};
 use fetches::{Flags, Moved, Numbers};
 use sparse::{Bytes, Keys, Reals, Values, Words};
 
@@ -25,7 +27,8 @@ pub fn knobharbor_reset(
 )
     ensures { placed answer.new (sparse words.new keys.new bytes.new reals.new values.new) ≡ placed_by (reset_of cutoff (sparse words.old keys.old bytes.old reals.old values.old)) }
 {
-    let a = lending::reset(words, keys, bytes, reals, values, cutoff);
+    let tables = &mut to_write(words, keys, bytes, reals, values);
+    let a = lending::reset(tables, cutoff);
     put(answer, a);
 }
 
@@ -37,9 +40,10 @@ pub fn knobharbor_has_constraint(
     values: &Values,
     number: u32,
 ) -> bool
-    ensures { result ≡ asked (has_constraint number) false (lent words.entry keys.entry bytes.entry reals.entry values.entry) }
+    ensures { result ≡ asked (has_constraint number) false (sparse words.now keys.now bytes.now reals.now values.now) }
 {
-    sparse_test::asking::has_constraint(words, keys, bytes, reals, values, number)
+    let tables = &to_read(words, keys, bytes, reals, values);
+    sparse_test::asking::has_constraint(tables, number)
 }
 
 pub fn knobharbor_has_edit(
@@ -50,9 +54,10 @@ pub fn knobharbor_has_edit(
     values: &Values,
     variable: u32,
 ) -> bool
-    ensures { result ≡ asked (has_edit variable) false (lent words.entry keys.entry bytes.entry reals.entry values.entry) }
+    ensures { result ≡ asked (has_edit variable) false (sparse words.now keys.now bytes.now reals.now values.now) }
 {
-    sparse_test::asking::has_edit(words, keys, bytes, reals, values, variable)
+    let tables = &to_read(words, keys, bytes, reals, values);
+    sparse_test::asking::has_edit(tables, variable)
 }
 
 pub fn knobharbor_value(
@@ -63,9 +68,10 @@ pub fn knobharbor_value(
     values: &Values,
     variable: u32,
 ) -> f64
-    ensures { result ≡ asked (value variable) zero64 (lent words.entry keys.entry bytes.entry reals.entry values.entry) }
+    ensures { result ≡ asked (value variable) zero64 (sparse words.now keys.now bytes.now reals.now values.now) }
 {
-    sparse_test::asking::get_value(words, keys, bytes, reals, values, variable)
+    let tables = &to_read(words, keys, bytes, reals, values);
+    sparse_test::asking::get_value(tables, variable)
 }
 
 pub fn knobharbor_fetch(

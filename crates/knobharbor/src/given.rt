@@ -11,20 +11,18 @@ pub fn gather(vars: &[u32], coefs: &[f64]) -> Pack
     requires { length vars.now ≤ length coefs.now }
     ensures { result ≡ pack_of (given vars.now coefs.now) }
 {
-    let n = vars.len();
     let mut p = changes::terms::none();
-    let mut i = 0;
-    while i < n {
+    for i in 0..vars.len() {
         let t = Term {
             variable: vars[i],
             coefficient: coefs[i],
         };
         p = changes::terms::push(p, t);
-        i += 1;
     }
     p
 }
 
+// The kind is a number as the caller in C has it.
 pub fn relation(kind: u32, strength: f64) -> Relation
     ensures { relation_of result ≡ relation_by kind strength }
 {

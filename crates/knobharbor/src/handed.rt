@@ -3,13 +3,13 @@ ghost use Rattle.std.specs.Prelude.{◌≡◌, true, [], map};
 ghost use Rattle.reader.specs.Sides.{relation_of};
 ghost use Rattle.cable_lines.specs.Cable.{takes, closes};
 ghost use Rattle.cable_lines.specs.State.{held_by};
-ghost use Rattle.knobharbor.specs.handed.Handed.{kind_of, handed, handed_by, read_by, reads_in, kind_in, words_in, reals_in, whole_at};
+ghost use Rattle.knobharbor.specs.handed.Handed.{kind_of, handed, handed_by, read_by, reply_in, reads_in, kind_in, words_in, reals_in, whole_at};
 
 use cable_lines::Taken;
 use cable_lines::state::State;
 use entry::typed::pack::whole;
 use layout::TERM_ROOM;
-use reader::second::read_second;
+use reader::second::{Reply, nothing, read_second};
 use reader::sides::Mark;
 
 // How many bytes were taken, 0 or the refusal's number, the offset of 20, the kind, how many terms, the group.
@@ -37,17 +37,27 @@ fn kind_of(m: Mark) -> u64
 fn reads(t: Taken) -> bool
     ensures { result ≡ reads_in t }
 {
-    let r = t.answer.reading;
-    t.answered & (r.number == 0)
+    match t.answer {
+        Some(x) => x.reading.number == 0,
+        None => false,
+    }
+}
+
+fn reply_in(t: Taken) -> Reply
+    ensures { result ≡ reply_in t.answer }
+{
+    match t.answer {
+        Some(x) => x,
+        None => nothing(),
+    }
 }
 
 fn kind_in(t: Taken) -> u64
     ensures { result ≡ kind_in t }
 {
-    let r = t.answer.reading;
     if reads(t) {
-        let m = r.relation;
-        return kind_of(m);
+        let r = reply_in(t).reading;
+        return kind_of(r.relation);
     }
     0
 }
@@ -55,7 +65,7 @@ fn kind_in(t: Taken) -> u64
 fn words_in(t: Taken) -> Words
     ensures { result ≡ words_in t }
 {
-    let x = t.answer;
+    let x = reply_in(t);
     let r = x.reading;
     let kind = kind_in(t);
     [
@@ -71,7 +81,7 @@ fn words_in(t: Taken) -> Words
 fn reals_in(t: Taken) -> Reals
     ensures { result ≡ reals_in t }
 {
-    let x = t.answer;
+    let x = reply_in(t);
     let r = x.reading;
     let constant = whole(r.constant);
     let strength = std::num::nearest_u64_to_f64(x.strength as u64);
@@ -81,13 +91,7 @@ fn reals_in(t: Taken) -> Reals
 fn wholes(x: [u64; TERM_ROOM]) -> Coefficients
     ensures { result ≡ map whole_at x }
 {
-    let mut r = [0.0; TERM_ROOM];
-    let mut i: usize = 0;
-    while i < TERM_ROOM {
-        r[i] = whole(x[i]);
-        i += 1;
-    }
-    r
+    x.map(whole)
 }
 
 fn hand_over(
@@ -99,10 +103,10 @@ fn hand_over(
 )
     ensures words_after { words.new ≡ words_in t }
     ensures reals_after { reals.new ≡ reals_in t }
-    ensures variables_after { variables.new ≡ t.answer.reading.variables }
-    ensures coefficients_after { coefficients.new ≡ map whole_at t.answer.reading.coefficients }
+    ensures variables_after { variables.new ≡ (reply_in t.answer).reading.variables }
+    ensures coefficients_after { coefficients.new ≡ map whole_at (reply_in t.answer).reading.coefficients }
 {
-    let r = t.answer.reading;
+    let r = reply_in(t).reading;
     let v = r.variables;
     let c = r.coefficients;
     *words = words_in(t);
@@ -123,8 +127,7 @@ pub fn read(
 {
     let x = read_second(line);
     let t = Taken {
-        answered: true,
-        answer: x,
+        answer: Some(x),
         taken: line.len(),
     };
     hand_over(t, words, reals, variables, coefficients);
@@ -143,7 +146,7 @@ pub fn take(
 {
     let t = cable_lines::take(cable, piece);
     hand_over(t, words, reals, variables, coefficients);
-    t.answered
+    t.answer.is_some()
 }
 
 // The cable is closed: the reader is as new. Whether a line had begun.
@@ -158,5 +161,5 @@ pub fn close(
 {
     let t = cable_lines::close(cable);
     hand_over(t, words, reals, variables, coefficients);
-    t.answered
+    t.answer.is_some()
 }

@@ -1,14 +1,16 @@
 // Behind the test: fetch and the queries, on tables that read as a state. What a fetch leaves reads as one again.
+// The tables are parameters of their own in each `knobharbor_*`: those are C names, and so the C interface has them.
 ghost use Rattle.std.specs.Prelude.{◌≡◌, true};
 ghost use Rattle.steps.specs.Changes.{value};
 ghost use Rattle.steps.specs.Tests.{has_constraint, has_edit};
 ghost use Rattle.sparse.specs.Sparse.{read};
 ghost use Rattle.sparse_test.specs.Reads.{reads};
-ghost use Rattle.waist.specs.Working.{lent, sparse};
+ghost use Rattle.waist.specs.Working.{sparse};
 ghost use Rattle.fetches.specs.Fetch.{fetch_in};
 ghost use Rattle.knobharbor.specs.Places.{placed_list, placed_fetch};
 
 use crate::places::put_fetched;
+use crate::together::to_read;
 use fetches::{Fetched, Flags, Moved, Numbers};
 use sparse::{Bytes, Keys, Reals, Values, Words};
 
@@ -39,10 +41,11 @@ pub fn knobharbor_held_has_constraint(
     values: &Values,
     number: u32,
 ) -> bool
-    requires { reads (lent words keys bytes reals values) ≡ true }
-    ensures { result ≡ has_constraint number (read (lent words.entry keys.entry bytes.entry reals.entry values.entry)) }
+    requires { reads (sparse words.now keys.now bytes.now reals.now values.now) ≡ true }
+    ensures { result ≡ has_constraint number (read (sparse words.now keys.now bytes.now reals.now values.now)) }
 {
-    sparse_test::asking::has_constraint_held(words, keys, bytes, reals, values, number)
+    let tables = &to_read(words, keys, bytes, reals, values);
+    sparse_test::asking::has_constraint_held(tables, number)
 }
 
 pub fn knobharbor_held_has_edit(
@@ -53,10 +56,11 @@ pub fn knobharbor_held_has_edit(
     values: &Values,
     variable: u32,
 ) -> bool
-    requires { reads (lent words keys bytes reals values) ≡ true }
-    ensures { result ≡ has_edit variable (read (lent words.entry keys.entry bytes.entry reals.entry values.entry)) }
+    requires { reads (sparse words.now keys.now bytes.now reals.now values.now) ≡ true }
+    ensures { result ≡ has_edit variable (read (sparse words.now keys.now bytes.now reals.now values.now)) }
 {
-    sparse_test::asking::has_edit_held(words, keys, bytes, reals, values, variable)
+    let tables = &to_read(words, keys, bytes, reals, values);
+    sparse_test::asking::has_edit_held(tables, variable)
 }
 
 pub fn knobharbor_held_value(
@@ -67,8 +71,9 @@ pub fn knobharbor_held_value(
     values: &Values,
     variable: u32,
 ) -> f64
-    requires { reads (lent words keys bytes reals values) ≡ true }
-    ensures { result ≡ value variable (read (lent words.entry keys.entry bytes.entry reals.entry values.entry)) }
+    requires { reads (sparse words.now keys.now bytes.now reals.now values.now) ≡ true }
+    ensures { result ≡ value variable (read (sparse words.now keys.now bytes.now reals.now values.now)) }
 {
-    sparse_test::asking::get_value_held(words, keys, bytes, reals, values, variable)
+    let tables = &to_read(words, keys, bytes, reals, values);
+    sparse_test::asking::get_value_held(tables, variable)
 }

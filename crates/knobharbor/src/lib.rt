@@ -14,4 +14,5 @@ pub mod lines;
 pub mod places;
 pub mod service;
 pub mod showing;
+pub mod together;
 pub mod written;

@@ -1,4 +1,5 @@
 // Add a line of text, under its C name. The offset goes into a place of its own.
+// The tables and the room are parameters of their own in each `knobharbor_*`: those are C names, and so the C interface has them.
 ghost use Rattle.std.specs.Prelude.{◌≡◌};
 ghost use Rattle.waist.specs.Working.{sparse};
 ghost use Rattle.lending.specs.sparse_copy.Over.{cleared};
@@ -6,6 +7,7 @@ ghost use Rattle.entry.specs.typed.Adding.{text_of};
 ghost use Rattle.knobharbor.specs.Places.{placed, placed_text, placed_line};
 
 use crate::places::put;
+use crate::together::to_write;
 use lending::Answer;
 use sparse::{Bytes, Keys, Reals, Values, Words};
 
@@ -29,10 +31,9 @@ pub fn knobharbor_add_text(
     ensures values_after { placed_text offset.new (placed answer.new (sparse words.new keys.new bytes.new reals.new values.new)) ≡ placed_line (text_of number line.now budget (sparse wwords.old wkeys.old wbytes.old wreals.old wvalues.old) (sparse words.old keys.old bytes.old reals.old values.old)) }
     ensures wvalues_value { sparse wwords.new wkeys.new wbytes.new wreals.new wvalues.new ≡ cleared (sparse wwords.old wkeys.old wbytes.old wreals.old wvalues.old) }
 {
-    let r = entry::typed::add::add_text(
-        words, keys, bytes, reals, values, wwords, wkeys, wbytes, wreals, wvalues, number, line,
-        budget,
-    );
+    let tables = &mut to_write(words, keys, bytes, reals, values);
+    let room = &mut to_write(wwords, wkeys, wbytes, wreals, wvalues);
+    let r = entry::typed::add::add_text(tables, room, number, line, budget);
     put(
         answer,
         Answer {

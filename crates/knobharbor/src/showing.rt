@@ -1,8 +1,10 @@
 // A live constraint as it was added, under its C name: in the places in which a line's reader hands one over.
+// The tables are parameters of their own in each `knobharbor_*`: those are C names, and so the C interface has them.
 ghost use Rattle.std.specs.Prelude.{◌≡◌};
-ghost use Rattle.waist.specs.Working.{lent};
+ghost use Rattle.waist.specs.Working.{sparse};
 ghost use Rattle.fetches.specs.shown.Shown.{line, show_of};
 
+use crate::together::to_read;
 use sparse::{Bytes, Keys, Reals, Values, Words};
 
 pub fn knobharbor_show(
@@ -17,18 +19,8 @@ pub fn knobharbor_show(
     variables: &mut crate::handed::Variables,
     coefficients: &mut crate::handed::Coefficients,
 )
-    ensures { line lwords.new lreals.new variables.new coefficients.new ≡ show_of number (lent words.entry keys.entry bytes.entry reals.entry values.entry) }
+    ensures { line lwords.new lreals.new variables.new coefficients.new ≡ show_of number (sparse words.now keys.now bytes.now reals.now values.now) }
 {
-    fetches::shown::show(
-        words,
-        keys,
-        bytes,
-        reals,
-        values,
-        number,
-        lwords,
-        lreals,
-        variables,
-        coefficients,
-    )
+    let tables = &to_read(words, keys, bytes, reals, values);
+    fetches::shown::show(tables, number, lwords, lreals, variables, coefficients)
 }

@@ -4,7 +4,7 @@ ghost use Rattle.steps.specs.Number.{zero64};
 ghost use Rattle.steps.specs.Strength.{create, clip};
 ghost use Rattle.steps.specs.Changes.{value};
 ghost use Rattle.steps.specs.Tests.{has_constraint, has_edit};
-ghost use Rattle.waist.specs.Working.{lent, sparse};
+ghost use Rattle.waist.specs.Working.{sparse};
 ghost use Rattle.sparse_test.specs.Asked.{asked};
 ghost use Rattle.lending.specs.Reset.{reset_of};
 ghost use Rattle.fetches.specs.Fetch.{fetch_of};
@@ -37,7 +37,7 @@ pub extern "C" fn knobharbor_has_constraint(
     values: &Values,
     number: u32,
 ) -> bool
-    ensures { result ≡ asked (has_constraint number) false (lent words.entry keys.entry bytes.entry reals.entry values.entry) }
+    ensures { result ≡ asked (has_constraint number) false (sparse words.now keys.now bytes.now reals.now values.now) }
 {
     knobharbor::asked::knobharbor_has_constraint(words, keys, bytes, reals, values, number)
 }
@@ -51,7 +51,7 @@ pub extern "C" fn knobharbor_has_edit(
     values: &Values,
     variable: u32,
 ) -> bool
-    ensures { result ≡ asked (has_edit variable) false (lent words.entry keys.entry bytes.entry reals.entry values.entry) }
+    ensures { result ≡ asked (has_edit variable) false (sparse words.now keys.now bytes.now reals.now values.now) }
 {
     knobharbor::asked::knobharbor_has_edit(words, keys, bytes, reals, values, variable)
 }
@@ -65,7 +65,7 @@ pub extern "C" fn knobharbor_value(
     values: &Values,
     variable: u32,
 ) -> f64
-    ensures { result ≡ asked (value variable) zero64 (lent words.entry keys.entry bytes.entry reals.entry values.entry) }
+    ensures { result ≡ asked (value variable) zero64 (sparse words.now keys.now bytes.now reals.now values.now) }
 {
     knobharbor::asked::knobharbor_value(words, keys, bytes, reals, values, variable)
 }

@@ -2,7 +2,7 @@
 ghost use Rattle.std.specs.Prelude.{◌≡◌, true};
 ghost use Rattle.steps.specs.Calls.{remove, drop_group, add_edit, remove_edit, suggest};
 ghost use Rattle.sparse_test.specs.Reads.{reads};
-ghost use Rattle.waist.specs.Working.{lent, sparse};
+ghost use Rattle.waist.specs.Working.{sparse};
 ghost use Rattle.lending.specs.Lending.{call_in};
 ghost use Rattle.knobharbor.specs.Held.{HeldBy};
 ghost use Rattle.knobharbor.specs.Places.{in_places};
@@ -25,8 +25,8 @@ pub extern "C" fn knobharbor_held_remove(
     number: u32,
     budget: u16,
 )
-    requires { reads (lent words keys bytes reals values) ≡ true }
-    ensures { HeldBy (remove number budget) answer.new (lent words.entry keys.entry bytes.entry reals.entry values.entry) (sparse wwords.new wkeys.new wbytes.new wreals.new wvalues.new) }
+    requires { reads (sparse words.now keys.now bytes.now reals.now values.now) ≡ true }
+    ensures { HeldBy (remove number budget) answer.new (sparse words.now keys.now bytes.now reals.now values.now) (sparse wwords.new wkeys.new wbytes.new wreals.new wvalues.new) }
 {
     knobharbor::held::knobharbor_held_remove(
         words, keys, bytes, reals, values, wwords, wkeys, wbytes, wreals, wvalues, answer, number,
@@ -50,8 +50,8 @@ pub extern "C" fn knobharbor_held_drop(
     group: u16,
     budget: u16,
 )
-    requires { reads (lent words keys bytes reals values) ≡ true }
-    ensures { HeldBy (drop_group group budget) answer.new (lent words.entry keys.entry bytes.entry reals.entry values.entry) (sparse wwords.new wkeys.new wbytes.new wreals.new wvalues.new) }
+    requires { reads (sparse words.now keys.now bytes.now reals.now values.now) ≡ true }
+    ensures { HeldBy (drop_group group budget) answer.new (sparse words.now keys.now bytes.now reals.now values.now) (sparse wwords.new wkeys.new wbytes.new wreals.new wvalues.new) }
 {
     knobharbor::held::knobharbor_held_drop(
         words, keys, bytes, reals, values, wwords, wkeys, wbytes, wreals, wvalues, answer, group,
@@ -76,8 +76,8 @@ pub extern "C" fn knobharbor_held_add_edit(
     strength: f64,
     budget: u16,
 )
-    requires { reads (lent words keys bytes reals values) ≡ true }
-    ensures { HeldBy (add_edit variable strength budget) answer.new (lent words.entry keys.entry bytes.entry reals.entry values.entry) (sparse wwords.new wkeys.new wbytes.new wreals.new wvalues.new) }
+    requires { reads (sparse words.now keys.now bytes.now reals.now values.now) ≡ true }
+    ensures { HeldBy (add_edit variable strength budget) answer.new (sparse words.now keys.now bytes.now reals.now values.now) (sparse wwords.new wkeys.new wbytes.new wreals.new wvalues.new) }
 {
     knobharbor::held::knobharbor_held_add_edit(
         words, keys, bytes, reals, values, wwords, wkeys, wbytes, wreals, wvalues, answer,
@@ -101,8 +101,8 @@ pub extern "C" fn knobharbor_held_remove_edit(
     variable: u32,
     budget: u16,
 )
-    requires { reads (lent words keys bytes reals values) ≡ true }
-    ensures { HeldBy (remove_edit variable budget) answer.new (lent words.entry keys.entry bytes.entry reals.entry values.entry) (sparse wwords.new wkeys.new wbytes.new wreals.new wvalues.new) }
+    requires { reads (sparse words.now keys.now bytes.now reals.now values.now) ≡ true }
+    ensures { HeldBy (remove_edit variable budget) answer.new (sparse words.now keys.now bytes.now reals.now values.now) (sparse wwords.new wkeys.new wbytes.new wreals.new wvalues.new) }
 {
     knobharbor::held::knobharbor_held_remove_edit(
         words, keys, bytes, reals, values, wwords, wkeys, wbytes, wreals, wvalues, answer,

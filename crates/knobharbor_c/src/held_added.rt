@@ -1,7 +1,7 @@
 // C names of the library's calls, written by tools/exports: each is the library's function of that name, its clauses again.
 ghost use Rattle.std.specs.Prelude.{◌≡◌, true};
 ghost use Rattle.sparse_test.specs.Reads.{reads};
-ghost use Rattle.waist.specs.Working.{lent, sparse};
+ghost use Rattle.waist.specs.Working.{sparse};
 ghost use Rattle.knobharbor.specs.Held.{HeldBy, held_add};
 
 use changes::terms::Term;
@@ -28,8 +28,8 @@ pub extern "C" fn knobharbor_held_add(
     strength: f64,
     budget: u16,
 )
-    requires { reads (lent words keys bytes reals values) ≡ true }
-    ensures { HeldBy (held_add group number terms.now constant kind strength budget) answer.new (lent words.entry keys.entry bytes.entry reals.entry values.entry) (sparse wwords.new wkeys.new wbytes.new wreals.new wvalues.new) }
+    requires { reads (sparse words.now keys.now bytes.now reals.now values.now) ≡ true }
+    ensures { HeldBy (held_add group number terms.now constant kind strength budget) answer.new (sparse words.now keys.now bytes.now reals.now values.now) (sparse wwords.new wkeys.new wbytes.new wreals.new wvalues.new) }
 {
     knobharbor::held_added::knobharbor_held_add(
         words, keys, bytes, reals, values, wwords, wkeys, wbytes, wreals, wvalues, answer, group,

@@ -4,7 +4,7 @@ ghost use Rattle.steps.specs.Changes.{value};
 ghost use Rattle.steps.specs.Tests.{has_constraint, has_edit};
 ghost use Rattle.sparse.specs.Sparse.{read};
 ghost use Rattle.sparse_test.specs.Reads.{reads};
-ghost use Rattle.waist.specs.Working.{lent, sparse};
+ghost use Rattle.waist.specs.Working.{sparse};
 ghost use Rattle.fetches.specs.Fetch.{fetch_in};
 ghost use Rattle.knobharbor.specs.Places.{placed_list, placed_fetch};
 
@@ -40,8 +40,8 @@ pub extern "C" fn knobharbor_held_has_constraint(
     values: &Values,
     number: u32,
 ) -> bool
-    requires { reads (lent words keys bytes reals values) ≡ true }
-    ensures { result ≡ has_constraint number (read (lent words.entry keys.entry bytes.entry reals.entry values.entry)) }
+    requires { reads (sparse words.now keys.now bytes.now reals.now values.now) ≡ true }
+    ensures { result ≡ has_constraint number (read (sparse words.now keys.now bytes.now reals.now values.now)) }
 {
     knobharbor::held_asked::knobharbor_held_has_constraint(
         words, keys, bytes, reals, values, number,
@@ -57,8 +57,8 @@ pub extern "C" fn knobharbor_held_has_edit(
     values: &Values,
     variable: u32,
 ) -> bool
-    requires { reads (lent words keys bytes reals values) ≡ true }
-    ensures { result ≡ has_edit variable (read (lent words.entry keys.entry bytes.entry reals.entry values.entry)) }
+    requires { reads (sparse words.now keys.now bytes.now reals.now values.now) ≡ true }
+    ensures { result ≡ has_edit variable (read (sparse words.now keys.now bytes.now reals.now values.now)) }
 {
     knobharbor::held_asked::knobharbor_held_has_edit(words, keys, bytes, reals, values, variable)
 }
@@ -72,8 +72,8 @@ pub extern "C" fn knobharbor_held_value(
     values: &Values,
     variable: u32,
 ) -> f64
-    requires { reads (lent words keys bytes reals values) ≡ true }
-    ensures { result ≡ value variable (read (lent words.entry keys.entry bytes.entry reals.entry values.entry)) }
+    requires { reads (sparse words.now keys.now bytes.now reals.now values.now) ≡ true }
+    ensures { result ≡ value variable (read (sparse words.now keys.now bytes.now reals.now values.now)) }
 {
     knobharbor::held_asked::knobharbor_held_value(words, keys, bytes, reals, values, variable)
 }

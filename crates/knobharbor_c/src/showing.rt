@@ -1,6 +1,6 @@
 // C names of the library's calls, written by tools/exports: each is the library's function of that name, its clauses again.
 ghost use Rattle.std.specs.Prelude.{◌≡◌};
-ghost use Rattle.waist.specs.Working.{lent};
+ghost use Rattle.waist.specs.Working.{sparse};
 ghost use Rattle.fetches.specs.shown.Shown.{line, show_of};
 
 use sparse::{Bytes, Keys, Reals, Values, Words};
@@ -18,7 +18,7 @@ pub extern "C" fn knobharbor_show(
     variables: &mut knobharbor::handed::Variables,
     coefficients: &mut knobharbor::handed::Coefficients,
 )
-    ensures { line lwords.new lreals.new variables.new coefficients.new ≡ show_of number (lent words.entry keys.entry bytes.entry reals.entry values.entry) }
+    ensures { line lwords.new lreals.new variables.new coefficients.new ≡ show_of number (sparse words.now keys.now bytes.now reals.now values.now) }
 {
     knobharbor::showing::knobharbor_show(
         words,

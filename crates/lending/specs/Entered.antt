@@ -9,7 +9,7 @@ use Rattle.laws.specs.Lists.{list_of, tab-ext, sum_from, sum_in}
 use Rattle.steps.specs.Number.{zero64}
 use Rattle.steps.specs.State.{State}
 use Rattle.layout.specs.cells.Names.{cell_room}
-use Rattle.sparse.specs.Places.{next_id_at, symbol_count_at, row_count_at, cell_count_at, variable_count_at, constraint_count_at, edit_count_at, should_clear_at, whole_at, gone_count_at, gone_numbers_at, ids_at, variable_numbers_at, variable_uses_at, row_places_at, variable_places_at, term_counts_at, words_size, bytes_size, reals_size}
+use Rattle.sparse.specs.Places.{next_id_at, symbol_count_at, row_count_at, cell_count_at, variable_count_at, constraint_count_at, edit_count_at, should_clear_at, whole_at, gone_count_at, gone_numbers_at, ids_at, variable_numbers_at, variable_uses_at, row_places_at, variable_places_at, words_size, bytes_size, reals_size}
 use Rattle.sparse.specs.Sparse.{Sparse, symbol_count, row_count, cell_count, variable_count, constraint_count, edit_count, gone_count, gone_of, symbol_at, variable_of, terms_from, basic_of, symbols_of, basics_of, objective_of, read}
 use Rattle.sparse.specs.Fits.{Lengths}
 use Rattle.sparse.specs.Form.{index_at, Form}
@@ -18,6 +18,7 @@ use Rattle.sparse.specs.Agree.{Agree}
 use Rattle.sparse.proofs.Copied.{copy-agrees, copy-reads, copy-form, copy-lengths}
 use Rattle.lending.specs.sparse_copy.Over.{cleared}
 use Rattle.sparse_test.specs.Reads.{reads}
+use Rattle.sparse_test.specs.Tested.{term_count}
 use Rattle.sparse_test.specs.Meaning.{reads-form}
 
 -- ---- the room cleared, of its types' lengths
@@ -35,12 +36,9 @@ pub cleared-is : (w : Sparse) → Lengths w → zero_room ≡ cleared w
 unfolding zero_room cleared
 cleared-is w l = rw (l.0, l.1, l.2, l.3, l.4) refl
 
--- how many terms the first c constraints have
-unfoldable pub terms_in : List ℕ → ℕ → ℕ
-terms_in b c = sum_in (λ i. get_or b (term_counts_at + i) 0) 0 c
-
-pub terms-in : (t : Sparse) → terms_in t.bytes (constraint_count t) ≡ terms_from t (constraint_count t)
-unfolding terms_in terms_from
+-- how many terms all constraints have
+pub terms-in : (t : Sparse) → term_count t.bytes (constraint_count t) ≡ terms_from t (constraint_count t)
+unfolding term_count terms_from
 terms-in t = refl
 
 -- ---- the records left out

@@ -1,20 +1,16 @@
 // The room of a call that takes no steps.
 ghost use Rattle.std.specs.Prelude.{◌≡◌};
 ghost use Rattle.lending.specs.sparse_copy.Over.{cleared, tables};
+ghost use Rattle.sparse.specs.Tables.{held, Same};
 
 use crate::room;
-use sparse::{Bytes, Keys, Reals, Values, Words};
+use sparse::tables::TablesMut;
 
 // "working room, where lent, is all zero after every call"
-pub fn clear_room(
-    wwords: &mut Words,
-    wkeys: &mut Keys,
-    wbytes: &mut Bytes,
-    wreals: &mut Reals,
-    wvalues: &mut Values,
-)
-    ensures { tables wwords.new wkeys.new wbytes.new wreals.new wvalues.new ≡ cleared (tables wwords.old wkeys.old wbytes.old wreals.old wvalues.old) }
+pub fn clear_room(room: &mut TablesMut)
+    ensures does { held room.new ≡ cleared (held room.old) }
+    ensures same { Same room.old room.new }
 {
-    room::long(wwords, wkeys, wbytes, wreals, wvalues);
-    room::clear(wwords, wkeys, wbytes, wreals, wvalues);
+    room.long();
+    room::clear(room);
 }

@@ -6,9 +6,11 @@ ghost use Rattle.sparse.specs.Form.{Counts};
 ghost use Rattle.sparse.specs.Copy.{put_over};
 ghost use Rattle.lending.specs.sparse_copy.Over.{tables, words_over};
 ghost use Rattle.lending.specs.Entered.{bare_words, bare};
+ghost use Rattle.sparse.specs.Tables.{held, lent, Same};
 
 use crate::sparse_copy::put;
-use sparse::{Bytes, Keys, Reals, Values, Words};
+use sparse::Words;
+use sparse::tables::{Tables, TablesMut};
 
 // The words with no record counted. The counts are written after the rest, so that nothing is copied twice.
 fn put_bare_words(to: &mut Words, from: &Words, k: usize, v: usize, g: usize)
@@ -25,31 +27,25 @@ fn put_bare_words(to: &mut Words, from: &Words, k: usize, v: usize, g: usize)
 }
 
 // The live part of the second five over the first, their records left out.
-pub fn put_bare(
-    wwords: &mut Words,
-    wkeys: &mut Keys,
-    wbytes: &mut Bytes,
-    wreals: &mut Reals,
-    wvalues: &mut Values,
-    words: &Words,
-    keys: &Keys,
-    bytes: &Bytes,
-    reals: &Reals,
-    values: &Values,
-)
-    requires wwords_len { length wwords.old ≡ words_size }
-    requires words_len { length words.now ≡ words_size }
-    requires counts { Counts (tables words.now keys.now bytes.now reals.now values.now) }
-    ensures { tables wwords.new wkeys.new wbytes.new wreals.new wvalues.new ≡ put_over (bare (tables words.now keys.now bytes.now reals.now values.now)) (tables wwords.old wkeys.old wbytes.old wreals.old wvalues.old) }
+pub fn put_bare(room: &mut TablesMut, tables: &Tables)
+    requires wwords_len { length room.old.words.now ≡ words_size }
+    requires words_len { length tables.now.words.now ≡ words_size }
+    requires counts { Counts (lent tables.now) }
+    ensures does { held room.new ≡ put_over (bare (lent tables.now)) (held room.old) }
+    ensures same { Same room.old room.new }
 {
-    let k = words[sparse::SYMBOL_COUNT] as usize;
-    let r = words[sparse::ROW_COUNT] as usize;
-    let n = words[sparse::CELL_COUNT] as usize;
-    let v = words[sparse::VARIABLE_COUNT] as usize;
-    let g = words[sparse::GONE_COUNT] as usize;
-    put_bare_words(wwords, words, k, v, g);
-    put::put_keys(wkeys, keys, n);
-    put::put_values(wvalues, values, n);
-    put::put_names(wbytes, bytes, k, r, v);
-    put::put_reals(wreals, reals, k, r, v, 0, 0, 0);
+    let keys = tables.keys;
+    let values = tables.values;
+    let bytes = tables.bytes;
+    let reals = tables.reals;
+    let k = tables.words[sparse::SYMBOL_COUNT] as usize;
+    let r = tables.words[sparse::ROW_COUNT] as usize;
+    let n = tables.words[sparse::CELL_COUNT] as usize;
+    let v = tables.words[sparse::VARIABLE_COUNT] as usize;
+    let g = tables.words[sparse::GONE_COUNT] as usize;
+    put_bare_words(room.words, tables.words, k, v, g);
+    put::part(room.keys, keys, 0, n);
+    put::part(room.values, values, 0, n);
+    put::put_names(room.bytes, bytes, k, r, v);
+    put::put_reals(room.reals, reals, k, r, v, 0, 0, 0);
 }

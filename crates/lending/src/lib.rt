@@ -11,13 +11,15 @@ ghost use Rattle.lending.specs.sparse_copy.Over.{tables};
 ghost use Rattle.lending.specs.Lending.{answer_of, called, refused18};
 ghost use Rattle.lending.specs.Entered.{zero_room, Entered};
 ghost use Rattle.lending.specs.Reset.{refused24, reset_of, reset_words};
+ghost use Rattle.sparse.specs.Tables.{held, lent, Same};
 
 pub mod clearing;
 pub mod entering;
 pub mod room;
 pub mod sparse_copy;
 
-use sparse::{Bytes, Keys, Reals, Values, Words};
+use sparse::Words;
+use sparse::tables::{Tables, TablesMut};
 
 // "Each changing call answers: accepted or a number below, pivots made, whole mark." 0 is accepted.
 #[repr(C)]
@@ -39,102 +41,54 @@ pub fn refuse18() -> Answer
 }
 
 // The tables are known to read as a state: the room, whatever it held, holds their tableau and variables.
-pub fn enter_held(
-    words: &Words,
-    keys: &Keys,
-    bytes: &Bytes,
-    reals: &Reals,
-    values: &Values,
-    wwords: &mut Words,
-    wkeys: &mut Keys,
-    wbytes: &mut Bytes,
-    wreals: &mut Reals,
-    wvalues: &mut Values,
-)
-    requires { reads (tables words.now keys.now bytes.now reals.now values.now) ≡ true }
-    ensures { Entered (tables words.now keys.now bytes.now reals.now values.now) (tables wwords.new wkeys.new wbytes.new wreals.new wvalues.new) }
+pub fn enter_held(tables: &Tables, room: &mut TablesMut)
+    requires { reads (lent tables.now) ≡ true }
+    ensures does { Entered (lent tables.now) (held room.new) }
+    ensures same { Same room.old room.new }
 {
-    room::long(words, keys, bytes, reals, values);
-    room::long(wwords, wkeys, wbytes, wreals, wvalues);
-    entering::put_bare(
-        wwords, wkeys, wbytes, wreals, wvalues, words, keys, bytes, reals, values,
-    );
+    tables.long();
+    room.long();
+    entering::put_bare(room, tables);
 }
 
 // The tables read as a state: then the room holds their tableau and variables.
-pub fn enter(
-    words: &Words,
-    keys: &Keys,
-    bytes: &Bytes,
-    reals: &Reals,
-    values: &Values,
-    wwords: &mut Words,
-    wkeys: &mut Keys,
-    wbytes: &mut Bytes,
-    wreals: &mut Reals,
-    wvalues: &mut Values,
-) -> bool
-    ensures value { result ≡ reads (tables words.now keys.now bytes.now reals.now values.now) }
-    ensures then { Then result (Entered (tables words.now keys.now bytes.now reals.now values.now) (tables wwords.new wkeys.new wbytes.new wreals.new wvalues.new)) }
-    ensures lengths { Lengths (tables wwords.old wkeys.old wbytes.old wreals.old wvalues.old) }
+pub fn enter(tables: &Tables, room: &mut TablesMut) -> bool
+    ensures value { result ≡ reads (lent tables.now) }
+    ensures then { Then result (Entered (lent tables.now) (held room.new)) }
+    ensures lengths { Lengths (held room.old) }
+    ensures same { Same room.old room.new }
 {
-    room::long(wwords, wkeys, wbytes, wreals, wvalues);
-    if !sparse_test::reads_as_state(words, keys, bytes, reals, values) {
+    room.long();
+    if !sparse_test::reads_as_state(tables) {
         return false;
     }
-    enter_held(
-        words, keys, bytes, reals, values, wwords, wkeys, wbytes, wreals, wvalues,
-    );
+    enter_held(tables, room);
     true
 }
 
-fn put_back_if(
-    on: bool,
-    words: &mut Words,
-    keys: &mut Keys,
-    bytes: &mut Bytes,
-    reals: &mut Reals,
-    values: &mut Values,
-    wwords: &Words,
-    wkeys: &Keys,
-    wbytes: &Bytes,
-    wreals: &Reals,
-    wvalues: &Values,
-)
-    requires { Then on (Counts (tables wwords.now wkeys.now wbytes.now wreals.now wvalues.now)) }
-    ensures { tables words.new keys.new bytes.new reals.new values.new ≡ cond on (put_over (tables wwords.now wkeys.now wbytes.now wreals.now wvalues.now) (tables words.old keys.old bytes.old reals.old values.old)) (tables words.old keys.old bytes.old reals.old values.old) }
+fn put_back_if(on: bool, tables: &mut TablesMut, room: &TablesMut)
+    requires { Then on (Counts (held room.now)) }
+    ensures does { held tables.new ≡ cond on (put_over (held room.now) (held tables.old)) (held tables.old) }
+    ensures same { Same tables.old tables.new }
 {
+    let wwords = &*room.words;
     if on {
         let c = wwords[sparse::CONSTRAINT_COUNT] as usize;
-        let m = room::all_terms(wbytes, c);
-        crate::sparse_copy::put_over(
-            words, keys, bytes, reals, values, wwords, wkeys, wbytes, wreals, wvalues, m,
-        );
+        let m = sparse_test::term_count(room.bytes, c);
+        crate::sparse_copy::put_over(tables, room, m);
     }
 }
 
 // The room's state goes back if the call is accepted; the room is cleared either way.
-pub fn leave(
-    on: bool,
-    words: &mut Words,
-    keys: &mut Keys,
-    bytes: &mut Bytes,
-    reals: &mut Reals,
-    values: &mut Values,
-    wwords: &mut Words,
-    wkeys: &mut Keys,
-    wbytes: &mut Bytes,
-    wreals: &mut Reals,
-    wvalues: &mut Values,
-)
-    requires { Then on (Counts (tables wwords.old wkeys.old wbytes.old wreals.old wvalues.old)) }
-    ensures values_after { tables words.new keys.new bytes.new reals.new values.new ≡ cond on (put_over (tables wwords.old wkeys.old wbytes.old wreals.old wvalues.old) (tables words.old keys.old bytes.old reals.old values.old)) (tables words.old keys.old bytes.old reals.old values.old) }
-    ensures wvalues_after { tables wwords.new wkeys.new wbytes.new wreals.new wvalues.new ≡ zero_room }
+pub fn leave(on: bool, tables: &mut TablesMut, room: &mut TablesMut)
+    requires { Then on (Counts (held room.old)) }
+    ensures values_after { held tables.new ≡ cond on (put_over (held room.old) (held tables.old)) (held tables.old) }
+    ensures wvalues_after { held room.new ≡ zero_room }
+    ensures same_tables { Same tables.old tables.new }
+    ensures same_room { Same room.old room.new }
 {
-    put_back_if(
-        on, words, keys, bytes, reals, values, wwords, wkeys, wbytes, wreals, wvalues,
-    );
-    room::clear(wwords, wkeys, wbytes, wreals, wvalues);
+    put_back_if(on, tables, room);
+    room::clear(room);
 }
 
 fn reset_words(words: &mut Words)
@@ -153,33 +107,27 @@ fn reset_words(words: &mut Words)
 }
 
 // Reset takes any tables, so they need not read as a state: only then is there a mark.
-fn refuse24(words: &Words, keys: &Keys, bytes: &Bytes, reals: &Reals, values: &Values) -> Answer
-    ensures { answer_of result ≡ refused24 (tables words.now keys.now bytes.now reals.now values.now) }
+fn refuse24(tables: &Tables) -> Answer
+    ensures { answer_of result ≡ refused24 (lent tables.now) }
 {
-    let reads = sparse_test::reads_as_state(words, keys, bytes, reals, values);
+    let reads = sparse_test::reads_as_state(tables);
     Answer {
         number: 24,
         pivots: 0,
-        whole: reads & (words[sparse::WHOLE] == 1),
+        whole: reads & (tables.words[sparse::WHOLE] == 1),
     }
 }
 
 // "Reset refuses wrong lengths (18) and a cutoff outside the range (24), in that order; nothing else." These types rule out 18.
-pub fn reset(
-    words: &mut Words,
-    keys: &mut Keys,
-    bytes: &mut Bytes,
-    reals: &mut Reals,
-    values: &mut Values,
-    cutoff: f64,
-) -> Answer
-    ensures { called (answer_of result) (tables words.new keys.new bytes.new reals.new values.new) ≡ reset_of cutoff (tables words.old keys.old bytes.old reals.old values.old) }
+pub fn reset(tables: &mut TablesMut, cutoff: f64) -> Answer
+    ensures does { called (answer_of result) (held tables.new) ≡ reset_of cutoff (held tables.old) }
+    ensures same { Same tables.old tables.new }
 {
     if !sparse_test::records::cutoff_fits(cutoff) {
-        return refuse24(words, keys, bytes, reals, values);
+        return refuse24(&tables.lend());
     }
-    reset_words(words);
-    reals[sparse::CUTOFF] = cutoff;
+    reset_words(tables.words);
+    tables.reals[sparse::CUTOFF] = cutoff;
     Answer {
         number: 0,
         pivots: 0,

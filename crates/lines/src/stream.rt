@@ -5,6 +5,7 @@ ghost use Rattle.std.specs.Prelude.{◌≡◌, ◌≤◌, length, take, IsTrue, 
 ghost use Rattle.std.specs.Io.KnownBytes.{Appends};
 
 use reader::answers::{read_line, refuse};
+use reader::fault::Refusal;
 use std::io::{Read, Write};
 use text::duplex::Duplex;
 use text::replies::{Out, put_line};
@@ -32,11 +33,8 @@ fn flush<R, W: Write>(duplex: &mut Duplex<R, W>, out: &Out, p: Place) -> Place
     ensures written { IsOk duplex.new.outcome → Appends (W.contents duplex.old.output) (W.contents duplex.new.output) (take p.at out.now) }
 {
     let ok = write_front(duplex, out, p.at);
-    Place {
-        held: p.held,
-        at: 0,
-        open: p.open & ok,
-    }
+    let open = p.open && ok;
+    Place { at: 0, open, ..p }
 }
 
 fn with_room<R, W: Write>(duplex: &mut Duplex<R, W>, out: &Out, p: Place) -> Place
@@ -55,7 +53,7 @@ fn answer(line: &[u8], held: usize, out: &mut Out, at: usize) -> usize
     ensures { result ≤ 8192 }
 {
     if line.len() < held {
-        return put_line(out, at, refuse(19, 0));
+        return put_line(out, at, refuse(Refusal::TooLong));
     }
     put_line(out, at, read_line(&line[..held]))
 }
@@ -65,12 +63,8 @@ fn end_line<R, W: Write>(duplex: &mut Duplex<R, W>, p: Place, line: &[u8], out: 
     ensures { result.at ≤ 8192 }
 {
     let q = with_room(duplex, out, p);
-    let end = answer(line, q.held, out, q.at);
-    Place {
-        held: 0,
-        at: end,
-        open: q.open,
-    }
+    let at = answer(line, q.held, out, q.at);
+    Place { held: 0, at, ..q }
 }
 
 fn take_byte<R, W: Write>(
@@ -84,15 +78,11 @@ fn take_byte<R, W: Write>(
     requires at_bound { p.at ≤ 8192 }
     ensures { result.at ≤ 8192 }
 {
-    if b == 10 {
+    if b == b'\n' {
         return end_line(duplex, p, line, out);
     }
     let held = keep_byte(line, p.held, b);
-    Place {
-        held: held,
-        at: p.at,
-        open: p.open,
-    }
+    Place { held, ..p }
 }
 
 fn take_piece<R, W: Write>(
@@ -118,19 +108,12 @@ fn take_end<R, W: Write>(duplex: &mut Duplex<R, W>, p: Place, line: &[u8], out: 
     requires { p.at ≤ 8192 }
     ensures { result.at ≤ 8192 }
 {
-    if p.held == 0 {
-        return Place {
-            held: 0,
-            at: p.at,
-            open: false,
-        };
-    }
-    let q = end_line(duplex, p, line, out);
-    Place {
-        held: 0,
-        at: q.at,
-        open: false,
-    }
+    let q = if p.held == 0 {
+        p
+    } else {
+        end_line(duplex, p, line, out)
+    };
+    Place { open: false, ..q }
 }
 
 // One read. A read that fails ends the input.

@@ -13,8 +13,8 @@ use Rattle.steps.specs.Substitute.{pivot}
 use Rattle.steps.specs.Optimise.{Choice, ended, stuck, pivot_on, counted_pivot, get_entering_symbol, get_leaving_row, choose_pivot, optimise, get_dual_entering_symbol, choose_dual_pivot, dual_optimise}
 use Rattle.rows.specs.declared.number.Wrote.{Wrote}
 use Rattle.rows.specs.Marks.{mark_of}
-use Rattle.rows.specs.declared.choose.Found.{Found}
-use Rattle.rows.specs.declared.choose.Found.TheVariants.{At, Nothing}
+use Rattle.rows.specs.choose.Choose.{Found}
+use Rattle.std.specs.Prelude.{Some, None}
 use Rattle.rows.specs.choose.Choose.{on_found}
 use Rattle.rows.specs.choose.Steps.{picked}
 use Rattle.sparse.specs.Sparse.{Sparse, symbol_count, row_count, symbol_at, basic_of}
@@ -109,17 +109,17 @@ module _ (art : Bool) (a : Mark) (v : ℕ) (t : Sparse) {f : Found} (h : Chooses
   unfolding choose_pivot
   entered e = ap (λ (o : Option Symbol). picked leaving_for ended o) (h.is a v ∙ ap (on_found (λ p. some (symbol_at t p)) none) e)
 
-  pub optimise-ended : f ≡ Nothing → choose_pivot (goal_of art) w ≡ ended
+  pub optimise-ended : f ≡ None → choose_pivot (goal_of art) w ≡ ended
   optimise-ended e = entered e
 
-  module _ {p : ℕ} (e : f ≡ At p) {g : Found} (k : Chooses art (get_leaving_row (symbol_at t p)) (row_symbol t) (row_count t) t g) where
+  module _ {p : ℕ} (e : f ≡ Some p) {g : Found} (k : Chooses art (get_leaving_row (symbol_at t p)) (row_symbol t) (row_count t) t g) where
     left : {i : Found} → g ≡ i → choose_pivot (goal_of art) w ≡ picked (λ (l : Symbol). pivot_on l (symbol_at t p)) stuck (on_found (λ i. some (row_symbol t i)) none i)
     left d = entered e ∙ ap (λ (o : Option Symbol). picked (λ (l : Symbol). pivot_on l (symbol_at t p)) stuck o) (k.is a v ∙ ap (on_found (λ i. some (row_symbol t i)) none) d)
 
-    pub optimise-stuck : g ≡ Nothing → choose_pivot (goal_of art) w ≡ stuck
+    pub optimise-stuck : g ≡ None → choose_pivot (goal_of art) w ≡ stuck
     optimise-stuck d = left d
 
-    pub optimise-pivots : {i : ℕ} → g ≡ At i → choose_pivot (goal_of art) w ≡ pivot_on (row_symbol t i) (symbol_at t p)
+    pub optimise-pivots : {i : ℕ} → g ≡ Some i → choose_pivot (goal_of art) w ≡ pivot_on (row_symbol t i) (symbol_at t p)
     optimise-pivots d = left d
 
 -- ---- the dual pass
@@ -139,15 +139,15 @@ module _ (a : Mark) (v : ℕ) (t : Sparse) {f : Found} (h : f ≡ dual_leaving_o
   unfolding choose_dual_pivot
   leaves e = ap (λ (o : Option Basic). picked entering_for ended o) (dual-leaving-reads t false a v ∙ ap (on_found (λ i. some (basic_of t i)) none) (sym h ∙ e))
 
-  pub dual-ended : f ≡ Nothing → choose_dual_pivot d ≡ ended
+  pub dual-ended : f ≡ None → choose_dual_pivot d ≡ ended
   dual-ended e = leaves e
 
-  module _ {i : ℕ} (e : f ≡ At i) {g : Found} (k : Chooses false (get_dual_entering_symbol (basic_of t i).row) (symbol_at t) (symbol_count t) t g) where
+  module _ {i : ℕ} (e : f ≡ Some i) {g : Found} (k : Chooses false (get_dual_entering_symbol (basic_of t i).row) (symbol_at t) (symbol_count t) t g) where
     enters : {p : Found} → g ≡ p → choose_dual_pivot d ≡ picked (λ (s : Symbol). pivot_on (row_symbol t i) s) stuck (on_found (λ p. some (symbol_at t p)) none p)
     enters q = leaves e ∙ ap (λ (o : Option Symbol). picked (λ (s : Symbol). pivot_on (row_symbol t i) s) stuck o) (k.is a v ∙ ap (on_found (λ p. some (symbol_at t p)) none) q)
 
-    pub dual-stuck : g ≡ Nothing → choose_dual_pivot d ≡ stuck
+    pub dual-stuck : g ≡ None → choose_dual_pivot d ≡ stuck
     dual-stuck q = enters q
 
-    pub dual-pivots : {p : ℕ} → g ≡ At p → choose_dual_pivot d ≡ pivot_on (row_symbol t i) (symbol_at t p)
+    pub dual-pivots : {p : ℕ} → g ≡ Some p → choose_dual_pivot d ≡ pivot_on (row_symbol t i) (symbol_at t p)
     dual-pivots q = enters q

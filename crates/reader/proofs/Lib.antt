@@ -1,1 +1,1 @@
-pub mod Unopened
+pub mod Opened

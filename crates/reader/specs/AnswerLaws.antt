@@ -1,5 +1,5 @@
 -- The turns of the loop that keeps terms, and the answer once the whole line reads.
-use Rattle.std.specs.Prelude.{ℕ, zero, suc, ◌+◌, ◌≤◌, ◌<◌, ◌≡◌, refl, Bool, true, false, cond, not, List, [], ◌∷◌, leb, eqb, length, get_or, drop, nat_abs}
+use Rattle.std.specs.Prelude.{ℕ, zero, suc, ◌+◌, ◌≤◌, ◌<◌, ◌≡◌, refl, Bool, true, false, cond, not, List, [], ◌∷◌, leb, eqb, length, get_or, drop, nat_abs, Result, Ok, Err}
 use Rattle.std.proofs.Common.{sym, ◌∙◌, not-suc-le-zero, le_of_suc-le-suc, zero-add, add-one, arith, drop_of_length-le}
 use Rattle.std.proofs.Math.Path.{ap}
 use borrow.Author.Tests.{lt-leb, le-leb}
@@ -9,8 +9,8 @@ use Rattle.grammar.specs.Sums.{nothing}
 use Rattle.grammar.specs.Reader.{first, left, run_from, read_line, answered, refuses}
 use Rattle.reader.specs.Sides.{relation_of}
 use Rattle.reader.specs.Ends.{line_of}
-use Rattle.reader.specs.declared.sides.Line.{Line}
-use Rattle.reader.specs.declared.sides.Line.TheVariants.{Whole, Refused}
+use Rattle.reader.specs.Faults.{number_of, place_of}
+use Rattle.reader.specs.declared.fault.Fault.{Fault}
 use Rattle.reader.specs.Parts.{sums_of}
 use Rattle.reader.specs.Answers.{refusal, as_read, big_at, with_term, kept_with, kept_from, kept_of, none_kept, stands, mark-is, big-stands, big-from, count-from, variables-from, coefficients-from}
 use Rattle.reader.specs.declared.parts.Place.{Place}
@@ -109,17 +109,17 @@ module _ (vs xs : List ℕ) (m : Mark) (p : Place) where
 
 -- ---- the whole line
 
-module _ (w numbers sums : List ℕ) (l : Line) where
-  pub line-answer : length w ≤ 4096 → run_from w 0 first left nothing ≡ line_of numbers sums l → read_line w ≡ answered (line_of numbers sums l)
+module _ (w numbers sums : List ℕ) (h : length w ≤ 4096) where
+  line-answer : (l : Result (Mark × Place) Fault) → run_from w 0 first left nothing ≡ line_of numbers sums l → read_line w ≡ answered (line_of numbers sums l)
   unfolding read_line
-  line-answer h o = rw (le-leb (length w) 4096 h) (ap answered o)
+  line-answer l o = rw (le-leb (length w) 4096 h) (ap answered o)
 
-  pub read_whole : {m : Mark} {p : Place} {r : Reading} → length w ≤ 4096 → run_from w 0 first left nothing ≡ line_of numbers sums l → l ≡ Whole m p
+  pub read_whole : (m : Mark) (p : Place) {r : Reading} → run_from w 0 first left nothing ≡ line_of numbers sums (Ok (m, p))
       → r ≡ as_read (judged (summed (relation_of m) (sums_of numbers sums p))) → r ≡ as_read (read_line w)
-  read_whole h o e q = q ∙ ap as_read (sym (line-answer h o ∙ ap (λ (z : Line). answered (line_of numbers sums z)) e))
+  read_whole m p o q = q ∙ ap as_read (sym (line-answer (Ok (m, p)) o))
 
-  pub read-refused : {n b : ℕ} {r : Reading} → length w ≤ 4096 → run_from w 0 first left nothing ≡ line_of numbers sums l → l ≡ Refused n b → r ≡ as_read (refuses n b) → r ≡ as_read (read_line w)
-  read-refused h o e q = q ∙ ap as_read (sym (line-answer h o ∙ ap (λ (z : Line). answered (line_of numbers sums z)) e))
+  pub read-refused : (x : Fault) {r : Reading} → run_from w 0 first left nothing ≡ line_of numbers sums (Err x) → r ≡ as_read (refuses (number_of x) (place_of x)) → r ≡ as_read (read_line w)
+  read-refused x o q = q ∙ ap as_read (sym (line-answer (Err x) o))
 
 pub too_long : (w : List ℕ) → 4096 < length w → refusal 19 0 ≡ as_read (read_line w)
 unfolding read_line

@@ -1,120 +1,103 @@
 -- What the code answers at each of its returns is the part's head.
-use Rattle.std.specs.Prelude.{ℕ, ◌+◌, ◌*◌, ◌≤◌, ◌<◌, ◌≡◌, refl, Bool, false, not, List, eqb, length, get_or}
-use Rattle.std.proofs.Common.{ap, subst, ◌∙◌, arith}
-use Rattle.grammar.specs.Bytes.{is_digit}
+use Rattle.std.specs.Prelude.{ℕ, ◌+◌, ◌*◌, ◌≤◌, ◌<◌, ◌≡◌, not, List, eqb, length, get_or, Result, Ok, Err}
+use Rattle.std.proofs.Math.Path.{refl}
+use Rattle.std.proofs.Common.{◌∙◌, arith}
 use Rattle.grammar.specs.Sums.{Sums, Factor, most_name}
 use Rattle.grammar.specs.Reader.{wanted, lettered, number, named, part, run_from}
-use Rattle.reader.specs.Scan.{Skips, Digits, Over, WholeIs, present}
+use Rattle.reader.specs.Scan.{Skips, WholeIs, present}
 use Rattle.reader.specs.Run.{skipped, over-digits, too-big}
-use Rattle.reader.specs.Heads.{factor, comes_to, Placed, HeadIs, VariableIs, Unmarked, no_part, no_name, at-minus, at-letter, at_bracket, number-ends, variable-ends, multiplier, product-over}
-use Rattle.reader.specs.declared.scan.Whole.{Whole}
-use Rattle.reader.specs.declared.scan.Whole.TheVariants.{Is, NoDigit, TooBig}
+use Rattle.reader.specs.Heads.{factor_of, Placed, Headed, Refused, Onward, TurnIs, Lettered, VariableIs, Unmarked, no_part, no_name, at-minus, at-letter, at_bracket, number-ends, variable-ends, multiplier, product-over}
+use Rattle.reader.specs.declared.fault.Fault.{Fault}
+use Rattle.reader.specs.declared.fault.Fault.TheVariants.{Astray, TooDeep, TooLarge}
+use Rattle.reader.specs.declared.sums.Factor as code
 use Rattle.reader.specs.declared.heads.Kind.{Kind}
-use Rattle.reader.specs.declared.heads.Kind.TheVariants.{Number, Variable, Open, Halted, More}
+use Rattle.reader.specs.declared.heads.Kind.TheVariants.{Number, Variable, Open}
 use Rattle.reader.specs.declared.heads.Head.{Head}
+use Rattle.reader.specs.declared.heads.Turn.{Turn}
+use Rattle.reader.specs.declared.heads.Turn.TheVariants.{Ends, GoesOn}
 
-abbrev pub head_of : Bool → ℕ → Kind → Head
-head_of m k x = record { minus = m; product = k; kind = x }
+abbrev pub head_of : code.Factor → Kind → Head
+head_of f x = record { factor = f; kind = x }
 
 -- ---- behind `v`
 
 module _ (w : List ℕ) (at : ℕ) where
-  pub variable-is : {r : Whole} {n next : ℕ} (mark : ℕ) → WholeIs w 4294967295 at r → r ≡ Is n next → Skips w next mark → VariableIs w at (Variable n mark (eqb mark next))
-  variable-is {r} {n} {next} mark h e k = by (subst (WholeIs w 4294967295 at) e h)
-    where
-      by : WholeIs w 4294967295 at (Is n next) → VariableIs w at (Variable n mark (eqb mark next))
-      by (d, a, b, c, x) =
-          record {
-            outcome = λ f room s. over-digits w most_name at (lettered f) (named f) (part room) s (λ d. refl) (λ k d. refl) d ∙ variable-ends w next mark room f s k x n;
-            placed = λ i g. (omega (arith, k.from), k.within);
-          }
+  pub variable-is : {n next : ℕ} (mark : ℕ) → WholeIs w 4294967295 at (Ok (n, next)) → Skips w next mark → Lettered w at (Variable n mark (eqb mark next))
+  variable-is {n} {next} mark (d, a, b, c, x) k =
+      record {
+        outcome = λ f room s. over-digits w most_name at (lettered f) (named f) (part room) s (λ d. refl) (λ k d. refl) d ∙ variable-ends w next mark room f s k x n;
+        placed = λ i g. (omega (arith, k.from), k.within);
+      }
 
-  pub variable-none : {r : Whole} → WholeIs w 4294967295 at r → r ≡ NoDigit → at ≤ length w → VariableIs w at (Halted 20 at)
-  variable-none h e l = let d : is_digit (get_or w at 0) ≡ false = subst (WholeIs w 4294967295 at) e h in record { outcome = λ f room s. no_name w at room s f l d; placed = λ i g. tt }
-
-  pub variable-big : {r : Whole} {j : ℕ} → WholeIs w 4294967295 at r → r ≡ TooBig j → VariableIs w at (Halted 22 j)
-  variable-big {r} {j} h e =
-      let o : Over w 4294967295 at j = subst (WholeIs w 4294967295 at) e h in
-      record { outcome = λ f room s. too-big w most_name at (lettered f) (named f) (part room) s (λ d. refl) (λ k d. refl) o; placed = λ i g. tt }
+  pub variable-not : (e : Fault) → WholeIs w 4294967295 at (Err e) → at ≤ length w → VariableIs w at (Err e)
+  variable-not (Astray b) (q, d) l = rw q (λ f room s. no_name w at room s f l d)
+  variable-not (TooDeep b) h l = absurd h
+  variable-not (TooLarge b) o l = λ f room s. too-big w most_name at (lettered f) (named f) (part room) s (λ d. refl) (λ k d. refl) o
 
 -- ---- a number
 
-module _ (w : List ℕ) (at : ℕ) (m : Bool) (p : ℕ) (small : p ≤ 1048576) where
-  -- the digits, and what stands behind them
-  pub record Behind (n next mark : ℕ) : Type 0 where
-    pub digits : Digits w 1048576 at next n
-    pub later : at < next
-    pub bound : n ≤ 1048576
-    pub over : is_digit (get_or w next 0) ≡ false
-    pub skips : Skips w next mark
-
-  pub behind-is : {r : Whole} {n next : ℕ} (mark : ℕ) → WholeIs w 1048576 at r → r ≡ Is n next → Skips w next mark → Behind n next mark
-  behind-is {r} {n} {next} mark h e k = by (subst (WholeIs w 1048576 at) e h)
-    where
-      by : WholeIs w 1048576 at (Is n next) → Behind n next mark
-      by (d, a, b, c, x) = record { digits = d; later = a; bound = c; over = x; skips = k }
-
-  pub number-plain : {n next mark : ℕ} → Behind n next mark → (get_or w mark 0 ≡ 42 → ⊥) → HeadIs w at (factor m p) (head_of m p (Number n mark (eqb mark next)))
-  number-plain {n} {next} {mark} b st =
+module _ (w : List ℕ) (at : ℕ) (f : code.Factor) (small : f.product ≤ 1048576) where
+  pub number-plain : {n next : ℕ} (mark : ℕ) → WholeIs w 1048576 at (Ok (n, next)) → Skips w next mark → (get_or w mark 0 ≡ 42 → ⊥) → Headed w at (factor_of f) (head_of f (Number n mark (eqb mark next)))
+  number-plain {n} {next} mark (d, a, b, c, x) k st =
       record {
-        outcome = λ room s. over-digits w 1048576 at (wanted (factor m p)) (number (factor m p)) (part room) s (λ d. refl) (λ k d. refl) b.digits ∙ number-ends w next mark room (factor m p) s b.skips b.over n st;
-        placed = (omega (arith, b.later, b.skips.from), b.skips.within, b.bound);
+        outcome = λ room s. over-digits w 1048576 at (wanted (factor_of f)) (number (factor_of f)) (part room) s (λ d. refl) (λ k d. refl) d ∙ number-ends w next mark room (factor_of f) s k x n st;
+        placed = (omega (arith, k.from), k.within, c);
         small = small;
       }
 
-  pub number_more : {n next mark : ℕ} → Behind n next mark → get_or w mark 0 ≡ 42 → p * n ≤ 1048576 → HeadIs w at (factor m p) (head_of m (p * n) (More (mark + 1)))
-  number_more {n} {next} {mark} b st h =
+  pub number_more : {n next : ℕ} (mark : ℕ) → WholeIs w 1048576 at (Ok (n, next)) → Skips w next mark → get_or w mark 0 ≡ 42 → f.product * n ≤ 1048576 → Onward w at (factor_of f) (mark + 1) (record { minus = f.minus; product = f.product * n })
+  number_more {n} {next} mark (d, a, b, c, x) k st h =
       record {
-        outcome = λ room s. over-digits w 1048576 at (wanted (factor m p)) (number (factor m p)) (part room) s (λ d. refl) (λ k d. refl) b.digits ∙ multiplier w next mark room (factor m p) s b.skips b.over n st h;
-        placed = (omega (arith, b.later, b.skips.from), omega (arith, present w mark (omega (arith, st))));
+        outcome = λ room s. over-digits w 1048576 at (wanted (factor_of f)) (number (factor_of f)) (part room) s (λ d. refl) (λ k d. refl) d ∙ multiplier w next mark room (factor_of f) s k x n st h;
+        later = omega (arith, k.from);
+        within = omega (arith, present w mark (omega (arith, st)));
         small = h;
       }
 
-  pub number-over : {n next mark : ℕ} → Behind n next mark → get_or w mark 0 ≡ 42 → 1048576 < p * n → HeadIs w at (factor m p) (head_of m p (Halted 22 mark))
-  number-over {n} {next} {mark} b st h =
-      record {
-        outcome = λ room s. over-digits w 1048576 at (wanted (factor m p)) (number (factor m p)) (part room) s (λ d. refl) (λ k d. refl) b.digits ∙ product-over w next mark room (factor m p) s b.skips b.over n st h;
-        placed = tt;
-        small = small;
-      }
+  pub number-over : {n next : ℕ} (mark : ℕ) → WholeIs w 1048576 at (Ok (n, next)) → Skips w next mark → get_or w mark 0 ≡ 42 → 1048576 < f.product * n → Refused w at (factor_of f) (TooLarge mark)
+  number-over {n} {next} mark (d, a, b, c, x) k st h =
+      λ room s. over-digits w 1048576 at (wanted (factor_of f)) (number (factor_of f)) (part room) s (λ d. refl) (λ k d. refl) d ∙ product-over w next mark room (factor_of f) s k x n st h
 
-  pub number-none : {r : Whole} → WholeIs w 1048576 at r → r ≡ NoDigit → at ≤ length w → Unmarked (get_or w at 0) → HeadIs w at (factor m p) (head_of m p (Halted 20 at))
-  number-none h e l u = let d : is_digit (get_or w at 0) ≡ false = subst (WholeIs w 1048576 at) e h in record { outcome = λ room s. no_part w at room s (factor m p) l d u; placed = tt; small = small }
-
-  pub number-big : {r : Whole} {j : ℕ} → WholeIs w 1048576 at r → r ≡ TooBig j → HeadIs w at (factor m p) (head_of m p (Halted 22 j))
-  number-big {r} {j} h e =
-      let o : Over w 1048576 at j = subst (WholeIs w 1048576 at) e h in
-      record { outcome = λ room s. too-big w 1048576 at (wanted (factor m p)) (number (factor m p)) (part room) s (λ d. refl) (λ k d. refl) o; placed = tt; small = small }
+  pub number-not : (e : Fault) → WholeIs w 1048576 at (Err e) → at ≤ length w → Unmarked (get_or w at 0) → Refused w at (factor_of f) e
+  number-not (Astray b) (q, d) l u = rw q (λ room s. no_part w at room s (factor_of f) l d u)
+  number-not (TooDeep b) h l u = absurd h
+  number-not (TooLarge b) o l u = λ room s. too-big w 1048576 at (wanted (factor_of f)) (number (factor_of f)) (part room) s (λ d. refl) (λ k d. refl) o
 
   -- ---- one step
 
-  pub step-minus : at < length w → get_or w at 0 ≡ 45 → HeadIs w at (factor m p) (head_of (not m) p (More (at + 1)))
-  step-minus h e = record { outcome = λ room s. at-minus w at room s (factor m p) h e; placed = (omega arith, omega arith); small = small }
+  pub step-minus : at < length w → get_or w at 0 ≡ 45 → Onward w at (factor_of f) (at + 1) (record { minus = not f.minus; product = f.product })
+  step-minus h e = record { outcome = λ room s. at-minus w at room s (factor_of f) h e; later = omega arith; within = omega arith; small = small }
 
-  pub step-open : at < length w → get_or w at 0 ≡ 40 → HeadIs w at (factor m p) (head_of m p (Open at))
-  step-open h e = record { outcome = λ room s. at_bracket w at room s (factor m p) h e; placed = (omega arith, h); small = small }
+  pub step-open : at < length w → get_or w at 0 ≡ 40 → Headed w at (factor_of f) (head_of f (Open at))
+  step-open h e = record { outcome = λ room s. at_bracket w at room s (factor_of f) h e; placed = (omega arith, h); small = small }
 
-  pub step-letter : {k : Kind} → at < length w → get_or w at 0 ≡ 118 → VariableIs w (at + 1) k → HeadIs w at (factor m p) (head_of m p k)
-  step-letter h e v = record { outcome = λ room s. at-letter w at room s (factor m p) h e ∙ v.outcome (factor m p) room s; placed = v.placed at (omega arith); small = small }
+  pub step-letter : {k : Kind} → at < length w → get_or w at 0 ≡ 118 → Lettered w (at + 1) k → Headed w at (factor_of f) (head_of f k)
+  step-letter h e v = record { outcome = λ room s. at-letter w at room s (factor_of f) h e ∙ v.outcome (factor_of f) room s; placed = v.placed at (omega arith); small = small }
+
+  pub step-no-name : (e : Fault) → at < length w → get_or w at 0 ≡ 118 → VariableIs w (at + 1) (Err e) → Refused w at (factor_of f) e
+  step-no-name x h e v = λ room s. at-letter w at room s (factor_of f) h e ∙ v (factor_of f) room s
 
 -- ---- further on
 
-pub placed-from : (w : List ℕ) (at i : ℕ) (k : Kind) → at ≤ i → Placed w i k → Placed w at k
+placed-from : (w : List ℕ) (at i : ℕ) (k : Kind) → at ≤ i → Placed w i k → Placed w at k
 placed-from w at i (Number n b bare) h p = (omega (arith, p.0), p.1, p.2)
 placed-from w at i (Variable v b bare) h p = (omega (arith, p.0), p.1)
 placed-from w at i (Open b) h p = (omega (arith, p.0), p.1)
-placed-from w at i (Halted n b) h p = tt
-placed-from w at i (More b) h p = (omega (arith, p.0), p.1)
 
-pub head-from : (w : List ℕ) (at i : ℕ) (f g : Factor) (h : Head) → at ≤ i → ((room : ℕ) (s : Sums) → run_from w at (wanted f) (part room) s ≡ run_from w i (wanted g) (part room) s) → HeadIs w i g h → HeadIs w at f h
-head-from w at i f g h l e k = record { outcome = λ room s. e room s ∙ k.outcome room s; placed = placed-from w at i h.kind l k.placed; small = k.small }
+-- from at on it reads as from i on
+abbrev pub Same : List ℕ → ℕ → Factor → ℕ → Factor → Type 0
+Same w at f i g = (room : ℕ) (s : Sums) → run_from w at (wanted f) (part room) s ≡ run_from w i (wanted g) (part room) s
 
-pub head-skips : (w : List ℕ) (at i : ℕ) (f : Factor) (h : Head) → Skips w at i → HeadIs w i f h → HeadIs w at f h
-head-skips w at i f h k x = head-from w at i f f h k.from (λ room s. skipped w (wanted f) (part room) s refl at i k) x
+pub headed-from : (w : List ℕ) (at i : ℕ) {f g : Factor} {h : Head} → at ≤ i → Same w at f i g → Headed w i g h → Headed w at f h
+headed-from w at i {h = h} l e k = record { outcome = λ room s. e room s ∙ k.outcome room s; placed = placed-from w at i h.kind l k.placed; small = k.small }
 
--- a minus or a multiplier: where the part goes on
-pub goes_on : (w : List ℕ) (at : ℕ) (f : Factor) (h : Head) {b : ℕ} → HeadIs w at f h → h.kind ≡ More b
-    → (at < b) × (b ≤ length w) × ((room : ℕ) (s : Sums) → run_from w at (wanted f) (part room) s ≡ run_from w b (wanted (factor h.minus h.product)) (part room) s)
-goes_on w at f h k e =
-    let p = subst (Placed w at) e k.placed in
-    (p.0, p.1, λ room s. k.outcome room s ∙ ap (comes_to w room (factor h.minus h.product) s) e)
+pub refused-from : (w : List ℕ) (at i : ℕ) (f g : Factor) (x : Fault) → Same w at f i g → Refused w i g x → Refused w at f x
+refused-from w at i f g x e k = λ room s. e room s ∙ k room s
+
+pub skips-same : (w : List ℕ) (at i : ℕ) (f : Factor) → Skips w at i → Same w at f i f
+skips-same w at i f k = λ room s. skipped w (wanted f) (part room) s refl at i k
+
+pub turn-skips : (w : List ℕ) (at i : ℕ) (f : Factor) (x : Result Turn Fault) → Skips w at i → TurnIs w i f x → TurnIs w at f x
+turn-skips w at i f (Ok (Ends h)) k t = headed-from w at i k.from (skips-same w at i f k) t
+turn-skips w at i f (Ok (GoesOn b g)) k t = record { outcome = λ room s. skips-same w at i f k room s ∙ t.outcome room s; later = omega (arith, t.later, k.from); within = t.within; small = t.small }
+turn-skips w at i f (Err e) k t = refused-from w at i f f e (skips-same w at i f k) t

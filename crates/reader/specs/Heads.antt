@@ -1,6 +1,6 @@
 -- What a part comes to: the reader's outcome behind its minus signs and multipliers.
 use Prim.Native.Nat.{ℕ, zero, suc, ◌+◌, ◌-◌, ◌*◌, ◌≤◌, ◌<◌}
-use Rattle.std.specs.Prelude.{◌≡◌, Bool, true, false, cond, List, leb, eqb, get_or}
+use Rattle.std.specs.Prelude.{◌≡◌, Bool, true, false, cond, List, leb, eqb, get_or, Result, Ok, Err}
 use Rattle.std.proofs.Math.Path.{refl}
 use Rattle.std.proofs.Common.{sym, ap, subst, ◌∙◌, arith, le-leb, eqb-true}
 use Rattle.std.proofs.lemmas.Bool.{lt-leb, eqb-false}
@@ -12,11 +12,19 @@ use Rattle.grammar.proofs.Descent.{byte}
 use Rattle.reader.specs.Scan.{Skips, present}
 use Rattle.reader.specs.Run.{by_kind, at_place, left_behind}
 use Rattle.reader.specs.declared.heads.Kind.{Kind}
-use Rattle.reader.specs.declared.heads.Kind.TheVariants.{Number, Variable, Open, Halted, More}
+use Rattle.reader.specs.declared.heads.Kind.TheVariants.{Number, Variable, Open}
 use Rattle.reader.specs.declared.heads.Head.{Head}
+use Rattle.reader.specs.declared.heads.Turn.{Turn}
+use Rattle.reader.specs.declared.heads.Turn.TheVariants.{Ends, GoesOn}
+use Rattle.reader.specs.declared.sums.Factor as code
+use Rattle.reader.specs.declared.fault.Fault.{Fault}
+use Rattle.reader.specs.Faults.{number_of, place_of}
 
 abbrev pub factor : Bool → ℕ → Factor
 factor m k = record { negative = m; times = k }
+
+abbrev pub factor_of : code.Factor → Factor
+factor_of f = factor f.minus f.product
 
 -- a bracket at a place, under f: there is room for it or not
 abbrev pub opens : List ℕ → ℕ → Factor → Sums → ℕ → Outcome
@@ -28,34 +36,46 @@ abbrev pub comes_to : List ℕ → ℕ → Factor → Sums → Kind → Outcome
 comes_to w room f s (Number n at bare) = read at bare (with_number f n s)
 comes_to w room f s (Variable v at bare) = read at bare (with_variable f v s)
 comes_to w room f s (Open b) = opens w b f s room
-comes_to w room f s (Halted n at) = halted n at
-comes_to w room f s (More at) = run_from w at (wanted f) (part room) s
 
 -- where it stands
 abbrev pub Placed : List ℕ → ℕ → Kind → Type 0
 Placed w at (Number n b bare) = (at < b) × (b ≤ length w) × (n ≤ 1048576)
 Placed w at (Variable v b bare) = (at + 1 < b) × (b ≤ length w)
 Placed w at (Open b) = (at ≤ b) × (b < length w)
-Placed w at (Halted n b) = Unit {0}
-Placed w at (More b) = (at < b) × (b ≤ length w)
 
-pub record HeadIs (w : List ℕ) (at : ℕ) (f : Factor) (h : Head) : Type 0 where
-  pub outcome : (room : ℕ) (s : Sums) → run_from w at (wanted f) (part room) s ≡ comes_to w room (factor h.minus h.product) s h.kind
+pub record Headed (w : List ℕ) (at : ℕ) (f : Factor) (h : Head) : Type 0 where
+  pub outcome : (room : ℕ) (s : Sums) → run_from w at (wanted f) (part room) s ≡ comes_to w room (factor_of h.factor) s h.kind
   pub placed : Placed w at h.kind
-  pub small : h.product ≤ 1048576
+  pub small : h.factor.product ≤ 1048576
 
--- a part that goes on is no head yet
-abbrev pub Settled : Kind → Type 0
-Settled (Number n b bare) = Unit {0}
-Settled (Variable v b bare) = Unit {0}
-Settled (Open b) = Unit {0}
-Settled (Halted n b) = Unit {0}
-Settled (More b) = ⊥
+-- a part is refused
+abbrev pub Refused : List ℕ → ℕ → Factor → Fault → Type 0
+Refused w at f e = (room : ℕ) (s : Sums) → run_from w at (wanted f) (part room) s ≡ halted (number_of e) (place_of e)
+
+abbrev pub HeadIs : List ℕ → ℕ → Factor → Result Head Fault → Type 0
+HeadIs w at f (Ok h) = Headed w at f h
+HeadIs w at f (Err e) = Refused w at f e
+
+-- behind a minus or a multiplier
+pub record Onward (w : List ℕ) (at : ℕ) (f : Factor) (b : ℕ) (g : code.Factor) : Type 0 where
+  pub outcome : (room : ℕ) (s : Sums) → run_from w at (wanted f) (part room) s ≡ run_from w b (wanted (factor_of g)) (part room) s
+  pub later : at < b
+  pub within : b ≤ length w
+  pub small : g.product ≤ 1048576
+
+abbrev pub TurnIs : List ℕ → ℕ → Factor → Result Turn Fault → Type 0
+TurnIs w at f (Ok (Ends h)) = Headed w at f h
+TurnIs w at f (Ok (GoesOn b g)) = Onward w at f b g
+TurnIs w at f (Err e) = Refused w at f e
 
 -- behind `v`, under f
-pub record VariableIs (w : List ℕ) (at : ℕ) (k : Kind) : Type 0 where
+pub record Lettered (w : List ℕ) (at : ℕ) (k : Kind) : Type 0 where
   pub outcome : (f : Factor) (room : ℕ) (s : Sums) → run_from w at (lettered f) (part room) s ≡ comes_to w room f s k
   pub placed : (i : ℕ) → i + 1 ≤ at → Placed w i k
+
+abbrev pub VariableIs : List ℕ → ℕ → Result Kind Fault → Type 0
+VariableIs w at (Ok k) = Lettered w at k
+VariableIs w at (Err e) = (f : Factor) (room : ℕ) (s : Sums) → run_from w at (lettered f) (part room) s ≡ halted (number_of e) (place_of e)
 
 -- no byte that `number` is not for: a space, `(`, `-`, `v`
 pub record Unmarked (b : ℕ) : Type 0 where

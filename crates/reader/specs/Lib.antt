@@ -1,4 +1,5 @@
 pub mod sums
+pub mod Faults
 pub mod Scan
 pub mod Run
 pub mod Heads

@@ -1,6 +1,6 @@
 -- What the code finds at a line's start and at its relation, and how a reader goes over it: T-01's, and one that takes the same steps up to an `@`.
 use Prim.Native.Nat.{ℕ, zero, suc, ◌+◌, ◌≤◌, ◌<◌}
-use Rattle.std.specs.Prelude.{◌≡◌, Bool, List, ◌⊎◌, length, get_or}
+use Rattle.std.specs.Prelude.{◌≡◌, Bool, List, ◌⊎◌, length, get_or, Result, Ok, Err}
 use Rattle.std.proofs.Math.Path.{refl, sym, ap}
 use Rattle.std.proofs.Common.{subst, ◌∙◌, inl, inr, arith}
 use Rattle.std.proofs.Math.Bool.{true, false}
@@ -13,10 +13,8 @@ use Rattle.reader.specs.Run.{by_kind, behind-spaces, fewer-spaces, Follows}
 use Rattle.reader.specs.Parts.{Unjoined}
 use Rattle.reader.specs.declared.sides.Mark.{Mark}
 use Rattle.reader.specs.declared.sides.Mark.TheVariants.{AtMost, Equal, AtLeast}
-use Rattle.reader.specs.declared.sides.Start.{Start}
-use Rattle.reader.specs.declared.sides.Start.TheVariants.{At, Bad}
-use Rattle.reader.specs.declared.sides.Related.{Related}
-use Rattle.reader.specs.declared.sides.Related.TheVariants.{By, NoMark}
+use Rattle.reader.specs.declared.fault.Fault.{Fault}
+use Rattle.reader.specs.declared.fault.Fault.TheVariants.{Astray, TooDeep, TooLarge}
 
 abbrev pub relation_of : Mark → Relation
 relation_of AtMost = at_most
@@ -26,14 +24,18 @@ relation_of AtLeast = at_least
 -- ---- what the code finds, by its bytes
 
 -- a line's first part: at once, or behind spaces where a mark stands
-abbrev pub StartIs : List ℕ → Start → Type 0
-StartIs w (At i) = Skips w 0 i × ((0 < i) → (get_or w i 0 ≡ 45) ⊎ (get_or w i 0 ≡ 40))
-StartIs w (Bad b) = Skips w 0 b × (0 < b) × (get_or w b 0 ≡ 45 → ⊥) × (get_or w b 0 ≡ 40 → ⊥)
+abbrev pub StartIs : List ℕ → Result ℕ Fault → Type 0
+StartIs w (Ok i) = Skips w 0 i × ((0 < i) → (get_or w i 0 ≡ 45) ⊎ (get_or w i 0 ≡ 40))
+StartIs w (Err (Astray b)) = Skips w 0 b × (0 < b) × (get_or w b 0 ≡ 45 → ⊥) × (get_or w b 0 ≡ 40 → ⊥)
+StartIs w (Err (TooDeep b)) = ⊥
+StartIs w (Err (TooLarge b)) = ⊥
 
 -- behind `<` or `>`
-abbrev pub HalfIs : List ℕ → ℕ → Mark → Related → Type 0
-HalfIs w at m (By r next) = (r ≡ m) × (next ≡ at + 1) × (get_or w at 0 ≡ 61)
-HalfIs w at m (NoMark b) = (b ≡ at) × (get_or w at 0 ≡ 61 → ⊥)
+abbrev pub HalfIs : List ℕ → ℕ → Mark → Result (Mark × ℕ) Fault → Type 0
+HalfIs w at m (Ok (r, next)) = (r ≡ m) × (next ≡ at + 1) × (get_or w at 0 ≡ 61)
+HalfIs w at m (Err (Astray b)) = (b ≡ at) × (get_or w at 0 ≡ 61 → ⊥)
+HalfIs w at m (Err (TooDeep b)) = ⊥
+HalfIs w at m (Err (TooLarge b)) = ⊥
 
 abbrev pub MarkIs : List ℕ → ℕ → ℕ → Mark → Type 0
 MarkIs w at next AtMost = (get_or w at 0 ≡ 60) × (get_or w (at + 1) 0 ≡ 61) × (next ≡ at + 2)
@@ -51,20 +53,26 @@ pub record Unrelated (w : List ℕ) (at : ℕ) : Type 0 where
 abbrev pub Halved : List ℕ → ℕ → Type 0
 Halved w at = ((get_or w at 0 ≡ 60) ⊎ (get_or w at 0 ≡ 62)) × (get_or w (at + 1) 0 ≡ 61 → ⊥)
 
-abbrev pub RelatedIs : List ℕ → ℕ → Related → Type 0
-RelatedIs w at (By m next) = MarkIs w at next m
-RelatedIs w at (NoMark b) = ((b ≡ at) × (at ≤ length w) × Unrelated w at) ⊎ ((b ≡ at + 1) × Halved w at)
+abbrev pub RelatedIs : List ℕ → ℕ → Result (Mark × ℕ) Fault → Type 0
+RelatedIs w at (Ok (m, next)) = MarkIs w at next m
+RelatedIs w at (Err (Astray b)) = ((b ≡ at) × (at ≤ length w) × Unrelated w at) ⊎ ((b ≡ at + 1) × Halved w at)
+RelatedIs w at (Err (TooDeep b)) = ⊥
+RelatedIs w at (Err (TooLarge b)) = ⊥
 
 module _ (w : List ℕ) (at : ℕ) where
-  pub related-less : (r : Related) → get_or w at 0 ≡ 60 → HalfIs w (at + 1) AtMost r → RelatedIs w at r
-  related-less (By r next) e (q, n, h) = subst (MarkIs w at next) (sym q) (e, h, omega arith)
-  related-less (NoMark b) e (q, h) = inr (q, (inl e, h))
+  pub related-less : (r : Result (Mark × ℕ) Fault) → get_or w at 0 ≡ 60 → HalfIs w (at + 1) AtMost r → RelatedIs w at r
+  related-less (Ok (r, next)) e (q, n, h) = subst (MarkIs w at next) (sym q) (e, h, omega arith)
+  related-less (Err (Astray b)) e (q, h) = inr (q, (inl e, h))
+  related-less (Err (TooDeep b)) e h = absurd h
+  related-less (Err (TooLarge b)) e h = absurd h
 
-  pub related-more : (r : Related) → get_or w at 0 ≡ 62 → HalfIs w (at + 1) AtLeast r → RelatedIs w at r
-  related-more (By r next) e (q, n, h) = subst (MarkIs w at next) (sym q) (e, h, omega arith)
-  related-more (NoMark b) e (q, h) = inr (q, (inr e, h))
+  pub related-more : (r : Result (Mark × ℕ) Fault) → get_or w at 0 ≡ 62 → HalfIs w (at + 1) AtLeast r → RelatedIs w at r
+  related-more (Ok (r, next)) e (q, n, h) = subst (MarkIs w at next) (sym q) (e, h, omega arith)
+  related-more (Err (Astray b)) e (q, h) = inr (q, (inr e, h))
+  related-more (Err (TooDeep b)) e h = absurd h
+  related-more (Err (TooLarge b)) e h = absurd h
 
-  pub related-within : (m : Mark) (next : ℕ) → RelatedIs w at (By m next) → (at < next) × (next ≤ length w)
+  pub related-within : (m : Mark) (next : ℕ) → RelatedIs w at (Ok (m, next)) → (at < next) × (next ≤ length w)
   related-within AtMost next (e, h, q) = let k = present w (at + 1) (omega (arith, h)) in (omega arith, omega arith)
   related-within Equal next (e, q) = let k = present w at (omega (arith, e)) in (omega arith, omega arith)
   related-within AtLeast next (e, h, q) = let k = present w (at + 1) (omega (arith, h)) in (omega arith, omega arith)
@@ -82,7 +90,7 @@ module _ (w : List ℕ) {X : Type 0} (from : ℕ → Mode → Around → Sums �
       on 0 32 first left s (k.spaces 0 (omega arith) h) (omega arith) (λ e. omega arith) refl
       ∙ behind-spaces w (λ j. from j spaced left s) (λ j g e. on j 32 spaced left s e (omega arith) (λ e. omega arith) refl) 1 i (fewer-spaces w 0 i k h)
 
-  pub start-at : (i : ℕ) (s : Sums) → StartIs w (At i) → from 0 first left s ≡ from i (wanted one) left s
+  pub start-at : (i : ℕ) (s : Sums) → StartIs w (Ok i) → from 0 first left s ≡ from i (wanted one) left s
   unfolding kind_of room_of
   start-at zero s (k, h) = f.begins s k.stops
   start-at (suc i) s (k, h) = spaces-first (suc i) s k (omega arith) ∙ by (h (omega arith))
@@ -91,7 +99,7 @@ module _ (w : List ℕ) {X : Type 0} (from : ℕ → Mode → Around → Sums �
       by (inl e) = on (suc i) 45 spaced left s e (omega arith) (λ e. omega arith) refl ∙ sym (on (suc i) 45 (wanted one) left s e (omega arith) (λ e. omega arith) refl)
       by (inr e) = on (suc i) 40 spaced left s e (omega arith) (λ e. omega arith) refl ∙ sym (on (suc i) 40 (wanted one) left s e (omega arith) (λ e. omega arith) refl)
 
-  pub start-bad : (b : ℕ) (s : Sums) → StartIs w (Bad b) → from 0 first left s ≡ halt 20 b
+  pub start-bad : (b : ℕ) (s : Sums) → StartIs w (Err (Astray b)) → from 0 first left s ≡ halt 20 b
   start-bad b s (k, h, m, o) =
       spaces-first b s k h
       ∙ f.strays b spaced s k.within
@@ -146,6 +154,6 @@ module _ (w : List ℕ) {X : Type 0} (from : ℕ → Mode → Around → Sums �
       by (inr e) true = on at 62 closed left s e (omega arith) (λ e. omega arith) refl ∙ at-half at_least (present w at (omega arith))
       by (inr e) false = on at 62 apart left s e (omega arith) (λ e. omega arith) refl ∙ at-half at_least (present w at (omega arith))
 
-  pub related-no : (at b : ℕ) (bare : Bool) (s : Sums) → RelatedIs w at (NoMark b) → from at (rested bare) left s ≡ halt 20 b
+  pub related-no : (at b : ℕ) (bare : Bool) (s : Sums) → RelatedIs w at (Err (Astray b)) → from at (rested bare) left s ≡ halt 20 b
   related-no at b bare s (inl (q, h, u)) = unrelated at bare s h u ∙ ap (halt 20) (sym q)
   related-no at b bare s (inr (q, h)) = halved at bare s h ∙ ap (halt 20) (sym q)

@@ -6,13 +6,15 @@ ghost use Rattle.std.specs.Prelude.{◌≡◌, ◌≤◌, ◌<◌};
 ghost use Rattle.reader.specs.sums.Held.{held};
 ghost use Rattle.grammar.specs.Sums.{judged, summed};
 ghost use Rattle.grammar.specs.Reader.{read_line, refuses};
+ghost use Rattle.reader.specs.Faults.{number_of, place_of, refusal_number, offset_of};
 ghost use Rattle.reader.specs.Sides.{relation_of};
 ghost use Rattle.reader.specs.Parts.{sums_of};
 ghost use Rattle.reader.specs.Answers.{big_at, kept_with, kept_of, refusal, as_read};
 
+use crate::fault::{Fault, Refusal};
 use crate::parts::Place;
-use crate::sides::{Line, Mark, whole_line};
-use crate::sums::{Numbers, Sums, ZERO, long_numbers, long_sums};
+use crate::sides::{Mark, whole_line};
+use crate::sums::{Numbers, Sums, ZERO};
 
 // number is 0 for a line that reads, else the refusal's, with the offset of 20. The constant and the coefficients stand as what they
 // are above ZERO, as in the tables; past the count the variables are 0 and the coefficients 0, that is ZERO.
@@ -27,7 +29,8 @@ pub struct Reading {
     pub coefficients: [u64; 16],
 }
 
-// The terms that are not zero, the first 16 of them, and whether one is too large.
+// The terms that are not zero, the first 16 of them, and whether one is too large. (`big` is no error with a value beside it: the terms are
+// kept and counted either way, and `finish` judges the constant with them.)
 #[derive(Clone, Copy)]
 pub struct Kept {
     pub big: bool,
@@ -36,12 +39,12 @@ pub struct Kept {
     pub coefficients: [u64; 16],
 }
 
-pub fn refuse(number: u32, offset: usize) -> Reading
+fn unread(number: u32, offset: usize) -> Reading
     ensures { result ≡ refusal number offset }
 {
     Reading {
-        number: number,
-        offset: offset,
+        number,
+        offset,
         relation: Mark::Equal,
         constant: ZERO,
         count: 0,
@@ -50,14 +53,23 @@ pub fn refuse(number: u32, offset: usize) -> Reading
     }
 }
 
-// 20 has its offset, no other refusal one.
-pub fn refuse_at(number: u32, at: usize) -> Reading
-    ensures { result ≡ as_read (refuses number at) }
+pub fn refuse(r: Refusal) -> Reading
+    ensures { result ≡ refusal (refusal_number r) (offset_of r) }
 {
-    if number == 20 {
-        return refuse(20, at);
-    }
-    refuse(number, 0)
+    unread(r.number(), r.offset())
+}
+
+// What stands where no line was answered.
+pub fn nothing() -> Reading
+    ensures { result ≡ refusal 0 0 }
+{
+    unread(0, 0)
+}
+
+pub fn refuse_at(f: Fault) -> Reading
+    ensures { result ≡ as_read (refuses (number_of f) (place_of f)) }
+{
+    refuse(Refusal::from(f))
 }
 
 // "above 1,048,576 in size"
@@ -82,18 +94,12 @@ fn keep(k: Kept, v: u32, x: u64) -> Kept
     if n < 16 {
         variables[n] = v;
         coefficients[n] = x;
-        return Kept {
-            big: big,
-            count: n + 1,
-            variables: variables,
-            coefficients: coefficients,
-        };
     }
     Kept {
-        big: big,
+        big,
         count: n + 1,
-        variables: variables,
-        coefficients: coefficients,
+        variables,
+        coefficients,
     }
 }
 
@@ -101,18 +107,14 @@ fn keep_all(numbers: &Numbers, sums: &Sums, count: usize) -> Kept
     requires { count ≤ 1366 }
     ensures { result ≡ kept_of (held numbers.now sums.now count) }
 {
-    long_numbers(numbers);
-    long_sums(sums);
     let mut k = Kept {
         big: false,
         count: 0,
         variables: [0u32; 16],
         coefficients: [ZERO; 16],
     };
-    let mut i: usize = 0;
-    while i < count {
+    for i in 0..count {
         k = keep(k, numbers[i], sums[i]);
-        i += 1;
     }
     k
 }
@@ -123,14 +125,11 @@ pub fn finish(numbers: &Numbers, sums: &Sums, m: Mark, p: Place) -> Reading
     ensures { result ≡ as_read (judged (summed (relation_of m) (sums_of numbers.now sums.now p))) }
 {
     let k = keep_all(numbers, sums, p.count);
-    if is_big(p.constant) {
-        return refuse(22, 0);
-    }
-    if k.big {
-        return refuse(22, 0);
+    if is_big(p.constant) || k.big {
+        return refuse(Refusal::TooLarge);
     }
     if 16 < k.count {
-        return refuse(23, 0);
+        return refuse(Refusal::TooManyVariables);
     }
     let variables = k.variables;
     let coefficients = k.coefficients;
@@ -140,8 +139,8 @@ pub fn finish(numbers: &Numbers, sums: &Sums, m: Mark, p: Place) -> Reading
         relation: m,
         constant: p.constant,
         count: k.count,
-        variables: variables,
-        coefficients: coefficients,
+        variables,
+        coefficients,
     }
 }
 
@@ -151,13 +150,12 @@ pub fn read_line(s: &[u8]) -> Reading
     ensures { result ≡ as_read (read_line s.now) }
 {
     if 4096 < s.len() {
-        return refuse(19, 0);
+        return refuse(Refusal::TooLong);
     }
     let mut numbers = [0u32; 1366];
     let mut sums = [0u64; 1366];
-    let l = whole_line(s, &mut numbers, &mut sums);
-    match l {
-        Line::Whole(m, p) => finish(&numbers, &sums, m, p),
-        Line::Refused(n, b) => refuse_at(n, b),
+    match whole_line(s, &mut numbers, &mut sums) {
+        Ok((m, p)) => finish(&numbers, &sums, m, p),
+        Err(f) => refuse_at(f),
     }
 }

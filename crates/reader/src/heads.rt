@@ -1,151 +1,106 @@
 // A part up to what it ends in: minus signs and multipliers are read in a loop.
 // "22 a number, or a product of multipliers over a part, above 1,048,576, or a variable number above 4,294,967,295"
-ghost use Rattle.std.specs.Prelude.{◌≡◌, ℕ, ◌≤◌, ◌<◌, get_or, length};
-ghost use Rattle.grammar.specs.Sums.{Sums};
-ghost use Rattle.reader.specs.Heads.{Settled, Unmarked, VariableIs, HeadIs, factor};
+ghost use Rattle.std.specs.Prelude.{◌≡◌, ◌≤◌, get_or, length};
+ghost use Rattle.reader.specs.Heads.{Unmarked, VariableIs, HeadIs, TurnIs, factor_of};
 
-use crate::scan::{Whole, byte_at, number_at, skip};
+use crate::fault::Fault;
+use crate::scan::{byte_at, number_at, skip};
+use crate::sums::Factor;
 
-// What a part comes to, with the place behind it and its spaces, and whether none stand there; a bracket's place; a refusal and
-// where it is met; or a minus or a multiplier, and the part goes on.
+// What a part ends in: a number or a variable, with the place behind it and its spaces, and whether none stand there; or a bracket's place.
 #[derive(Clone, Copy)]
 pub enum Kind {
     Number(u64, usize, bool),
     Variable(u32, usize, bool),
     Open(usize),
-    Halted(u32, usize),
-    More(usize),
 }
 
-// The sign and the product of the multipliers that stand over it.
+// What a part comes to, and what stands over it.
 #[derive(Clone, Copy)]
 pub struct Head {
-    pub minus: bool,
-    pub product: u64,
+    pub factor: Factor,
     pub kind: Kind,
 }
 
+// The part's head; or behind a minus or a multiplier the part goes on.
+#[derive(Clone, Copy)]
+enum Turn {
+    Ends(Head),
+    GoesOn(usize, Factor),
+}
+
 // Behind `v`.
-fn variable(s: &[u8], at: usize) -> Kind
+fn variable(s: &[u8], at: usize) -> Result<Kind, Fault>
     requires { at ≤ length s.now }
     ensures { VariableIs s.now at result }
 {
-    match number_at(s, at, 4294967295) {
-        Whole::Is(n, next) => {
-            let mark = skip(s, next);
-            Kind::Variable(n as u32, mark, mark == next)
-        }
-        Whole::NoDigit => Kind::Halted(20, at),
-        Whole::TooBig(i) => Kind::Halted(22, i),
-    }
+    let (n, next) = number_at(s, at, 4294967295)?;
+    let mark = skip(s, next);
+    Ok(Kind::Variable(n as u32, mark, mark == next))
 }
 
 // A digit must stand there. With a `*` behind it the number is a multiplier.
-fn number(s: &[u8], at: usize, minus: bool, product: u64) -> Head
+fn number(s: &[u8], at: usize, f: Factor) -> Result<Turn, Fault>
     requires at_in_bounds { at ≤ length s.now }
     requires unmarked { Unmarked (get_or s.now at 0) }
-    requires product_bound { product ≤ 1048576 }
-    ensures { HeadIs s.now at (factor minus product) result }
+    requires product_bound { f.product ≤ 1048576 }
+    ensures { TurnIs s.now at (factor_of f) result }
 {
-    match number_at(s, at, 1048576) {
-        Whole::Is(n, next) => {
-            let mark = skip(s, next);
-            if byte_at(s, mark) == b'*' {
-                let k = product * n;
-                if 1048576 < k {
-                    return Head {
-                        minus: minus,
-                        product: product,
-                        kind: Kind::Halted(22, mark),
-                    };
-                }
-                return Head {
-                    minus: minus,
-                    product: k,
-                    kind: Kind::More(mark + 1),
-                };
-            }
-            Head {
-                minus: minus,
-                product: product,
-                kind: Kind::Number(n, mark, mark == next),
-            }
+    let (n, next) = number_at(s, at, 1048576)?;
+    let mark = skip(s, next);
+    if byte_at(s, mark) == b'*' {
+        let k = f.product * n;
+        if 1048576 < k {
+            return Err(Fault::TooLarge(mark));
         }
-        Whole::NoDigit => Head {
-            minus: minus,
-            product: product,
-            kind: Kind::Halted(20, at),
-        },
-        Whole::TooBig(i) => Head {
-            minus: minus,
-            product: product,
-            kind: Kind::Halted(22, i),
-        },
+        return Ok(Turn::GoesOn(mark + 1, Factor { product: k, ..f }));
     }
+    Ok(Turn::Ends(Head {
+        factor: f,
+        kind: Kind::Number(n, mark, mark == next),
+    }))
 }
 
 // One minus, one multiplier, or what the part ends in.
-fn step(s: &[u8], at: usize, minus: bool, product: u64) -> Head
+fn step(s: &[u8], at: usize, f: Factor) -> Result<Turn, Fault>
     requires at_in_bounds { at ≤ length s.now }
-    requires product_bound { product ≤ 1048576 }
-    ensures { HeadIs s.now at (factor minus product) result }
+    requires product_bound { f.product ≤ 1048576 }
+    ensures { TurnIs s.now at (factor_of f) result }
 {
     let i = skip(s, at);
     let b = byte_at(s, i);
     if b == b'-' {
-        return Head {
-            minus: !minus,
-            product: product,
-            kind: Kind::More(i + 1),
-        };
+        let minus = !f.minus;
+        return Ok(Turn::GoesOn(i + 1, Factor { minus, ..f }));
     }
     if b == b'(' {
-        return Head {
-            minus: minus,
-            product: product,
+        return Ok(Turn::Ends(Head {
+            factor: f,
             kind: Kind::Open(i),
-        };
+        }));
     }
     if b == b'v' {
-        let k = variable(s, i + 1);
-        return Head {
-            minus: minus,
-            product: product,
-            kind: k,
-        };
+        let kind = variable(s, i + 1)?;
+        return Ok(Turn::Ends(Head { factor: f, kind }));
     }
-    number(s, i, minus, product)
+    number(s, i, f)
 }
 
-pub fn head_at(s: &[u8], at: usize, minus: bool, product: u64) -> Head
+pub fn head_at(s: &[u8], at: usize, f: Factor) -> Result<Head, Fault>
     requires at_in_bounds { at ≤ length s.now }
-    requires product_bound { product ≤ 1048576 }
-    ensures head_is { HeadIs s.now at (factor minus product) result }
-    ensures settled { Settled result.kind }
+    requires product_bound { f.product ≤ 1048576 }
+    ensures { HeadIs s.now at (factor_of f) result }
 {
     let mut i = at;
-    let mut m = minus;
-    let mut p = product;
+    let mut g = f;
     loop {
-        let h = step(s, i, m, p);
-        let k = h.kind;
-        match k {
-            Kind::More(next) => {
+        match step(s, i, g)? {
+            Turn::Ends(h) => {
+                return Ok(h);
+            }
+            Turn::GoesOn(next, over) => {
                 i = next;
-                m = h.minus;
-                p = h.product;
-            }
-            Kind::Number(_, _, _) => {
-                return h;
-            }
-            Kind::Variable(_, _, _) => {
-                return h;
-            }
-            Kind::Open(_) => {
-                return h;
-            }
-            Kind::Halted(_, _) => {
-                return h;
+                g = over;
             }
         }
     }

@@ -2,6 +2,7 @@
 #![tactic(auto)]
 
 pub mod answers;
+pub mod fault;
 pub mod heads;
 pub mod parts;
 pub mod scan;

@@ -1,14 +1,15 @@
 // Sums and parts, which call each other: only a bracket goes deeper.
 // "A sum is parts joined by `+` or `-`."
 // "A part is a whole number, a variable `v` with digits, a number `*` a part, `-` a part, or a sum in brackets, so a part may hold a sum that holds parts again, up to 16 levels of brackets."
-ghost use Rattle.std.specs.Prelude.{◌≡◌, ◌≤◌, get_or, length};
+ghost use Rattle.std.specs.Prelude.{◌≡◌, ◌≤◌, length};
 ghost use Rattle.grammar.specs.Reader.{read_part, read_sum};
-ghost use Rattle.reader.specs.Heads.{factor};
-ghost use Rattle.reader.specs.Parts.{sums_of, outcome_of, Ready, Sound, Ended, LeafFits, LeafIs, CloseIs, JointIs, Within};
+ghost use Rattle.reader.specs.Heads.{factor_of};
+ghost use Rattle.reader.specs.Parts.{sums_of, outcome_of, later, Ready, Sound, Ended, CloseIs, JointIs};
 
-use crate::heads::{Head, Kind, head_at};
+use crate::fault::Fault;
+use crate::heads::{Kind, head_at};
 use crate::scan::{byte_at, skip};
-use crate::sums::{Numbers, Sums, add_term, with};
+use crate::sums::{Factor, Numbers, Sums, add_term, with};
 
 // How far the line is read, whether it may end there (no space behind a digit), the places in use of the tables, and the constant so far.
 #[derive(Clone, Copy)]
@@ -19,22 +20,23 @@ pub struct Place {
     pub constant: u64,
 }
 
-// A refusal, and where it is met.
-#[derive(Clone, Copy)]
-pub enum Step {
-    Read(Place),
-    Halted(u32, usize),
+impl Place {
+    // What was read, up to a place further on.
+    pub fn behind(self, at: usize, bare: bool) -> Place
+        ensures { result ≡ later self at bare }
+    {
+        Place { at, bare, ..self }
+    }
 }
 
-// What stands over a part: the sign, the product of multipliers, and the brackets that may still be opened.
+// What stands over a part, and the brackets that may still be opened.
 #[derive(Clone, Copy)]
 pub struct Over {
-    pub minus: bool,
-    pub product: u64,
+    pub factor: Factor,
     pub left: usize,
 }
 
-// The mark that joins the next part: the place behind it, and the part's sign; or the place where the sum ends.
+// The mark that joins the next part: the place behind it, and the part's sign; or the place where the sum ends. (Neither is an error.)
 #[derive(Clone, Copy)]
 pub enum Joint {
     On(usize, bool),
@@ -56,143 +58,91 @@ fn joint_at(s: &[u8], at: usize, minus: bool) -> Joint
     Joint::Last(mark)
 }
 
-// A part that holds no sum.
-fn leaf(numbers: &mut Numbers, sums: &mut Sums, p: Place, h: Head) -> Step
-    requires ready { Ready numbers.old sums.old p }
-    requires leaf_fits { LeafFits p.at h }
-    ensures { LeafIs (sums_of numbers.old sums.old p) p h numbers.new sums.new result }
-{
-    let k = h.kind;
-    match k {
-        Kind::Number(n, next, bare) => {
-            let constant = with(p.constant, h.minus, h.product * n);
-            Step::Read(Place {
-                at: next,
-                bare: bare,
-                count: p.count,
-                constant: constant,
-            })
-        }
-        Kind::Variable(v, next, bare) => {
-            let count = add_term(numbers, sums, p.count, v, h.minus, h.product);
-            Step::Read(Place {
-                at: next,
-                bare: bare,
-                count: count,
-                constant: p.constant,
-            })
-        }
-        Kind::Halted(n, b) => Step::Halted(n, b),
-        Kind::Open(b) => Step::Halted(20, b),
-        Kind::More(b) => Step::Halted(20, b),
-    }
-}
-
 // Behind a sum in brackets: `)`, and spaces.
-fn close(s: &[u8], r: Step) -> Step
-    requires { Within (length s.now) r }
-    ensures { CloseIs s.now r result }
+fn close(s: &[u8], q: Place) -> Result<Place, Fault>
+    requires { q.at ≤ length s.now }
+    ensures { CloseIs s.now q result }
 {
-    match r {
-        Step::Read(q) => {
-            let mark = skip(s, q.at);
-            if byte_at(s, mark) == b')' {
-                let next = skip(s, mark + 1);
-                return Step::Read(Place {
-                    at: next,
-                    bare: true,
-                    count: q.count,
-                    constant: q.constant,
-                });
-            }
-            Step::Halted(20, mark)
-        }
-        Step::Halted(n, b) => Step::Halted(n, b),
+    let mark = skip(s, q.at);
+    if byte_at(s, mark) == b')' {
+        let at = skip(s, mark + 1);
+        return Ok(q.behind(at, true));
     }
+    Err(Fault::Astray(mark))
 }
 
 #[cycle(part_sum)]
-pub fn part(s: &[u8], numbers: &mut Numbers, sums: &mut Sums, p: Place, o: Over) -> Step
-    requires at_in_bounds { (p.at ≤ length s.now) × (length s.now ≤ 4096) × (o.product ≤ 1048576) }
+pub fn part(
+    s: &[u8],
+    numbers: &mut Numbers,
+    sums: &mut Sums,
+    p: Place,
+    o: Over,
+) -> Result<Place, Fault>
+    requires at_in_bounds { (p.at ≤ length s.now) × (length s.now ≤ 4096) × (o.factor.product ≤ 1048576) }
     requires ready { Ready numbers.old sums.old p }
-    ensures result_after { outcome_of numbers.new sums.new result ≡ read_part s.now p.at o.left (factor o.minus o.product) (sums_of numbers.old sums.old p) }
+    ensures result_after { outcome_of numbers.new sums.new result ≡ read_part s.now p.at o.left (factor_of o.factor) (sums_of numbers.old sums.old p) }
     ensures sound { Sound s.now p.at numbers.new sums.new result }
 {
-    let h = head_at(s, p.at, o.minus, o.product);
-    let k = h.kind;
-    if let Kind::Open(b) = k {
-        let left = o.left;
-        if left == 0 {
-            return Step::Halted(21, b);
+    let h = head_at(s, p.at, o.factor)?;
+    let f = h.factor;
+    match h.kind {
+        Kind::Number(n, at, bare) => {
+            let constant = with(p.constant, f.minus, f.product * n);
+            let q = p.behind(at, bare);
+            Ok(Place { constant, ..q })
         }
-        let inner = sum(
-            s,
-            numbers,
-            sums,
-            Place {
-                at: b + 1,
-                bare: true,
-                count: p.count,
-                constant: p.constant,
-            },
-            Over {
-                minus: h.minus,
-                product: h.product,
-                left: left - 1,
-            },
-        );
-        return close(s, inner);
+        Kind::Variable(v, at, bare) => {
+            let count = add_term(numbers, sums, p.count, v, f);
+            let q = p.behind(at, bare);
+            Ok(Place { count, ..q })
+        }
+        Kind::Open(b) => {
+            if o.left == 0 {
+                return Err(Fault::TooDeep(b));
+            }
+            let q = p.behind(b + 1, true);
+            let left = o.left - 1;
+            let inner = sum(s, numbers, sums, q, Over { factor: f, left })?;
+            close(s, inner)
+        }
     }
-    leaf(numbers, sums, p, h)
 }
 
 #[cycle(part_sum)]
-pub fn sum(s: &[u8], numbers: &mut Numbers, sums: &mut Sums, p: Place, o: Over) -> Step
-    requires at_in_bounds { (p.at ≤ length s.now) × (length s.now ≤ 4096) × (o.product ≤ 1048576) }
+pub fn sum(
+    s: &[u8],
+    numbers: &mut Numbers,
+    sums: &mut Sums,
+    p: Place,
+    o: Over,
+) -> Result<Place, Fault>
+    requires at_in_bounds { (p.at ≤ length s.now) × (length s.now ≤ 4096) × (o.factor.product ≤ 1048576) }
     requires ready { Ready numbers.old sums.old p }
-    ensures result_after { outcome_of numbers.new sums.new result ≡ read_sum s.now p.at o.left (factor o.minus o.product) (sums_of numbers.old sums.old p) }
+    ensures result_after { outcome_of numbers.new sums.new result ≡ read_sum s.now p.at o.left (factor_of o.factor) (sums_of numbers.old sums.old p) }
     ensures sound { Sound s.now p.at numbers.new sums.new result }
     ensures ended { Ended s.now result }
 {
     let mut q = p;
-    let mut minus = o.minus;
+    let mut f = o.factor;
     loop {
-        let r = part(
+        let e = part(
             s,
             numbers,
             sums,
             q,
             Over {
-                minus: minus,
-                product: o.product,
+                factor: f,
                 left: o.left,
             },
-        );
-        match r {
-            Step::Read(e) => {
-                let j = joint_at(s, e.at, o.minus);
-                match j {
-                    Joint::On(next, m) => {
-                        minus = m;
-                        q = Place {
-                            at: next,
-                            bare: true,
-                            count: e.count,
-                            constant: e.constant,
-                        };
-                    }
-                    Joint::Last(mark) => {
-                        return Step::Read(Place {
-                            at: mark,
-                            bare: e.bare,
-                            count: e.count,
-                            constant: e.constant,
-                        });
-                    }
-                }
+        )?;
+        match joint_at(s, e.at, o.factor.minus) {
+            Joint::On(at, minus) => {
+                f = Factor { minus, ..o.factor };
+                q = e.behind(at, true);
             }
-            Step::Halted(n, b) => {
-                return Step::Halted(n, b);
+            Joint::Last(at) => {
+                return Ok(Place { at, ..e });
             }
         }
     }

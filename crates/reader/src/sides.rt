@@ -7,9 +7,10 @@ ghost use Rattle.reader.specs.Parts.{sums_of, Rests, Unjoined};
 ghost use Rattle.reader.specs.Sides.{StartIs, HalfIs, RelatedIs};
 ghost use Rattle.reader.specs.Ends.{LeftIs, RightIs, SidesIs, Reached, EndIs, line_of, Counted};
 
-use crate::parts::{Over, Place, Step, sum};
+use crate::fault::Fault;
+use crate::parts::{Over, Place, sum};
 use crate::scan::{byte_at, skip};
-use crate::sums::{Numbers, Sums, ZERO};
+use crate::sums::{Factor, Numbers, Sums, ZERO};
 
 #[derive(Clone, Copy)]
 pub enum Mark {
@@ -18,73 +19,44 @@ pub enum Mark {
     AtLeast,
 }
 
-// Where a line's first part begins, or where it is refused.
-#[derive(Clone, Copy)]
-pub enum Start {
-    At(usize),
-    Bad(usize),
-}
-
-// The relation and the place behind it, or where it is refused.
-#[derive(Clone, Copy)]
-pub enum Related {
-    By(Mark, usize),
-    NoMark(usize),
-}
-
-// Both sides read: the relation, and the sums of the left side less those of the right, up to what stands behind them; or a refusal
-// and where it is met.
-#[derive(Clone, Copy)]
-pub enum Sides {
-    Both(Mark, Place),
-    Neither(u32, usize),
-}
-
-// A line read to its end: the relation and the sums of the left side less those of the right; or a refusal and where it is met.
-#[derive(Clone, Copy)]
-pub enum Line {
-    Whole(Mark, Place),
-    Refused(u32, usize),
-}
-
-// "Spaces are free around marks": at a line's start only where a mark stands there.
-fn start_of(s: &[u8]) -> Start
+// Where a line's first part begins. "Spaces are free around marks": at a line's start only where a mark stands there.
+fn start_of(s: &[u8]) -> Result<usize, Fault>
     ensures { StartIs s.now result }
 {
     let i = skip(s, 0);
     if i == 0 {
-        return Start::At(0);
+        return Ok(0);
     }
     let b = byte_at(s, i);
     if b == b'-' {
-        return Start::At(i);
+        return Ok(i);
     }
     if b == b'(' {
-        return Start::At(i);
+        return Ok(i);
     }
-    Start::Bad(i)
+    Err(Fault::Astray(i))
 }
 
-// Behind `<` or `>`.
-fn equals_at(s: &[u8], at: usize, m: Mark) -> Related
+// Behind `<` or `>`: the relation, and the place behind it.
+fn equals_at(s: &[u8], at: usize, m: Mark) -> Result<(Mark, usize), Fault>
     requires { at ≤ length s.now }
     ensures { HalfIs s.now at m result }
 {
     if byte_at(s, at) == b'=' {
-        return Related::By(m, at + 1);
+        return Ok((m, at + 1));
     }
-    Related::NoMark(at)
+    Err(Fault::Astray(at))
 }
 
 // "one of `<=`, `=`, `>=`"
-fn relation_at(s: &[u8], at: usize) -> Related
+fn relation_at(s: &[u8], at: usize) -> Result<(Mark, usize), Fault>
     requires at_in_bounds { at ≤ length s.now }
     requires unjoined { Unjoined s.now at }
     ensures { RelatedIs s.now at result }
 {
     let b = byte_at(s, at);
     if b == b'=' {
-        return Related::By(Mark::Equal, at + 1);
+        return Ok((Mark::Equal, at + 1));
     }
     if b == b'<' {
         return equals_at(s, at + 1, Mark::AtMost);
@@ -92,100 +64,75 @@ fn relation_at(s: &[u8], at: usize) -> Related
     if b == b'>' {
         return equals_at(s, at + 1, Mark::AtLeast);
     }
-    Related::NoMark(at)
+    Err(Fault::Astray(at))
 }
 
-fn left_side(s: &[u8], numbers: &mut Numbers, sums: &mut Sums) -> Step
+fn left_side(s: &[u8], numbers: &mut Numbers, sums: &mut Sums) -> Result<Place, Fault>
     requires { length s.now ≤ 4096 }
     ensures { LeftIs s.now numbers.new sums.new result }
 {
-    match start_of(s) {
-        Start::At(i) => sum(
-            s,
-            numbers,
-            sums,
-            Place {
-                at: i,
-                bare: true,
-                count: 0,
-                constant: ZERO,
-            },
-            Over {
-                minus: false,
-                product: 1,
-                left: 16,
-            },
-        ),
-        Start::Bad(b) => Step::Halted(20, b),
-    }
+    let at = start_of(s)?;
+    let p = Place {
+        at,
+        bare: true,
+        count: 0,
+        constant: ZERO,
+    };
+    let factor = Factor {
+        minus: false,
+        product: 1,
+    };
+    sum(s, numbers, sums, p, Over { factor, left: 16 })
 }
 
 // "The reading is the constraint of the left side minus the right": the right side's parts are summed under a minus.
-fn right_side(s: &[u8], numbers: &mut Numbers, sums: &mut Sums, q: Place) -> Sides
+// The relation, and the sums of the left side less those of the right, up to what stands behind them.
+fn right_side(
+    s: &[u8],
+    numbers: &mut Numbers,
+    sums: &mut Sums,
+    q: Place,
+) -> Result<(Mark, Place), Fault>
     requires s_len_bound { length s.now ≤ 4096 }
     requires rests { Rests s.now 0 numbers.old sums.old q }
     requires unjoined { Unjoined s.now q.at }
     ensures { RightIs s.now q.at (sums_of numbers.old sums.old q) numbers.new sums.new result }
 {
-    match relation_at(s, q.at) {
-        Related::By(m, next) => {
-            let r = sum(
-                s,
-                numbers,
-                sums,
-                Place {
-                    at: next,
-                    bare: true,
-                    count: q.count,
-                    constant: q.constant,
-                },
-                Over {
-                    minus: true,
-                    product: 1,
-                    left: 16,
-                },
-            );
-            match r {
-                Step::Read(e) => Sides::Both(m, e),
-                Step::Halted(n, b) => Sides::Neither(n, b),
-            }
-        }
-        Related::NoMark(b) => Sides::Neither(20, b),
-    }
+    let (m, at) = relation_at(s, q.at)?;
+    let p = q.behind(at, true);
+    let factor = Factor {
+        minus: true,
+        product: 1,
+    };
+    let e = sum(s, numbers, sums, p, Over { factor, left: 16 })?;
+    Ok((m, e))
 }
 
-pub fn both_sides(s: &[u8], numbers: &mut Numbers, sums: &mut Sums) -> Sides
+pub fn both_sides(s: &[u8], numbers: &mut Numbers, sums: &mut Sums) -> Result<(Mark, Place), Fault>
     requires { length s.now ≤ 4096 }
     ensures { SidesIs s.now numbers.new sums.new result }
 {
-    let l = left_side(s, numbers, sums);
-    match l {
-        Step::Read(q) => right_side(s, numbers, sums, q),
-        Step::Halted(n, b) => Sides::Neither(n, b),
-    }
+    let q = left_side(s, numbers, sums)?;
+    right_side(s, numbers, sums, q)
 }
 
 // A line may end behind a part with no space behind a digit.
-fn end_of(s: &[u8], m: Mark, e: Place) -> Line
+fn end_of(s: &[u8], m: Mark, e: Place) -> Result<(Mark, Place), Fault>
     requires { Reached s.now e }
     ensures { EndIs s.now m e result }
 {
-    if e.bare {
-        if e.at == s.len() {
-            return Line::Whole(m, e);
-        }
+    if e.bare && e.at == s.len() {
+        return Ok((m, e));
     }
-    Line::Refused(20, e.at)
+    Err(Fault::Astray(e.at))
 }
 
-pub fn whole_line(s: &[u8], numbers: &mut Numbers, sums: &mut Sums) -> Line
+// A line read to its end.
+pub fn whole_line(s: &[u8], numbers: &mut Numbers, sums: &mut Sums) -> Result<(Mark, Place), Fault>
     requires { length s.now ≤ 4096 }
     ensures nothing_value { run_from s.now 0 first left nothing ≡ line_of numbers.new sums.new result }
     ensures counted { Counted result }
 {
-    let x = both_sides(s, numbers, sums);
-    match x {
-        Sides::Both(m, e) => end_of(s, m, e),
-        Sides::Neither(n, b) => Line::Refused(n, b),
-    }
+    let (m, e) = both_sides(s, numbers, sums)?;
+    end_of(s, m, e)
 }

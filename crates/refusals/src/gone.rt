@@ -1,6 +1,5 @@
 // 25: "a removal would make a 33rd gone entry". Counted before the steps, of the variables that go with what is removed.
 ghost use Rattle.std.specs.Prelude.{◌≡◌, ◌+◌, ◌<◌, ◌≤◌, get_or};
-ghost use Rattle.layout.specs.Layout.{bit_of};
 ghost use Rattle.sparse.specs.Places.{most_variables, most_constraints, most_terms, term_counts_at};
 ghost use Rattle.sparse_test.specs.Tested.{term_count};
 ghost use Rattle.laws.specs.Lists.{sum_in};
@@ -16,13 +15,6 @@ pub enum Taken {
     Constraint(u32),
     Edit(u32),
     Group(u16),
-}
-
-fn bit(b: bool) -> u64
-    ensures value { result ≡ bit_of b }
-    ensures upper_bound { result ≤ 1 }
-{
-    if b { 1 } else { 0 }
 }
 
 fn takes(words: &Words, x: Taken, c: usize) -> bool
@@ -42,7 +34,7 @@ fn edit_use(x: Taken, n: u64) -> u64
 {
     match x {
         Taken::Constraint(_) => 0,
-        Taken::Edit(m) => bit(n == m as u64),
+        Taken::Edit(m) => u64::from(n == m as u64),
         Taken::Group(_) => 0,
     }
 }
@@ -54,10 +46,8 @@ fn uses_at(bytes: &Bytes, from: usize, n: usize, p: u8) -> u64
     ensures upper_bound { result ≤ n }
 {
     let mut s = 0;
-    let mut j = 0;
-    while j < n {
-        s = s + bit(p == bytes[sparse::TERMS + (from + j)]);
-        j += 1;
+    for j in 0..n {
+        s += u64::from(p == bytes[sparse::TERMS + (from + j)]);
     }
     s
 }
@@ -86,12 +76,10 @@ fn term_uses(words: &Words, bytes: &Bytes, x: Taken, p: u8) -> u64
     let e = words[sparse::CONSTRAINT_COUNT] as usize;
     let mut s = 0;
     let mut from = 0;
-    let mut c = 0;
-    while c < e {
+    for c in 0..e {
         let n = wide(bytes[sparse::TERM_COUNTS + c]);
-        s = s + taken_at(words, bytes, x, p, c, from, n);
+        s += taken_at(words, bytes, x, p, c, from, n);
         from += n;
-        c += 1;
     }
     s
 }
@@ -118,10 +106,8 @@ fn entries_made(words: &Words, bytes: &Bytes, reals: &Reals, x: Taken) -> u64
 {
     let v = words[sparse::VARIABLE_COUNT] as usize;
     let mut s = 0;
-    let mut i = 0;
-    while i < v {
-        s = s + bit(makes_entry(words, bytes, reals, x, i));
-        i += 1;
+    for i in 0..v {
+        s += u64::from(makes_entry(words, bytes, reals, x, i));
     }
     s
 }

@@ -45,12 +45,10 @@ pub fn group_place(words: &Words, g: u16) -> usize
     ensures { result ≡ group_place words.now (constraints_in words.now) g }
 {
     let c = words[sparse::CONSTRAINT_COUNT] as usize;
-    let mut i = 0;
-    while i < c {
+    for i in 0..c {
         if g as u64 == words[sparse::CONSTRAINT_GROUPS + i] {
             return i;
         }
-        i += 1;
     }
     c
 }
@@ -70,13 +68,7 @@ fn first_of(p: changes::terms::Pack, i: usize) -> bool
 {
     let vars = p.vars;
     let x = vars[i];
-    let mut ok = true;
-    let mut j = 0;
-    while j < i {
-        ok = ok & (x != vars[j]);
-        j += 1;
-    }
-    ok
+    !vars[..i].contains(&x)
 }
 
 fn new_at(words: &Words, v: usize, p: changes::terms::Pack, i: usize) -> u64
@@ -88,11 +80,7 @@ fn new_at(words: &Words, v: usize, p: changes::terms::Pack, i: usize) -> u64
 {
     let vars = p.vars;
     let x = vars[i];
-    if !is_live(words, sparse::VARIABLE_NUMBERS, v, x as u64) & first_of(p, i) {
-        1
-    } else {
-        0
-    }
+    u64::from(!is_live(words, sparse::VARIABLE_NUMBERS, v, x as u64) & first_of(p, i))
 }
 
 fn new_variables(words: &Words, v: usize, p: changes::terms::Pack) -> u64
@@ -103,10 +91,8 @@ fn new_variables(words: &Words, v: usize, p: changes::terms::Pack) -> u64
 {
     let e = changes::terms::shown(p);
     let mut s = 0;
-    let mut i = 0;
-    while i < e {
-        s = s + new_at(words, v, p, i);
-        i += 1;
+    for i in 0..e {
+        s += new_at(words, v, p, i);
     }
     s
 }

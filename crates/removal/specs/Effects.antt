@@ -13,8 +13,8 @@ use Rattle.steps.specs.Work.{Work, find_row}
 use Rattle.steps.specs.CreateRow.{insert_in_objective}
 use Rattle.steps.specs.Remove.{insert_row_in_objective, remove_marker_effects, remove_constraint_effects}
 use Rattle.layout.specs.Layout.{kind_of}
-use Rattle.rows.specs.declared.choose.Found.{Found}
-use Rattle.rows.specs.declared.choose.Found.TheVariants.{At, Nothing}
+use Rattle.rows.specs.choose.Choose.{Found}
+use Rattle.std.specs.Prelude.{Some, None}
 use Rattle.rows.specs.choose.Choose.{on_found}
 use Rattle.sparse.specs.Places.{kinds_at}
 use Rattle.sparse.specs.Sparse.{Sparse, symbol_at, other_at, basic_of, basics_of}
@@ -57,10 +57,10 @@ module _ (a : Mark) (t : Sparse) (p : ℕ) (strength : Float) where
         by : (v : ℕ) → effect (is_error s) (work_of false a v t) ≡ by_row o (work_of false a v t)
         by v = ap (λ (c : Bool). effect c (work_of false a v t)) (error-at t p ∙ e) ∙ ap (λ (c : Option Row). by_row c (work_of false a v t)) (ap (find_row s.id) (work-rows false a v t) ∙ found ∙ q)
 
-    pub not-basic : f ≡ Nothing → Makes false false a b (insert_in_objective s.id (neg strength)) t u → Makes false false a b (remove_marker_effects s strength) t u
+    pub not-basic : f ≡ None → Makes false false a b (insert_in_objective s.id (neg strength)) t u → Makes false false a b (remove_marker_effects s strength) t u
     not-basic q m = with_row none (ap (on_found (λ i. some (basic_of t i).row) none) q) m
 
-    pub is-basic : (i : ℕ) → f ≡ At i → Makes false false a b (insert_row_in_objective (basic_of t i).row (neg strength)) t u → Makes false false a b (remove_marker_effects s strength) t u
+    pub is-basic : (i : ℕ) → f ≡ Some i → Makes false false a b (insert_row_in_objective (basic_of t i).row (neg strength)) t u → Makes false false a b (remove_marker_effects s strength) t u
     is-basic i q m = with_row (some (basic_of t i).row) (ap (on_found (λ i. some (basic_of t i).row) none) q) m
 
 -- ---- both symbols': "marker's first"

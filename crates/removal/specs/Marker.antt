@@ -25,8 +25,8 @@ use Rattle.keeps.specs.Keys.{row_id, Row?, no_row, a-row, row?, find_none}
 use Rattle.keeps.specs.Fits.{bids}
 use Rattle.keeps.specs.Frame.{pivot-frame}
 use Rattle.keeps.specs.Passes.{Ends, ends-bind, check-ends}
-use Rattle.rows.specs.declared.choose.Found.{Found}
-use Rattle.rows.specs.declared.choose.Found.TheVariants.{At, Nothing}
+use Rattle.rows.specs.choose.Choose.{Found}
+use Rattle.std.specs.Prelude.{Some, None}
 use Rattle.rows.specs.choose.Choose.{on_found}
 use Rattle.rows.specs.choose.Own.{first-is}
 use Rattle.rows.specs.declared.number.Wrote.{Wrote}
@@ -59,10 +59,10 @@ free-lone t p e = free-times t p (go (find_row (symbol_at t p).id (basics_of t))
 
 module _ (t : Sparse) (so : Sound false t) where
   module _ (p : ℕ) (low : 1 ≤ p) (high : p ≤ symbol_count t) where
-    pub no-row-of : row_for p t.words t.bytes ≡ Nothing → find_row (symbol_at t p).id (basics_of t) ≡ none
+    pub no-row-of : row_for p t.words t.bytes ≡ None → find_row (symbol_at t p).id (basics_of t) ≡ none
     no-row-of e = row-found false t so p low high ∙ ap (on_found (λ i. some (basic_of t i).row) none) e
 
-    pub row_of : (i : ℕ) → row_for p t.words t.bytes ≡ At i → find_row (symbol_at t p).id (basics_of t) ≡ some (basic_of t i).row
+    pub row_of : (i : ℕ) → row_for p t.words t.bytes ≡ Some i → find_row (symbol_at t p).id (basics_of t) ≡ some (basic_of t i).row
     row_of i e = row-found false t so p low high ∙ ap (on_found (λ i. some (basic_of t i).row) none) e
 
   -- a row is its own symbol's
@@ -72,7 +72,7 @@ module _ (t : Sparse) (so : Sound false t) where
       let l = so.rows i low high in
       ap (λ (s : Symbol). find_row s.id (basics_of t)) (basic-symbol t i)
       ∙ row_of (at i) l.0 l.1 i
-      (first-is (λ q. eqb (at i) (at q)) At Nothing 1 (1 + row_count t) i low (omega (arith, high)) (eq-eqb (at i) (at i) refl) (λ m c d. ne_eqb (at i) (at m) (λ e. let u = so.up m i c d high in omega (arith, u, e))))
+      (first-is (λ q. eqb (at i) (at q)) Some None 1 (1 + row_count t) i low (omega (arith, high)) (eq-eqb (at i) (at i) refl) (λ m c d. ne_eqb (at i) (at m) (λ e. let u = so.up m i c d high in omega (arith, u, e))))
     where
       at : ℕ → ℕ
       at q = get_or t.bytes (row_places_at + q) 0
@@ -250,11 +250,11 @@ module _ (before : Wrote) (t : Sparse) (p pivots : ℕ) where
     drop-lone o e = drop-by none lone ∙ ap leaves (chosen ∙ e)
 
     -- 17: "a removal finds no leaving row"
-    pub dropped-stuck : f ≡ Nothing → Drops (ended 17 pivots before) t
+    pub dropped-stuck : f ≡ None → Drops (ended 17 pivots before) t
     unfolding outcome_of refuse work_of
     dropped-stuck e = (sym (drop-lone none (ap (on_found (λ i. some (row_symbol t i)) none) e)), tt)
 
-    module _ (i : ℕ) (e : f ≡ At i) (r : Ended) (u : Sparse) (c : Reached (check_finite (pivot (row_symbol t i).id m (note_leaving (row_symbol t i) start))) r u) where
+    module _ (i : ℕ) (e : f ≡ Some i) (r : Ended) (u : Sparse) (c : Reached (check_finite (pivot (row_symbol t i).id m (note_leaving (row_symbol t i) start))) r u) where
       leaving-is : drop_marker m start ≡ step (row_symbol t i)
       leaving-is = drop-lone (some (row_symbol t i)) (ap (on_found (λ i. some (row_symbol t i)) none) e)
 

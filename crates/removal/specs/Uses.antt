@@ -1,6 +1,6 @@
 -- The uses of a removed constraint's variables fall, one by one: the code's calls are the steps' drop_uses, where there is room for the gone entries that they make.
 -- Assumes nothing.
-use Rattle.std.specs.Prelude.{ℕ, suc, ◌+◌, ◌-◌, ◌≤◌, ◌<◌, ◌≡◌, Bool, length, get_or}
+use Rattle.std.specs.Prelude.{ℕ, suc, ◌+◌, ◌-◌, ◌≤◌, ◌<◌, ◌≡◌, Bool, length, get_or, Option, None}
 use Rattle.std.proofs.Math.Path.{refl, sym, ap}
 use Rattle.std.proofs.Common.{◌∙◌, subst, arith}
 use Rattle.std.proofs.Math.Bool.{false}
@@ -18,11 +18,10 @@ use Rattle.sparse.specs.Sparse.{Sparse, symbol_count, symbol_at, gone_of, read}
 use Rattle.waist.specs.Working.{sparse, work_of}
 use Rattle.waist.specs.Standing.{Standing, Makes, Unowned}
 use Rattle.variables.specs.declared.less.Gone.{Gone}
-use Rattle.variables.specs.declared.less.Gone.TheVariants.{Place, Stays}
 use Rattle.variables.specs.Alone.{with_gone}
 use Rattle.variables.specs.Told.{gone_in, told_of, told_words}
 use Rattle.variables.specs.TellReads.{gone-in, tell-makes, tell-place}
-use Rattle.variables.specs.Less.{Loss, leaving}
+use Rattle.variables.specs.Less.{Loss, went, leaving}
 use Rattle.variables.specs.Falls.{lost_in, Falls}
 use Rattle.removal.specs.Reading.{makes-to, makes-then}
 use Rattle.removal.specs.Tag.{Stands}
@@ -49,16 +48,16 @@ module _ (n : ℕ) (a : Mark) (t : Sparse) (l : Loss) (f : Falls n t l) (s : Sta
   abbrev fell : Work → Work
   fell w = with_variables (use_less n w.changes.variables).variables w
 
-  drop-by : (v : ℕ) {g : Gone} → l.gone ≡ g → drop_use (use_of n) (work_of false a v t) ≡ leaving n t g (fell (work_of false a v t))
+  drop-by : (v : ℕ) {g : Option Gone} → l.gone ≡ g → drop_use (use_of n) (work_of false a v t) ≡ leaving n t g (fell (work_of false a v t))
   unfolding drop_use use_of work_of
-  drop-by v e = f.leaves (fell (work_of false a v t)) ∙ ap (λ (x : Gone). leaving n t x (fell (work_of false a v t))) e
+  drop-by v e = f.leaves (fell (work_of false a v t)) ∙ ap (λ (x : Option Gone). leaving n t x (fell (work_of false a v t))) e
 
-  pub use-stays : l.gone ≡ Stays → Makes false false a a (drop_use (use_of n)) t u
+  pub use-stays : l.gone ≡ None → Makes false false a a (drop_use (use_of n)) t u
   unfolding leaving
   use-stays e = makes-to (λ v. sym (drop-by v e)) (f.makes a s)
 
   -- "a variable at zero goes with its row and cells": its number told, and its symbol purged
-  module _ (p : ℕ) (x : Bool) (e : l.gone ≡ Place p x) (room : Room (use_of n ∷ []) (read t).changes) where
+  module _ (p : ℕ) (x : Bool) (e : l.gone ≡ went p x) (room : Room (use_of n ∷ []) (read t).changes) where
     pub told-room : length (told_of x n (gone_in l.words)) ≤ most_gone
     unfolding use_of
     told-room =

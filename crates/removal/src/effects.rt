@@ -8,7 +8,6 @@ ghost use Rattle.waist.specs.Working.{sparse};
 ghost use Rattle.waist.specs.Standing.{Standing, Makes};
 ghost use Rattle.waist.specs.Tags.{tag_at};
 
-use rows::choose::Found;
 use rows::number::Wrote;
 use sparse::{Bytes, Keys, Reals, Values, Words};
 use waist::choices::row_of;
@@ -36,7 +35,7 @@ fn remove_marker_effects(
         return before;
     }
     let f = row_of(words, bytes, p);
-    let Found::At(i) = f else {
+    let Some(i) = f else {
         return insert_in_objective(words, keys, bytes, reals, values, p, -strength, before);
     };
     insert_row_in_objective(

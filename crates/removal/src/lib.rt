@@ -22,6 +22,7 @@ ghost use Rattle.removal.specs.Tag.{Stands, TagLives};
 ghost use Rattle.removal.specs.Room.{Room};
 ghost use Rattle.removal.specs.Uses.{uses_from};
 ghost use Rattle.removal.specs.Steps.{Removes};
+ghost use Rattle.sparse.specs.Tables.{held, Same};
 
 use crate::effects::remove_constraint_effects;
 use crate::marker::drop_marker;
@@ -30,6 +31,7 @@ use changes::terms::{Pack, shown};
 use layout::TERM_ROOM;
 use optimising::optimise;
 use rows::number::Wrote;
+use sparse::tables::TablesMut;
 use sparse::{Bytes, Keys, Reals, Values, Words};
 use waist::ending::{Ended, check_finite};
 use waist::symbols::purge;
@@ -65,35 +67,24 @@ fn near_place(p: u8, q: u8) -> u8
 }
 
 // "drop the other's row if it's basic, then remove cells of both tag symbols"
-fn purge_tag(
-    words: &mut Words,
-    keys: &mut Keys,
-    bytes: &mut Bytes,
-    reals: &mut Reals,
-    values: &mut Values,
-    marker: u8,
-    other: u8,
-)
-    requires stands { Stands (sparse words.old keys.old bytes.old reals.old values.old) }
-    requires tag_lives { TagLives marker other (sparse words.old keys.old bytes.old reals.old values.old) }
-    ensures { (a : Mark) → Standing false a (sparse words.old keys.old bytes.old reals.old values.old) → Makes false false a a (purge_tag (tag_at (sparse words.old keys.old bytes.old reals.old values.old) marker other)) (sparse words.old keys.old bytes.old reals.old values.old) (sparse words.new keys.new bytes.new reals.new values.new) }
+fn purge_tag(room: &mut TablesMut, marker: u8, other: u8)
+    requires stands { Stands (held room.old) }
+    requires tag_lives { TagLives marker other (held room.old) }
+    ensures does { (a : Mark) → Standing false a (held room.old) → Makes false false a a (purge_tag (tag_at (held room.old) marker other)) (held room.old) (held room.new) }
+    ensures same { Same room.old room.new }
 {
     if other == 0 {
-        purge(words, keys, bytes, reals, values, marker);
+        purge(room, marker);
         return;
     }
-    purge(words, keys, bytes, reals, values, other);
+    purge(room, other);
     let p = near_place(other, marker);
-    purge(words, keys, bytes, reals, values, p);
+    purge(room, p);
 }
 
 // By the numbers of its terms' variables, of which there are `count`.
 fn remove_by(
-    words: &mut Words,
-    keys: &mut Keys,
-    bytes: &mut Bytes,
-    reals: &mut Reals,
-    values: &mut Values,
+    room: &mut TablesMut,
     marker: u8,
     other: u8,
     strength: f64,
@@ -102,57 +93,43 @@ fn remove_by(
     budget: u32,
     before: Wrote,
 ) -> Ended
-    requires standing { Standing false (mark_of before) (sparse words.old keys.old bytes.old reals.old values.old) }
-    requires tag_lives { TagLives marker other (sparse words.old keys.old bytes.old reals.old values.old) }
+    requires standing { Standing false (mark_of before) (held room.old) }
+    requires tag_lives { TagLives marker other (held room.old) }
     requires count_le_term_room { count ≤ term_room }
-    requires room { Room (uses_from numbers.now count 0) (read (sparse words.old keys.old bytes.old reals.old values.old)).changes }
-    ensures { Removes budget (tag_at (sparse words.old keys.old bytes.old reals.old values.old) marker other) strength numbers.now count (work_of false (mark_of before) 0 (sparse words.old keys.old bytes.old reals.old values.old)) result (sparse words.new keys.new bytes.new reals.new values.new) }
+    requires room { Room (uses_from numbers.now count 0) (read (held room.old)).changes }
+    ensures does { Removes budget (tag_at (held room.old) marker other) strength numbers.now count (work_of false (mark_of before) 0 (held room.old)) result (held room.new) }
+    ensures same { Same room.old room.new }
 {
     let taken = take_effects(
-        words, keys, bytes, reals, values, marker, other, strength, before,
+        room.words,
+        room.keys,
+        room.bytes,
+        room.reals,
+        room.values,
+        marker,
+        other,
+        strength,
+        before,
     );
     if taken.number != 0 {
         return taken;
     }
-    let dropped = drop_marker(
-        words,
-        keys,
-        bytes,
-        reals,
-        values,
-        marker,
-        taken.pivots,
-        taken.wrote,
-    );
+    let dropped = drop_marker(room, marker, taken.pivots, taken.wrote);
     if dropped.number != 0 {
         return dropped;
     }
-    purge_tag(words, keys, bytes, reals, values, marker, other);
-    let passed = optimise(
-        false,
-        words,
-        keys,
-        bytes,
-        reals,
-        values,
-        budget,
-        dropped.pivots,
-        dropped.wrote,
-    );
+    purge_tag(room, marker, other);
+    let passed = optimise(false, room, budget, dropped.pivots, dropped.wrote);
     if passed.number != 0 {
         return passed;
     }
-    drop_uses(words, keys, bytes, reals, values, numbers, count);
+    drop_uses(room, numbers, count);
     passed
 }
 
 // Remove's steps on a stored constraint, or on an edit as one of one term, by the places of its tag; 0 is no other symbol. 25 "stands before the steps of removal": there is room for the entries that they make.
 pub fn remove_steps(
-    words: &mut Words,
-    keys: &mut Keys,
-    bytes: &mut Bytes,
-    reals: &mut Reals,
-    values: &mut Values,
+    room: &mut TablesMut,
     marker: u8,
     other: u8,
     strength: f64,
@@ -160,15 +137,14 @@ pub fn remove_steps(
     budget: u32,
     before: Wrote,
 ) -> Ended
-    requires standing { Standing false (mark_of before) (sparse words.old keys.old bytes.old reals.old values.old) }
-    requires tag_lives { TagLives marker other (sparse words.old keys.old bytes.old reals.old values.old) }
-    requires room { Room (terms_of p) (read (sparse words.old keys.old bytes.old reals.old values.old)).changes }
-    ensures values_value { outcome_of false result (sparse words.new keys.new bytes.new reals.new values.new) ≡ remove_steps budget (tag_at (sparse words.old keys.old bytes.old reals.old values.old) marker other) strength (terms_of p) (work_of false (mark_of before) 0 (sparse words.old keys.old bytes.old reals.old values.old)) }
-    ensures goes { Goes false result (sparse words.new keys.new bytes.new reals.new values.new) }
+    requires standing { Standing false (mark_of before) (held room.old) }
+    requires tag_lives { TagLives marker other (held room.old) }
+    requires room { Room (terms_of p) (read (held room.old)).changes }
+    ensures values_value { outcome_of false result (held room.new) ≡ remove_steps budget (tag_at (held room.old) marker other) strength (terms_of p) (work_of false (mark_of before) 0 (held room.old)) }
+    ensures goes { Goes false result (held room.new) }
+    ensures same { Same room.old room.new }
 {
     let count = shown(p);
     let vars = p.vars;
-    remove_by(
-        words, keys, bytes, reals, values, marker, other, strength, &vars, count, budget, before,
-    )
+    remove_by(room, marker, other, strength, &vars, count, budget, before)
 }

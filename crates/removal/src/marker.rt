@@ -5,7 +5,7 @@ ghost use Rattle.steps.specs.Number.{zero64, Mark};
 ghost use Rattle.steps.specs.Work.{check_finite};
 ghost use Rattle.steps.specs.Substitute.{pivot};
 ghost use Rattle.steps.specs.Remove.{note_leaving, drop_marker};
-ghost use Rattle.rows.specs.declared.choose.Found.TheVariants.{Nothing};
+ghost use Rattle.std.specs.Prelude.{None};
 ghost use Rattle.rows.specs.Marks.{mark_of};
 ghost use Rattle.sparse.specs.Places.{symbol_count_at, row_count_at};
 ghost use Rattle.sparse.specs.Sparse.{symbol_at};
@@ -16,9 +16,10 @@ ghost use Rattle.waist.specs.Standing.{Standing, Makes, row_symbol};
 ghost use Rattle.waist.specs.Ending.{outcome_of, Goes, ended};
 ghost use Rattle.waist.specs.Rows.{row_for};
 ghost use Rattle.removal.specs.Marker.{without};
+ghost use Rattle.sparse.specs.Tables.{held, Same};
 
-use rows::choose::Found;
 use rows::number::Wrote;
+use sparse::tables::TablesMut;
 use sparse::{Bytes, CONSTANTS, Keys, ROW_PLACES, Reals, Values, Words};
 use waist::choices::{get_marker_leaving_row, row_of};
 use waist::ending::{Ended, check_finite};
@@ -52,50 +53,42 @@ fn note_leaving(
 }
 
 // The leaving row i is noted; then it leaves, and the marker at place p enters.
-fn pivot_marker(
-    words: &mut Words,
-    keys: &mut Keys,
-    bytes: &mut Bytes,
-    reals: &mut Reals,
-    values: &mut Values,
-    i: u8,
-    p: u8,
-    pivots: u32,
-    before: Wrote,
-) -> Ended
-    requires standing { Standing false (mark_of before) (sparse words.old keys.old bytes.old reals.old values.old) }
+fn pivot_marker(room: &mut TablesMut, i: u8, p: u8, pivots: u32, before: Wrote) -> Ended
+    requires standing { Standing false (mark_of before) (held room.old) }
     requires le_i { 1 ≤ i }
-    requires i_bound { i ≤ get_or words.old row_count_at 0 }
+    requires i_bound { i ≤ get_or room.old.words.now row_count_at 0 }
     requires le_p { 1 ≤ p }
-    requires p_bound { p ≤ get_or words.old symbol_count_at 0 }
-    requires free { Free p (sparse words.old keys.old bytes.old reals.old values.old) }
-    ensures values_value { outcome_of false result (sparse words.new keys.new bytes.new reals.new values.new) ≡ check_finite (pivot (row_symbol (sparse words.old keys.old bytes.old reals.old values.old) i).id (symbol_at (sparse words.old keys.old bytes.old reals.old values.old) p) (note_leaving (row_symbol (sparse words.old keys.old bytes.old reals.old values.old) i) (work_of false (mark_of before) pivots (sparse words.old keys.old bytes.old reals.old values.old)))) }
-    ensures goes { Goes false result (sparse words.new keys.new bytes.new reals.new values.new) }
+    requires p_bound { p ≤ get_or room.old.words.now symbol_count_at 0 }
+    requires free { Free p (held room.old) }
+    ensures values_value { outcome_of false result (held room.new) ≡ check_finite (pivot (row_symbol (held room.old) i).id (symbol_at (held room.old) p) (note_leaving (row_symbol (held room.old) i) (work_of false (mark_of before) pivots (held room.old)))) }
+    ensures goes { Goes false result (held room.new) }
+    ensures same { Same room.old room.new }
 {
-    note_leaving(words, keys, bytes, reals, values, i);
-    let w = pivot_on(false, words, keys, bytes, reals, values, i, p, before);
+    note_leaving(
+        room.words,
+        room.keys,
+        room.bytes,
+        room.reals,
+        room.values,
+        i,
+    );
+    let w = pivot_on(false, room, i, p, before);
     check_finite(pivots, w)
 }
 
 // The row of the symbol at place p, if it is basic, goes.
-fn drop_row_of(
-    words: &mut Words,
-    keys: &mut Keys,
-    bytes: &mut Bytes,
-    reals: &mut Reals,
-    values: &mut Values,
-    p: u8,
-)
-    requires sound { Sound false (sparse words.old keys.old bytes.old reals.old values.old) }
+fn drop_row_of(room: &mut TablesMut, p: u8)
+    requires sound { Sound false (held room.old) }
     requires le_p { 1 ≤ p }
-    requires p_bound { p ≤ get_or words.old symbol_count_at 0 }
-    ensures { (a : Mark) → Standing false a (sparse words.old keys.old bytes.old reals.old values.old) → Makes false false a a (without (symbol_at (sparse words.old keys.old bytes.old reals.old values.old) p).id) (sparse words.old keys.old bytes.old reals.old values.old) (sparse words.new keys.new bytes.new reals.new values.new) }
+    requires p_bound { p ≤ get_or room.old.words.now symbol_count_at 0 }
+    ensures does { (a : Mark) → Standing false a (held room.old) → Makes false false a a (without (symbol_at (held room.old) p).id) (held room.old) (held room.new) }
+    ensures same { Same room.old room.new }
 {
-    let f = row_of(words, bytes, p);
-    let Found::At(i) = f else {
+    let f = row_of(room.words, room.bytes, p);
+    let Some(i) = f else {
         return;
     };
-    drop_on(false, words, keys, bytes, reals, values, i as u8);
+    drop_on(false, room, i as u8);
 }
 
 fn no_leaving_row(pivots: u32, before: Wrote) -> Ended
@@ -109,59 +102,41 @@ fn no_leaving_row(pivots: u32, before: Wrote) -> Ended
 }
 
 // The marker, at place p, is not basic. 17: "a removal finds no leaving row"
-fn enter_and_drop(
-    words: &mut Words,
-    keys: &mut Keys,
-    bytes: &mut Bytes,
-    reals: &mut Reals,
-    values: &mut Values,
-    p: u8,
-    pivots: u32,
-    before: Wrote,
-) -> Ended
-    requires standing { Standing false (mark_of before) (sparse words.old keys.old bytes.old reals.old values.old) }
+fn enter_and_drop(room: &mut TablesMut, p: u8, pivots: u32, before: Wrote) -> Ended
+    requires standing { Standing false (mark_of before) (held room.old) }
     requires le_p { 1 ≤ p }
-    requires p_bound { p ≤ get_or words.old symbol_count_at 0 }
-    requires bytes_value { row_for p words.old bytes.old ≡ Nothing }
-    ensures values_value { outcome_of false result (sparse words.new keys.new bytes.new reals.new values.new) ≡ drop_marker (symbol_at (sparse words.old keys.old bytes.old reals.old values.old) p) (work_of false (mark_of before) pivots (sparse words.old keys.old bytes.old reals.old values.old)) }
-    ensures goes { Goes false result (sparse words.new keys.new bytes.new reals.new values.new) }
+    requires p_bound { p ≤ get_or room.old.words.now symbol_count_at 0 }
+    requires bytes_value { row_for p room.old.words.now room.old.bytes.now ≡ None }
+    ensures values_value { outcome_of false result (held room.new) ≡ drop_marker (symbol_at (held room.old) p) (work_of false (mark_of before) pivots (held room.old)) }
+    ensures goes { Goes false result (held room.new) }
+    ensures same { Same room.old room.new }
 {
-    let f = get_marker_leaving_row(words, keys, bytes, reals, values, p);
-    let Found::At(i) = f else {
+    let f = get_marker_leaving_row(room, p);
+    let Some(i) = f else {
         return no_leaving_row(pivots, before);
     };
-    let e = pivot_marker(
-        words, keys, bytes, reals, values, i as u8, p, pivots, before,
-    );
+    let e = pivot_marker(room, i as u8, p, pivots, before);
     if e.number != 0 {
         return e;
     }
-    drop_row_of(words, keys, bytes, reals, values, p);
+    drop_row_of(room, p);
     e
 }
 
 // The marker, at place p.
-pub fn drop_marker(
-    words: &mut Words,
-    keys: &mut Keys,
-    bytes: &mut Bytes,
-    reals: &mut Reals,
-    values: &mut Values,
-    p: u8,
-    pivots: u32,
-    before: Wrote,
-) -> Ended
-    requires standing { Standing false (mark_of before) (sparse words.old keys.old bytes.old reals.old values.old) }
+pub fn drop_marker(room: &mut TablesMut, p: u8, pivots: u32, before: Wrote) -> Ended
+    requires standing { Standing false (mark_of before) (held room.old) }
     requires le_p { 1 ≤ p }
-    requires p_bound { p ≤ get_or words.old symbol_count_at 0 }
-    ensures values_value { outcome_of false result (sparse words.new keys.new bytes.new reals.new values.new) ≡ drop_marker (symbol_at (sparse words.old keys.old bytes.old reals.old values.old) p) (work_of false (mark_of before) pivots (sparse words.old keys.old bytes.old reals.old values.old)) }
-    ensures goes { Goes false result (sparse words.new keys.new bytes.new reals.new values.new) }
+    requires p_bound { p ≤ get_or room.old.words.now symbol_count_at 0 }
+    ensures values_value { outcome_of false result (held room.new) ≡ drop_marker (symbol_at (held room.old) p) (work_of false (mark_of before) pivots (held room.old)) }
+    ensures goes { Goes false result (held room.new) }
+    ensures same { Same room.old room.new }
 {
-    let f = row_of(words, bytes, p);
-    let Found::At(i) = f else {
-        return enter_and_drop(words, keys, bytes, reals, values, p, pivots, before);
+    let f = row_of(room.words, room.bytes, p);
+    let Some(i) = f else {
+        return enter_and_drop(room, p, pivots, before);
     };
-    drop_on(false, words, keys, bytes, reals, values, i as u8);
+    drop_on(false, room, i as u8);
     Ended {
         number: 0,
         pivots,

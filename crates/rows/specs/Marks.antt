@@ -5,6 +5,7 @@ use Rattle.steps.specs.Symbol.{absent}
 use Rattle.steps.specs.Row.{Cell, kept, wrote, goes_if_near_zero, insert_cell, insert_times}
 use Rattle.rows.specs.declared.number.Wrote.{Wrote}
 use Rattle.rows.specs.declared.cell.Left.{Left}
+use Rattle.rows.specs.declared.cell.Left.TheVariants.{Kept, Written}
 
 unfoldable pub mark_of : Wrote → Mark
 mark_of w = cond w.finite (whole_if w.whole) not_finite
@@ -16,7 +17,8 @@ unfoldable pub join : Wrote → Wrote → Wrote
 join v w = record { finite = v.finite && w.finite; whole = v.whole && w.whole }
 
 unfoldable pub cell_of : Left → Cell
-cell_of c = cond c.wrote (wrote c.value) (kept c.value)
+cell_of (Kept c) = kept c
+cell_of (Written c) = wrote c
 
 pub mark-clean : mark_of clean ≡ all_whole
 unfolding mark_of clean whole_if

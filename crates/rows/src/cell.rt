@@ -4,13 +4,13 @@ ghost use Rattle.steps.specs.Number.{worse};
 ghost use Rattle.steps.specs.Row.{stored, cell_value, cell_mark, goes_if_near_zero, insert_cell, scale_cell, factor_mark};
 ghost use Rattle.rows.specs.Marks.{mark_of, cell_of};
 
-use crate::number::{Wrote, is_finite, joined, magnitude, near_zero, within};
+use crate::number::{Wrote, is_finite, joined, magnitude, mark_write, near_zero, nothing};
 
-// What an operation leaves at a cell's place: a cell written, or the cell as it was.
+// What an operation leaves at a cell's place: the cell as it was, or a cell written.
 #[derive(Clone, Copy)]
-pub struct Left {
-    pub wrote: bool,
-    pub value: f64,
+pub enum Left {
+    Kept(f64),
+    Written(f64),
 }
 
 pub fn stored(c: f64) -> f64
@@ -30,45 +30,40 @@ pub fn insert_cell(cutoff: f64, old: f64, k: f64) -> Left
 {
     if old == 0.0 {
         if near_zero(cutoff, k) {
-            Left {
-                wrote: false,
-                value: old,
-            }
+            Left::Kept(old)
         } else {
-            Left {
-                wrote: true,
-                value: k,
-            }
+            Left::Written(k)
         }
     } else {
-        Left {
-            wrote: true,
-            value: goes_if_near_zero(cutoff, old + k),
-        }
+        Left::Written(goes_if_near_zero(cutoff, old + k))
     }
 }
 
 pub fn scale_cell(factor: f64, c: f64) -> Left
     ensures { cell_of result ≡ scale_cell factor c }
 {
-    Left {
-        wrote: c != 0.0,
-        value: if c == 0.0 { c } else { c * factor },
+    if c == 0.0 {
+        Left::Kept(c)
+    } else {
+        Left::Written(c * factor)
     }
 }
 
 pub fn cell_value(c: Left) -> f64
     ensures { result ≡ cell_value (cell_of c) }
 {
-    if c.wrote { stored(c.value) } else { c.value }
+    match c {
+        Left::Kept(x) => x,
+        Left::Written(x) => stored(x),
+    }
 }
 
 pub fn cell_mark(bound: f64, c: Left) -> Wrote
     ensures { mark_of result ≡ cell_mark bound (cell_of c) }
 {
-    Wrote {
-        finite: !c.wrote | is_finite(c.value),
-        whole: !c.wrote | within(bound, c.value),
+    match c {
+        Left::Kept(_) => nothing(),
+        Left::Written(x) => mark_write(bound, x),
     }
 }
 

@@ -53,7 +53,7 @@ pub fn whole_within(bound: f64, x: f64) -> bool
     is_whole(x) & within(bound, x)
 }
 
-// What was written: all of it finite, all of it whole and within its bound.
+// What was written: all of it finite, all of it whole and within its bound. (Two flags, and no enum of the three marks: `&` alone joins them.)
 #[repr(C)]
 #[derive(Clone, Copy)]
 pub struct Wrote {

@@ -7,7 +7,8 @@ ghost use Rattle.rows.specs.places.Marked.{Marks, Hits, fits_in, hits_in};
 
 use layout::cells::ROW_ROOM;
 
-// a product with 0.0 is 0.0 of what is finite, and NaN of what is not
+// a product with 0.0 is 0.0 of what is finite, and NaN of what is not (In a loop over numbers, where the compiler tests several at once, the two
+// comparisons of number's `is_finite` took 1.7 times as long; a core without an f64 unit multiplies slower than it compares. So there are both.)
 pub fn is_finite(x: f64) -> bool
     ensures { result ≡ is_finite x }
 {
@@ -26,10 +27,8 @@ pub fn real_finite(row: &[f64; 17], a: usize, n: usize) -> bool
     ensures { result ≡ finite_in row.now a n }
 {
     let mut ok = true;
-    let mut i = 0;
-    while i < n {
-        ok = ok & is_finite(row[a + i]);
-        i += 1;
+    for i in 0..n {
+        ok &= is_finite(row[a + i]);
     }
     ok
 }
@@ -51,10 +50,8 @@ fn row_hits(row: &[f64; ROW_ROOM], marks: &[f64; ROW_ROOM], a: usize, e: usize) 
     ensures { result ≡ hits_in row.now marks.now a e }
 {
     let mut hits = 0;
-    let mut j = a;
-    while j < e {
+    for j in a..e {
         hits += cell_hit(row[j], marks[j]);
-        j += 1;
     }
     hits
 }
@@ -91,10 +88,8 @@ pub fn none_left(left: &[u64], n: usize) -> bool
     ensures { result ≡ none_left left.now n }
 {
     let mut ok = true;
-    let mut i = 0;
-    while i < n {
-        ok = ok & (left[i] == 0);
-        i += 1;
+    for i in 0..n {
+        ok &= left[i] == 0;
     }
     ok
 }

@@ -11,18 +11,12 @@ use crate::cell::{cell_mark, cell_value, factor_mark, insert_cell, mark_cell, sc
 use crate::number::{CELL_BOUND, CONSTANT_BOUND, Wrote, joined, mark_write, nothing};
 use layout::cells::ROW_ROOM;
 
-// An array by value tells its length, and one behind a reference does not: these two hand it over, at no cost.
-fn told(row: [f64; ROW_ROOM])
-    ensures { length row ≡ row_room }
-{}
-
+// A row has room for `row_room` numbers, which its type says.
 pub fn wide(row: &[f64; ROW_ROOM])
     ensures { length row.now ≡ row_room }
-{
-    told(*row);
-}
+{}
 
-// What an insertion wrote, and whether it changed the constant.
+// What an insertion wrote, and whether it changed the constant: two facts that both always hold, no value that may be missing.
 #[derive(Clone, Copy)]
 pub struct Inserted {
     pub changed: bool,
@@ -73,13 +67,9 @@ pub fn insert_cells(
     ensures result_value { mark_of result ≡ insert_cells_mark cutoff bound k width other.now row.old }
     ensures row_after { row.new ≡ insert_cells_in cutoff k width other.now row.old }
 {
-    wide(row);
-    wide(other);
     let mut w = nothing();
-    let mut i = 1;
-    while i <= width {
+    for i in 1..width + 1 {
         w = insert_at(cutoff, row, i, other[i], k, bound, w);
-        i += 1;
     }
     w
 }
@@ -124,12 +114,9 @@ fn scale_cells(row: &mut [f64; ROW_ROOM], factor: f64, width: usize) -> Wrote
     ensures result_value { mark_of result ≡ scale_cells_mark factor width row.old }
     ensures row_after { row.new ≡ scale_cells_in factor width row.old }
 {
-    wide(row);
     let mut w = nothing();
-    let mut i = 1;
-    while i <= width {
+    for i in 1..width + 1 {
         w = scale_at(row, i, factor, w);
-        i += 1;
     }
     w
 }
@@ -175,10 +162,8 @@ pub fn reverse_sign(row: &mut [f64; ROW_ROOM], width: usize)
     ensures { row.new ≡ reverse_sign_in width row.old }
 {
     row[0] = -row[0];
-    let mut i = 1;
-    while i <= width {
+    for i in 1..width + 1 {
         row[i] = stored(-row[i]);
-        i += 1;
     }
 }
 

@@ -1,9 +1,8 @@
 -- On tables that read as a state, every call's answer is the text of the steps' reply, and the tables afterwards are the steps' state written back.
-use Rattle.std.specs.Prelude.{ℕ, ◌+◌, ◌≤◌, ◌<◌, ◌≡◌, Bool, List, map, get_or, replicate}
+use Rattle.std.specs.Prelude.{Some, ℕ, ◌+◌, ◌≤◌, ◌<◌, ◌≡◌, Bool, List, map, get_or, replicate}
 use Rattle.std.proofs.Math.Path.{refl, ap}
 use Rattle.std.proofs.Common.{sym, ◌∙◌, subst, arith}
 use Rattle.std.proofs.Math.Bool.{true, false}
-use Rattle.std.proofs.Math.Option.{some}
 use Rattle.std.proofs.Math.Nat.{zero-add}
 use Rattle.std.proofs.Math.Dec.{T, eqb}
 use Rattle.std.proofs.Math.ListN.{length, length-replicate, length-map, get_or-map}
@@ -96,7 +95,7 @@ module _ (t : Sparse) (ok : reads t ≡ true) where
   same : write (read t) t ≡ t
   same = write_read t (reads-form t ok)
 
-  pub reply-turn : (c : Call) → of_document c ≡ true → reply_of (some c) t ≡ turn_said c t
+  pub reply-turn : (c : Call) → of_document c ≡ true → reply_of (Some c) t ≡ turn_said c t
   unfolding reply_of turn_said turn answered reply_text said_by call_of call_in asked fetch_said fetch_of fetch_in of_document
   reply-turn (resets x) e = rw (reset-read x t ok) refl
   reply-turn (adds g n ts k r b) e = rw ok refl

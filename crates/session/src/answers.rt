@@ -1,6 +1,6 @@
 // A line answered: the text of the answer, into the lent buffer.
-ghost use Rattle.std.specs.Prelude.{◌≡◌, ◌≤◌, length, take};
-ghost use Rattle.waist.specs.Working.{lent, sparse};
+ghost use Rattle.std.specs.Prelude.{◌≡◌, ◌≤◌, length, take, Some};
+ghost use Rattle.sparse.specs.Tables.{lent, held as sparse};
 ghost use Rattle.lending.specs.Lending.{called, answer_of, call_of};
 ghost use Rattle.steps.specs.Changing.{made};
 ghost use Rattle.changes.specs.Change.{changing_of};
@@ -20,57 +20,44 @@ use changes::terms::Pack;
 use fetches::shown::{LINE_REALS, LINE_WORDS};
 use layout::TERM_ROOM;
 use lending::Answer;
+use sparse::tables::{Tables, TablesMut};
 use sparse::{Bytes, Keys, Reals, Values, Words};
+use text::buffer::Out;
 use text::calls::{Call, Line, Query};
-use text::floats::Id;
 use text::writing;
 
-pub type Out = [u8; 8192];
-
 // A change, in a working room of its own; p: the terms of an add.
-fn change(
-    words: &mut Words,
-    keys: &mut Keys,
-    bytes: &mut Bytes,
-    reals: &mut Reals,
-    values: &mut Values,
-    c: Change,
-    p: Pack,
-    budget: u16,
-) -> Answer
-    ensures { called (answer_of result) (sparse words.new keys.new bytes.new reals.new values.new) ≡ call_of (made (changing_of c p budget)) room (sparse words.old keys.old bytes.old reals.old values.old) }
+fn change(tables: &mut TablesMut, c: Change, p: Pack, budget: u16) -> Answer
+    ensures { called (answer_of result) (sparse tables.new) ≡ call_of (made (changing_of c p budget)) room (sparse tables.old) }
 {
     let mut w: Words = [0; sparse::WORDS_SIZE];
     let mut k: Keys = [0; layout::cells::CELL_ROOM];
     let mut b: Bytes = [0; sparse::BYTES_SIZE];
     let mut r: Reals = [0.0; sparse::REALS_SIZE];
     let mut v: Values = [0.0; layout::cells::CELL_ROOM];
-    solver::change(
-        words, keys, bytes, reals, values, &mut w, &mut k, &mut b, &mut r, &mut v, c, p, budget,
-    )
+    let mut room = TablesMut {
+        words: &mut w,
+        keys: &mut k,
+        bytes: &mut b,
+        reals: &mut r,
+        values: &mut v,
+    };
+    solver::change(tables, &mut room, c, p, budget)
 }
 
-fn say_fetch(
-    words: &mut Words,
-    keys: &Keys,
-    bytes: &mut Bytes,
-    reals: &mut Reals,
-    values: &Values,
-    out: &mut Out,
-    at: usize,
-) -> usize
+fn say_fetch(tables: &mut TablesMut, out: &mut Out, at: usize) -> usize
     requires { at ≤ 5000 }
-    ensures { Spoken (fetch_said (fetch_of (sparse words.old keys.now bytes.old reals.old values.now))) out.old out.new at result (sparse words.new keys.now bytes.new reals.new values.now) }
+    ensures { Spoken (fetch_said (fetch_of (sparse tables.old))) out.old out.new at result (sparse tables.new) }
 {
     let mut numbers: fetches::Numbers = [0; fetches::PLACES];
     let mut moved: fetches::Moved = [0.0; fetches::PLACES];
     let mut gone: fetches::Flags = [0; fetches::PLACES];
     let f = fetches::fetch_changes(
-        words,
-        keys,
-        bytes,
-        reals,
-        values,
+        tables.words,
+        tables.keys,
+        tables.bytes,
+        tables.reals,
+        tables.values,
         &mut numbers,
         &mut moved,
         &mut gone,
@@ -78,30 +65,21 @@ fn say_fetch(
     writing::put_fetch(out, at, &numbers, &moved, &gone, f.count)
 }
 
-fn ask(
-    q: Query,
-    words: &Words,
-    keys: &Keys,
-    bytes: &Bytes,
-    reals: &Reals,
-    values: &Values,
-    out: &mut Out,
-    at: usize,
-) -> usize
+fn ask(q: Query, tables: &Tables, out: &mut Out, at: usize) -> usize
     requires { at ≤ 5000 }
-    ensures { Wrote out.old out.new at result (asked_text q (lent words.entry keys.entry bytes.entry reals.entry values.entry)) }
+    ensures { Wrote out.old out.new at result (asked_text q (lent tables.now)) }
 {
     match q {
         Query::Value(v) => {
-            let x = sparse_test::asking::get_value(words, keys, bytes, reals, values, v);
+            let x = sparse_test::asking::get_value(tables, v);
             writing::put_float(out, at, x)
         }
         Query::HasCon(c) => {
-            let b = sparse_test::asking::has_constraint(words, keys, bytes, reals, values, c);
+            let b = sparse_test::asking::has_constraint(tables, c);
             writing::put_flag(out, at, b)
         }
         Query::HasEdit(v) => {
-            let b = sparse_test::asking::has_edit(words, keys, bytes, reals, values, v);
+            let b = sparse_test::asking::has_edit(tables, v);
             writing::put_flag(out, at, b)
         }
         Query::Create(a, b, c, k) => writing::put_float(
@@ -114,60 +92,38 @@ fn ask(
 }
 
 // "`show C`": the constraint as it was added.
-fn say_shown(
-    number: u32,
-    words: &Words,
-    keys: &Keys,
-    bytes: &Bytes,
-    reals: &Reals,
-    values: &Values,
-    out: &mut Out,
-    at: usize,
-) -> usize
+fn say_shown(number: u32, tables: &Tables, out: &mut Out, at: usize) -> usize
     requires { at ≤ 5000 }
-    ensures { Wrote out.old out.new at result (shown_reply number (lent words.entry keys.entry bytes.entry reals.entry values.entry)) }
+    ensures { Wrote out.old out.new at result (shown_reply number (lent tables.now)) }
 {
     let mut w = [0u64; LINE_WORDS];
     let mut x = [0.0f64; LINE_REALS];
     let mut v = [0u32; TERM_ROOM];
     let mut k = [0.0f64; TERM_ROOM];
-    fetches::shown::show(
-        words, keys, bytes, reals, values, number, &mut w, &mut x, &mut v, &mut k,
-    );
+    fetches::shown::show(tables, number, &mut w, &mut x, &mut v, &mut k);
     text::show_text::answers::put_shown(out, at, &w, &x, &v, &k)
 }
 
 // p: the terms of an add.
-fn answer(
-    call: Call,
-    p: Pack,
-    words: &mut Words,
-    keys: &mut Keys,
-    bytes: &mut Bytes,
-    reals: &mut Reals,
-    values: &mut Values,
-    out: &mut Out,
-    at: usize,
-) -> usize
+fn answer(call: Call, p: Pack, tables: &mut TablesMut, out: &mut Out, at: usize) -> usize
     requires { at ≤ 5000 }
-    ensures { Spoken (reply_of (call_from call p) (sparse words.old keys.old bytes.old reals.old values.old)) out.old out.new at result (sparse words.new keys.new bytes.new reals.new values.new) }
+    ensures { Spoken (reply_of (Some (call_from call p)) (sparse tables.old)) out.old out.new at result (sparse tables.new) }
 {
     match call {
         Call::Reset(cutoff) => {
-            let a = lending::reset(words, keys, bytes, reals, values, cutoff);
+            let a = lending::reset(tables, cutoff);
             writing::put_answer(out, at, a.number, a.pivots, a.whole)
         }
         Call::Change(c, b) => {
-            let a = change(words, keys, bytes, reals, values, c, p, b);
+            let a = change(tables, c, p, b);
             writing::put_answer(out, at, a.number, a.pivots, a.whole)
         }
-        Call::Ask(q) => ask(q, words, keys, bytes, reals, values, out, at),
-        Call::Fetch => say_fetch(words, keys, bytes, reals, values, out, at),
-        Call::Bad => writing::put_unread(out, at),
+        Call::Ask(q) => ask(q, &tables.lend(), out, at),
+        Call::Fetch => say_fetch(tables, out, at),
     }
 }
 
-fn read_front(line: &[u8], held: usize) -> Line
+fn read_front(line: &[u8], held: usize) -> Option<Line>
     requires { held ≤ length line.now }
     ensures { result ≡ line_of (Format·callOf (words_of (take held line.now))) }
 {
@@ -178,28 +134,24 @@ fn read_front(line: &[u8], held: usize) -> Line
 fn answer_line(
     line: &[u8; 4096],
     held: usize,
-    words: &mut Words,
-    keys: &mut Keys,
-    bytes: &mut Bytes,
-    reals: &mut Reals,
-    values: &mut Values,
+    tables: &mut TablesMut,
     out: &mut Out,
     at: usize,
 ) -> usize
     requires { at ≤ 5000 }
-    ensures spoken { Spoken (held_reply (held_of line.now held) (sparse words.old keys.old bytes.old reals.old values.old)) out.old out.new at result (sparse words.new keys.new bytes.new reals.new values.new) }
+    ensures spoken { Spoken (held_reply (held_of line.now held) (sparse tables.old)) out.old out.new at result (sparse tables.new) }
     ensures upper_bound { result ≤ 8000 }
 {
     if 4096 < held {
         return writing::put_unread(out, at);
     }
-    let l = read_front(line, held);
-    let call = l.call;
-    let p = l.terms;
-    answer(call, p, words, keys, bytes, reals, values, out, at)
+    let Some(l) = read_front(line, held) else {
+        return writing::put_unread(out, at);
+    };
+    answer(l.call, l.terms, tables, out, at)
 }
 
-fn show_front(line: &[u8], held: usize) -> Id
+fn show_front(line: &[u8], held: usize) -> Option<u32>
     requires { held ≤ length line.now }
     ensures { result ≡ asks_for (words_of (take held line.now)) }
 {
@@ -210,23 +162,19 @@ fn show_front(line: &[u8], held: usize) -> Id
 pub fn answer_held(
     line: &[u8; 4096],
     held: usize,
-    words: &mut Words,
-    keys: &mut Keys,
-    bytes: &mut Bytes,
-    reals: &mut Reals,
-    values: &mut Values,
+    tables: &mut TablesMut,
     out: &mut Out,
     at: usize,
 ) -> usize
     requires { at ≤ 5000 }
-    ensures spoken { Spoken (held_answer (held_of line.now held) (sparse words.old keys.old bytes.old reals.old values.old)) out.old out.new at result (sparse words.new keys.new bytes.new reals.new values.new) }
+    ensures spoken { Spoken (held_answer (held_of line.now held) (sparse tables.old)) out.old out.new at result (sparse tables.new) }
     ensures upper_bound { result ≤ 8000 }
 {
     if 4096 < held {
-        return answer_line(line, held, words, keys, bytes, reals, values, out, at);
+        return answer_line(line, held, tables, out, at);
     }
-    let Id::Is32(n) = show_front(line, held) else {
-        return answer_line(line, held, words, keys, bytes, reals, values, out, at);
+    let Some(n) = show_front(line, held) else {
+        return answer_line(line, held, tables, out, at);
     };
-    say_shown(n, words, keys, bytes, reals, values, out, at)
+    say_shown(n, &tables.lend(), out, at)
 }

@@ -4,6 +4,7 @@
 mod answers;
 mod stream;
 
+use sparse::tables::TablesMut;
 use sparse::{Bytes, Keys, Reals, Values, Words};
 use std::io;
 use text::duplex::Duplex;
@@ -16,35 +17,25 @@ fn main(rt: HostRuntime) -> io::Result<()> {
     let mut bytes: Bytes = [0; sparse::BYTES_SIZE];
     let mut reals: Reals = [0.0; sparse::REALS_SIZE];
     let mut values: Values = [0.0; layout::cells::CELL_ROOM];
+    let mut tables = TablesMut {
+        words: &mut words,
+        keys: &mut keys,
+        bytes: &mut bytes,
+        reals: &mut reals,
+        values: &mut values,
+    };
     let mut piece = [0u8; 4096];
     let mut line = [0u8; 4096];
     let mut out = [0u8; 8192];
     let mut duplex = Duplex::new(rt.stdin(), rt.stdout());
-    lending::reset(
-        &mut words,
-        &mut keys,
-        &mut bytes,
-        &mut reals,
-        &mut values,
-        text::calls::USUAL_CUTOFF,
-    );
+    lending::reset(&mut tables, text::calls::USUAL_CUTOFF);
     let mut p = stream::begin();
     for _ in 0..u64::MAX {
         if !p.more {
             break;
         }
         p = stream::take(&mut duplex, &mut piece, &mut line, &out, p);
-        p = stream::say(
-            &mut duplex,
-            p,
-            &line,
-            &mut words,
-            &mut keys,
-            &mut bytes,
-            &mut reals,
-            &mut values,
-            &mut out,
-        );
+        p = stream::say(&mut duplex, p, &line, &mut tables, &mut out);
     }
     stream::flush(&mut duplex, &out, p);
     duplex.outcome

@@ -4,9 +4,10 @@
 ghost use Rattle.std.specs.Prelude.{◌≡◌, ◌≤◌, length, take as front, IsTrue, IsFalse, IsErr};
 ghost use Rattle.std.specs.Io.KnownBytes.{Appends};
 
-use crate::answers::{Out, answer_held};
-use sparse::{Bytes, Keys, Reals, Values, Words};
+use crate::answers::answer_held;
+use sparse::tables::TablesMut;
 use std::io::{Read, Write};
+use text::buffer::Out;
 use text::duplex::Duplex;
 use text::stream::keep_byte;
 use text::writing::put_byte;
@@ -141,11 +142,7 @@ pub fn say<R, W: Write>(
     duplex: &mut Duplex<R, W>,
     p: Place,
     line: &Line,
-    words: &mut Words,
-    keys: &mut Keys,
-    bytes: &mut Bytes,
-    reals: &mut Reals,
-    values: &mut Values,
+    tables: &mut TablesMut,
     out: &mut Out,
 ) -> Place
     requires at_bound { p.at ≤ 8192 }
@@ -157,7 +154,7 @@ pub fn say<R, W: Write>(
         return p;
     }
     let mut q = with_room(duplex, out, p);
-    let next = answer_held(line, q.held, words, keys, bytes, reals, values, out, q.at);
+    let next = answer_held(line, q.held, tables, out, q.at);
     q.at = put_byte(out, next, 10);
     q.held = 0;
     q.whole = false;

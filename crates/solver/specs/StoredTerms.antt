@@ -25,7 +25,7 @@ use Rattle.sparse_test.specs.Reads.{greatest_u32, reads}
 use Rattle.sparse_test.specs.Meaning.{reads-form}
 use Rattle.sparse_test.specs.Parts.{parts}
 use Rattle.sparse_test.specs.Meant.{tested-is}
-use Rattle.lending.specs.Entered.{terms_in}
+use Rattle.sparse_test.specs.Tested.{term_count}
 use Rattle.changes.specs.declared.terms.Term.{Term}
 use Rattle.changes.specs.declared.terms.Pack.{Pack}
 use Rattle.changes.specs.terms.Terms as terms
@@ -74,13 +74,13 @@ module _ (t : Sparse) (good : reads t ≡ true) where
   form = reads-form t good
 
   abbrev from : ℕ → ℕ
-  from j = terms_in t.bytes j
+  from j = term_count t.bytes j
 
   abbrev count : ℕ → ℕ
   count j = get_or t.bytes (term_counts_at + j) 0
 
   from_is : (j : ℕ) → from j ≡ terms_from t j
-  unfolding terms_in terms_from
+  unfolding term_count terms_from
   from_is j = refl
 
   inside : (j : ℕ) → j < constraint_count t → (i : ℕ) → i < count j → terms_from t j + i < terms_from t (constraint_count t)

@@ -7,8 +7,8 @@ ghost use Rattle.changes.specs.terms.Terms.{terms_in, listed};
 ghost use Rattle.refusals.specs.Refusals.{cutoff_in, add_refusal};
 ghost use Rattle.solver.specs.Adding.{Packed, Adds};
 ghost use Rattle.solver.specs.Concluding.{Done};
-ghost use Rattle.waist.specs.Working.{lent, sparse};
 ghost use Rattle.lending.specs.Entered.{Entered};
+ghost use Rattle.sparse.specs.Tables.{held, lent, Same};
 
 use crate::begin::{answer_of, by_test, close, stored_mark};
 use addition::add::add_steps;
@@ -16,20 +16,13 @@ use addition::inputs::strength_of;
 use changes::tags::Relation;
 use changes::terms::Pack;
 use lending::Answer;
-use sparse::{Bytes, CUTOFF, Keys, Reals, Values, Words};
+use sparse::CUTOFF;
+use sparse::tables::{Tables, TablesMut};
 
 // The tests passed. What is said is said of every list that the pack is of.
 fn add_known(
-    words: &Words,
-    keys: &Keys,
-    bytes: &Bytes,
-    reals: &Reals,
-    values: &Values,
-    wwords: &mut Words,
-    wkeys: &mut Keys,
-    wbytes: &mut Bytes,
-    wreals: &mut Reals,
-    wvalues: &mut Values,
+    tables: &Tables,
+    room: &mut TablesMut,
     g: u16,
     n: u32,
     p: Pack,
@@ -37,42 +30,32 @@ fn add_known(
     relation: Relation,
     budget: u32,
 ) -> Answer
-    requires entered { Entered (lent words keys bytes reals values) (sparse wwords.old wkeys.old wbytes.old wreals.old wvalues.old) }
+    requires entered { Entered (lent tables.now) (held room.old) }
     requires packed { Packed p }
-    requires words_value { add_refusal (cutoff_in reals.now) g n p constant (strength_of (relation_of relation)) words.now ≡ 0 }
-    ensures { Adds g n p constant (relation_of relation) budget result (lent words.entry keys.entry bytes.entry reals.entry values.entry) (sparse wwords.new wkeys.new wbytes.new wreals.new wvalues.new) }
+    requires words_value { add_refusal (cutoff_in tables.now.reals.now) g n p constant (strength_of (relation_of relation)) tables.now.words.now ≡ 0 }
+    ensures does { Adds g n p constant (relation_of relation) budget result (lent tables.now) (held room.new) }
+    ensures same { Same room.old room.new }
 {
-    let before = stored_mark(words);
-    let a = add_steps(
-        wwords, wkeys, wbytes, wreals, wvalues, p, constant, relation, budget, before,
-    );
+    let before = stored_mark(tables.words);
+    let a = add_steps(room, p, constant, relation, budget, before);
     let e = a.ended;
     if e.number != 0 {
         return answer_of(e);
     }
     let wrote = e.wrote;
     let strength = strength_of(relation);
-    let kept = changes::terms::kept(reals[CUTOFF], p);
-    close(wwords, wrote);
+    let kept = changes::terms::kept(tables.reals[CUTOFF], p);
+    close(room.words, wrote);
     crate::bringing::with_constraint(
-        words, keys, bytes, reals, values, wwords, wkeys, wbytes, wreals, wvalues, n, g, relation,
-        strength, constant, a.marker, a.other, kept,
+        tables, room, n, g, relation, strength, constant, a.marker, a.other, kept,
     );
     answer_of(e)
 }
 
 // "Add: 18, 26, 1, 2, 3, 4, 10, 9, 11." The terms come as any pack: the call is that of the list that it stands for.
 pub fn add(
-    words: &Words,
-    keys: &Keys,
-    bytes: &Bytes,
-    reals: &Reals,
-    values: &Values,
-    wwords: &mut Words,
-    wkeys: &mut Keys,
-    wbytes: &mut Bytes,
-    wreals: &mut Reals,
-    wvalues: &mut Values,
+    tables: &Tables,
+    room: &mut TablesMut,
     g: u16,
     n: u32,
     p: Pack,
@@ -80,17 +63,23 @@ pub fn add(
     relation: Relation,
     budget: u32,
 ) -> Answer
-    requires { Entered (lent words keys bytes reals values) (sparse wwords.old wkeys.old wbytes.old wreals.old wvalues.old) }
-    ensures { Done (add g n (terms_in (listed p)) constant (relation_of relation) budget) result (lent words.entry keys.entry bytes.entry reals.entry values.entry) (sparse wwords.new wkeys.new wbytes.new wreals.new wvalues.new) }
+    requires { Entered (lent tables.now) (held room.old) }
+    ensures does { Done (add g n (terms_in (listed p)) constant (relation_of relation) budget) result (lent tables.now) (held room.new) }
+    ensures same { Same room.old room.new }
 {
     let q = changes::terms::proper(p);
     let strength = strength_of(relation);
-    let number = refusals::add_tests(words, reals[CUTOFF], g, n, q, constant, strength);
+    let number = refusals::add_tests(
+        tables.words,
+        tables.reals[CUTOFF],
+        g,
+        n,
+        q,
+        constant,
+        strength,
+    );
     if number != 0 {
-        return by_test(words, number);
+        return by_test(tables.words, number);
     }
-    add_known(
-        words, keys, bytes, reals, values, wwords, wkeys, wbytes, wreals, wvalues, g, n, q,
-        constant, relation, budget,
-    )
+    add_known(tables, room, g, n, q, constant, relation, budget)
 }

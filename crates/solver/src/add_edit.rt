@@ -4,81 +4,60 @@ ghost use Rattle.steps.specs.Strength.{clip};
 ghost use Rattle.steps.specs.Calls.{add_edit};
 ghost use Rattle.refusals.specs.Refusals.{cutoff_in, add_edit_refusal};
 ghost use Rattle.solver.specs.Concluding.{Done};
-ghost use Rattle.waist.specs.Working.{lent, sparse};
 ghost use Rattle.lending.specs.Entered.{Entered};
+ghost use Rattle.sparse.specs.Tables.{held, lent, Same};
 
 use crate::begin::{answer_of, by_test, close, stored_mark};
 use addition::add::add_steps;
 use changes::tags::Relation;
 use lending::Answer;
-use sparse::{Bytes, CUTOFF, Keys, Reals, Values, Words};
+use sparse::CUTOFF;
+use sparse::tables::{Tables, TablesMut};
 
 // The tests passed: "required-free equality of the variable with 0, stored suggestion 0.0"
 fn add_edit_known(
-    words: &Words,
-    keys: &Keys,
-    bytes: &Bytes,
-    reals: &Reals,
-    values: &Values,
-    wwords: &mut Words,
-    wkeys: &mut Keys,
-    wbytes: &mut Bytes,
-    wreals: &mut Reals,
-    wvalues: &mut Values,
+    tables: &Tables,
+    room: &mut TablesMut,
     n: u32,
     strength: f64,
     budget: u32,
 ) -> Answer
-    requires entered { Entered (lent words keys bytes reals values) (sparse wwords.old wkeys.old wbytes.old wreals.old wvalues.old) }
-    requires bytes_value { add_edit_refusal (cutoff_in reals.now) n (clip strength) words.now bytes.now ≡ 0 }
-    ensures { Done (add_edit n strength budget) result (lent words.entry keys.entry bytes.entry reals.entry values.entry) (sparse wwords.new wkeys.new wbytes.new wreals.new wvalues.new) }
+    requires entered { Entered (lent tables.now) (held room.old) }
+    requires bytes_value { add_edit_refusal (cutoff_in tables.now.reals.now) n (clip strength) tables.now.words.now tables.now.bytes.now ≡ 0 }
+    ensures does { Done (add_edit n strength budget) result (lent tables.now) (held room.new) }
+    ensures same { Same room.old room.new }
 {
-    let before = stored_mark(words);
+    let before = stored_mark(tables.words);
     let held = rows::strength::clip(strength);
     let p = refusals::edit_pack(n);
     let relation = Relation::Equal(held);
-    let a = add_steps(
-        wwords, wkeys, wbytes, wreals, wvalues, p, 0.0, relation, budget, before,
-    );
+    let a = add_steps(room, p, 0.0, relation, budget, before);
     let e = a.ended;
     if e.number != 0 {
         return answer_of(e);
     }
     let wrote = e.wrote;
-    close(wwords, wrote);
-    crate::bringing::with_edit(
-        words, keys, bytes, reals, values, wwords, wkeys, wbytes, wreals, wvalues, n as u64, held,
-        a.marker, a.other,
-    );
+    close(room.words, wrote);
+    crate::bringing::with_edit(tables, room, n as u64, held, a.marker, a.other);
     answer_of(e)
 }
 
 // "Add edit: 18, 6, 7, 10, 9, 11."
-pub fn add_edit(
-    words: &Words,
-    keys: &Keys,
-    bytes: &Bytes,
-    reals: &Reals,
-    values: &Values,
-    wwords: &mut Words,
-    wkeys: &mut Keys,
-    wbytes: &mut Bytes,
-    wreals: &mut Reals,
-    wvalues: &mut Values,
-    n: u32,
-    strength: f64,
-    budget: u32,
-) -> Answer
-    requires { Entered (lent words keys bytes reals values) (sparse wwords.old wkeys.old wbytes.old wreals.old wvalues.old) }
-    ensures { Done (add_edit n strength budget) result (lent words.entry keys.entry bytes.entry reals.entry values.entry) (sparse wwords.new wkeys.new wbytes.new wreals.new wvalues.new) }
+pub fn add_edit(tables: &Tables, room: &mut TablesMut, n: u32, strength: f64, budget: u32) -> Answer
+    requires { Entered (lent tables.now) (held room.old) }
+    ensures does { Done (add_edit n strength budget) result (lent tables.now) (held room.new) }
+    ensures same { Same room.old room.new }
 {
     let held = rows::strength::clip(strength);
-    let number = refusals::add_edit_tests(words, bytes, reals[CUTOFF], n, held);
+    let number = refusals::add_edit_tests(
+        tables.words,
+        tables.bytes,
+        tables.reals[CUTOFF],
+        n,
+        held,
+    );
     if number != 0 {
-        return by_test(words, number);
+        return by_test(tables.words, number);
     }
-    add_edit_known(
-        words, keys, bytes, reals, values, wwords, wkeys, wbytes, wreals, wvalues, n, strength,
-        budget,
-    )
+    add_edit_known(tables, room, n, strength, budget)
 }

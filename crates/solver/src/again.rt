@@ -5,35 +5,32 @@ ghost use Rattle.steps.specs.Calls.{remove};
 ghost use Rattle.sparse.specs.Sparse.{read};
 ghost use Rattle.sparse_test.specs.Reads.{reads};
 ghost use Rattle.refusals.specs.Refusals.{remove_refusal};
-ghost use Rattle.waist.specs.Working.{lent, sparse};
 ghost use Rattle.lending.specs.Entered.{bare_words, Entered};
 ghost use Rattle.solver.specs.Concluding.{Done};
+ghost use Rattle.sparse.specs.Tables.{held, lent, Same};
 
 use crate::remove::remove_known;
 use lending::Answer;
-use lending::room::long;
-use sparse::{Bytes, Keys, Reals, Values, Words};
+use sparse::Words;
+use sparse::tables::{Tables, TablesMut};
 use stored::records::keep_records;
 
 // All records come over, so that the room holds the lent state.
-pub fn bring_all(
-    words: &Words,
-    keys: &Keys,
-    bytes: &Bytes,
-    reals: &Reals,
-    values: &Values,
-    wwords: &mut Words,
-    wkeys: &mut Keys,
-    wbytes: &mut Bytes,
-    wreals: &mut Reals,
-    wvalues: &mut Values,
-)
-    requires { Entered (lent words keys bytes reals values) (sparse wwords.old wkeys.old wbytes.old wreals.old wvalues.old) }
-    ensures wvalues_value { read (sparse wwords.new wkeys.new wbytes.new wreals.new wvalues.new) ≡ read (lent words.entry keys.entry bytes.entry reals.entry values.entry) }
-    ensures wvalues_value_2 { reads (sparse wwords.new wkeys.new wbytes.new wreals.new wvalues.new) ≡ true }
+pub fn bring_all(tables: &Tables, room: &mut TablesMut)
+    requires { Entered (lent tables.now) (held room.old) }
+    ensures wvalues_value { read (held room.new) ≡ read (lent tables.now) }
+    ensures wvalues_value_2 { reads (held room.new) ≡ true }
+    ensures same { Same room.old room.new }
 {
-    keep_records(wwords, wbytes, wreals, words, bytes, reals);
-    long(wwords, wkeys, wbytes, wreals, wvalues);
+    keep_records(
+        room.words,
+        room.bytes,
+        room.reals,
+        tables.words,
+        tables.bytes,
+        tables.reals,
+    );
+    room.long();
 }
 
 fn bare(words: &mut Words)
@@ -44,28 +41,19 @@ fn bare(words: &mut Words)
 }
 
 // The room's own records are copied aside and stand for the lent ones: the constraint n is live among them, and may go.
-pub fn remove_again(
-    words: &mut Words,
-    keys: &mut Keys,
-    bytes: &mut Bytes,
-    reals: &mut Reals,
-    values: &mut Values,
-    n: u32,
-    budget: u32,
-) -> Answer
-    requires values_value { reads (sparse words.old keys.old bytes.old reals.old values.old) ≡ true }
-    requires reals_value { remove_refusal n words.old bytes.old reals.old ≡ 0 }
-    ensures done { Done (remove n budget) result (sparse words.old keys.old bytes.old reals.old values.old) (sparse words.new keys.new bytes.new reals.new values.new) }
-    ensures then { Then (eqb result.number 0) (reads (sparse words.new keys.new bytes.new reals.new values.new) ≡ true) }
+pub fn remove_again(room: &mut TablesMut, n: u32, budget: u32) -> Answer
+    requires values_value { reads (held room.old) ≡ true }
+    requires reals_value { remove_refusal n room.old.words.now room.old.bytes.now room.old.reals.now ≡ 0 }
+    ensures done { Done (remove n budget) result (held room.old) (held room.new) }
+    ensures then { Then (eqb result.number 0) (reads (held room.new) ≡ true) }
+    ensures same { Same room.old room.new }
 {
-    long(words, keys, bytes, reals, values);
-    let fwords = *words;
-    let fbytes = *bytes;
-    let freals = *reals;
-    bare(words);
-    let a = remove_known(
-        &fwords, &fbytes, &freals, words, keys, bytes, reals, values, n, budget,
-    );
-    long(words, keys, bytes, reals, values);
+    room.long();
+    let fwords = *room.words;
+    let fbytes = *room.bytes;
+    let freals = *room.reals;
+    bare(room.words);
+    let a = remove_known(&fwords, &fbytes, &freals, room, n, budget);
+    room.long();
     a
 }

@@ -11,17 +11,18 @@ ghost use Rattle.sparse_test.specs.Reads.{reads};
 ghost use Rattle.lending.specs.sparse_copy.Over.{cleared};
 ghost use Rattle.stored.specs.Suggested.{with_real};
 ghost use Rattle.refusals.specs.Refusals.{edited_in};
-ghost use Rattle.waist.specs.Working.{lent, sparse};
 ghost use Rattle.lending.specs.Lending.{answer_of, called, refused18, call_in, call_of};
 ghost use Rattle.lending.specs.Entered.{Entered};
 ghost use Rattle.solver.specs.Backed.{back_words, back_bytes, back_reals, back_over};
+ghost use Rattle.sparse.specs.Tables.{held, lent, Same};
 
 use crate::begin::{answer_of, by_test, mark_bit};
 use crate::suggest::drag;
 use lending::Answer;
 use lending::sparse_copy::put;
 use rows::number::Wrote;
-use sparse::{Bytes, Keys, Reals, Values, Words};
+use sparse::tables::TablesMut;
+use sparse::{Bytes, Reals, Words};
 
 fn put_words(words: &mut Words, wwords: &Words, wrote: Wrote)
     ensures { words.new ≡ back_words wrote wwords.now words.old }
@@ -36,8 +37,8 @@ fn put_bytes(bytes: &mut Bytes, wbytes: &Bytes, r: usize, v: usize)
     requires v_le_most_variables { v ≤ most_variables }
     ensures { bytes.new ≡ back_bytes wbytes.now r v bytes.old }
 {
-    put::bytes_part(bytes, wbytes, sparse::ROW_PLACES + 1, r);
-    put::bytes_part(bytes, wbytes, sparse::CHANGED, v);
+    put::part(bytes, wbytes, sparse::ROW_PLACES + 1, r);
+    put::part(bytes, wbytes, sparse::CHANGED, v);
 }
 
 fn put_reals(reals: &mut Reals, wreals: &Reals, k: usize, r: usize, j: usize, new: f64)
@@ -46,213 +47,130 @@ fn put_reals(reals: &mut Reals, wreals: &Reals, k: usize, r: usize, j: usize, ne
     requires j_lt_most_constraints { j < most_constraints }
     ensures { reals.new ≡ set (back_reals wreals.now k r reals.old) (suggestions_at + j) new }
 {
-    put::reals_part(reals, wreals, sparse::CONSTANTS + 1, r);
-    put::reals_part(reals, wreals, sparse::OBJECTIVE + 1, k);
+    put::part(reals, wreals, sparse::CONSTANTS + 1, r);
+    put::part(reals, wreals, sparse::OBJECTIVE + 1, k);
     reals[sparse::SUGGESTIONS + j] = new;
 }
 
 // What the steps left in the room, and the j-th edit's new suggestion.
-fn put_back(
-    words: &mut Words,
-    keys: &mut Keys,
-    bytes: &mut Bytes,
-    reals: &mut Reals,
-    values: &mut Values,
-    wwords: &Words,
-    wkeys: &Keys,
-    wbytes: &Bytes,
-    wreals: &Reals,
-    wvalues: &Values,
-    wrote: Wrote,
-    j: usize,
-    new: f64,
-)
-    requires counts { Counts (sparse words.old keys.old bytes.old reals.old values.old) }
-    requires wvalues_bound { cell_count (lent wwords wkeys wbytes wreals wvalues) ≤ cell_room }
+fn put_back(tables: &mut TablesMut, room: &TablesMut, wrote: Wrote, j: usize, new: f64)
+    requires counts { Counts (held tables.old) }
+    requires wvalues_bound { cell_count (held room.now) ≤ cell_room }
     requires j_lt_most_constraints { j < most_constraints }
-    ensures { sparse words.new keys.new bytes.new reals.new values.new ≡ with_real (back_over wrote (lent wwords.entry wkeys.entry wbytes.entry wreals.entry wvalues.entry) (sparse words.old keys.old bytes.old reals.old values.old)) (suggestions_at + j) new }
+    ensures does { held tables.new ≡ with_real (back_over wrote (held room.now) (held tables.old)) (suggestions_at + j) new }
+    ensures same { Same tables.old tables.new }
 {
-    let k = words[sparse::SYMBOL_COUNT] as usize;
-    let r = words[sparse::ROW_COUNT] as usize;
-    let v = words[sparse::VARIABLE_COUNT] as usize;
+    let wwords = &*room.words;
+    let k = tables.words[sparse::SYMBOL_COUNT] as usize;
+    let r = tables.words[sparse::ROW_COUNT] as usize;
+    let v = tables.words[sparse::VARIABLE_COUNT] as usize;
     let n = wwords[sparse::CELL_COUNT] as usize;
-    put_words(words, wwords, wrote);
-    put::put_keys(keys, wkeys, n);
-    put::put_values(values, wvalues, n);
-    put_bytes(bytes, wbytes, r, v);
-    put_reals(reals, wreals, k, r, j, new);
+    put_words(tables.words, wwords, wrote);
+    put::part(tables.keys, room.keys, 0, n);
+    put::part(tables.values, room.values, 0, n);
+    put_bytes(tables.bytes, room.bytes, r, v);
+    put_reals(tables.reals, room.reals, k, r, j, new);
 }
 
 // The tests passed: the variable has an edit, and the suggestion is finite.
 fn suggest_known(
-    words: &mut Words,
-    keys: &mut Keys,
-    bytes: &mut Bytes,
-    reals: &mut Reals,
-    values: &mut Values,
-    wwords: &mut Words,
-    wkeys: &mut Keys,
-    wbytes: &mut Bytes,
-    wreals: &mut Reals,
-    wvalues: &mut Values,
+    tables: &mut TablesMut,
+    room: &mut TablesMut,
     n: u32,
     new: f64,
     budget: u32,
 ) -> Answer
-    requires entered { Entered (sparse words.old keys.old bytes.old reals.old values.old) (sparse wwords.old wkeys.old wbytes.old wreals.old wvalues.old) }
+    requires entered { Entered (held tables.old) (held room.old) }
     requires value { is_finite new ≡ true }
-    requires n_value { edited_in words.old bytes.old n ≡ true }
-    ensures { called (answer_of result) (sparse words.new keys.new bytes.new reals.new values.new) ≡ call_in (suggest n new budget) (sparse words.old keys.old bytes.old reals.old values.old) }
+    requires n_value { edited_in tables.old.words.now tables.old.bytes.now n ≡ true }
+    ensures does { called (answer_of result) (held tables.new) ≡ call_in (suggest n new budget) (held tables.old) }
+    ensures same_tables { Same tables.old tables.new }
+    ensures same_room { Same room.old room.new }
 {
-    lending::room::long(words, keys, bytes, reals, values);
-    let j = crate::looks::edit_place(words, bytes, n as u64);
-    let e = drag(
-        words, keys, bytes, reals, values, wwords, wkeys, wbytes, wreals, wvalues, j, new, budget,
-    );
+    tables.long();
+    let j = crate::looks::edit_place(tables.words, tables.bytes, n as u64);
+    let e = drag(&tables.lend(), room, j, new, budget);
     if e.number != 0 {
         return answer_of(e);
     }
     let wrote = e.wrote;
-    put_back(
-        words, keys, bytes, reals, values, wwords, wkeys, wbytes, wreals, wvalues, wrote, j, new,
-    );
+    put_back(tables, room, wrote, j, new);
     answer_of(e)
 }
 
 // "Suggest: 18, 1, 8." The stored suggestion changes only if the call is accepted.
 pub fn suggest_back(
-    words: &mut Words,
-    keys: &mut Keys,
-    bytes: &mut Bytes,
-    reals: &mut Reals,
-    values: &mut Values,
-    wwords: &mut Words,
-    wkeys: &mut Keys,
-    wbytes: &mut Bytes,
-    wreals: &mut Reals,
-    wvalues: &mut Values,
+    tables: &mut TablesMut,
+    room: &mut TablesMut,
     n: u32,
     new: f64,
     budget: u32,
 ) -> Answer
-    requires { Entered (sparse words.old keys.old bytes.old reals.old values.old) (sparse wwords.old wkeys.old wbytes.old wreals.old wvalues.old) }
-    ensures { called (answer_of result) (sparse words.new keys.new bytes.new reals.new values.new) ≡ call_in (suggest n new budget) (sparse words.old keys.old bytes.old reals.old values.old) }
+    requires { Entered (held tables.old) (held room.old) }
+    ensures does { called (answer_of result) (held tables.new) ≡ call_in (suggest n new budget) (held tables.old) }
+    ensures same_tables { Same tables.old tables.new }
+    ensures same_room { Same room.old room.new }
 {
-    let number = refusals::suggest_tests(words, bytes, n, new);
+    let number = refusals::suggest_tests(tables.words, tables.bytes, n, new);
     if number != 0 {
-        return by_test(words, number);
+        return by_test(tables.words, number);
     }
-    suggest_known(
-        words, keys, bytes, reals, values, wwords, wkeys, wbytes, wreals, wvalues, n, new, budget,
-    )
+    suggest_known(tables, room, n, new, budget)
 }
 
 fn suggest_if(
     ok: bool,
-    words: &mut Words,
-    keys: &mut Keys,
-    bytes: &mut Bytes,
-    reals: &mut Reals,
-    values: &mut Values,
-    wwords: &mut Words,
-    wkeys: &mut Keys,
-    wbytes: &mut Bytes,
-    wreals: &mut Reals,
-    wvalues: &mut Values,
+    tables: &mut TablesMut,
+    room: &mut TablesMut,
     n: u32,
     new: f64,
     budget: u32,
 ) -> Answer
-    requires { Then ok (Entered (sparse words.old keys.old bytes.old reals.old values.old) (sparse wwords.old wkeys.old wbytes.old wreals.old wvalues.old)) }
-    ensures { called (answer_of result) (sparse words.new keys.new bytes.new reals.new values.new) ≡ cond ok (call_in (suggest n new budget) (sparse words.old keys.old bytes.old reals.old values.old)) (called refused18 (sparse words.old keys.old bytes.old reals.old values.old)) }
+    requires { Then ok (Entered (held tables.old) (held room.old)) }
+    ensures does { called (answer_of result) (held tables.new) ≡ cond ok (call_in (suggest n new budget) (held tables.old)) (called refused18 (held tables.old)) }
+    ensures same_tables { Same tables.old tables.new }
+    ensures same_room { Same room.old room.new }
 {
     if !ok {
         return lending::refuse18();
     }
-    suggest_back(
-        words, keys, bytes, reals, values, wwords, wkeys, wbytes, wreals, wvalues, n, new, budget,
-    )
+    suggest_back(tables, room, n, new, budget)
 }
 
 // The whole call: the tables tested, the room entered and cleared.
 pub fn suggest_tested(
-    words: &mut Words,
-    keys: &mut Keys,
-    bytes: &mut Bytes,
-    reals: &mut Reals,
-    values: &mut Values,
-    wwords: &mut Words,
-    wkeys: &mut Keys,
-    wbytes: &mut Bytes,
-    wreals: &mut Reals,
-    wvalues: &mut Values,
+    tables: &mut TablesMut,
+    room: &mut TablesMut,
     n: u32,
     new: f64,
     budget: u16,
 ) -> Answer
-    ensures values_value { called (answer_of result) (sparse words.new keys.new bytes.new reals.new values.new) ≡ call_of (suggest n new budget) (sparse wwords.old wkeys.old wbytes.old wreals.old wvalues.old) (sparse words.old keys.old bytes.old reals.old values.old) }
-    ensures wvalues_value { sparse wwords.new wkeys.new wbytes.new wreals.new wvalues.new ≡ cleared (sparse wwords.old wkeys.old wbytes.old wreals.old wvalues.old) }
+    ensures values_value { called (answer_of result) (held tables.new) ≡ call_of (suggest n new budget) (held room.old) (held tables.old) }
+    ensures wvalues_value { held room.new ≡ cleared (held room.old) }
+    ensures same_tables { Same tables.old tables.new }
+    ensures same_room { Same room.old room.new }
 {
-    let ok = lending::enter(
-        words, keys, bytes, reals, values, wwords, wkeys, wbytes, wreals, wvalues,
-    );
-    let a = suggest_if(
-        ok,
-        words,
-        keys,
-        bytes,
-        reals,
-        values,
-        wwords,
-        wkeys,
-        wbytes,
-        wreals,
-        wvalues,
-        n,
-        new,
-        budget as u32,
-    );
-    lending::room::clear(wwords, wkeys, wbytes, wreals, wvalues);
+    let ok = lending::enter(&tables.lend(), room);
+    let a = suggest_if(ok, tables, room, n, new, budget as u32);
+    lending::room::clear(room);
     a
 }
 
 // The second door's, for tables that are known to read as a state and that nobody else writes: no test, no room cleared. It works in place, so tables and room do not change places.
 pub fn suggest_held(
-    words: &mut Words,
-    keys: &mut Keys,
-    bytes: &mut Bytes,
-    reals: &mut Reals,
-    values: &mut Values,
-    wwords: &mut Words,
-    wkeys: &mut Keys,
-    wbytes: &mut Bytes,
-    wreals: &mut Reals,
-    wvalues: &mut Values,
+    tables: &mut TablesMut,
+    room: &mut TablesMut,
     n: u32,
     new: f64,
     budget: u16,
 ) -> Answer
-    requires { reads (sparse words.old keys.old bytes.old reals.old values.old) ≡ true }
-    ensures values_value { called (answer_of result) (sparse words.new keys.new bytes.new reals.new values.new) ≡ call_in (suggest n new budget) (sparse words.old keys.old bytes.old reals.old values.old) }
-    ensures values_value_2 { reads (sparse words.new keys.new bytes.new reals.new values.new) ≡ true }
+    requires { reads (held tables.old) ≡ true }
+    ensures values_value { called (answer_of result) (held tables.new) ≡ call_in (suggest n new budget) (held tables.old) }
+    ensures values_value_2 { reads (held tables.new) ≡ true }
+    ensures same_tables { Same tables.old tables.new }
+    ensures same_room { Same room.old room.new }
 {
-    lending::room::long(words, keys, bytes, reals, values);
-    lending::enter_held(
-        words, keys, bytes, reals, values, wwords, wkeys, wbytes, wreals, wvalues,
-    );
-    suggest_back(
-        words,
-        keys,
-        bytes,
-        reals,
-        values,
-        wwords,
-        wkeys,
-        wbytes,
-        wreals,
-        wvalues,
-        n,
-        new,
-        budget as u32,
-    )
+    tables.long();
+    lending::enter_held(&tables.lend(), room);
+    suggest_back(tables, room, n, new, budget as u32)
 }

@@ -7,37 +7,29 @@ ghost use Rattle.keeps.specs.Groups.{Removable};
 ghost use Rattle.sparse.specs.Sparse.{read};
 ghost use Rattle.sparse_test.specs.Reads.{reads};
 ghost use Rattle.refusals.specs.Refusals.{constraints_in, group_in};
-ghost use Rattle.waist.specs.Working.{lent, sparse};
 ghost use Rattle.lending.specs.Entered.{Entered};
 ghost use Rattle.solver.specs.Concluding.{Done};
 ghost use Rattle.solver.specs.Dropping.{dropping};
 ghost use Rattle.solver.specs.Dropped.{Went};
+ghost use Rattle.sparse.specs.Tables.{held, lent, Same};
 
 use crate::again::{bring_all, remove_again};
 use crate::begin::by_test;
 use lending::Answer;
-use sparse::{Bytes, Keys, Reals, Values, Words};
+use sparse::tables::{Tables, TablesMut};
 
 // The group's first constraint goes, with what is left of the budget.
-fn drop_first(
-    words: &mut Words,
-    keys: &mut Keys,
-    bytes: &mut Bytes,
-    reals: &mut Reals,
-    values: &mut Values,
-    g: u16,
-    pivots: u32,
-    budget: u32,
-) -> Answer
-    requires values_value { reads (sparse words.old keys.old bytes.old reals.old values.old) ≡ true }
-    requires g_value { group_in words.old (constraints_in words.old) g ≡ true }
+fn drop_first(room: &mut TablesMut, g: u16, pivots: u32, budget: u32) -> Answer
+    requires values_value { reads (held room.old) ≡ true }
+    requires g_value { group_in room.old.words.now (constraints_in room.old.words.now) g ≡ true }
     requires pivots_le_budget { pivots ≤ budget }
-    requires removable { Removable (group_of g (read (sparse words.old keys.old bytes.old reals.old values.old)).constraints) (read (sparse words.old keys.old bytes.old reals.old values.old)) }
-    ensures { Went g budget pivots result (sparse words.old keys.old bytes.old reals.old values.old) (sparse words.new keys.new bytes.new reals.new values.new) }
+    requires removable { Removable (group_of g (read (held room.old)).constraints) (read (held room.old)) }
+    ensures does { Went g budget pivots result (held room.old) (held room.new) }
+    ensures same { Same room.old room.new }
 {
-    let j = refusals::group_place(words, g);
-    let n = words[sparse::CONSTRAINT_NUMBERS + j] as u32;
-    let a = remove_again(words, keys, bytes, reals, values, n, budget - pivots);
+    let j = refusals::group_place(room.words, g);
+    let n = room.words[sparse::CONSTRAINT_NUMBERS + j] as u32;
+    let a = remove_again(room, n, budget - pivots);
     Answer {
         number: a.number,
         pivots: pivots + a.pivots,
@@ -46,22 +38,15 @@ fn drop_first(
 }
 
 // The whole removals one after the other, in a room that holds the state. The drop's tests passed, so that each of them finds room for its gone entries.
-fn drop_all(
-    words: &mut Words,
-    keys: &mut Keys,
-    bytes: &mut Bytes,
-    reals: &mut Reals,
-    values: &mut Values,
-    g: u16,
-    budget: u32,
-) -> Answer
-    requires values_value { reads (sparse words.old keys.old bytes.old reals.old values.old) ≡ true }
-    requires values_value_2 { first_refusal (drop_tests g (read (sparse words.old keys.old bytes.old reals.old values.old))) ≡ none }
-    ensures { Done (dropping g budget) result (sparse words.old keys.old bytes.old reals.old values.old) (sparse words.new keys.new bytes.new reals.new values.new) }
+fn drop_all(room: &mut TablesMut, g: u16, budget: u32) -> Answer
+    requires values_value { reads (held room.old) ≡ true }
+    requires values_value_2 { first_refusal (drop_tests g (read (held room.old))) ≡ none }
+    ensures does { Done (dropping g budget) result (held room.old) (held room.new) }
+    ensures same { Same room.old room.new }
 {
     let mut pivots = 0;
-    while refusals::group_lives(words, g) {
-        let a = drop_first(words, keys, bytes, reals, values, g, pivots, budget);
+    while refusals::group_lives(room.words, g) {
+        let a = drop_first(room, g, pivots, budget);
         if a.number != 0 {
             return a;
         }
@@ -70,34 +55,20 @@ fn drop_all(
     Answer {
         number: 0,
         pivots,
-        whole: words[sparse::WHOLE] == 1,
+        whole: room.words[sparse::WHOLE] == 1,
     }
 }
 
 // "Drop: 18, 26, 27, 25."
-pub fn drop(
-    words: &Words,
-    keys: &Keys,
-    bytes: &Bytes,
-    reals: &Reals,
-    values: &Values,
-    wwords: &mut Words,
-    wkeys: &mut Keys,
-    wbytes: &mut Bytes,
-    wreals: &mut Reals,
-    wvalues: &mut Values,
-    g: u16,
-    budget: u32,
-) -> Answer
-    requires { Entered (lent words keys bytes reals values) (sparse wwords.old wkeys.old wbytes.old wreals.old wvalues.old) }
-    ensures { Done (drop_group g budget) result (lent words.entry keys.entry bytes.entry reals.entry values.entry) (sparse wwords.new wkeys.new wbytes.new wreals.new wvalues.new) }
+pub fn drop(tables: &Tables, room: &mut TablesMut, g: u16, budget: u32) -> Answer
+    requires { Entered (lent tables.now) (held room.old) }
+    ensures does { Done (drop_group g budget) result (lent tables.now) (held room.new) }
+    ensures same { Same room.old room.new }
 {
-    let number = refusals::drop_tests(words, bytes, reals, g);
+    let number = refusals::drop_tests(tables.words, tables.bytes, tables.reals, g);
     if number != 0 {
-        return by_test(words, number);
+        return by_test(tables.words, number);
     }
-    bring_all(
-        words, keys, bytes, reals, values, wwords, wkeys, wbytes, wreals, wvalues,
-    );
-    drop_all(wwords, wkeys, wbytes, wreals, wvalues, g, budget)
+    bring_all(tables, room);
+    drop_all(room, g, budget)
 }

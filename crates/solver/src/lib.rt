@@ -19,208 +19,99 @@ ghost use Rattle.laws.specs.Given.{Then};
 ghost use Rattle.steps.specs.Changing.{made};
 ghost use Rattle.sparse_test.specs.Reads.{reads};
 ghost use Rattle.lending.specs.sparse_copy.Over.{cleared};
-ghost use Rattle.waist.specs.Working.{lent, sparse};
 ghost use Rattle.lending.specs.Lending.{answer_of, called, call_of};
 ghost use Rattle.lending.specs.Entered.{Entered};
 ghost use Rattle.changes.specs.Change.{changing_of};
 ghost use Rattle.solver.specs.Concluding.{Done, DoneIf};
+ghost use Rattle.sparse.specs.Tables.{held, lent, Same};
 
 use changes::Change;
 use changes::terms::Pack;
 use lending::Answer;
-use sparse::{Bytes, Keys, Reals, Values, Words};
+use sparse::tables::{Tables, TablesMut};
 
 // The call of the steps, in the working room alone.
-fn change_in(
-    words: &Words,
-    keys: &Keys,
-    bytes: &Bytes,
-    reals: &Reals,
-    values: &Values,
-    wwords: &mut Words,
-    wkeys: &mut Keys,
-    wbytes: &mut Bytes,
-    wreals: &mut Reals,
-    wvalues: &mut Values,
-    c: Change,
-    p: Pack,
-    budget: u32,
-) -> Answer
-    requires { Entered (lent words keys bytes reals values) (sparse wwords.old wkeys.old wbytes.old wreals.old wvalues.old) }
-    ensures { Done (made (changing_of c p budget)) result (lent words.entry keys.entry bytes.entry reals.entry values.entry) (sparse wwords.new wkeys.new wbytes.new wreals.new wvalues.new) }
+fn change_in(tables: &Tables, room: &mut TablesMut, c: Change, p: Pack, budget: u32) -> Answer
+    requires { Entered (lent tables.now) (held room.old) }
+    ensures does { Done (made (changing_of c p budget)) result (lent tables.now) (held room.new) }
+    ensures same { Same room.old room.new }
 {
     match c {
-        Change::Add(g, n, k, r) => add::add(
-            words, keys, bytes, reals, values, wwords, wkeys, wbytes, wreals, wvalues, g, n, p, k,
-            r, budget,
-        ),
-        Change::Remove(n) => remove::remove(
-            words, keys, bytes, reals, values, wwords, wkeys, wbytes, wreals, wvalues, n, budget,
-        ),
-        Change::Drop(g) => drop::drop(
-            words, keys, bytes, reals, values, wwords, wkeys, wbytes, wreals, wvalues, g, budget,
-        ),
-        Change::AddEdit(n, s) => add_edit::add_edit(
-            words, keys, bytes, reals, values, wwords, wkeys, wbytes, wreals, wvalues, n, s, budget,
-        ),
-        Change::RemoveEdit(n) => remove_edit::remove_edit(
-            words, keys, bytes, reals, values, wwords, wkeys, wbytes, wreals, wvalues, n, budget,
-        ),
-        Change::Suggest(n, x) => suggest::suggest(
-            words, keys, bytes, reals, values, wwords, wkeys, wbytes, wreals, wvalues, n, x, budget,
-        ),
+        Change::Add(g, n, k, r) => add::add(tables, room, g, n, p, k, r, budget),
+        Change::Remove(n) => remove::remove(tables, room, n, budget),
+        Change::Drop(g) => drop::drop(tables, room, g, budget),
+        Change::AddEdit(n, s) => add_edit::add_edit(tables, room, n, s, budget),
+        Change::RemoveEdit(n) => remove_edit::remove_edit(tables, room, n, budget),
+        Change::Suggest(n, x) => suggest::suggest(tables, room, n, x, budget),
     }
 }
 
 fn change_if(
     ok: bool,
-    words: &Words,
-    keys: &Keys,
-    bytes: &Bytes,
-    reals: &Reals,
-    values: &Values,
-    wwords: &mut Words,
-    wkeys: &mut Keys,
-    wbytes: &mut Bytes,
-    wreals: &mut Reals,
-    wvalues: &mut Values,
+    tables: &Tables,
+    room: &mut TablesMut,
     c: Change,
     p: Pack,
     budget: u32,
 ) -> Answer
-    requires { Then ok (Entered (lent words keys bytes reals values) (sparse wwords.old wkeys.old wbytes.old wreals.old wvalues.old)) }
-    ensures { DoneIf ok (made (changing_of c p budget)) result (lent words.entry keys.entry bytes.entry reals.entry values.entry) (sparse wwords.new wkeys.new wbytes.new wreals.new wvalues.new) }
+    requires { Then ok (Entered (lent tables.now) (held room.old)) }
+    ensures does { DoneIf ok (made (changing_of c p budget)) result (lent tables.now) (held room.new) }
+    ensures same { Same room.old room.new }
 {
     if !ok {
         return lending::refuse18();
     }
-    change_in(
-        words, keys, bytes, reals, values, wwords, wkeys, wbytes, wreals, wvalues, c, p, budget,
-    )
+    change_in(tables, room, c, p, budget)
 }
 
 // Tested, made in the room, put back: every change but a suggestion.
 fn change_whole(
-    words: &mut Words,
-    keys: &mut Keys,
-    bytes: &mut Bytes,
-    reals: &mut Reals,
-    values: &mut Values,
-    wwords: &mut Words,
-    wkeys: &mut Keys,
-    wbytes: &mut Bytes,
-    wreals: &mut Reals,
-    wvalues: &mut Values,
+    tables: &mut TablesMut,
+    room: &mut TablesMut,
     c: Change,
     p: Pack,
     budget: u16,
 ) -> Answer
-    ensures values_value { called (answer_of result) (sparse words.new keys.new bytes.new reals.new values.new) ≡ call_of (made (changing_of c p budget)) (sparse wwords.old wkeys.old wbytes.old wreals.old wvalues.old) (sparse words.old keys.old bytes.old reals.old values.old) }
-    ensures wvalues_value { sparse wwords.new wkeys.new wbytes.new wreals.new wvalues.new ≡ cleared (sparse wwords.old wkeys.old wbytes.old wreals.old wvalues.old) }
+    ensures values_value { called (answer_of result) (held tables.new) ≡ call_of (made (changing_of c p budget)) (held room.old) (held tables.old) }
+    ensures wvalues_value { held room.new ≡ cleared (held room.old) }
+    ensures same_tables { Same tables.old tables.new }
+    ensures same_room { Same room.old room.new }
 {
-    let ok = lending::enter(
-        words, keys, bytes, reals, values, wwords, wkeys, wbytes, wreals, wvalues,
-    );
-    let a = change_if(
-        ok,
-        words,
-        keys,
-        bytes,
-        reals,
-        values,
-        wwords,
-        wkeys,
-        wbytes,
-        wreals,
-        wvalues,
-        c,
-        p,
-        budget as u32,
-    );
-    lending::leave(
-        ok & (a.number == 0),
-        words,
-        keys,
-        bytes,
-        reals,
-        values,
-        wwords,
-        wkeys,
-        wbytes,
-        wreals,
-        wvalues,
-    );
+    let ok = lending::enter(&tables.lend(), room);
+    let a = change_if(ok, &tables.lend(), room, c, p, budget as u32);
+    lending::leave(ok & (a.number == 0), tables, room);
     a
 }
 
 // p is read by an add alone, whatever it holds: the call is that of the list that it stands for.
 pub fn change(
-    words: &mut Words,
-    keys: &mut Keys,
-    bytes: &mut Bytes,
-    reals: &mut Reals,
-    values: &mut Values,
-    wwords: &mut Words,
-    wkeys: &mut Keys,
-    wbytes: &mut Bytes,
-    wreals: &mut Reals,
-    wvalues: &mut Values,
+    tables: &mut TablesMut,
+    room: &mut TablesMut,
     c: Change,
     p: Pack,
     budget: u16,
 ) -> Answer
-    ensures values_value { called (answer_of result) (sparse words.new keys.new bytes.new reals.new values.new) ≡ call_of (made (changing_of c p budget)) (sparse wwords.old wkeys.old wbytes.old wreals.old wvalues.old) (sparse words.old keys.old bytes.old reals.old values.old) }
-    ensures wvalues_value { sparse wwords.new wkeys.new wbytes.new wreals.new wvalues.new ≡ cleared (sparse wwords.old wkeys.old wbytes.old wreals.old wvalues.old) }
+    ensures values_value { called (answer_of result) (held tables.new) ≡ call_of (made (changing_of c p budget)) (held room.old) (held tables.old) }
+    ensures wvalues_value { held room.new ≡ cleared (held room.old) }
+    ensures same_tables { Same tables.old tables.new }
+    ensures same_room { Same room.old room.new }
 {
     match c {
-        Change::Suggest(n, x) => back::suggest_tested(
-            words, keys, bytes, reals, values, wwords, wkeys, wbytes, wreals, wvalues, n, x, budget,
-        ),
-        _ => change_whole(
-            words, keys, bytes, reals, values, wwords, wkeys, wbytes, wreals, wvalues, c, p, budget,
-        ),
+        Change::Suggest(n, x) => back::suggest_tested(tables, room, n, x, budget),
+        _ => change_whole(tables, room, c, p, budget),
     }
 }
 
 // The second door, for tables that are known to read as a state and that nobody else writes: no test, nothing put back, no room cleared. An accepted call leaves its state in the room, which reads as one and changes places with the tables; a refused one leaves the tables alone, and the room with no promise.
-pub fn change_held(
-    words: &Words,
-    keys: &Keys,
-    bytes: &Bytes,
-    reals: &Reals,
-    values: &Values,
-    wwords: &mut Words,
-    wkeys: &mut Keys,
-    wbytes: &mut Bytes,
-    wreals: &mut Reals,
-    wvalues: &mut Values,
-    c: Change,
-    p: Pack,
-    budget: u16,
-) -> Answer
-    requires { reads (lent words keys bytes reals values) ≡ true }
-    ensures done { Done (made (changing_of c p budget)) result (lent words.entry keys.entry bytes.entry reals.entry values.entry) (sparse wwords.new wkeys.new wbytes.new wreals.new wvalues.new) }
-    ensures then { Then (eqb result.number 0) (reads (sparse wwords.new wkeys.new wbytes.new wreals.new wvalues.new) ≡ true) }
+pub fn change_held(tables: &Tables, room: &mut TablesMut, c: Change, p: Pack, budget: u16) -> Answer
+    requires { reads (lent tables.now) ≡ true }
+    ensures done { Done (made (changing_of c p budget)) result (lent tables.now) (held room.new) }
+    ensures then { Then (eqb result.number 0) (reads (held room.new) ≡ true) }
+    ensures same { Same room.old room.new }
 {
     numbers::are_typed(c, p, budget);
-    lending::enter_held(
-        words, keys, bytes, reals, values, wwords, wkeys, wbytes, wreals, wvalues,
-    );
-    let a = change_in(
-        words,
-        keys,
-        bytes,
-        reals,
-        values,
-        wwords,
-        wkeys,
-        wbytes,
-        wreals,
-        wvalues,
-        c,
-        p,
-        budget as u32,
-    );
-    lending::room::long(wwords, wkeys, wbytes, wreals, wvalues);
+    lending::enter_held(tables, room);
+    let a = change_in(tables, room, c, p, budget as u32);
+    room.long();
     a
 }

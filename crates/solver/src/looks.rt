@@ -3,7 +3,7 @@ ghost use Rattle.std.specs.Prelude.{◌≡◌, ◌+◌, ◌≤◌, ◌<◌, get_
 ghost use Rattle.sparse.specs.Places.{most_variables, most_constraints, bytes_size};
 ghost use Rattle.sparse.specs.Places.{variable_numbers_at, term_counts_at};
 ghost use Rattle.sparse.specs.Lookup.{Ascends, place_from};
-ghost use Rattle.lending.specs.Entered.{terms_in};
+ghost use Rattle.sparse_test.specs.Tested.{term_count};
 ghost use Rattle.refusals.specs.Refusals.{variables_in, edits_in};
 ghost use Rattle.solver.specs.Placed.{edit_place};
 ghost use Rattle.solver.specs.StoredTerms.{variable_at, stored_term, stored_pack, Names, Terms};
@@ -61,11 +61,9 @@ pub fn stored_pack(words: &Words, bytes: &Bytes, reals: &Reals, from: usize, n: 
     ensures { result ≡ stored_pack words.now bytes.now reals.now from n }
 {
     let mut p = changes::terms::none();
-    let mut i = 0;
-    while i < n {
+    for i in 0..n {
         let t = stored_term(words, bytes, reals, from, i, n);
         p = changes::terms::push(p, t);
-        i += 1;
     }
     p
 }
@@ -79,10 +77,10 @@ fn wide(x: u8) -> usize
 // The terms of the j-th constraint.
 pub fn constraint_terms(words: &Words, bytes: &Bytes, reals: &Reals, j: usize) -> Pack
     requires j_lt_most_constraints { j < most_constraints }
-    requires terms { Terms words.now bytes.now (terms_in bytes.now j) (get_or bytes.now (term_counts_at + j) 0) }
-    ensures { result ≡ stored_pack words.now bytes.now reals.now (terms_in bytes.now j) (get_or bytes.now (term_counts_at + j) 0) }
+    requires terms { Terms words.now bytes.now (term_count bytes.now j) (get_or bytes.now (term_counts_at + j) 0) }
+    ensures { result ≡ stored_pack words.now bytes.now reals.now (term_count bytes.now j) (get_or bytes.now (term_counts_at + j) 0) }
 {
-    let from = lending::room::all_terms(bytes, j);
+    let from = sparse_test::term_count(bytes, j);
     let n = wide(bytes[sparse::TERM_COUNTS + j]);
     stored_pack(words, bytes, reals, from, n)
 }

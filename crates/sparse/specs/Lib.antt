@@ -1,6 +1,7 @@
 pub mod Places
 pub mod Lookup
 pub mod Sparse
+pub mod Tables
 pub mod Widths
 pub mod Stretches
 pub mod Concat

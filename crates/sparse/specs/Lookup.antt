@@ -1,11 +1,14 @@
 -- Which of n numbers from a place on is x: by walking; and that halving finds the same where they ascend.
 -- Assumes nothing.
-use Rattle.std.specs.Prelude.{ℕ, ◌+◌, ◌≤◌, ◌<◌, ◌≡◌, Bool, List, get_or}
-use Rattle.std.proofs.Math.Path.{refl, sym, subst}
+use Rattle.std.specs.Prelude.{ℕ, ◌+◌, ◌≤◌, ◌<◌, ◌≡◌, Bool, List, length, get_or, take, drop}
+use Rattle.std.proofs.Math.Path.{refl, sym, ap, subst}
 use Rattle.std.proofs.Common.{◌∙◌, arith}
+use Rattle.std.proofs.Math.ListN.{length-drop}
+use Rattle.std.proofs.Math.Seq.{length-take-le, get_or-take, get_or-drop}
 use Rattle.std.proofs.Math.Bool.{true, false}
 use Rattle.std.proofs.Math.Dec.{ltb}
-use borrow.Author.Tests.{ltb-true, ltb-false}
+use borrow.Author.Tests.{ltb-true, ltb-false, lt-ltb}
+use Rattle.layout.specs.cells.Search.{same-at}
 use Rattle.rows.specs.places.Finding.{place_in, place-le, place_is, place-live}
 
 -- which of the n numbers from place a on is x, n if none is: "finding a variable's place by walking the table"
@@ -20,27 +23,42 @@ module _ (l : List ℕ) (a n x : ℕ) where
   abbrev number : ℕ → ℕ
   number j = get_or l (a + j) 0
 
-  -- what halving keeps: the numbers before lo are below x, the one at hi is not
-  pub record Halved (lo hi : ℕ) : Type 0 where
-    pub below : (j : ℕ) → j < lo → number j < x
-    pub reached : hi < n → x ≤ number hi
+  -- what halving finds: the numbers before r are below x, the one at r is not
+  pub record Halved (r : ℕ) : Type 0 where
+    pub below : (j : ℕ) → j < r → number j < x
+    pub reached : r < n → x ≤ number r
 
-  pub halved-all : Halved 0 n
-  halved-all = record { below = λ j h. absurd (omega (arith, h)); reached = λ h. absurd (omega (arith, h)) }
+  module _ (fit : a + n ≤ length l) (part : List ℕ) (is : part ≡ take n (drop a l)) where
+    pub long : length part ≡ n
+    long = ap length is ∙ length-take-le n (drop a l) (rw (length-drop a l) (omega (arith, fit)))
 
-  pub halved-left : {lo hi : ℕ} (m : ℕ) → Halved lo hi → x ≤ number m → Halved lo m
-  halved-left m h q = record { below = h.below; reached = λ _. q }
+    read : (j d : ℕ) → j < n → get_or part j d ≡ number j
+    read j d h = ap (λ (z : List ℕ). get_or z j d) is ∙ get_or-take n (drop a l) j d h ∙ get_or-drop a l j d ∙ same-at l (a + j) d (omega (arith, fit, h))
+
+    -- no number below x comes after one that is not
+    pub parted : Ascends l a n → (i j d : ℕ) → i ≤ j → j < length part → ltb (get_or part j d) x ≡ true → ltb (get_or part i d) x ≡ true
+    parted up i j d h k q = ap (λ (y : ℕ). ltb y x) (read i d (omega (arith, h, u))) ∙ lt-ltb (number i) x (go (ltb i j) refl)
+      where
+        u : j < n
+        u = omega (arith, k, long)
+
+        at : number j < x
+        at = ltb-true (number j) x (sym (ap (λ (y : ℕ). ltb y x) (read j d u)) ∙ q)
+
+        go : (b : Bool) → ltb i j ≡ b → number i < x
+        go true e = let v = up i j (ltb-true i j e) u in omega (arith, v, at)
+        go false e =
+            let c : j ≡ i = omega (arith, h, ltb-false i j e) in
+            subst (λ (y : ℕ). number y < x) c at
+
+    pub halved : {r : ℕ} → r ≤ n → ((j d : ℕ) → 0 ≤ j → j < r → ltb (get_or part j d) x ≡ true) → ((j d : ℕ) → r ≤ j → j < length part → ltb (get_or part j d) x ≡ false) → Halved r
+    halved {r} h below above =
+        record {
+          below = λ j u. ltb-true (number j) x (sym (ap (λ (y : ℕ). ltb y x) (read j 0 (omega (arith, u, h)))) ∙ below j 0 (omega arith) u);
+          reached = λ q. ltb-false (number r) x (sym (ap (λ (y : ℕ). ltb y x) (read r 0 q)) ∙ above r 0 (omega arith) (omega (arith, q, long)));
+        }
 
   module _ (up : Ascends l a n) where
-    pub halved-right : {lo hi : ℕ} (m : ℕ) → m < n → Halved lo hi → number m < x → Halved (m + 1) hi
-    halved-right m v h q = record { below = λ j k. go j k (ltb j m) refl; reached = h.reached }
-      where
-        go : (j : ℕ) → j < m + 1 → (b : Bool) → ltb j m ≡ b → number j < x
-        go j k true e = let p = up j m (ltb-true j m e) v in omega (arith, p, q)
-        go j k false e =
-            let c : m ≡ j = omega (arith, ltb-false j m e, k) in
-            subst (λ (y : ℕ). number y < x) c q
-
     apart : (i j : ℕ) → i < n → j < n → number i ≡ number j → i ≡ j
     apart i j u v e = go (ltb i j) refl (ltb j i) refl
       where
@@ -56,10 +74,10 @@ module _ (l : List ℕ) (a n x : ℕ) where
         let p = place-live number n x r h e in
         apart r (place_in number n x) h p (e ∙ sym (place_is number n x p))
 
-    -- no place has it: what lies before the half's end is below, what lies from there on is above
-    pub place-nowhere : {r hi : ℕ} → r ≡ hi → Halved r hi → (r < n → number r ≡ x → ⊥) → n ≡ place_from l a n x
+    -- no place has it: what lies before r is below, what lies from there on is above
+    pub place-nowhere : {r : ℕ} → Halved r → (r < n → number r ≡ x → ⊥) → n ≡ place_from l a n x
     unfolding place_from
-    place-nowhere {r} same h miss = go (ltb (place_in number n x) n) refl
+    place-nowhere {r} h miss = go (ltb (place_in number n x) n) refl
       where
         none : (j : ℕ) → j < n → number j ≡ x → ⊥
         none j u e = by (ltb j r) refl (ltb r j) refl
@@ -69,7 +87,7 @@ module _ (l : List ℕ) (a n x : ℕ) where
             by false f true g =
                 let k = ltb-true r j g in
                 let p = up r j k u in
-                let q : x ≤ number r = subst (λ (y : ℕ). x ≤ number y) (sym same) (h.reached (omega (arith, k, u, same))) in
+                let q = h.reached (omega (arith, k, u)) in
                 omega (arith, p, q, e)
             by false f false g =
                 let c : j ≡ r = omega (arith, ltb-false j r f, ltb-false r j g) in

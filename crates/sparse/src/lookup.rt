@@ -5,27 +5,14 @@ ghost use Rattle.sparse.specs.Lookup.{Ascends, place_from};
 
 use crate::Words;
 
-// Which of the n ascending words from place a on is x; n if none is.
+// Which of the n ascending words from place a on is x; n if none is. (No Option: those who know that x is there go on with the place as it is,
+// and n is what `place_from`, which the theorems speak of, gives for none.)
 pub fn look_up(words: &Words, a: usize, n: usize, x: u64) -> usize
     requires n_bound { a + n ≤ words_size }
     requires ascends { Ascends words.now a n }
     ensures value { result ≡ place_from words.now a n x }
     ensures upper_bound { result ≤ n }
 {
-    let mut lo = 0;
-    let mut hi = n;
-    while lo < hi {
-        let m = (lo + hi) / 2;
-        if words[a + m] < x {
-            lo = m + 1;
-            continue;
-        }
-        hi = m;
-    }
-    if lo < n {
-        if words[a + lo] == x {
-            return lo;
-        }
-    }
-    n
+    let i = words[a..a + n].partition_point(|word| *word < x);
+    if i < n && words[a + i] == x { i } else { n }
 }

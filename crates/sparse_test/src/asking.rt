@@ -9,10 +9,12 @@ ghost use Rattle.sparse_test.specs.Reads.{reads};
 ghost use Rattle.sparse_test.specs.Whole.{tables};
 ghost use Rattle.sparse.specs.Lookup.{Ascends, place_from};
 ghost use Rattle.sparse_test.specs.Asked.{asked, constant_of, value_in, edit_in};
+ghost use Rattle.sparse.specs.Tables.{lent};
 
 use crate::reads_as_state;
 use sparse::lookup::look_up;
-use sparse::{Bytes, Keys, Reals, Values, Words};
+use sparse::tables::Tables;
+use sparse::{Bytes, Reals, Words};
 
 // Which of the n bytes from place a on is x; n if none is. Variables' and edits' bytes stand in no order.
 pub fn byte_from(bytes: &Bytes, a: usize, n: usize, x: u8) -> usize
@@ -20,12 +22,10 @@ pub fn byte_from(bytes: &Bytes, a: usize, n: usize, x: u8) -> usize
     ensures value { result ≡ place_from bytes.now a n x }
     ensures upper_bound { result ≤ n }
 {
-    let mut i = 0;
-    while i < n {
+    for i in 0..n {
         if x == bytes[a + i] {
             return i;
         }
-        i += 1;
     }
     n
 }
@@ -77,99 +77,57 @@ pub fn edit_in(words: &Words, bytes: &Bytes, v: usize, e: usize, n: u64) -> bool
 }
 
 // The same on tables that are known to read as a state.
-pub fn has_constraint_held(
-    words: &Words,
-    keys: &Keys,
-    bytes: &Bytes,
-    reals: &Reals,
-    values: &Values,
-    n: u32,
-) -> bool
-    requires { reads (tables words.now keys.now bytes.now reals.now values.now) ≡ true }
-    ensures { result ≡ has_constraint n (read (tables words.now keys.now bytes.now reals.now values.now)) }
+pub fn has_constraint_held(tables: &Tables, n: u32) -> bool
+    requires { reads (lent tables.now) ≡ true }
+    ensures { result ≡ has_constraint n (read (lent tables.now)) }
 {
-    let c = words[sparse::CONSTRAINT_COUNT] as usize;
-    look_up(words, sparse::CONSTRAINT_NUMBERS, c, n as u64) < c
+    let c = tables.words[sparse::CONSTRAINT_COUNT] as usize;
+    look_up(tables.words, sparse::CONSTRAINT_NUMBERS, c, n as u64) < c
 }
 
-pub fn has_constraint(
-    words: &Words,
-    keys: &Keys,
-    bytes: &Bytes,
-    reals: &Reals,
-    values: &Values,
-    n: u32,
-) -> bool
-    ensures { result ≡ asked (has_constraint n) false (tables words.now keys.now bytes.now reals.now values.now) }
+pub fn has_constraint(tables: &Tables, n: u32) -> bool
+    ensures { result ≡ asked (has_constraint n) false (lent tables.now) }
 {
-    if !reads_as_state(words, keys, bytes, reals, values) {
+    if !reads_as_state(tables) {
         return false;
     }
-    has_constraint_held(words, keys, bytes, reals, values, n)
+    has_constraint_held(tables, n)
 }
 
 // The same on tables that are known to read as a state.
-pub fn has_edit_held(
-    words: &Words,
-    keys: &Keys,
-    bytes: &Bytes,
-    reals: &Reals,
-    values: &Values,
-    n: u32,
-) -> bool
-    requires { reads (tables words.now keys.now bytes.now reals.now values.now) ≡ true }
-    ensures { result ≡ has_edit n (read (tables words.now keys.now bytes.now reals.now values.now)) }
+pub fn has_edit_held(tables: &Tables, n: u32) -> bool
+    requires { reads (lent tables.now) ≡ true }
+    ensures { result ≡ has_edit n (read (lent tables.now)) }
 {
-    let v = words[sparse::VARIABLE_COUNT] as usize;
-    let e = words[sparse::EDIT_COUNT] as usize;
-    edit_in(words, bytes, v, e, n as u64)
+    let v = tables.words[sparse::VARIABLE_COUNT] as usize;
+    let e = tables.words[sparse::EDIT_COUNT] as usize;
+    edit_in(tables.words, tables.bytes, v, e, n as u64)
 }
 
-pub fn has_edit(
-    words: &Words,
-    keys: &Keys,
-    bytes: &Bytes,
-    reals: &Reals,
-    values: &Values,
-    n: u32,
-) -> bool
-    ensures { result ≡ asked (has_edit n) false (tables words.now keys.now bytes.now reals.now values.now) }
+pub fn has_edit(tables: &Tables, n: u32) -> bool
+    ensures { result ≡ asked (has_edit n) false (lent tables.now) }
 {
-    if !reads_as_state(words, keys, bytes, reals, values) {
+    if !reads_as_state(tables) {
         return false;
     }
-    has_edit_held(words, keys, bytes, reals, values, n)
+    has_edit_held(tables, n)
 }
 
 // The same on tables that are known to read as a state.
-pub fn get_value_held(
-    words: &Words,
-    keys: &Keys,
-    bytes: &Bytes,
-    reals: &Reals,
-    values: &Values,
-    n: u32,
-) -> f64
-    requires { reads (tables words.now keys.now bytes.now reals.now values.now) ≡ true }
-    ensures { result ≡ value n (read (tables words.now keys.now bytes.now reals.now values.now)) }
+pub fn get_value_held(tables: &Tables, n: u32) -> f64
+    requires { reads (lent tables.now) ≡ true }
+    ensures { result ≡ value n (read (lent tables.now)) }
 {
-    let v = words[sparse::VARIABLE_COUNT] as usize;
-    let r = words[sparse::ROW_COUNT] as usize;
-    value_in(words, bytes, reals, v, r, n as u64)
+    let v = tables.words[sparse::VARIABLE_COUNT] as usize;
+    let r = tables.words[sparse::ROW_COUNT] as usize;
+    value_in(tables.words, tables.bytes, tables.reals, v, r, n as u64)
 }
 
-pub fn get_value(
-    words: &Words,
-    keys: &Keys,
-    bytes: &Bytes,
-    reals: &Reals,
-    values: &Values,
-    n: u32,
-) -> f64
-    ensures { result ≡ asked (value n) zero64 (tables words.now keys.now bytes.now reals.now values.now) }
+pub fn get_value(tables: &Tables, n: u32) -> f64
+    ensures { result ≡ asked (value n) zero64 (lent tables.now) }
 {
-    if !reads_as_state(words, keys, bytes, reals, values) {
+    if !reads_as_state(tables) {
         return 0.0;
     }
-    get_value_held(words, keys, bytes, reals, values, n)
+    get_value_held(tables, n)
 }

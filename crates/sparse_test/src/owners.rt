@@ -7,7 +7,7 @@ ghost use Rattle.rows.specs.places.Shares.{shares};
 ghost use Rattle.sparse_test.specs.Stretch.{most_in};
 ghost use Rattle.sparse_test.specs.Tested.{code_of, codes, claim, claim_other, marker_code, softly, claim_variables, claim_constraints, claim_edits, constraint_fits, edit_fits, claimed, owned_fit};
 
-use crate::stretch::wide;
+use crate::stretch::{every, wide};
 use layout::cells::PLACE_ROOM;
 use sparse::{Bytes, Reals};
 
@@ -35,9 +35,7 @@ pub fn fill_codes(table: &mut [u8; PLACE_ROOM], bytes: &Bytes, k: usize)
     requires table_value { table.old ≡ replicate place_room 9 }
     ensures { table.new ≡ codes bytes.now k }
 {
-    let mut p = 0;
-    while p < k {
-        p += 1;
+    for p in 1..k + 1 {
         table[p] = code_of(bytes[sparse::KINDS + p]);
     }
 }
@@ -76,11 +74,9 @@ fn claim_variables(table: &mut [u8; PLACE_ROOM], bytes: &Bytes, v: usize) -> boo
 {
     let mut ok = true;
     let mut fits = true;
-    let mut i = 0;
-    while i < v {
+    for i in 0..v {
         ok = claim(table, bytes[sparse::VARIABLE_PLACES + i], 1, ok);
         fits = fits & (bytes[sparse::CHANGED + i] <= 1);
-        i += 1;
     }
     ok & fits
 }
@@ -114,15 +110,13 @@ fn claim_constraints(table: &mut [u8; PLACE_ROOM], bytes: &Bytes, reals: &Reals,
 {
     let mut ok = true;
     let mut fits = true;
-    let mut i = 0;
-    while i < c {
+    for i in 0..c {
         let o = bytes[sparse::CONSTRAINT_OTHERS + i];
         let relation = bytes[sparse::RELATIONS + i];
         let x = marker_code(relation, o);
         ok = claim_tag(table, bytes[sparse::CONSTRAINT_MARKERS + i], x, o, ok);
         let soft = strength_fits(reals[sparse::CONSTRAINT_STRENGTHS + i], o);
         fits = fits & (soft & (relation <= 2));
-        i += 1;
     }
     ok & fits
 }
@@ -135,12 +129,10 @@ fn claim_edits(table: &mut [u8; PLACE_ROOM], bytes: &Bytes, reals: &Reals, e: us
 {
     let mut ok = true;
     let mut fits = true;
-    let mut i = 0;
-    while i < e {
+    for i in 0..e {
         let o = bytes[sparse::EDIT_OTHERS + i];
         ok = claim_tag(table, bytes[sparse::EDIT_MARKERS + i], 3, o, ok);
         fits = fits & ((reals[sparse::EDIT_STRENGTHS + i] < REQUIRED) & !(o == 0));
-        i += 1;
     }
     ok & fits
 }
@@ -149,13 +141,7 @@ fn all_claimed(table: &[u8; PLACE_ROOM], k: usize) -> bool
     requires { k ≤ last_place }
     ensures { result ≡ all_in (λ i. eqb (get_or table.now (1 + i) 0) 0) 0 k }
 {
-    let mut ok = true;
-    let mut i = 0;
-    while i < k {
-        ok = ok & (table[1 + i] == 0);
-        i += 1;
-    }
-    ok
+    every(0, k, |i| table[1 + i] == 0)
 }
 
 pub fn owned_fit(

@@ -6,7 +6,7 @@ ghost use Rattle.sparse.specs.Places.{most_rows, most_variables, most_constraint
 ghost use Rattle.sparse.specs.Lookup.{Ascends};
 ghost use Rattle.sparse_test.specs.Tested.{olds_fit, returned_fit, reals_fit};
 
-use crate::stretch::{one_unless, reals_finite};
+use crate::stretch::{every, reals_finite};
 use rows::places::old_fits;
 use sparse::lookup::look_up;
 use sparse::{Reals, Words};
@@ -18,13 +18,7 @@ fn olds_fit(reals: &Reals, v: usize) -> bool
     requires { v ≤ most_variables }
     ensures { result ≡ olds_fit reals.now v }
 {
-    let mut misses = 0;
-    let mut i = 0;
-    while i < v {
-        misses += one_unless(old_fits(reals[sparse::OLD_VALUES + i]));
-        i += 1;
-    }
-    misses == 0
+    every(0, v, |i| old_fits(reals[sparse::OLD_VALUES + i]))
 }
 
 // "a variable whose number is among them has NaN for its old value": NaN alone differs from itself.
@@ -34,9 +28,7 @@ pub fn returned_fit(words: &Words, reals: &Reals, v: usize, g: usize) -> bool
     requires ascends { Ascends words.now gone_numbers_at g }
     ensures { result ≡ returned_fit words.now reals.now v g }
 {
-    let mut ok = true;
-    let mut i = 0;
-    while i < v {
+    every(0, v, |i| {
         let p = look_up(
             words,
             sparse::GONE_NUMBERS,
@@ -44,10 +36,8 @@ pub fn returned_fit(words: &Words, reals: &Reals, v: usize, g: usize) -> bool
             words[sparse::VARIABLE_NUMBERS + i],
         );
         let old = reals[sparse::OLD_VALUES + i];
-        ok = ok & (!(p < g) | (old != old));
-        i += 1;
-    }
-    ok
+        !(p < g) | (old != old)
+    })
 }
 
 // "above 0 and at most 1E-6": the cutoffs that reset takes. Neither NaN nor an infinity is one.

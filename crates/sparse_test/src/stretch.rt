@@ -1,11 +1,12 @@
-// Tests of a stretch of a table: its numbers ascend, lie between two bounds, are at most so much, are finite.
-ghost use Rattle.std.specs.Prelude.{◌≡◌, ◌+◌, ◌≤◌};
-ghost use Rattle.sparse.specs.Places.{words_size, bytes_size, reals_size};
+// Tests of a stretch of places: each passes, or its numbers ascend between two bounds.
+ghost use Rattle.std.specs.Prelude.{◌≡◌, ℕ, ◌+◌, ◌<◌, ◌≤◌, Bool, List, get_or};
+ghost use Rattle.laws.specs.Lists.{all_in};
+ghost use Rattle.sparse.specs.Places.{reals_size};
 ghost use Rattle.rows.specs.places.Shares.{finite_in};
-ghost use Rattle.sparse_test.specs.Stretch.{missed, ascend_in, up_in, most_in, above_zero_in};
+ghost use Rattle.sparse_test.specs.Stretch.{up_in};
 
 use rows::places::is_finite;
-use sparse::{Bytes, Reals, Words};
+use sparse::Reals;
 
 // A byte as a place of a table: it is below 256.
 pub fn wide(x: u8) -> usize
@@ -15,97 +16,32 @@ pub fn wide(x: u8) -> usize
     x as usize
 }
 
-// Counted, not joined: a loop that counts is run over several places at once.
-pub fn one_unless(ok: bool) -> usize
-    ensures value { result ≡ missed ok }
-    ensures upper_bound { result ≤ 1 }
-{
-    if ok { 0 } else { 1 }
-}
-
-fn words_ascend(words: &Words, a: usize, n: usize) -> bool
-    requires { a + n ≤ words_size }
-    ensures { result ≡ ascend_in words.now a n }
+// Whether each place from a on, up to e, passes. Misses are counted, not joined: a loop that counts is run over several places at once.
+pub fn every<F: Fn(usize) -> bool>(a: usize, e: usize, test: F) -> bool
+    requires { (i : ℕ) → a ≤ i → i < e → F.pre test i }
+    ensures { (p : ℕ → Bool) → ((i : ℕ) (b : Bool) → a ≤ i → i < e → F.post test i b → b ≡ p i) → result ≡ all_in p a e }
 {
     let mut misses = 0;
-    let mut i = 1;
-    while i < n {
-        misses += one_unless(words[a + (i - 1)] < words[a + i]);
-        i += 1;
+    for i in a..e {
+        misses += usize::from(!test(i));
     }
     misses == 0
 }
 
-// Words that ascend: the first and the last tell where all are.
-pub fn words_up(words: &Words, a: usize, n: usize, low: u64, high: u64) -> bool
-    requires { a + n ≤ words_size }
-    ensures { result ≡ up_in words.now a n low high }
+// Whether the n numbers ascend from low on and stay below high: those that ascend, the first and the last tell where all are.
+pub fn up<F: Fn(usize) -> u64>(n: usize, at: F, low: u64, high: u64) -> bool
+    requires { (i : ℕ) → i < n → F.pre at i }
+    ensures { (l : List ℕ) (a : ℕ) → ((i : ℕ) (x : ℕ) → i < n → F.post at i x → x ≡ get_or l (a + i) 0) → result ≡ up_in l a n low high }
 {
     if n == 0 {
         return true;
     }
-    words_ascend(words, a, n) & (low <= words[a]) & (words[a + (n - 1)] < high)
-}
-
-// "no constraint with a number is in group 0"
-pub fn words_above_zero(words: &Words, a: usize, n: usize) -> bool
-    requires { a + n ≤ words_size }
-    ensures { result ≡ above_zero_in words.now a n }
-{
-    let mut misses = 0;
-    let mut i = 0;
-    while i < n {
-        misses += one_unless(0 < words[a + i]);
-        i += 1;
-    }
-    misses == 0
-}
-
-fn bytes_ascend(bytes: &Bytes, a: usize, n: usize) -> bool
-    requires { a + n ≤ bytes_size }
-    ensures { result ≡ ascend_in bytes.now a n }
-{
-    let mut ok = true;
-    let mut i = 1;
-    while i < n {
-        ok = ok & (bytes[a + (i - 1)] < bytes[a + i]);
-        i += 1;
-    }
-    ok
-}
-
-pub fn bytes_up(bytes: &Bytes, a: usize, n: usize, low: u8, high: u8) -> bool
-    requires { a + n ≤ bytes_size }
-    ensures { result ≡ up_in bytes.now a n low high }
-{
-    if n == 0 {
-        return true;
-    }
-    bytes_ascend(bytes, a, n) & (low <= bytes[a]) & (bytes[a + (n - 1)] < high)
-}
-
-pub fn bytes_most(bytes: &Bytes, a: usize, n: usize, most: u8) -> bool
-    requires { a + n ≤ bytes_size }
-    ensures { result ≡ most_in bytes.now a n most }
-{
-    let mut ok = true;
-    let mut i = 0;
-    while i < n {
-        ok = ok & (bytes[a + i] <= most);
-        i += 1;
-    }
-    ok
+    every(1, n, |i| at(i - 1) < at(i)) & (low <= at(0)) & (at(n - 1) < high)
 }
 
 pub fn reals_finite(reals: &Reals, a: usize, n: usize) -> bool
     requires { a + n ≤ reals_size }
     ensures { result ≡ finite_in reals.now a n }
 {
-    let mut misses = 0;
-    let mut i = 0;
-    while i < n {
-        misses += one_unless(is_finite(reals[a + i]));
-        i += 1;
-    }
-    misses == 0
+    every(0, n, |i| is_finite(reals[a + i]))
 }

@@ -6,7 +6,7 @@ ghost use Rattle.sparse.specs.Places.{most_rows};
 ghost use Rattle.sparse_test.specs.Tested.{costs_fit, rows_in, keys_fit, values_fit};
 ghost use Rattle.sparse_test.specs.Open.{Opened, open_by};
 
-use crate::stretch::{one_unless, wide};
+use crate::stretch::{every, wide};
 use layout::cells::PLACE_ROOM;
 use rows::places::is_finite;
 use sparse::{Bytes, Keys, Reals, Values};
@@ -25,12 +25,10 @@ pub fn shut_basics(
     ensures value { result ≡ costs_fit reals.now bytes.now r }
 {
     let mut ok = true;
-    let mut i = 0;
-    while i < r {
+    for i in 0..r {
         let p = wide(bytes[sparse::ROW_PLACES + 1 + i]);
         table[p] = 9;
         ok = ok & (reals[sparse::OBJECTIVE + p] == 0.0);
-        i += 1;
     }
     ok
 }
@@ -41,11 +39,9 @@ fn open_in(keys: &Keys, table: &[u8; PLACE_ROOM], n: usize) -> bool
     ensures { result ≡ open_by keys.now table.now n }
 {
     let mut sum = 0;
-    let mut j = 0;
-    while j < n {
+    for j in 0..n {
         let p = keys[j] % layout::cells::ROW_SPAN;
         sum += wide(table[p as usize]);
-        j += 1;
     }
     sum == 0
 }
@@ -85,12 +81,5 @@ pub fn values_fit(values: &Values, n: usize) -> bool
     requires { n ≤ cell_room }
     ensures { result ≡ values_fit values.now n }
 {
-    let mut misses = 0;
-    let mut i = 0;
-    while i < n {
-        let x = values[i];
-        misses += one_unless((x != 0.0) & is_finite(x));
-        i += 1;
-    }
-    misses == 0
+    every(0, n, |i| (values[i] != 0.0) & is_finite(values[i]))
 }

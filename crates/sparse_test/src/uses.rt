@@ -6,7 +6,7 @@ ghost use Rattle.sparse_test.specs.Tally.{Most};
 ghost use Rattle.sparse_test.specs.Tested.{index_in, number_in, edits_up, count_uses, no_uses, uses_are, uses_fit};
 ghost use Rattle.sparse_test.specs.Index.{near, Indexed};
 
-use crate::stretch::{one_unless, wide};
+use crate::stretch::{every, wide};
 use layout::cells::PLACE_ROOM;
 use sparse::{Bytes, Words};
 
@@ -23,9 +23,7 @@ pub fn fill_index(index: &mut [u8; PLACE_ROOM], bytes: &Bytes, v: usize)
     requires index_value { index.old ≡ replicate place_room 255 }
     ensures { Indexed index.new bytes.now v }
 {
-    let mut i = v;
-    while 0 < i {
-        i -= 1;
+    for i in (0..v).rev() {
         index[wide(bytes[sparse::VARIABLE_PLACES + i])] = i as u8;
     }
 }
@@ -67,15 +65,10 @@ pub fn edits_up(words: &Words, index: &[u8; PLACE_ROOM], bytes: &Bytes, v: usize
     requires indexed { Indexed index.now bytes.now v }
     ensures { result ≡ edits_up words.now bytes.now v e }
 {
-    let mut ok = true;
-    let mut i = 1;
-    while i < e {
+    every(1, e, |i| {
         let before = number_at(words, index, bytes, v, sparse::EDIT_VARIABLES + (i - 1));
-        let here = number_at(words, index, bytes, v, sparse::EDIT_VARIABLES + i);
-        ok = ok & (before < here);
-        i += 1;
-    }
-    ok
+        before < number_at(words, index, bytes, v, sparse::EDIT_VARIABLES + i)
+    })
 }
 
 // ---- uses: each variable has as many as terms and edits name it
@@ -102,11 +95,9 @@ fn count_uses(
     requires most { Most counts.old most_terms }
     ensures { counts.new ≡ count_uses bytes.now v a n counts.old }
 {
-    let mut j = 0;
-    while j < n {
+    for j in 0..n {
         let i = index_at(index, bytes, v, a + j);
         counts[i] += 1;
-        j += 1;
     }
 }
 
@@ -114,13 +105,7 @@ fn uses_are(counts: &[u64; 33], words: &Words, v: usize) -> bool
     requires { v ≤ most_variables }
     ensures { result ≡ uses_are words.now counts.now v }
 {
-    let mut misses = 0;
-    let mut i = 0;
-    while i < v {
-        misses += one_unless(words[sparse::VARIABLE_USES + i] == counts[i]);
-        i += 1;
-    }
-    (misses == 0) & (counts[v] == 0)
+    every(0, v, |i| words[sparse::VARIABLE_USES + i] == counts[i]) & (counts[v] == 0)
 }
 
 // m terms.

@@ -1,33 +1,28 @@
 // The records of the lent tables come over into the room: those kept, each named by the places there.
-ghost use Rattle.std.specs.Prelude.{◌≤◌};
-ghost use Rattle.sparse.specs.Places.{most_constraints, most_terms};
-ghost use Rattle.stored.specs.Parts.{source_size, target_size};
 ghost use Rattle.stored.specs.Maps.{Names};
 ghost use Rattle.stored.specs.Carried.{WordsCarried, ConstraintBytes, EditBytes, BytesCarried, RealsCarried, Carried};
 
-use crate::parts::{Plan, long_words, split_bytes, split_named, split_reals, split_words};
+use crate::parts::{split, split_named};
 use crate::places::{tag_places, variable_places};
+use crate::plans::Plans;
 use layout::cells::PLACE_ROOM;
 use sparse::{Bytes, MOST_CONSTRAINTS, MOST_TERMS, Reals, Words};
 
-fn carry_words(words: &mut Words, from: &Words, c: Plan, e: Plan)
-    requires c_bound { source_size c ≤ most_constraints }
-    requires c_bound_2 { target_size c ≤ most_constraints }
-    requires e_bound { target_size e ≤ most_constraints }
-    ensures { WordsCarried c e from.now words.old words.new }
+fn carry_words(words: &mut Words, from: &Words, plans: Plans)
+    ensures { WordsCarried plans.constraints plans.edits from.now words.old words.new }
 {
-    long_words(words);
+    let c = plans.constraints;
+    let e = plans.edits;
     words[sparse::CONSTRAINT_COUNT] = (c.at + c.free + c.rest) as u64;
     words[sparse::EDIT_COUNT] = (e.at + e.free + e.rest) as u64;
-    split_words(words, from, sparse::CONSTRAINT_NUMBERS, MOST_CONSTRAINTS, c);
-    split_words(words, from, sparse::CONSTRAINT_GROUPS, MOST_CONSTRAINTS, c);
+    split(words, from, sparse::CONSTRAINT_NUMBERS, MOST_CONSTRAINTS, c);
+    split(words, from, sparse::CONSTRAINT_GROUPS, MOST_CONSTRAINTS, c);
 }
 
-fn constraint_bytes(bytes: &mut Bytes, from: &Bytes, tags: &[u8; PLACE_ROOM], c: Plan)
-    requires c_bound { source_size c ≤ most_constraints }
-    requires c_bound_2 { target_size c ≤ most_constraints }
-    ensures { ConstraintBytes tags.now c from.now bytes.old bytes.new }
+fn constraint_bytes(bytes: &mut Bytes, from: &Bytes, tags: &[u8; PLACE_ROOM], plans: Plans)
+    ensures { ConstraintBytes tags.now plans.constraints from.now bytes.old bytes.new }
 {
+    let c = plans.constraints;
     split_named(
         bytes,
         from,
@@ -44,7 +39,7 @@ fn constraint_bytes(bytes: &mut Bytes, from: &Bytes, tags: &[u8; PLACE_ROOM], c:
         MOST_CONSTRAINTS,
         c,
     );
-    split_bytes(bytes, from, sparse::TERM_COUNTS, MOST_CONSTRAINTS, c);
+    split(bytes, from, sparse::TERM_COUNTS, MOST_CONSTRAINTS, c);
 }
 
 fn edit_bytes(
@@ -52,12 +47,11 @@ fn edit_bytes(
     from: &Bytes,
     tags: &[u8; PLACE_ROOM],
     vars: &[u8; PLACE_ROOM],
-    e: Plan,
+    plans: Plans,
 )
-    requires e_bound { source_size e ≤ most_constraints }
-    requires e_bound_2 { target_size e ≤ most_constraints }
-    ensures { EditBytes tags.now vars.now e from.now bytes.old bytes.new }
+    ensures { EditBytes tags.now vars.now plans.edits from.now bytes.old bytes.new }
 {
+    let e = plans.edits;
     split_named(
         bytes,
         from,
@@ -75,44 +69,38 @@ fn carry_bytes(
     from: &Bytes,
     tags: &[u8; PLACE_ROOM],
     vars: &[u8; PLACE_ROOM],
-    c: Plan,
-    s: Plan,
-    e: Plan,
+    plans: Plans,
 )
-    requires c_bound { source_size c ≤ most_constraints }
-    requires c_bound_2 { target_size c ≤ most_constraints }
-    requires s_bound { source_size s ≤ most_terms }
-    requires s_bound_2 { target_size s ≤ most_terms }
-    requires e_bound { source_size e ≤ most_constraints }
-    requires e_bound_2 { target_size e ≤ most_constraints }
-    ensures { BytesCarried tags.now vars.now c s e from.now bytes.old bytes.new }
+    ensures { BytesCarried tags.now vars.now plans.constraints plans.terms plans.edits from.now bytes.old bytes.new }
 {
-    constraint_bytes(bytes, from, tags, c);
-    edit_bytes(bytes, from, tags, vars, e);
-    split_named(bytes, from, vars, sparse::TERMS, MOST_TERMS, s);
-    split_bytes(bytes, from, sparse::RELATIONS, MOST_CONSTRAINTS, c);
+    constraint_bytes(bytes, from, tags, plans);
+    edit_bytes(bytes, from, tags, vars, plans);
+    split_named(bytes, from, vars, sparse::TERMS, MOST_TERMS, plans.terms);
+    split(
+        bytes,
+        from,
+        sparse::RELATIONS,
+        MOST_CONSTRAINTS,
+        plans.constraints,
+    );
 }
 
-fn carry_reals(reals: &mut Reals, from: &Reals, c: Plan, s: Plan, e: Plan)
-    requires c_bound { source_size c ≤ most_constraints }
-    requires c_bound_2 { target_size c ≤ most_constraints }
-    requires s_bound { source_size s ≤ most_terms }
-    requires s_bound_2 { target_size s ≤ most_terms }
-    requires e_bound { source_size e ≤ most_constraints }
-    requires e_bound_2 { target_size e ≤ most_constraints }
-    ensures { RealsCarried c s e from.now reals.old reals.new }
+fn carry_reals(reals: &mut Reals, from: &Reals, plans: Plans)
+    ensures { RealsCarried plans.constraints plans.terms plans.edits from.now reals.old reals.new }
 {
-    split_reals(
+    let c = plans.constraints;
+    let e = plans.edits;
+    split(
         reals,
         from,
         sparse::CONSTRAINT_STRENGTHS,
         MOST_CONSTRAINTS,
         c,
     );
-    split_reals(reals, from, sparse::EDIT_STRENGTHS, MOST_CONSTRAINTS, e);
-    split_reals(reals, from, sparse::SUGGESTIONS, MOST_CONSTRAINTS, e);
-    split_reals(reals, from, sparse::COEFFICIENTS, MOST_TERMS, s);
-    split_reals(
+    split(reals, from, sparse::EDIT_STRENGTHS, MOST_CONSTRAINTS, e);
+    split(reals, from, sparse::SUGGESTIONS, MOST_CONSTRAINTS, e);
+    split(reals, from, sparse::COEFFICIENTS, MOST_TERMS, plans.terms);
+    split(
         reals,
         from,
         sparse::CONSTRAINT_CONSTANTS,
@@ -121,7 +109,6 @@ fn carry_reals(reals: &mut Reals, from: &Reals, c: Plan, s: Plan, e: Plan)
     );
 }
 
-// c of the constraints, s of their terms, e of the edits.
 pub fn carry(
     words: &mut Words,
     bytes: &mut Bytes,
@@ -129,23 +116,15 @@ pub fn carry(
     fwords: &Words,
     fbytes: &Bytes,
     freals: &Reals,
-    c: Plan,
-    s: Plan,
-    e: Plan,
+    plans: Plans,
 )
     requires names { Names fwords.now fbytes.now }
     requires names_2 { Names words.old bytes.old }
-    requires c_bound { source_size c ≤ most_constraints }
-    requires c_bound_2 { target_size c ≤ most_constraints }
-    requires s_bound { source_size s ≤ most_terms }
-    requires s_bound_2 { target_size s ≤ most_terms }
-    requires e_bound { source_size e ≤ most_constraints }
-    requires e_bound_2 { target_size e ≤ most_constraints }
-    ensures { Carried c s e fwords.now fbytes.now freals.now words.old bytes.old reals.old words.new bytes.new reals.new }
+    ensures { Carried plans.constraints plans.terms plans.edits fwords.now fbytes.now freals.now words.old bytes.old reals.old words.new bytes.new reals.new }
 {
     let tags = tag_places(fwords, fbytes, words, bytes);
     let vars = variable_places(fwords, fbytes, words, bytes);
-    carry_words(words, fwords, c, e);
-    carry_bytes(bytes, fbytes, &tags, &vars, c, s, e);
-    carry_reals(reals, freals, c, s, e);
+    carry_words(words, fwords, plans);
+    carry_bytes(bytes, fbytes, &tags, &vars, plans);
+    carry_reals(reals, freals, plans);
 }

@@ -6,5 +6,6 @@ pub mod moving;
 pub mod new;
 pub mod parts;
 pub mod places;
+pub mod plans;
 pub mod record;
 pub mod records;

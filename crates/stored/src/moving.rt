@@ -2,50 +2,14 @@
 ghost use Rattle.std.specs.Prelude.{◌≡◌, ◌+◌, ◌≤◌};
 ghost use Rattle.laws.specs.Lists.{sum_in};
 ghost use Rattle.sparse.specs.Places.{most_constraints, most_terms};
-ghost use Rattle.stored.specs.Parts.{source_size, target_size, all_of, without, opened};
+ghost use Rattle.stored.specs.Parts.{source_size, target_size};
 ghost use Rattle.stored.specs.Maps.{Names, counts_in};
 ghost use Rattle.stored.specs.Moved.{terms_plan, Moved};
 
 use crate::carry::carry;
-use crate::parts::{Plan, wide};
+use crate::parts::Plan;
+use crate::plans::Plans;
 use sparse::{Bytes, Reals, Words};
-
-// ---- plans
-
-pub fn all_of(n: usize) -> Plan
-    ensures { result ≡ all_of n }
-{
-    Plan {
-        at: n,
-        drop: 0,
-        free: 0,
-        rest: 0,
-    }
-}
-
-pub fn without_one(j: usize, n: usize) -> Plan
-    requires { j + 1 ≤ n }
-    ensures { result ≡ without j n }
-{
-    Plan {
-        at: j,
-        drop: 1,
-        free: 0,
-        rest: n - (j + 1),
-    }
-}
-
-pub fn with_one(j: usize, n: usize) -> Plan
-    requires { j ≤ n }
-    ensures { result ≡ opened j n }
-{
-    Plan {
-        at: j,
-        drop: 0,
-        free: 1,
-        rest: n - j,
-    }
-}
 
 // How many terms the constraints from i on, before e, have.
 pub fn terms_in(bytes: &Bytes, i: usize, e: usize) -> usize
@@ -54,10 +18,8 @@ pub fn terms_in(bytes: &Bytes, i: usize, e: usize) -> usize
     ensures { result ≡ sum_in (counts_in bytes.now) i e }
 {
     let mut s = 0;
-    let mut j = i;
-    while j < e {
-        s += wide(bytes[sparse::TERM_COUNTS + j]);
-        j += 1;
+    for j in i..e {
+        s += usize::from(bytes[sparse::TERM_COUNTS + j]);
     }
     s
 }
@@ -99,6 +61,11 @@ pub fn move_records(
     ensures { Moved c e free fwords.now fbytes.now freals.now words.old bytes.old reals.old words.new bytes.new reals.new result }
 {
     let s = terms_plan(fbytes, c, free);
-    carry(words, bytes, reals, fwords, fbytes, freals, c, s, e);
+    let plans = Plans {
+        constraints: c,
+        terms: s,
+        edits: e,
+    };
+    carry(words, bytes, reals, fwords, fbytes, freals, plans);
     s.at + s.free + s.rest
 }

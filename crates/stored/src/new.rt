@@ -6,8 +6,8 @@ ghost use Rattle.sparse.specs.Places.{most_constraints, most_terms, constraint_c
 ghost use Rattle.stored.specs.Maps.{Names, Stores, counts_in};
 ghost use Rattle.stored.specs.Put.{TermsPut, CoefficientsPut, ConstraintPut, EditPut, number_of, EditSought, ConstraintKept, EditKept};
 
-use crate::moving::{all_of, move_records, terms_in, with_one};
-use crate::parts::{long_bytes, long_reals, long_words};
+use crate::moving::{move_records, terms_in};
+use crate::parts::Plan;
 use crate::places::{number_place, seek};
 use changes::terms::Pack;
 use sparse::{Bytes, Reals, Words};
@@ -21,14 +21,11 @@ fn put_terms(words: &Words, bytes: &mut Bytes, s: usize, p: Pack)
     requires count_bound { s + p.count ≤ most_terms }
     ensures { TermsPut words.now p.vars s p.count bytes.old bytes.new }
 {
-    long_bytes(bytes);
     let n = p.count;
     let vars = p.vars;
-    let mut j = 0;
-    while j < n {
+    for j in 0..n {
         let x = number_place(words, bytes, vars[j] as u64);
         bytes[sparse::TERMS + (s + j)] = x;
-        j += 1;
     }
 }
 
@@ -37,14 +34,21 @@ fn put_coefficients(reals: &mut Reals, s: usize, p: Pack)
     requires count_bound { s + p.count ≤ most_terms }
     ensures { CoefficientsPut p.coefs s p.count reals.old reals.new }
 {
-    long_reals(reals);
-    let n = p.count;
-    let coefs = p.coefs;
-    let mut j = 0;
-    while j < n {
-        reals[sparse::COEFFICIENTS + (s + j)] = coefs[j];
-        j += 1;
-    }
+    let a = sparse::COEFFICIENTS + s;
+    reals[a..a + p.count].copy_from_slice(&p.coefs[..p.count]);
+}
+
+// A constraint as it is stored: its number and group, its two tag symbols by their places, its relation with its strength, and its terms and constant.
+#[derive(Clone, Copy)]
+pub struct ConstraintRecord {
+    pub number: u32,
+    pub group: u16,
+    pub marker: u8,
+    pub other: u8,
+    pub relation: u8,
+    pub strength: f64,
+    pub constant: f64,
+    pub terms: Pack,
 }
 
 // As the i-th, its terms from s on.
@@ -54,34 +58,24 @@ fn put_constraint(
     reals: &mut Reals,
     i: usize,
     s: usize,
-    n: u64,
-    g: u16,
-    marker: u8,
-    other: u8,
-    relation: u8,
-    strength: f64,
-    constant: f64,
-    p: Pack,
+    r: ConstraintRecord,
 )
     requires names { Names words.old bytes.old }
     requires i_lt_most_constraints { i < most_constraints }
-    requires count_le_term_room { p.count ≤ term_room }
-    requires count_bound { s + p.count ≤ most_terms }
-    ensures { ConstraintPut i s n g marker other relation strength constant p words.old bytes.old reals.old words.new bytes.new reals.new }
+    requires count_le_term_room { r.terms.count ≤ term_room }
+    requires count_bound { s + r.terms.count ≤ most_terms }
+    ensures { ConstraintPut i s r.number r.group r.marker r.other r.relation r.strength r.constant r.terms words.old bytes.old reals.old words.new bytes.new reals.new }
 {
-    long_words(words);
-    long_bytes(bytes);
-    long_reals(reals);
-    put_terms(words, bytes, s, p);
-    put_coefficients(reals, s, p);
-    words[sparse::CONSTRAINT_NUMBERS + i] = n;
-    words[sparse::CONSTRAINT_GROUPS + i] = g as u64;
-    bytes[sparse::CONSTRAINT_MARKERS + i] = marker;
-    bytes[sparse::CONSTRAINT_OTHERS + i] = other;
-    bytes[sparse::TERM_COUNTS + i] = p.count as u8;
-    bytes[sparse::RELATIONS + i] = relation;
-    reals[sparse::CONSTRAINT_STRENGTHS + i] = strength;
-    reals[sparse::CONSTRAINT_CONSTANTS + i] = constant;
+    put_terms(words, bytes, s, r.terms);
+    put_coefficients(reals, s, r.terms);
+    words[sparse::CONSTRAINT_NUMBERS + i] = r.number as u64;
+    words[sparse::CONSTRAINT_GROUPS + i] = r.group as u64;
+    bytes[sparse::CONSTRAINT_MARKERS + i] = r.marker;
+    bytes[sparse::CONSTRAINT_OTHERS + i] = r.other;
+    bytes[sparse::TERM_COUNTS + i] = r.terms.count as u8;
+    bytes[sparse::RELATIONS + i] = r.relation;
+    reals[sparse::CONSTRAINT_STRENGTHS + i] = r.strength;
+    reals[sparse::CONSTRAINT_CONSTANTS + i] = r.constant;
 }
 
 // The room's own constraints are written over: those of the lent tables, and this one among them.
@@ -92,32 +86,38 @@ pub fn keep_constraint(
     fwords: &Words,
     fbytes: &Bytes,
     freals: &Reals,
-    n: u64,
-    g: u16,
-    marker: u8,
-    other: u8,
-    relation: u8,
-    strength: f64,
-    constant: f64,
-    p: Pack,
+    r: ConstraintRecord,
 ) -> usize
     requires stores { Stores fwords.now fbytes.now }
     requires stores_2 { Stores words.old bytes.old }
-    requires n_bound { n ≤ 4_294_967_295 }
-    requires count_le_term_room { p.count ≤ term_room }
+    requires count_le_term_room { r.terms.count ≤ term_room }
     requires constraint_count_at_bound { get_or fwords.now constraint_count_at 0 < most_constraints }
-    requires count_bound { sum_in (counts_in fbytes.now) 0 (get_or fwords.now constraint_count_at 0) + p.count ≤ most_terms }
-    ensures { ConstraintKept n g marker other relation strength constant p fwords.now fbytes.now freals.now words.old bytes.old reals.old words.new bytes.new reals.new result }
+    requires count_bound { sum_in (counts_in fbytes.now) 0 (get_or fwords.now constraint_count_at 0) + r.terms.count ≤ most_terms }
+    ensures { ConstraintKept r.number r.group r.marker r.other r.relation r.strength r.constant r.terms fwords.now fbytes.now freals.now words.old bytes.old reals.old words.new bytes.new reals.new result }
 {
     let k = fwords[sparse::CONSTRAINT_COUNT] as usize;
-    let i = seek(fwords, sparse::CONSTRAINT_NUMBERS, 0, k, n + 1);
-    let s = terms_in(fbytes, 0, i);
-    put_constraint(
-        words, bytes, reals, i, s, n, g, marker, other, relation, strength, constant, p,
+    let i = seek(
+        fwords,
+        sparse::CONSTRAINT_NUMBERS,
+        0,
+        k,
+        r.number as u64 + 1,
     );
-    let c = with_one(i, k);
-    let e = all_of(fwords[sparse::EDIT_COUNT] as usize);
-    move_records(words, bytes, reals, fwords, fbytes, freals, c, e, p.count)
+    let s = terms_in(fbytes, 0, i);
+    put_constraint(words, bytes, reals, i, s, r);
+    let c = Plan::with_one(i, k);
+    let e = Plan::all_of(fwords[sparse::EDIT_COUNT] as usize);
+    move_records(
+        words,
+        bytes,
+        reals,
+        fwords,
+        fbytes,
+        freals,
+        c,
+        e,
+        r.terms.count,
+    )
 }
 
 // ---- an edit
@@ -128,12 +128,10 @@ fn number_of(words: &Words, bytes: &Bytes, p: u8) -> u64
     ensures { result ≡ number_of words.now bytes.now p }
 {
     let e = words[sparse::VARIABLE_COUNT] as usize;
-    let mut v = 0;
-    while v < e {
+    for v in 0..e {
         if p == bytes[sparse::VARIABLE_PLACES + v] {
             return words[sparse::VARIABLE_NUMBERS + v];
         }
-        v += 1;
     }
     0
 }
@@ -144,15 +142,13 @@ fn seek_edit(words: &Words, bytes: &Bytes, n: u64) -> usize
     ensures { EditSought words.now bytes.now n result }
 {
     let e = words[sparse::EDIT_COUNT] as usize;
-    let mut j = 0;
-    while j < e {
+    for j in 0..e {
         let x = number_of(words, bytes, bytes[sparse::EDIT_VARIABLES + j]);
         if n < x {
             return j;
         }
-        j += 1;
     }
-    j
+    e
 }
 
 // As the i-th: "stored suggestion 0.0".
@@ -170,8 +166,6 @@ fn put_edit(
     requires i_lt_most_constraints { i < most_constraints }
     ensures { EditPut i n marker other strength words.now bytes.old reals.old bytes.new reals.new }
 {
-    long_bytes(bytes);
-    long_reals(reals);
     let x = number_place(words, bytes, n);
     bytes[sparse::EDIT_VARIABLES + i] = x;
     bytes[sparse::EDIT_MARKERS + i] = marker;
@@ -200,7 +194,7 @@ pub fn keep_edit(
     let k = fwords[sparse::EDIT_COUNT] as usize;
     let i = seek_edit(fwords, fbytes, n);
     put_edit(words, bytes, reals, i, n, marker, other, strength);
-    let c = all_of(fwords[sparse::CONSTRAINT_COUNT] as usize);
-    let e = with_one(i, k);
+    let c = Plan::all_of(fwords[sparse::CONSTRAINT_COUNT] as usize);
+    let e = Plan::with_one(i, k);
     move_records(words, bytes, reals, fwords, fbytes, freals, c, e, 0)
 }

@@ -1,8 +1,7 @@
 // Stretches of one table put into another: a part, and two parts around a gap.
 ghost use Rattle.std.specs.Prelude.{◌≡◌, ◌+◌, ◌≤◌, length, get_or};
-ghost use Rattle.std.specs.Float.{nan};
 ghost use Rattle.sparse.specs.Places.{words_size, bytes_size, reals_size};
-ghost use Rattle.stored.specs.Parts.{Part, Region, Rest, source_size, target_size};
+ghost use Rattle.stored.specs.Parts.{Part, Region, Rest, source_size, target_size, all_of, without, opened};
 
 use layout::cells::PLACE_ROOM;
 use sparse::{Bytes, Reals, Words};
@@ -16,84 +15,56 @@ pub struct Plan {
     pub rest: usize,
 }
 
-pub fn wide(x: u8) -> usize
-    ensures value { result ≡ x }
-    ensures upper_bound { result ≤ 255 }
-{
-    x as usize
-}
+impl Plan {
+    // All n stay.
+    pub fn all_of(n: usize) -> Plan
+        ensures { result ≡ all_of n }
+    {
+        Plan {
+            at: n,
+            drop: 0,
+            free: 0,
+            rest: 0,
+        }
+    }
 
-// ---- the tables' lengths, told by their types
+    // All n but the j-th stay.
+    pub fn without_one(j: usize, n: usize) -> Plan
+        requires { j + 1 ≤ n }
+        ensures { result ≡ without j n }
+    {
+        Plan {
+            at: j,
+            drop: 1,
+            free: 0,
+            rest: n - (j + 1),
+        }
+    }
 
-fn told_words(t: Words)
-    ensures { length t ≡ words_size }
-{}
-
-pub fn long_words(t: &Words)
-    ensures { length t.now ≡ words_size }
-{
-    told_words(*t);
-}
-
-fn told_bytes(t: Bytes)
-    ensures { length t ≡ bytes_size }
-{}
-
-pub fn long_bytes(t: &Bytes)
-    ensures { length t.now ≡ bytes_size }
-{
-    told_bytes(*t);
-}
-
-fn told_reals(t: Reals)
-    ensures { length t ≡ reals_size }
-{}
-
-pub fn long_reals(t: &Reals)
-    ensures { length t.now ≡ reals_size }
-{
-    told_reals(*t);
+    // All n stay, and one is let in at the j-th place.
+    pub fn with_one(j: usize, n: usize) -> Plan
+        requires { j ≤ n }
+        ensures { result ≡ opened j n }
+    {
+        Plan {
+            at: j,
+            drop: 0,
+            free: 1,
+            rest: n - j,
+        }
+    }
 }
 
 // ---- parts
 
-fn words_part(to: &mut Words, from: &Words, a: usize, b: usize, n: usize)
-    requires n_bound { a + n ≤ words_size }
-    requires n_bound_2 { b + n ≤ words_size }
-    ensures { Part 0 (λ x. x) a b n from.now to.old to.new }
+fn part<T: Copy, const N: usize>(to: &mut [T; N], from: &[T; N], a: usize, b: usize, n: usize)
+    requires n_bound { a + n ≤ N }
+    requires n_bound_2 { b + n ≤ N }
+    ensures { (z : T) → Part z (λ x. x) a b n from.now to.old to.new }
 {
-    long_words(to);
-    let mut k = 0;
-    while k < n {
-        to[b + k] = from[a + k];
-        k += 1;
-    }
-}
-
-fn bytes_part(to: &mut Bytes, from: &Bytes, a: usize, b: usize, n: usize)
-    requires n_bound { a + n ≤ bytes_size }
-    requires n_bound_2 { b + n ≤ bytes_size }
-    ensures { Part 0 (λ x. x) a b n from.now to.old to.new }
-{
-    long_bytes(to);
-    let mut k = 0;
-    while k < n {
-        to[b + k] = from[a + k];
-        k += 1;
-    }
-}
-
-fn reals_part(to: &mut Reals, from: &Reals, a: usize, b: usize, n: usize)
-    requires n_bound { a + n ≤ reals_size }
-    requires n_bound_2 { b + n ≤ reals_size }
-    ensures { Part nan (λ x. x) a b n from.now to.old to.new }
-{
-    long_reals(to);
-    let mut k = 0;
-    while k < n {
-        to[b + k] = from[a + k];
-        k += 1;
-    }
+    let out = &mut to[..];
+    let read = &from[..];
+    out[b..b + n].copy_from_slice(&read[a..a + n]);
 }
 
 // Each place by its name in a map.
@@ -102,47 +73,22 @@ fn named_part(to: &mut Bytes, from: &Bytes, map: &[u8; PLACE_ROOM], a: usize, b:
     requires n_bound_2 { b + n ≤ bytes_size }
     ensures { Part 0 (λ x. get_or map.now x 0) a b n from.now to.old to.new }
 {
-    long_bytes(to);
-    let mut k = 0;
-    while k < n {
-        to[b + k] = map[wide(from[a + k])];
-        k += 1;
+    for k in 0..n {
+        to[b + k] = map[usize::from(from[a + k])];
     }
 }
 
 // ---- around a gap: m places are the region's
 
-pub fn split_words(to: &mut Words, from: &Words, at: usize, m: usize, p: Plan)
-    requires m_bound { at + m ≤ words_size }
+pub fn split<T: Copy, const N: usize>(to: &mut [T; N], from: &[T; N], at: usize, m: usize, p: Plan)
+    requires m_bound { at + m ≤ N }
     requires p_bound { source_size p ≤ m }
     requires p_bound_2 { target_size p ≤ m }
-    ensures region { Region 0 (λ x. x) at p from.now to.old to.new }
-    ensures rest { Rest 0 at m to.old to.new }
+    ensures region { (z : T) → Region z (λ x. x) at p from.now to.old to.new }
+    ensures rest { (z : T) → Rest z at m to.old to.new }
 {
-    words_part(to, from, at, at, p.at);
-    words_part(to, from, at + (p.at + p.drop), at + (p.at + p.free), p.rest);
-}
-
-pub fn split_bytes(to: &mut Bytes, from: &Bytes, at: usize, m: usize, p: Plan)
-    requires m_bound { at + m ≤ bytes_size }
-    requires p_bound { source_size p ≤ m }
-    requires p_bound_2 { target_size p ≤ m }
-    ensures region { Region 0 (λ x. x) at p from.now to.old to.new }
-    ensures rest { Rest 0 at m to.old to.new }
-{
-    bytes_part(to, from, at, at, p.at);
-    bytes_part(to, from, at + (p.at + p.drop), at + (p.at + p.free), p.rest);
-}
-
-pub fn split_reals(to: &mut Reals, from: &Reals, at: usize, m: usize, p: Plan)
-    requires m_bound { at + m ≤ reals_size }
-    requires p_bound { source_size p ≤ m }
-    requires p_bound_2 { target_size p ≤ m }
-    ensures region { Region nan (λ x. x) at p from.now to.old to.new }
-    ensures rest { Rest nan at m to.old to.new }
-{
-    reals_part(to, from, at, at, p.at);
-    reals_part(to, from, at + (p.at + p.drop), at + (p.at + p.free), p.rest);
+    part(to, from, at, at, p.at);
+    part(to, from, at + (p.at + p.drop), at + (p.at + p.free), p.rest);
 }
 
 pub fn split_named(

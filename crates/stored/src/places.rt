@@ -4,7 +4,6 @@ ghost use Rattle.layout.specs.cells.Names.{last_place};
 ghost use Rattle.sparse.specs.Places.{most_variables, words_size};
 ghost use Rattle.stored.specs.Maps.{Names, Sought, TagHere, VariableHere, NumberPlace, TagPlaces, VariablePlaces};
 
-use crate::parts::wide;
 use layout::cells::PLACE_ROOM;
 use sparse::lookup::look_up;
 use sparse::{Bytes, Words};
@@ -15,14 +14,12 @@ pub fn seek(words: &Words, base: usize, start: usize, e: usize, x: u64) -> usize
     requires start_le_e { start ≤ e }
     ensures { Sought words.now base start e x result }
 {
-    let mut q = start;
-    while q < e {
+    for q in start..e {
         if x <= words[base + q] {
             return q;
         }
-        q += 1;
     }
-    q
+    e
 }
 
 // The place q, if it has this id; 0 is none.
@@ -49,12 +46,10 @@ pub fn tag_places(from: &Words, fbytes: &Bytes, to: &Words, bytes: &Bytes) -> [u
     let e = to[sparse::SYMBOL_COUNT] as usize + 1;
     let mut r = [0u8; PLACE_ROOM];
     let mut q = 1;
-    let mut p = 1;
-    while p <= k {
+    for p in 1..k + 1 {
         let id = from[sparse::IDS + p];
         q = seek(to, sparse::IDS, q, e, id);
         r[p] = tag_at(to, e, q, id);
-        p += 1;
     }
     r
 }
@@ -83,13 +78,11 @@ pub fn variable_places(from: &Words, fbytes: &Bytes, to: &Words, bytes: &Bytes) 
     let e = to[sparse::VARIABLE_COUNT] as usize;
     let mut r = [0u8; PLACE_ROOM];
     let mut q = 0;
-    let mut i = 0;
-    while i < v {
+    for i in 0..v {
         let n = from[sparse::VARIABLE_NUMBERS + i];
         q = seek(to, sparse::VARIABLE_NUMBERS, q, e, n);
-        let p = wide(fbytes[sparse::VARIABLE_PLACES + i]);
+        let p = usize::from(fbytes[sparse::VARIABLE_PLACES + i]);
         r[p] = variable_at(to, bytes, e, q, n);
-        i += 1;
     }
     r
 }

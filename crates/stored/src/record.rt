@@ -31,9 +31,8 @@ pub fn suggested_if(accepted: bool, r: EditRecord, new: f64) -> EditRecord
 {
     if accepted {
         return EditRecord {
-            marker: r.marker,
-            other: r.other,
             suggestion: new,
+            ..r
         };
     }
     r

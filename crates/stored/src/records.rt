@@ -5,7 +5,8 @@ ghost use Rattle.stored.specs.Parts.{all_of, without};
 ghost use Rattle.stored.specs.Maps.{Stores};
 ghost use Rattle.stored.specs.Moved.{Moved};
 
-use crate::moving::{all_of, move_records, without_one};
+use crate::moving::move_records;
+use crate::parts::Plan;
 use sparse::{Bytes, Reals, Words};
 
 // The result is how many terms there are, here and below.
@@ -21,12 +22,12 @@ pub fn keep_records(
     requires stores_2 { Stores words.old bytes.old }
     ensures { Moved (all_of (get_or fwords.now constraint_count_at 0)) (all_of (get_or fwords.now edit_count_at 0)) 0 fwords.now fbytes.now freals.now words.old bytes.old reals.old words.new bytes.new reals.new result }
 {
-    let c = all_of(fwords[sparse::CONSTRAINT_COUNT] as usize);
-    let e = all_of(fwords[sparse::EDIT_COUNT] as usize);
+    let c = Plan::all_of(fwords[sparse::CONSTRAINT_COUNT] as usize);
+    let e = Plan::all_of(fwords[sparse::EDIT_COUNT] as usize);
     move_records(words, bytes, reals, fwords, fbytes, freals, c, e, 0)
 }
 
-// Without the j-th constraint.
+// Without the j-th constraint. This and the next differ in which of the two plans leaves a place out, and are three lines each: one function of both would take that choice as a parameter, with a clause for each.
 pub fn drop_constraint(
     words: &mut Words,
     bytes: &mut Bytes,
@@ -41,8 +42,8 @@ pub fn drop_constraint(
     requires j_bound { j < get_or fwords.now constraint_count_at 0 }
     ensures { Moved (without j (get_or fwords.now constraint_count_at 0)) (all_of (get_or fwords.now edit_count_at 0)) 0 fwords.now fbytes.now freals.now words.old bytes.old reals.old words.new bytes.new reals.new result }
 {
-    let c = without_one(j, fwords[sparse::CONSTRAINT_COUNT] as usize);
-    let e = all_of(fwords[sparse::EDIT_COUNT] as usize);
+    let c = Plan::without_one(j, fwords[sparse::CONSTRAINT_COUNT] as usize);
+    let e = Plan::all_of(fwords[sparse::EDIT_COUNT] as usize);
     move_records(words, bytes, reals, fwords, fbytes, freals, c, e, 0)
 }
 
@@ -61,8 +62,8 @@ pub fn drop_edit(
     requires j_bound { j < get_or fwords.now edit_count_at 0 }
     ensures { Moved (all_of (get_or fwords.now constraint_count_at 0)) (without j (get_or fwords.now edit_count_at 0)) 0 fwords.now fbytes.now freals.now words.old bytes.old reals.old words.new bytes.new reals.new result }
 {
-    let c = all_of(fwords[sparse::CONSTRAINT_COUNT] as usize);
-    let e = without_one(j, fwords[sparse::EDIT_COUNT] as usize);
+    let c = Plan::all_of(fwords[sparse::CONSTRAINT_COUNT] as usize);
+    let e = Plan::without_one(j, fwords[sparse::EDIT_COUNT] as usize);
     move_records(words, bytes, reals, fwords, fbytes, freals, c, e, 0)
 }
 

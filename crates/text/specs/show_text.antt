@@ -1,3 +1,2 @@
 -- "`show C`" as text.
-pub mod Puts
 pub mod Show

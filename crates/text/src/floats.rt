@@ -5,43 +5,19 @@ ghost use Rattle.std.specs.Float.Ieee.{of_bits, to_bits as Ieee·toBits};
 ghost use Rattle.text.specs.Floats.{whole_real, minus_real, bits_real, whole_of, pattern_of, figure_of, float_of, id_of, budget_of};
 
 use crate::digits;
-use crate::digits::Whole;
 
-// The number of a variable or a constraint.
-#[derive(Clone, Copy)]
-pub enum Id {
-    Is32(u32),
-    No32,
-}
-
-#[derive(Clone, Copy)]
-pub enum Budget {
-    Is16(u16),
-    No16,
-}
-
-#[derive(Clone, Copy)]
-pub enum Real {
-    Number(f64),
-    NoReal,
-}
-
-pub fn id_word(w: &[u8]) -> Id
+pub fn id_word(w: &[u8]) -> Option<u32>
     ensures { result ≡ id_of w.now }
 {
-    match digits::decimal(w, 4294967295) {
-        Whole::Is(n) => Id::Is32(n as u32),
-        Whole::NoWhole => Id::No32,
-    }
+    let n = digits::decimal(w, 4294967295)?;
+    Some(n as u32)
 }
 
-pub fn budget_word(w: &[u8]) -> Budget
+pub fn budget_word(w: &[u8]) -> Option<u16>
     ensures { result ≡ budget_of w.now }
 {
-    match digits::decimal(w, 65535) {
-        Whole::Is(n) => Budget::Is16(n as u16),
-        Whole::NoWhole => Budget::No16,
-    }
+    let n = digits::decimal(w, 65535)?;
+    Some(n as u16)
 }
 
 // The float of a bit pattern; every NaN's pattern is the one NaN.
@@ -65,75 +41,66 @@ pub fn bits_of_float(x: f64) -> u64
     }
 }
 
-fn whole_real(w: Whole) -> Real
+fn whole_real(w: Option<u64>) -> Option<f64>
     ensures { result ≡ whole_real w }
 {
-    match w {
-        Whole::Is(n) => Real::Number(std::num::nearest_u64_to_f64(n)),
-        Whole::NoWhole => Real::NoReal,
-    }
+    Some(std::num::nearest_u64_to_f64(w?))
 }
 
-fn minus_real(w: Whole) -> Real
+fn minus_real(w: Option<u64>) -> Option<f64>
     ensures { result ≡ minus_real w }
 {
-    match w {
-        Whole::Is(n) => Real::Number(-std::num::nearest_u64_to_f64(n)),
-        Whole::NoWhole => Real::NoReal,
-    }
+    Some(-std::num::nearest_u64_to_f64(w?))
 }
 
-fn bits_real(w: Whole) -> Real
+fn bits_real(w: Option<u64>) -> Option<f64>
     ensures { result ≡ bits_real w }
 {
-    match w {
-        Whole::Is(n) => Real::Number(float_of_bits(n)),
-        Whole::NoWhole => Real::NoReal,
-    }
+    Some(float_of_bits(w?))
 }
 
-fn whole_word(w: &[u8]) -> Whole
+fn whole_word(w: &[u8]) -> Option<u64>
     ensures { result ≡ whole_of w.now }
 {
     digits::decimal(w, 9007199254740992)
 }
 
-fn pattern_word(w: &[u8]) -> Whole
+fn pattern_word(w: &[u8]) -> Option<u64>
     ensures { result ≡ pattern_of w.now }
 {
     if w.len() == 16 {
         digits::hexadecimal(w)
     } else {
-        Whole::NoWhole
+        None
     }
 }
 
-fn figure_word(w: &[u8]) -> Real
+fn figure_word(w: &[u8]) -> Option<f64>
     ensures { result ≡ figure_of w.now }
 {
-    if digits::begins(w, b"0x") {
-        return bits_real(pattern_word(&w[2..]));
+    if let Some(bits) = digits::after(w, b"0x") {
+        return bits_real(pattern_word(bits));
     }
-    if digits::begins(w, b"-") {
-        return minus_real(whole_word(&w[1..]));
+    if let Some(size) = digits::after(w, b"-") {
+        return minus_real(whole_word(size));
     }
     whole_real(whole_word(w))
 }
 
-pub fn float_word(w: &[u8]) -> Real
+pub fn float_word(w: &[u8]) -> Option<f64>
     ensures { result ≡ float_of w.now }
 {
     if digits::same(w, b"inf") {
-        return Real::Number(float_of_bits(9218868437227405312));
+        return Some(float_of_bits(9218868437227405312));
     }
     if digits::same(w, b"-inf") {
-        return Real::Number(float_of_bits(18442240474082181120));
+        return Some(float_of_bits(18442240474082181120));
     }
     if digits::same(w, b"nan") {
-        return Real::Number(0.0 / 0.0);
+        return Some(0.0 / 0.0);
     }
     if digits::same(w, b"req") {
-        return Real::Number(rows::strength::REQUIRED);
+        return Some(rows::strength::REQUIRED);
     }
     figure_word(w)
 }

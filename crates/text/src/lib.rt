@@ -1,6 +1,7 @@
 // The text format of calls: a line read as a call, answers written as a line, and a stream cut into lines.
 #![tactic(auto)]
 
+pub mod buffer;
 pub mod calls;
 pub mod digits;
 pub mod duplex;

@@ -1,30 +1,27 @@
 // A line read as a call.
 ghost use Rattle.std.specs.Prelude.{◌≡◌, ◌+◌, ◌≤◌, length};
-ghost use Rattle.std.proofs.Math.Option.{none};
 ghost use Rattle.text.specs.Words.{words_of, word};
 ghost use Rattle.text.specs.Format.{one_word, two_words, three_words, four_words, five_words, call_of};
 ghost use Rattle.text.specs.Lines.{as_call, line_of, head_at, add_at, line_with};
 
 use crate::calls::{Call, Head, Line};
-use crate::digits::Whole;
-use crate::floats::Budget;
-use crate::packing::Packed;
 use crate::{calls, digits, floats, packing, words};
+use changes::terms::Pack;
 
-fn read_one(s: &[u8]) -> Call
+fn read_one(s: &[u8]) -> Option<Call>
     ensures { result ≡ as_call (one_word (word (words_of s.now) 0)) }
 {
     let name = words::word_at(s, 0);
     if digits::same(name, b"reset") {
-        return Call::Reset(calls::USUAL_CUTOFF);
+        return Some(Call::Reset(calls::USUAL_CUTOFF));
     }
     if digits::same(name, b"fetch") {
-        return Call::Fetch;
+        return Some(Call::Fetch);
     }
-    Call::Bad
+    None
 }
 
-fn read_two(s: &[u8]) -> Call
+fn read_two(s: &[u8]) -> Option<Call>
     ensures { result ≡ as_call (two_words (word (words_of s.now) 0) (word (words_of s.now) 1)) }
 {
     let name = words::word_at(s, 0);
@@ -44,10 +41,10 @@ fn read_two(s: &[u8]) -> Call
     if digits::same(name, b"reset") {
         return calls::reset_call(floats::float_word(a));
     }
-    Call::Bad
+    None
 }
 
-fn read_three(s: &[u8]) -> Call
+fn read_three(s: &[u8]) -> Option<Call>
     ensures { result ≡ as_call (three_words (word (words_of s.now) 0) (word (words_of s.now) 1) (word (words_of s.now) 2)) }
 {
     let name = words::word_at(s, 0);
@@ -62,10 +59,10 @@ fn read_three(s: &[u8]) -> Call
     if digits::same(name, b"drop") {
         return calls::drop_call(floats::budget_word(a), floats::budget_word(b));
     }
-    Call::Bad
+    None
 }
 
-fn read_four(s: &[u8]) -> Call
+fn read_four(s: &[u8]) -> Option<Call>
     ensures { result ≡ as_call (four_words (word (words_of s.now) 0) (word (words_of s.now) 1) (word (words_of s.now) 2) (word (words_of s.now) 3)) }
 {
     let name = words::word_at(s, 0);
@@ -86,10 +83,10 @@ fn read_four(s: &[u8]) -> Call
             floats::budget_word(c),
         );
     }
-    Call::Bad
+    None
 }
 
-fn read_five(s: &[u8]) -> Call
+fn read_five(s: &[u8]) -> Option<Call>
     ensures { result ≡ as_call (five_words (word (words_of s.now) 0) (word (words_of s.now) 1) (word (words_of s.now) 2) (word (words_of s.now) 3) (word (words_of s.now) 4)) }
 {
     let name = words::word_at(s, 0);
@@ -105,11 +102,11 @@ fn read_five(s: &[u8]) -> Call
             floats::float_word(d),
         );
     }
-    Call::Bad
+    None
 }
 
 // A line of n words, fewer than an add has.
-fn read_short(s: &[u8], n: usize) -> Call
+fn read_short(s: &[u8], n: usize) -> Option<Call>
     requires n_value { n ≡ length (words_of s.now) }
     requires n_bound { n ≤ 6 }
     ensures { result ≡ as_call (call_of (words_of s.now)) }
@@ -129,21 +126,11 @@ fn read_short(s: &[u8], n: usize) -> Call
     if n == 5 {
         return read_five(s);
     }
-    Call::Bad
-}
-
-fn no_line() -> Line
-    ensures { result ≡ line_of none }
-{
-    let t = changes::terms::none();
-    Line {
-        call: Call::Bad,
-        terms: t,
-    }
+    None
 }
 
 // The words of an add before its terms, from place i on.
-fn read_head(s: &[u8], i: usize, group: Budget) -> Head
+fn read_head(s: &[u8], i: usize, group: Option<u16>) -> Option<Head>
     requires { i ≤ 2 }
     ensures { result ≡ head_at group i (words_of s.now) }
 {
@@ -155,69 +142,60 @@ fn read_head(s: &[u8], i: usize, group: Budget) -> Head
     calls::add_call(group, c, b, relation, k)
 }
 
-fn line_with(head: Head, p: Packed) -> Line
-    ensures { result ≡ line_with head p }
+fn line_with(head: Option<Head>, terms: Option<Pack>) -> Option<Line>
+    ensures { result ≡ line_with head terms }
 {
-    let Head::Of(c, b) = head else {
-        return no_line();
-    };
-    let t = p.terms;
-    if p.ok {
-        Line {
-            call: Call::Change(c, b),
-            terms: t,
-        }
-    } else {
-        no_line()
-    }
+    let h = head?;
+    let terms = terms?;
+    Some(Line {
+        call: Call::Change(h.change, h.budget),
+        terms,
+    })
 }
 
 // The words of an add stand from place i on, in a line of n words.
-fn read_add(s: &[u8], n: usize, i: usize, group: Budget) -> Line
+fn read_add(s: &[u8], n: usize, i: usize, group: Option<u16>) -> Option<Line>
     requires n_value { n ≡ length (words_of s.now) }
     requires i_bound { i ≤ 2 }
     requires i_bound_2 { i + 6 ≤ n }
     ensures { result ≡ line_of (add_at group i (words_of s.now)) }
 {
-    let Whole::Is(m) = digits::decimal(words::word_at(s, i + 5), 4294967295) else {
-        return no_line();
-    };
-    let m = m as usize;
+    let m = digits::decimal(words::word_at(s, i + 5), 4294967295)? as usize;
     if 2 * m != n - (i + 6) {
-        return no_line();
+        return None;
     }
     line_with(read_head(s, i, group), packing::read_terms(s, i + 6, m))
 }
 
 // A line of n words, as many as an add has, or more. "`add` is group 1"
-fn read_long(s: &[u8], n: usize) -> Line
+fn read_long(s: &[u8], n: usize) -> Option<Line>
     requires n_value { n ≡ length (words_of s.now) }
     requires le_n { 7 ≤ n }
     ensures { result ≡ line_of (call_of (words_of s.now)) }
 {
     let name = words::word_at(s, 0);
     if digits::same(name, b"add") {
-        return read_add(s, n, 1, Budget::Is16(1));
+        return read_add(s, n, 1, Some(1));
     }
     if !digits::same(name, b"addg") {
-        return no_line();
+        return None;
     }
     if n == 7 {
-        return no_line();
+        return None;
     }
     let g = floats::budget_word(words::word_at(s, 1));
     read_add(s, n, 2, g)
 }
 
 // The call that a line names, if it is one.
-pub fn read_line(s: &[u8]) -> Line
+pub fn read_line(s: &[u8]) -> Option<Line>
     ensures { result ≡ line_of (call_of (words_of s.now)) }
 {
     let n = words::count_words(s);
     if 7 <= n {
         return read_long(s, n);
     }
-    let c = read_short(s, n);
-    let t = changes::terms::none();
-    Line { call: c, terms: t }
+    let call = read_short(s, n)?;
+    let terms = changes::terms::none();
+    Some(Line { call, terms })
 }

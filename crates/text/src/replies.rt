@@ -1,44 +1,16 @@
 // The answer to a line as text, written into a buffer from a place on; each function answers the next place.
 ghost use Rattle.std.specs.Prelude.{◌≡◌, ◌+◌, ◌<◌, ◌≤◌, [], ◌∷◌, ◌++◌};
-ghost use Rattle.text.specs.Answers.{number_text};
 ghost use Rattle.text.specs.Put.{Put};
 ghost use Rattle.text.specs.replies.Replies.{few_of, signed_text, term_text, terms_text, relation_text, refusal_text, head_text, reading_text, reply_text, usual};
 
-use crate::writing;
+pub use crate::buffer::Out;
+use crate::buffer::{put_byte, put_number, put_text};
 use reader::answers::Reading;
 use reader::second::Reply;
 use reader::second::endings::REQUIRED;
 use reader::sides::Mark;
 
-pub type Out = [u8; 8192];
-
 const ZERO: u64 = 9007199254740992;
-
-fn put_byte(out: &mut Out, at: usize, b: u8) -> usize
-    requires { at < 8192 }
-    ensures put { Put out.old out.new at result (b ∷ []) }
-    ensures upper_bound { result ≤ at + 1 }
-{
-    writing::put_byte(out, at, b)
-}
-
-fn put_number(out: &mut Out, at: usize, n: u64) -> usize
-    requires { at + 20 ≤ 8192 }
-    ensures put { Put out.old out.new at result (number_text n) }
-    ensures upper_bound { result ≤ at + 20 }
-{
-    writing::put_number(out, at, n)
-}
-
-fn put_word(out: &mut Out, at: usize, a: u8, b: u8, c: u8) -> usize
-    requires { at + 3 ≤ 8192 }
-    ensures put { Put out.old out.new at result (a ∷ b ∷ c ∷ []) }
-    ensures upper_bound { result ≤ at + 3 }
-{
-    let i = put_byte(out, at, a);
-    let j = put_byte(out, i, b);
-    put_byte(out, j, c)
-}
 
 // A whole number, which stands as what it is above ZERO.
 fn put_signed(out: &mut Out, at: usize, x: u64) -> usize
@@ -77,10 +49,8 @@ fn put_terms(
     ensures upper_bound { result ≤ at + 688 }
 {
     let mut next = at;
-    let mut i: usize = 0;
-    while i < n {
+    for i in 0..n {
         next = put_term(out, next, variables[i], coefficients[i]);
-        i += 1;
     }
     next
 }
@@ -91,9 +61,9 @@ fn put_relation(out: &mut Out, at: usize, m: Mark) -> usize
     ensures upper_bound { result ≤ at + 3 }
 {
     match m {
-        Mark::AtMost => put_word(out, at, b'l', b'e', b' '),
-        Mark::Equal => put_word(out, at, b'e', b'q', b' '),
-        Mark::AtLeast => put_word(out, at, b'g', b'e', b' '),
+        Mark::AtMost => put_text(out, at, b"le "),
+        Mark::Equal => put_text(out, at, b"eq "),
+        Mark::AtLeast => put_text(out, at, b"ge "),
     }
 }
 
@@ -102,7 +72,7 @@ fn put_refusal(out: &mut Out, at: usize, number: u32, offset: usize) -> usize
     ensures put { Put out.old out.new at result (refusal_text number offset) }
     ensures upper_bound { result ≤ at + 44 }
 {
-    let i = put_word(out, at, b'n', b'o', b' ');
+    let i = put_text(out, at, b"no ");
     let j = put_number(out, i, number as u64);
     if number == 20 {
         let m = put_byte(out, j, b' ');
@@ -124,7 +94,7 @@ fn put_head(
     ensures put { Put out.old out.new at result (head_text m strength group constant count) }
     ensures upper_bound { result ≤ at + 90 }
 {
-    let i = put_word(out, at, b'o', b'k', b' ');
+    let i = put_text(out, at, b"ok ");
     let j = put_relation(out, i, m);
     let k = put_number(out, j, strength as u64);
     let a = put_byte(out, k, b' ');
@@ -139,10 +109,7 @@ fn put_head(
 fn few(count: usize) -> usize
     ensures { (result ≡ few_of count) × (result ≤ 16) }
 {
-    if count <= 16 {
-        return count;
-    }
-    16
+    count.min(16)
 }
 
 fn put_reading(out: &mut Out, at: usize, x: Reply) -> usize

@@ -6,12 +6,10 @@ pub fn count_words(s: &[u8]) -> usize
     ensures { result ≡ length (words_of s.now) }
 {
     let mut n: usize = 0;
-    let mut i: usize = 0;
-    while i < s.len() {
-        if s[i] == 32 {
+    for b in s {
+        if *b == b' ' {
             n += 1;
         }
-        i += 1;
     }
     n + 1
 }
@@ -22,17 +20,15 @@ fn word_start(s: &[u8], k: usize) -> usize
     ensures s_value { word (words_of (drop result s.now)) 0 ≡ word (words_of s.now) k }
 {
     let mut left = k;
-    let mut i: usize = 0;
-    while i < s.len() {
+    for i in 0..s.len() {
         if left == 0 {
             return i;
         }
-        if s[i] == 32 {
+        if s[i] == b' ' {
             left -= 1;
         }
-        i += 1;
     }
-    i
+    s.len()
 }
 
 // How long the first word is.
@@ -40,14 +36,12 @@ fn word_length(s: &[u8]) -> usize
     ensures upper_bound { result ≤ length s.now }
     ensures s_value { take result s.now ≡ word (words_of s.now) 0 }
 {
-    let mut i: usize = 0;
-    while i < s.len() {
-        if s[i] == 32 {
+    for i in 0..s.len() {
+        if s[i] == b' ' {
             return i;
         }
-        i += 1;
     }
-    i
+    s.len()
 }
 
 pub fn word_at(s: &[u8], k: usize) -> &[u8]

@@ -1,6 +1,6 @@
 // Answers as text, written into a lent buffer from a place on; each function answers the next place.
 ghost use Rattle.std.specs.Prelude.{◌≡◌, ◌+◌, ◌*◌, ◌<◌, ◌≤◌, [], ◌∷◌, length, ◌==◌};
-ghost use Rattle.text.specs.Answers.{Wrote, decimal_text, hex_text, flag_text, float_text, number_text, gone_text, new_text, change_text, answer_text, changes_text, fetch_text, listed_in, unread_text};
+ghost use Rattle.text.specs.Answers.{Wrote, decimal_text, hex_text, flag_text, float_text, number_text, new_text, change_text, answer_text, changes_text, fetch_text, listed_in, unread_text};
 ghost use Rattle.text.specs.Answers.{glyph as Answers·glyph};
 
 use crate::floats;
@@ -11,6 +11,15 @@ pub fn put_byte(out: &mut [u8], at: usize, b: u8) -> usize
 {
     out[at] = b;
     at + 1
+}
+
+pub fn put_text(out: &mut [u8], at: usize, text: &[u8]) -> usize
+    requires { at + length text.now ≤ length out.old }
+    ensures { Wrote out.old out.new at result text.now }
+{
+    let end = at + text.len();
+    out[at..end].copy_from_slice(text);
+    end
 }
 
 // A number of at most k digits in decimal.
@@ -35,7 +44,7 @@ fn glyph(d: u64) -> u8
     if d < 10 { 48 + d as u8 } else { 87 + d as u8 }
 }
 
-// The last k hexadecimal digits of n.
+// The last k hexadecimal digits of n. A number in decimal has no zeros in front, and this has all of its digits: that is why they are two.
 fn put_hex(out: &mut [u8], at: usize, n: u64, k: usize) -> usize
     requires { at + k ≤ length out.old }
     ensures { Wrote out.old out.new at result (hex_text k n) }
@@ -84,23 +93,13 @@ pub fn put_answer(out: &mut [u8], at: usize, refusal: u32, pivots: u32, whole: b
     put_flag(out, d, whole)
 }
 
-fn put_gone(out: &mut [u8], at: usize) -> usize
-    requires { at + 4 ≤ length out.old }
-    ensures { Wrote out.old out.new at result gone_text }
-{
-    let a = put_byte(out, at, b'g');
-    let b = put_byte(out, a, b'o');
-    let c = put_byte(out, b, b'n');
-    put_byte(out, c, b'e')
-}
-
-// What an entry of a fetch says of its variable: 1 is gone.
+// What an entry of a fetch says of its variable: 1 is gone, as `knobharbor_fetch` has it for C.
 fn put_new(out: &mut [u8], at: usize, x: f64, gone: u8) -> usize
     requires { at + 16 ≤ length out.old }
     ensures { Wrote out.old out.new at result (new_text x (gone == 1)) }
 {
     if gone == 1 {
-        put_gone(out, at)
+        put_text(out, at, b"gone")
     } else {
         put_float(out, at, x)
     }
@@ -117,7 +116,8 @@ fn put_change(out: &mut [u8], at: usize, v: u64, x: f64, gone: u8) -> usize
     put_new(out, c, x, gone)
 }
 
-// The entries of a fetch: numbers, values and flags that stand at the front of three lists.
+// The entries of a fetch: numbers, values and flags that stand at the front of the three lists
+// that `knobharbor_fetch` fills for C.
 fn put_changes(
     out: &mut [u8],
     at: usize,
@@ -133,10 +133,8 @@ fn put_changes(
     ensures { Wrote out.old out.new at result (changes_text (listed_in count numbers.now values.now gone.now)) }
 {
     let mut next = at;
-    let mut i: usize = 0;
-    while i < count {
+    for i in 0..count {
         next = put_change(out, next, numbers[i], values[i], gone[i]);
-        i += 1;
     }
     next
 }

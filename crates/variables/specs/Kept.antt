@@ -13,7 +13,7 @@ use Rattle.steps.specs.Number.{Mark}
 use Rattle.steps.specs.Symbol.{Symbol}
 use Rattle.steps.specs.State.{Variable}
 use Rattle.steps.specs.CreateRow.{keep_variable, with_variables}
-use Rattle.rows.specs.declared.choose.Found.TheVariants.{Nothing}
+use Rattle.std.specs.Prelude.{None}
 use Rattle.rows.specs.choose.Chosen.{as-cond}
 use Rattle.layout.specs.cells.Names.{last_place}
 use Rattle.rows.specs.moves.Walk.{keep-walk}
@@ -32,7 +32,7 @@ abbrev pub new_variable : ℕ → Symbol → Variable
 new_variable n s = record { number = n; symbol = s; old = nan; uses = 0; changed = false }
 
 module _ (art : Bool) (n p : ℕ) (t : Sparse) (so : Sound art t) (o : Owners t) (room : variable_count t < most_variables) (first_one : 1 ≤ p) (last_one : p ≤ symbol_count t)
-    (external : get_or t.bytes (kinds_at + p) 0 ≡ 0) (unowned : Unowned p t) (none : found_in n t.words ≡ Nothing) where
+    (external : get_or t.bytes (kinds_at + p) 0 ≡ 0) (unowned : Unowned p t) (none : found_in n t.words ≡ None) where
   abbrev long : length t.words ≡ words_size
   long = so.named.long
 

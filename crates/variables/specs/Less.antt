@@ -1,17 +1,16 @@
 -- One use of a variable less, over the tables' places: at its last use it goes from its five stretches.
-use Rattle.std.specs.Prelude.{ℕ, ◌+◌, ◌-◌, ◌<◌, ◌≡◌, Bool, true, false, cond, List, eqb, get_or, set, Float}
+use Rattle.std.specs.Prelude.{ℕ, ◌+◌, ◌-◌, ◌<◌, ◌≡◌, Bool, true, false, cond, List, eqb, get_or, set, Float, Option, Some, None}
 use Rattle.std.proofs.Math.Path.{refl}
 use Rattle.std.specs.Float.{nan}
 use Rattle.std.specs.Float.Ieee.{ne}
 use Rattle.steps.specs.Work.{Work, with_changes, purge}
-use Rattle.rows.specs.declared.choose.Found.{Found}
-use Rattle.rows.specs.declared.choose.Found.TheVariants.{At, Nothing}
+use Rattle.rows.specs.choose.Choose.{Found}
+use Rattle.std.specs.Prelude.{Some, None}
 use Rattle.rows.specs.choose.Choose.{on_found}
 use Rattle.rows.specs.moves.Close.{closed}
 use Rattle.sparse.specs.Places.{variable_count_at, variable_numbers_at, variable_uses_at, variable_places_at, changed_at, old_values_at}
 use Rattle.sparse.specs.Sparse.{Sparse, symbol_at}
 use Rattle.variables.specs.declared.less.Gone.{Gone}
-use Rattle.variables.specs.declared.less.Gone.TheVariants.{Place, Stays}
 use Rattle.variables.specs.Variables.{Below, found_in}
 use Rattle.variables.specs.Alone.{with_gone}
 use Rattle.variables.specs.Told.{told_of}
@@ -41,10 +40,14 @@ pub record Loss : Type 0 where
   pub words : List ℕ
   pub bytes : List ℕ
   pub reals : List Float
-  pub gone : Gone
+  pub gone : Option Gone
 
-abbrev pub loss : List ℕ → List ℕ → List Float → Gone → Loss
+abbrev pub loss : List ℕ → List ℕ → List Float → Option Gone → Loss
 loss w b r g = record { words = w; bytes = b; reals = r; gone = g }
+
+-- a variable went: the place of its symbol, and whether it was never reported
+abbrev pub went : ℕ → Bool → Option Gone
+went p x = Some (record { place = p; unreported = x })
 
 -- NaN alone does
 abbrev pub differs : Float → Bool
@@ -54,36 +57,36 @@ differs x = ne x x
 unfoldable pub lost_use : ℕ → Loss → Loss
 lost_use v t =
     cond (eqb (get_or t.words (variable_uses_at + v) 0) 1)
-    (loss (went_words v t.words) (went_bytes v t.words t.bytes) (went_reals v t.words t.reals) (Place (get_or t.bytes (variable_places_at + v) 0) (differs (get_or t.reals (old_values_at + v) nan))))
-    (loss (less_words v t.words) t.bytes t.reals Stays)
+    (loss (went_words v t.words) (went_bytes v t.words t.bytes) (went_reals v t.words t.reals) (went (get_or t.bytes (variable_places_at + v) 0) (differs (get_or t.reals (old_values_at + v) nan))))
+    (loss (less_words v t.words) t.bytes t.reals None)
 
 -- of the variable of this number: "Use counts fall"
 unfoldable pub less_of : ℕ → List ℕ → List ℕ → List Float → Loss
-less_of n w b r = on_found (λ v. lost_use v (loss w b r Stays)) (loss w b r Stays) (found_in n w)
+less_of n w b r = on_found (λ v. lost_use v (loss w b r None)) (loss w b r None) (found_in n w)
 
 -- what is left to do for the variable n: one that goes is told, and its symbol purged
-unfoldable pub leaving : ℕ → Sparse → Gone → Work → Work
-leaving n t (Place p unreported) w = purge (symbol_at t p).id (with_changes (with_gone (told_of unreported n) w.changes) w)
-leaving n t Stays w = w
+unfoldable pub leaving : ℕ → Sparse → Option Gone → Work → Work
+leaving n t (Some g) w = purge (symbol_at t g.place).id (with_changes (with_gone (told_of g.unreported n) w.changes) w)
+leaving n t None w = w
 
 -- ---- the branches of the code, over variables
 
 module _ (w b : List ℕ) (r : List Float) (v : ℕ) where
   pub lost-went : {w₁ b₁ : List ℕ} {r₁ : List Float} {p : ℕ} {x : Bool} → eqb (get_or w (variable_uses_at + v) 0) 1 ≡ true → w₁ ≡ went_words v w → b₁ ≡ went_bytes v w b → r₁ ≡ went_reals v w r → p ≡ get_or b (variable_places_at + v) 0
-      → x ≡ differs (get_or r (old_values_at + v) nan) → loss w₁ b₁ r₁ (Place p x) ≡ lost_use v (loss w b r Stays)
+      → x ≡ differs (get_or r (old_values_at + v) nan) → loss w₁ b₁ r₁ (went p x) ≡ lost_use v (loss w b r None)
   unfolding lost_use
   lost-went e q q₁ q₂ q₃ q₄ = rw (e, q, q₁, q₂, q₃, q₄) refl
 
-  pub lost-less : {w₁ : List ℕ} → eqb (get_or w (variable_uses_at + v) 0) 1 ≡ false → w₁ ≡ less_words v w → loss w₁ b r Stays ≡ lost_use v (loss w b r Stays)
+  pub lost-less : {w₁ : List ℕ} → eqb (get_or w (variable_uses_at + v) 0) 1 ≡ false → w₁ ≡ less_words v w → loss w₁ b r None ≡ lost_use v (loss w b r None)
   unfolding lost_use
   lost-less e q = rw (e, q) refl
 
 module _ (n : ℕ) (w b : List ℕ) (r : List Float) {f : Found} (q : f ≡ found_in n w) where
-  pub less_none : f ≡ Nothing → loss w b r Stays ≡ less_of n w b r
+  pub less_none : f ≡ None → loss w b r None ≡ less_of n w b r
   unfolding less_of
   less_none e = rw (← q, e) refl
 
-  pub less-found : {v : ℕ} {l : Loss} → f ≡ At v → l ≡ lost_use v (loss w b r Stays) → l ≡ less_of n w b r
+  pub less-found : {v : ℕ} {l : Loss} → f ≡ Some v → l ≡ lost_use v (loss w b r None) → l ≡ less_of n w b r
   unfolding less_of
   less-found e h = rw (← q, e) h
 
@@ -105,5 +108,5 @@ module _ (v : ℕ) (w : List ℕ) where
   less-words q = rw q refl
 
 -- the place found is below the count
-pub below_at : {f : Found} {n v : ℕ} → Below n f → f ≡ At v → v < n
+pub below_at : {f : Found} {n v : ℕ} → Below n f → f ≡ Some v → v < n
 below_at b q = rw q at b

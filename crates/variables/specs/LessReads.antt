@@ -10,7 +10,7 @@ use Rattle.std.proofs.Math.ListN.{length-set}
 use Rattle.std.proofs.Math.Seq.{get_or-set_same, get_or-set_other}
 use Rattle.laws.specs.Loops.{first}
 use Rattle.laws.specs.Lists.{tab}
-use Rattle.rows.specs.declared.choose.Found.TheVariants.{At}
+use Rattle.std.specs.Prelude.{Some}
 use Rattle.rows.specs.moves.Close.{closed}
 use Rattle.rows.specs.moves.Moved.{closed-before, closed_after, length-closed}
 use Rattle.sparse.specs.Places.{most_variables, variable_count_at, should_clear_at, gone_count_at, variable_numbers_at, variable_uses_at, gone_numbers_at, kinds_at, variable_places_at, changed_at, words_size, bytes_size, old_values_at}
@@ -175,7 +175,7 @@ module _ (t : Sparse) (so : Sound false t) (o : Owners t) (v : ℕ) (high : v < 
       let h' : j < e = rw count-gone at h in
       past_by v (λ x. x < variable_count t → get_or t.bytes (variable_places_at + x) 0 ≡ get_or t.bytes (variable_places_at + v) 0 → ⊥) j (λ a b z. o.apart j v a high z) (λ a b z. o.apart v (suc j) (omega (arith, a)) b (sym z)) (inside j h') (sym (place_is j h') ∙ q)
 
-  pub gone-variables : (n : ℕ) → found_in n t.words ≡ At v → (read gone).changes.variables ≡ without n (read t).changes.variables
+  pub gone-variables : (n : ℕ) → found_in n t.words ≡ Some v → (read gone).changes.variables ≡ without n (read t).changes.variables
   unfolding found_in first variable_of
   gone-variables n found =
       let c : variable_count t ≡ suc e = omega (arith, high) in
@@ -254,7 +254,7 @@ module _ (t : Sparse) (so : Sound false t) (o : Owners t) (v : ℕ) (high : v < 
   unfolding variable_of
   stays_here = rw (stays-number v high, stays-less, stays-symbol v high) refl
 
-  pub stays-variables : (n : ℕ) → found_in n t.words ≡ At v → (read stays).changes.variables ≡ lessened n (read t).changes.variables
+  pub stays-variables : (n : ℕ) → found_in n t.words ≡ Some v → (read stays).changes.variables ≡ lessened n (read t).changes.variables
   unfolding found_in first variable_of
   stays-variables n found =
       let d : variable_count t - 0 ≡ variable_count t = omega arith in

@@ -15,8 +15,8 @@ use borrow.Author.Tests.{leb-true, leb-false, eqb-true, eqb-false, eq-eqb, ne_eq
 use Rattle.laws.specs.Loops.{first}
 use Rattle.laws.specs.Lists.{tab, list_of, length-tab}
 use Rattle.steps.specs.Changes.{keep_number}
-use Rattle.rows.specs.declared.choose.Found.{Found}
-use Rattle.rows.specs.declared.choose.Found.TheVariants.{At, Nothing}
+use Rattle.rows.specs.choose.Choose.{Found}
+use Rattle.std.specs.Prelude.{Some, None}
 use Rattle.rows.specs.choose.Choose.{on_found}
 use Rattle.layout.specs.cells.Seek.{first-elim}
 use Rattle.rows.specs.moves.Close.{opened}
@@ -34,7 +34,7 @@ told_of unreported n gone = cond unreported gone (keep_number n gone)
 -- where a number comes by ascending number; nowhere if it is one of them
 unfoldable pub gone_spot : ℕ → List ℕ → Found
 gone_spot n words =
-    first (λ j. leb n (get_or words (gone_numbers_at + j) 0)) (λ j. cond (eqb n (get_or words (gone_numbers_at + j) 0)) Nothing (At j)) (At (get_or words gone_count_at 0)) 0
+    first (λ j. leb n (get_or words (gone_numbers_at + j) 0)) (λ j. cond (eqb n (get_or words (gone_numbers_at + j) 0)) None (Some j)) (Some (get_or words gone_count_at 0)) 0
     (get_or words gone_count_at 0)
 
 -- the words with the number at place j of them
@@ -140,17 +140,17 @@ module _ (n : ℕ) (words : List ℕ) where
     is : n ≡ g z
 
   Spot : Found → Type 0
-  Spot (At z) = Comes z
-  Spot Nothing = (z : ℕ) × Waits z
+  Spot (Some z) = Comes z
+  Spot None = (z : ℕ) × Waits z
 
   spot : Spot (gone_spot n words)
   unfolding gone_spot Spot
   spot =
-      first-elim (λ j. leb n (g j)) (λ j. cond (eqb n (g j)) Nothing (At j)) (At k) Spot 0 k (omega arith)
+      first-elim (λ j. leb n (g j)) (λ j. cond (eqb n (g j)) None (Some j)) (Some k) Spot 0 k (omega arith)
       (λ r a b t f. by r b (leb-true n (g r) t) (λ j c h. leb-false n (g j) (f j (omega arith) h)) (eqb n (g r)) refl)
       λ f. record { low = omega arith; before = λ j c h. leb-false n (g j) (f j (omega arith) h); past = λ h. absurd (omega (arith, h)) }
     where
-      by : (r : ℕ) → r < k → n ≤ g r → ((j : ℕ) → 0 ≤ j → j < r → g j < n) → (x : Bool) → eqb n (g r) ≡ x → Spot (cond x Nothing (At r))
+      by : (r : ℕ) → r < k → n ≤ g r → ((j : ℕ) → 0 ≤ j → j < r → g j < n) → (x : Bool) → eqb n (g r) ≡ x → Spot (cond x None (Some r))
       by r b l f true e = (r, record { low = omega (arith, b); before = f; is = eqb-true n (g r) e })
       by r b l f false e = let d = eqb-false n (g r) e in record { low = omega (arith, b); before = f; past = λ h. omega (arith, l, d) }
 
@@ -160,7 +160,7 @@ module _ (n : ℕ) (words : List ℕ) where
     unfolding gone_in list_of
     gone-few = let l = keep-more n (tab g 0 k) in let e = length-tab g 0 k in omega (arith, room, l, e)
 
-    pub spot-room : {f : Found} {z : ℕ} → f ≡ gone_spot n words → f ≡ At z → (z ≤ k) × (k < most_gone)
+    pub spot-room : {f : Found} {z : ℕ} → f ≡ gone_spot n words → f ≡ Some z → (z ≤ k) × (k < most_gone)
     unfolding gone_in list_of Spot
     spot-room {f} {z} e q =
         let c : Comes z = subst Spot (sym e ∙ q) spot in
@@ -170,11 +170,11 @@ module _ (n : ℕ) (words : List ℕ) where
 
   -- ---- the branches of the code
 
-  pub kept-none : {f : Found} → f ≡ gone_spot n words → f ≡ Nothing → words ≡ kept_gone n words
+  pub kept-none : {f : Found} → f ≡ gone_spot n words → f ≡ None → words ≡ kept_gone n words
   unfolding kept_gone
   kept-none e q = rw (← e, q) refl
 
-  pub kept_at : {f : Found} {z : ℕ} {w₁ : List ℕ} → f ≡ gone_spot n words → f ≡ At z → w₁ ≡ opened (gone_numbers_at + z) (gone_numbers_at + k) n words → set w₁ gone_count_at (k + 1) ≡ kept_gone n words
+  pub kept_at : {f : Found} {z : ℕ} {w₁ : List ℕ} → f ≡ gone_spot n words → f ≡ Some z → w₁ ≡ opened (gone_numbers_at + z) (gone_numbers_at + k) n words → set w₁ gone_count_at (k + 1) ≡ kept_gone n words
   unfolding kept_gone more_gone
   kept_at e q h = rw (← e, q, h) refl
 
@@ -191,7 +191,7 @@ module _ (n : ℕ) (words : List ℕ) where
     told_same = record { is = refl; others = λ q h d. refl; long = refl }
 
     module _ (room : length (keep_number n (gone_in words)) ≤ most_gone) where
-      told_more : (z : ℕ) → gone_spot n words ≡ At z → Told (keep_number n (gone_in words)) (more_gone n words z)
+      told_more : (z : ℕ) → gone_spot n words ≡ Some z → Told (keep_number n (gone_in words)) (more_gone n words z)
       unfolding more_gone gone_in list_of Spot
       told_more z e =
           let c : Comes z = subst Spot e spot in
@@ -214,7 +214,7 @@ module _ (n : ℕ) (words : List ℕ) where
             long = length-set w₁ gone_count_at (k + 1) ∙ s;
           }
 
-      told-waits : gone_spot n words ≡ Nothing → Told (keep_number n (gone_in words)) words
+      told-waits : gone_spot n words ≡ None → Told (keep_number n (gone_in words)) words
       unfolding gone_in list_of Spot
       told-waits e =
           let c : (z : ℕ) × Waits z = subst Spot e spot in
@@ -226,8 +226,8 @@ module _ (n : ℕ) (words : List ℕ) where
       told-kept = go (gone_spot n words) refl
         where
           go : (f : Found) → gone_spot n words ≡ f → Told (keep_number n (gone_in words)) (on_found (more_gone n words) words f)
-          go (At z) e = told_more z e
-          go Nothing e = told-waits e
+          go (Some z) e = told_more z e
+          go None e = told-waits e
 
     pub told-words : (unreported : Bool) → length (told_of unreported n (gone_in words)) ≤ most_gone → Told (told_of unreported n (gone_in words)) (told_words unreported n words)
     unfolding told_words

@@ -12,7 +12,7 @@ use Rattle.laws.specs.Lists.{tab, tab-ext}
 use Rattle.steps.specs.State.{Variable}
 use Rattle.steps.specs.Changes.{find_variable}
 use Rattle.steps.specs.Remove.{Fallen, use_less}
-use Rattle.rows.specs.declared.choose.Found.TheVariants.{At, Nothing}
+use Rattle.std.specs.Prelude.{Some, None}
 use Rattle.rows.specs.choose.Chosen.{as-cond}
 use Rattle.rows.specs.moves.Walk.{drop-walk}
 
@@ -55,18 +55,18 @@ less-is n (v ∷ vs) = go (eqb n v.number) (less-is n vs)
     go true q = as-cond (eqb v.uses 1) (fallen vs (some v)) (fallen (one_less v ∷ vs) none)
     go false q = ap behind q ∙ push (find_variable n vs)
 
-never : {X : Type 0} {z : ℕ} → Nothing ≡ At z → X
+never : {X : Type 0} {z : ℕ} → None ≡ Some z → X
 never e = absurd (let c : ◌≡◌ {A = ℕ} 0 1 = cc in omega arith)
 
-same_at : {y z : ℕ} → At y ≡ At z → z ≡ y
+same_at : {y z : ℕ} → Some y ≡ Some z → z ≡ y
 same_at e = cc
 
-seek-low : (q : ℕ → Bool) (n i z : ℕ) → seek q At Nothing n i ≡ At z → i ≤ z
+seek-low : (q : ℕ → Bool) (n i z : ℕ) → seek q Some None n i ≡ Some z → i ≤ z
 unfolding seek
 seek-low q zero i z e = never e
 seek-low q (suc n) i z e = by (q i) e (λ f. seek-low q n (suc i) z f)
   where
-    by : (b : Bool) → cond b (At i) (seek q At Nothing n (suc i)) ≡ At z → (seek q At Nothing n (suc i) ≡ At z → suc i ≤ z) → i ≤ z
+    by : (b : Bool) → cond b (Some i) (seek q Some None n (suc i)) ≡ Some z → (seek q Some None n (suc i) ≡ Some z → suc i ≤ z) → i ≤ z
     by true f r = omega (arith, same_at f)
     by false f r = omega (arith, r f)
 
@@ -77,7 +77,7 @@ module _ (n : ℕ) (g : ℕ → Variable) where
 
   -- the first variable of the number changed in its place
   module _ (g' : ℕ → Variable) (top z : ℕ) (here : g' z ≡ one_less (g z)) (there : (j : ℕ) → j < top → (j ≡ z → ⊥) → g' j ≡ g j) where
-    less-case : (i k : ℕ) (b : Bool) → i + suc k ≤ top → cond b (At i) (seek test At Nothing k (suc i)) ≡ At z → (seek test At Nothing k (suc i) ≡ At z → (suc i ≤ z) × (lessened n (tab g (suc i) k) ≡ tab g' (suc i) k))
+    less-case : (i k : ℕ) (b : Bool) → i + suc k ≤ top → cond b (Some i) (seek test Some None k (suc i)) ≡ Some z → (seek test Some None k (suc i) ≡ Some z → (suc i ≤ z) × (lessened n (tab g (suc i) k) ≡ tab g' (suc i) k))
         → cond b (one_less (g i) ∷ tab g (suc i) k) (g i ∷ lessened n (tab g (suc i) k)) ≡ tab g' i (suc k)
     unfolding tab
     less-case i k true m e r =
@@ -88,13 +88,13 @@ module _ (n : ℕ) (g : ℕ → Variable) where
         let f = r e in
         rw (there i (omega (arith, m)) (λ p. omega (arith, f.0))) (ap (λ (l : List Variable). g i ∷ l) f.1)
 
-    pub less-tab : (k i : ℕ) → i + k ≤ top → seek test At Nothing k i ≡ At z → lessened n (tab g i k) ≡ tab g' i k
+    pub less-tab : (k i : ℕ) → i + k ≤ top → seek test Some None k i ≡ Some z → lessened n (tab g i k) ≡ tab g' i k
     unfolding seek tab lessened
     less-tab zero i m e = never e
     less-tab (suc k) i m e = as-cond (test i) (one_less (g i) ∷ tab g (suc i) k) (g i ∷ lessened n (tab g (suc i) k)) ∙ less-case i k (test i) m e (λ f. (seek-low test k (suc i) z f, less-tab k (suc i) (omega (arith, m)) f))
 
   -- it goes: those after it come one down
-  pub gone-tab : (g' : ℕ → Variable) (k z : ℕ) → seek test At Nothing (suc k) 0 ≡ At z → ((j : ℕ) → j < z → g' j ≡ g j) → ((j : ℕ) → z ≤ j → j < k → g' j ≡ g (suc j)) → without n (tab g 0 (suc k)) ≡ tab g' 0 k
+  pub gone-tab : (g' : ℕ → Variable) (k z : ℕ) → seek test Some None (suc k) 0 ≡ Some z → ((j : ℕ) → j < z → g' j ≡ g j) → ((j : ℕ) → z ≤ j → j < k → g' j ≡ g (suc j)) → without n (tab g 0 (suc k)) ≡ tab g' 0 k
   unfolding without tab first
   gone-tab g' k z e before after =
       let d : 0 + suc k - 0 ≡ suc k = omega arith in

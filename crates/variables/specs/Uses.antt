@@ -10,7 +10,7 @@ use Rattle.std.proofs.lemmas.Bool.{eqb-false}
 use Rattle.laws.specs.Lists.{tab-ext, map-tab}
 use Rattle.steps.specs.Number.{Mark}
 use Rattle.steps.specs.CreateRow.{with_variables, use_once}
-use Rattle.rows.specs.declared.choose.Found.TheVariants.{At, Nothing}
+use Rattle.std.specs.Prelude.{Some, None}
 use Rattle.sparse.specs.Places.{most_variables, variable_count_at, should_clear_at, gone_count_at, variable_numbers_at, variable_uses_at, gone_numbers_at, variable_places_at, words_size}
 use Rattle.sparse.specs.Sparse.{Sparse, variable_count, variable_of, gone_of, read}
 use Rattle.waist.specs.substituting.Gone.{gone-kept}
@@ -21,7 +21,7 @@ use Rattle.variables.specs.Found.{variables-are, found_at, found_none}
 use Rattle.variables.specs.Alone.{VariablesAlone, Live, symbol-same, symbols-count, makes-variables}
 
 -- no variable has the number: none is used
-pub unused : (t : Sparse) (n : ℕ) → found_in n t.words ≡ Nothing → map (use_once n) (read t).changes.variables ≡ (read t).changes.variables
+pub unused : (t : Sparse) (n : ℕ) → found_in n t.words ≡ None → map (use_once n) (read t).changes.variables ≡ (read t).changes.variables
 unfolding use_once variable_of
 unused t n none =
     rw (variables-are t) (map-tab (use_once n) (variable_of t) 0 (variable_count t) ∙ tab-ext _ (variable_of t) 0 (variable_count t) λ j a b.
@@ -31,7 +31,7 @@ unused t n none =
 abbrev pub used_in : ℕ → Sparse → Sparse
 used_in v t = sparse (used_words v t.words) t.keys t.bytes t.reals t.values
 
-module _ (n v : ℕ) (t : Sparse) (long : length t.words ≡ words_size) (few : variable_count t ≤ most_variables) (o : Owners t) (found : found_in n t.words ≡ At v) where
+module _ (n v : ℕ) (t : Sparse) (long : length t.words ≡ words_size) (few : variable_count t ≤ most_variables) (o : Owners t) (found : found_in n t.words ≡ Some v) where
   abbrev u : Sparse
   u = used_in v t
 

@@ -3,19 +3,19 @@
 use Rattle.std.specs.Prelude.{ℕ, ◌+◌, ◌<◌, List, eqb, ltb, get_or, set, Float}
 use Rattle.std.specs.Float.{nan}
 use Rattle.laws.specs.Loops.{first}
-use Rattle.rows.specs.declared.choose.Found.{Found}
-use Rattle.rows.specs.declared.choose.Found.TheVariants.{At, Nothing}
+use Rattle.rows.specs.choose.Choose.{Found}
+use Rattle.std.specs.Prelude.{Some, None}
 use Rattle.rows.specs.moves.Close.{opened}
 use Rattle.sparse.specs.Places.{variable_count_at, variable_numbers_at, variable_uses_at, variable_places_at, changed_at, old_values_at}
 
 -- the place found is below n
 abbrev pub Below : ℕ → Found → Type 0
-Below n (At v) = v < n
-Below n Nothing = Unit
+Below n (Some v) = v < n
+Below n None = Unit
 
 -- the place of the variable of this number, or none
 unfoldable pub found_in : ℕ → List ℕ → Found
-found_in n words = first (λ v. eqb n (get_or words (variable_numbers_at + v) 0)) At Nothing 0 (get_or words variable_count_at 0)
+found_in n words = first (λ v. eqb n (get_or words (variable_numbers_at + v) 0)) Some None 0 (get_or words variable_count_at 0)
 
 -- where a variable of this number stands by ascending number
 unfoldable pub spot_in : ℕ → List ℕ → ℕ

@@ -4,12 +4,11 @@ ghost use Rattle.sparse.specs.Places.{most_variables, variable_count_at, variabl
 ghost use Rattle.sparse.specs.Lookup.{Ascends};
 ghost use Rattle.variables.specs.Variables.{Below, found_in, most_uses, used_words};
 
-use rows::choose::Found;
 use sparse::lookup::look_up;
 use sparse::{VARIABLE_COUNT, VARIABLE_NUMBERS, VARIABLE_USES, Words};
 
 // The variable of this number, by its place among the variables, from 0.
-pub fn find_variable(words: &Words, n: u64) -> Found
+pub fn find_variable(words: &Words, n: u64) -> Option<usize>
     requires variable_count_at_bound { get_or words.now variable_count_at 0 ≤ most_variables }
     requires ascends { Ascends words.now variable_numbers_at (get_or words.now variable_count_at 0) }
     ensures value { result ≡ found_in n words.now }
@@ -18,9 +17,9 @@ pub fn find_variable(words: &Words, n: u64) -> Found
     let e = words[VARIABLE_COUNT] as usize;
     let v = look_up(words, VARIABLE_NUMBERS, e, n);
     if v < e {
-        return Found::At(v);
+        return Some(v);
     }
-    Found::Nothing
+    None
 }
 
 // One use more of the variable at place v.

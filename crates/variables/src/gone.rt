@@ -1,39 +1,36 @@
 // The variables that are gone: their numbers wait for the next fetch, by ascending number.
 ghost use Rattle.std.specs.Prelude.{◌≡◌, cond, ◌≤◌, eqb, length, get_or};
 ghost use Rattle.steps.specs.Changes.{keep_number};
-ghost use Rattle.rows.specs.declared.choose.Found.TheVariants.{At, Nothing};
+ghost use Rattle.std.specs.Prelude.{Some, None};
 ghost use Rattle.sparse.specs.Places.{most_gone, gone_count_at};
 ghost use Rattle.variables.specs.Told.{gone_in, told_of, gone_spot, kept_gone, told_words};
 
-use crate::kept::open_words;
-use rows::choose::Found;
 use sparse::{GONE_COUNT, GONE_NUMBERS, Words};
+use waist::moves::open;
 
 // A number comes to place j, where x stands that is not below it, unless it is x.
-fn spot_at(n: u64, x: u64, j: usize) -> Found
-    ensures { result ≡ cond (eqb n x) Nothing (At j) }
+fn spot_at(n: u64, x: u64, j: usize) -> Option<usize>
+    ensures { result ≡ cond (eqb n x) None (Some j) }
 {
     if n == x {
-        return Found::Nothing;
+        return None;
     }
-    Found::At(j)
+    Some(j)
 }
 
 // Where a number comes among the gone ones by ascending number; nowhere if it is one of them.
-fn gone_spot(words: &Words, n: u64) -> Found
+fn gone_spot(words: &Words, n: u64) -> Option<usize>
     requires { get_or words.now gone_count_at 0 ≤ most_gone }
     ensures { result ≡ gone_spot n words.now }
 {
     let e = words[GONE_COUNT] as usize;
-    let mut j = 0;
-    while j < e {
+    for j in 0..e {
         let x = words[GONE_NUMBERS + j];
         if n <= x {
             return spot_at(n, x, j);
         }
-        j += 1;
     }
-    Found::At(e)
+    Some(e)
 }
 
 // An entry that waits for the same number stays.
@@ -42,12 +39,12 @@ fn keep_number(words: &mut Words, n: u64)
     ensures { words.new ≡ kept_gone n words.old }
 {
     let f = gone_spot(words, n);
-    let Found::At(j) = f else {
+    let Some(j) = f else {
         return;
     };
     let k = words[GONE_COUNT];
     let e = k as usize;
-    open_words(words, GONE_NUMBERS + j, GONE_NUMBERS + e, n);
+    open(words, GONE_NUMBERS + j, GONE_NUMBERS + e, n);
     words[GONE_COUNT] = k + 1;
 }
 

@@ -1,43 +1,13 @@
 // A new variable.
-ghost use Rattle.std.specs.Prelude.{◌≡◌, ◌≤◌, ◌<◌, length, get_or};
-ghost use Rattle.rows.specs.moves.Close.{opened};
-ghost use Rattle.sparse.specs.Places.{most_variables, variable_count_at, words_size};
+ghost use Rattle.std.specs.Prelude.{◌≡◌, ◌≤◌, ◌<◌, get_or};
+ghost use Rattle.sparse.specs.Places.{most_variables, variable_count_at};
 ghost use Rattle.variables.specs.Variables.{spot_in, kept_words, kept_bytes, kept_reals};
 
 use sparse::{
     Bytes, CHANGED, OLD_VALUES, Reals, VARIABLE_COUNT, VARIABLE_NUMBERS, VARIABLE_PLACES,
     VARIABLE_USES, Words,
 };
-use waist::basis::{open_bytes, open_reals};
-
-// An array by value tells its length, and one behind a reference does not: this hands it over.
-fn told_words(t: Words)
-    ensures { length t ≡ words_size }
-{}
-
-fn wide_words(t: &Words)
-    ensures { length t.now ≡ words_size }
-{
-    told_words(*t);
-}
-
-// ---- by one place
-
-pub fn open_words(words: &mut Words, i: usize, e: usize, x: u64)
-    requires i_le_e { i ≤ e }
-    requires e_lt_words_size { e < words_size }
-    ensures { words.new ≡ opened i e x words.old }
-{
-    wide_words(words);
-    let mut j = e;
-    while i < j {
-        words[j] = words[j - 1];
-        j -= 1;
-    }
-    words[i] = x;
-}
-
-// ---- a variable
+use waist::moves::open;
 
 // Where a variable of this number stands by ascending number.
 fn variable_spot(words: &Words, n: u64) -> usize
@@ -46,12 +16,10 @@ fn variable_spot(words: &Words, n: u64) -> usize
     ensures upper_bound { result ≤ get_or words.now variable_count_at 0 }
 {
     let e = words[VARIABLE_COUNT] as usize;
-    let mut v = 0;
-    while v < e {
+    for v in 0..e {
         if n < words[VARIABLE_NUMBERS + v] {
             return v;
         }
-        v += 1;
     }
     e
 }
@@ -66,10 +34,10 @@ pub fn keep_variable(words: &mut Words, bytes: &mut Bytes, reals: &mut Reals, n:
     let k = words[VARIABLE_COUNT];
     let e = k as usize;
     let v = variable_spot(words, n);
-    open_words(words, VARIABLE_NUMBERS + v, VARIABLE_NUMBERS + e, n);
-    open_words(words, VARIABLE_USES + v, VARIABLE_USES + e, 0);
-    open_bytes(bytes, VARIABLE_PLACES + v, VARIABLE_PLACES + e, p);
-    open_bytes(bytes, CHANGED + v, CHANGED + e, 0);
-    open_reals(reals, OLD_VALUES + v, OLD_VALUES + e, 0.0 / 0.0);
+    open(words, VARIABLE_NUMBERS + v, VARIABLE_NUMBERS + e, n);
+    open(words, VARIABLE_USES + v, VARIABLE_USES + e, 0);
+    open(bytes, VARIABLE_PLACES + v, VARIABLE_PLACES + e, p);
+    open(bytes, CHANGED + v, CHANGED + e, 0);
+    open(reals, OLD_VALUES + v, OLD_VALUES + e, 0.0 / 0.0);
     words[VARIABLE_COUNT] = k + 1;
 }

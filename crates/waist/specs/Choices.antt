@@ -11,7 +11,7 @@ use Rattle.steps.specs.Number.{Mark}
 use Rattle.steps.specs.Symbol.{Symbol, first_symbol}
 use Rattle.steps.specs.Optimise.{goal_cells, get_entering_symbol, get_leaving_row, get_dual_entering_symbol}
 use Rattle.steps.specs.Artificial.{any_pivotable_symbol, is_empty_row}
-use Rattle.rows.specs.declared.choose.Found.{Found}
+use Rattle.rows.specs.choose.Choose.{Found}
 use Rattle.rows.specs.declared.choose.Want.TheVariants as want
 use Rattle.rows.specs.choose.Choose.{Within, on_found, wants, is_nothing}
 use Rattle.rows.specs.choose.Steps.{picked, on_some}

@@ -17,8 +17,8 @@ use Rattle.steps.specs.State.{Basic}
 use Rattle.steps.specs.Optimise.{get_dual_leaving_row, Goal, the_objective, the_artificial, goal_cells, get_entering_symbol}
 use Rattle.layout.specs.Layout.{kind_of}
 use Rattle.layout.specs.Laying.{tab-from}
-use Rattle.rows.specs.declared.choose.Found.{Found}
-use Rattle.rows.specs.declared.choose.Found.TheVariants.{At, Nothing}
+use Rattle.rows.specs.choose.Choose.{Found}
+use Rattle.std.specs.Prelude.{Some, None}
 use Rattle.rows.specs.choose.Choose.{on_found}
 use Rattle.rows.specs.choose.Chosen.{as-cond}
 use Rattle.rows.specs.choose.Walk.{first_walk}
@@ -50,11 +50,11 @@ dummy-kind k = go (eqb k 2) refl (eqb k 1) refl
 
 -- "the restricted row below 0 with the lowest id"
 unfoldable pub dual_leaving_of : List ℕ → List ℕ → List Float → Found
-dual_leaving_of words bytes reals = first (λ i. not (is_external_kind (get_or bytes (kinds_at + get_or bytes (row_places_at + i) 0) 0)) && below_zero (get_or reals (constants_at + i) nan)) At Nothing 1 (1 + get_or words row_count_at 0)
+dual_leaving_of words bytes reals = first (λ i. not (is_external_kind (get_or bytes (kinds_at + get_or bytes (row_places_at + i) 0) 0)) && below_zero (get_or reals (constants_at + i) nan)) Some None 1 (1 + get_or words row_count_at 0)
 
 -- "entering is the first non-dummy with a cell below 0", in the objective
 unfoldable pub entering_of : List ℕ → List ℕ → List Float → Found
-entering_of words bytes reals = first (λ p. not (is_dummy_kind (get_or bytes (kinds_at + p) 0)) && below_zero (get_or reals (objective_at + p) nan)) At Nothing 1 (1 + get_or words symbol_count_at 0)
+entering_of words bytes reals = first (λ p. not (is_dummy_kind (get_or bytes (kinds_at + p) 0)) && below_zero (get_or reals (objective_at + p) nan)) Some None 1 (1 + get_or words symbol_count_at 0)
 
 both : {R : Type 0} (a b : Bool) (x y : R) → elim a [ false ↦ y | true ↦ elim b [ false ↦ y | true ↦ x ] ] ≡ cond (a && b) x y
 both true true x y = refl

@@ -18,7 +18,7 @@ use Rattle.steps.specs.Row.{Row}
 use Rattle.steps.specs.State.{Basic}
 use Rattle.steps.specs.Work.{with_rows, drop_row}
 use Rattle.layout.specs.Laying.{tab-from}
-use Rattle.rows.specs.declared.choose.Found.TheVariants.{At, Nothing}
+use Rattle.std.specs.Prelude.{Some, None}
 use Rattle.rows.specs.choose.Own.{first-is}
 use Rattle.rows.specs.choose.Chosen.{as-cond}
 use Rattle.rows.specs.moves.Close.{closed}
@@ -189,9 +189,9 @@ module _ (art : Bool) (i : ℕ) (t : Sparse) (so : Sound art t) (low : 1 ≤ i) 
   abbrev look : ℕ → ℕ → List Basic
   look m n = drop_row id (tab (λ j. basic_of t (1 + j)) m n)
 
-  found : first has At Nothing 1 (1 + suc (r - 1)) ≡ At i
+  found : first has Some None 1 (1 + suc (r - 1)) ≡ Some i
   found =
-      first-is has At Nothing 1 (1 + suc (r - 1)) i low (omega (arith, low, high)) (eq-eqb id id refl)
+      first-is has Some None 1 (1 + suc (r - 1)) i low (omega (arith, low, high)) (eq-eqb id id refl)
       (λ m a b.
       let x = so.rows m a (omega (arith, b, high)) in
       let y = so.rows i low high in

@@ -16,8 +16,8 @@ use Rattle.keeps.specs.Cells.{Fine, holds-held}
 use Rattle.keeps.specs.RowOps.{RowOk}
 use Rattle.keeps.specs.Fits.{bids, IsBasic}
 use Rattle.keeps.specs.Passes.{entering-free, dual-entering, held-free}
-use Rattle.rows.specs.declared.choose.Found.{Found}
-use Rattle.rows.specs.declared.choose.Found.TheVariants.{At}
+use Rattle.rows.specs.choose.Choose.{Found}
+use Rattle.std.specs.Prelude.{Some}
 use Rattle.sparse.specs.Sparse.{Sparse, symbol_count, row_count, symbol_at, basic_of, symbols_of, basics_of, read}
 use Rattle.waist.specs.Working.{work_of, basic-symbol}
 use Rattle.waist.specs.Standing.{Standing, Chooses}
@@ -55,7 +55,7 @@ module _ (art : Bool) (a : Mark) (t : Sparse) (s : Standing art a t) where
   unfolding work_of read basics_of
   row_ok i l h = all-tab (λ (b : Basic). RowOk (IsBasic (basics_of t)) (Fine a) (symbols_of t) b.row) (basic_of t) (row_count t) 1 i s.fits.rows l (omega (arith, h))
 
-  module _ {r : Found} {p : ℕ} (e : r ≡ At p) where
+  module _ {r : Found} {p : ℕ} (e : r ≡ Some p) where
     pub goal-free : Chooses art (get_entering_symbol (goal_of art)) (symbol_at t) (symbol_count t) t r → Free p t
     unfolding work_of read
     goal-free h = free-times t p (entering-free (goal_of art) (work_of art a 0 t) s.fits (symbol_at t p) (h.is a 0 ∙ ap (named t) e)).free

@@ -1,5 +1,6 @@
 pub mod merging
 pub mod substituting
+pub mod Kinds
 pub mod Working
 pub mod Owning
 pub mod Agreeing

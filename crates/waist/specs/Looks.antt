@@ -14,8 +14,8 @@ use Rattle.steps.specs.Number.{below_zero}
 use Rattle.steps.specs.Symbol.{External, Slack, Error, Dummy, Symbol, is_external, is_dummy, is_pivotable, holds, first_symbol}
 use Rattle.layout.specs.Layout.{kind_of, cells_of}
 use Rattle.layout.specs.Laying.{tab-from}
-use Rattle.rows.specs.declared.choose.Found.{Found}
-use Rattle.rows.specs.declared.choose.Found.TheVariants.{At, Nothing}
+use Rattle.rows.specs.choose.Choose.{Found}
+use Rattle.std.specs.Prelude.{Some, None}
 use Rattle.rows.specs.declared.choose.Want.{Want}
 use Rattle.rows.specs.declared.choose.Want.TheVariants as want
 use Rattle.rows.specs.choose.Choose.{on_found, wants}
@@ -39,7 +39,7 @@ seen true x = below_zero x
 seen false x = holds x
 
 unfoldable pub look_of : Want → Bool → List ℕ → List ℕ → List Float → Found
-look_of want below words bytes row = first (λ p. wants want (of_kind (get_or bytes (kinds_at + p) 0)) && seen below (get_or row p nan)) At Nothing 1 (1 + get_or words symbol_count_at 0)
+look_of want below words bytes row = first (λ p. wants want (of_kind (get_or bytes (kinds_at + p) 0)) && seen below (get_or row p nan)) Some None 1 (1 + get_or words symbol_count_at 0)
 
 -- ---- kinds by number
 
@@ -69,7 +69,7 @@ both true false x y = refl
 both false b x y = refl
 
 module _ (t : Sparse) where
-  first-symbol : (p : Symbol → Bool) (q : Float → Bool) (c : ℕ → Float) → first_symbol p q (symbols_of t) (tab c 1 (symbol_count t)) ≡ on_found (λ i. some (symbol_at t i)) none (first (λ i. p (symbol_at t i) && q (c i)) At Nothing 1 (1 + symbol_count t))
+  first-symbol : (p : Symbol → Bool) (q : Float → Bool) (c : ℕ → Float) → first_symbol p q (symbols_of t) (tab c 1 (symbol_count t)) ≡ on_found (λ i. some (symbol_at t i)) none (first (λ i. p (symbol_at t i) && q (c i)) Some None 1 (1 + symbol_count t))
   unfolding symbols_of tab first_symbol
   first-symbol p q c =
       let look : ℕ → ℕ → Option Symbol = λ i k. first_symbol p q (tab (λ j. symbol_at t (1 + j)) i k) (tab (λ j. c (1 + j)) i k) in
@@ -86,7 +86,7 @@ module _ (t : Sparse) where
   look-chosen w below row =
       ap (first_symbol (wants w) (seen below) (symbols_of t)) (dense-cells (symbol_count t) row)
       ∙ first-symbol (wants w) (seen below) (λ p. get_or row p nan)
-      ∙ ap (λ (f : ℕ → Bool). on_found (λ p. some (symbol_at t p)) none (first f At Nothing 1 (1 + symbol_count t))) (fun_ext λ p. ap (λ (b : Bool). b && seen below (get_or row p nan)) (wants-kind w t p))
+      ∙ ap (λ (f : ℕ → Bool). on_found (λ p. some (symbol_at t p)) none (first f Some None 1 (1 + symbol_count t))) (fun_ext λ p. ap (λ (b : Bool). b && seen below (get_or row p nan)) (wants-kind w t p))
 
 -- ---- a line loaded into a dense row
 

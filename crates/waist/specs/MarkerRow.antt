@@ -15,8 +15,8 @@ use Rattle.steps.specs.State.{Basic}
 use Rattle.steps.specs.Optimise.{smallest_ratio, negative_ratios}
 use Rattle.steps.specs.Remove.{cell_in, first_dummy_row, positive_ratios, last_external_row, get_marker_leaving_row}
 use Rattle.layout.specs.Laying.{tab-from}
-use Rattle.rows.specs.declared.choose.Found.{Found}
-use Rattle.rows.specs.declared.choose.Found.TheVariants.{At, Nothing}
+use Rattle.rows.specs.choose.Choose.{Found}
+use Rattle.std.specs.Prelude.{Some, None}
 use Rattle.rows.specs.choose.Back.{back}
 use Rattle.rows.specs.choose.Choose.{Within, on_found, or_else}
 use Rattle.rows.specs.choose.Chosen.{as-cond}
@@ -33,14 +33,14 @@ unfoldable pub dummy_held : ℕ → Sparse → ℕ → Bool
 dummy_held p t i = is_dummy_kind (row_kind t i) && holds (column_at t p i)
 
 unfoldable pub dummy_row_of : ℕ → Sparse → Found
-dummy_row_of p t = first (dummy_held p t) At Nothing 1 (1 + row_count t)
+dummy_row_of p t = first (dummy_held p t) Some None 1 (1 + row_count t)
 
 -- "the last External row holding it"
 unfoldable pub external_held : ℕ → Sparse → ℕ → Bool
 external_held p t i = is_external_kind (row_kind t i) && holds (column_at t p i)
 
 unfoldable pub external_row_of : ℕ → Sparse → Found
-external_row_of p t = back (external_held p t) At Nothing (row_count t)
+external_row_of p t = back (external_held p t) Some None (row_count t)
 
 unfoldable pub marker_leaving_of : ℕ → Sparse → Found
 marker_leaving_of p t = or_else (dummy_row_of p t) (or_else (ratio_row_of true p t) (or_else (ratio_row_of false p t) (external_row_of p t)))
@@ -57,21 +57,21 @@ module _ (p : ℕ) (t : Sparse) (i : ℕ) {k : ℕ} {x : Float} {b : Bool} (e : 
   external-held q = rw (← e, ← f) q
 
 module _ (p : ℕ) (t : Sparse) {f : Found} (qf : f ≡ dummy_row_of p t) where
-  pub rank-one : {i : ℕ} → f ≡ At i → f ≡ marker_leaving_of p t
+  pub rank-one : {i : ℕ} → f ≡ Some i → f ≡ marker_leaving_of p t
   unfolding marker_leaving_of
   rank-one e = rw (← qf, e)
 
-  module _ {g : Found} (nf : f ≡ Nothing) (qg : g ≡ ratio_row_of true p t) where
-    pub rank-two : {i : ℕ} → g ≡ At i → g ≡ marker_leaving_of p t
+  module _ {g : Found} (nf : f ≡ None) (qg : g ≡ ratio_row_of true p t) where
+    pub rank-two : {i : ℕ} → g ≡ Some i → g ≡ marker_leaving_of p t
     unfolding marker_leaving_of
     rank-two e = rw (← qf, nf, ← qg, e)
 
-    module _ {h : Found} (ng : g ≡ Nothing) (qh : h ≡ ratio_row_of false p t) where
-      pub rank-three : {i : ℕ} → h ≡ At i → h ≡ marker_leaving_of p t
+    module _ {h : Found} (ng : g ≡ None) (qh : h ≡ ratio_row_of false p t) where
+      pub rank-three : {i : ℕ} → h ≡ Some i → h ≡ marker_leaving_of p t
       unfolding marker_leaving_of
       rank-three e = rw (← qf, nf, ← qg, ng, ← qh, e)
 
-      pub rank-four : {l : Found} → h ≡ Nothing → l ≡ external_row_of p t → l ≡ marker_leaving_of p t
+      pub rank-four : {l : Found} → h ≡ None → l ≡ external_row_of p t → l ≡ marker_leaving_of p t
       unfolding marker_leaving_of
       rank-four nh ql = rw (← qf, nf, ← qg, ng, ← qh, nh) ql
 
@@ -126,11 +126,11 @@ module _ (t : Sparse) (p : ℕ) (at : (i : ℕ) → coefficient_for (symbol_at t
   abbrev ranked : Option Symbol → Option Symbol → Option Symbol → Option Symbol → Option Symbol
   ranked a b c d = elim a [ some x ↦ some x | none ↦ elim b [ some x ↦ some x | none ↦ elim c [ some x ↦ some x | none ↦ d ] ] ]
 
-  ranks : (a b c d : Found) → ranked (row_named a) (row_named b) (row_named c) (row_named d) ≡ row_named (on_found At (on_found At (on_found At d c) b) a)
-  ranks (At i) b c d = refl
-  ranks Nothing (At i) c d = refl
-  ranks Nothing Nothing (At i) d = refl
-  ranks Nothing Nothing Nothing d = refl
+  ranks : (a b c d : Found) → ranked (row_named a) (row_named b) (row_named c) (row_named d) ≡ row_named (on_found Some (on_found Some (on_found Some d c) b) a)
+  ranks (Some i) b c d = refl
+  ranks None (Some i) c d = refl
+  ranks None None (Some i) d = refl
+  ranks None None None d = refl
 
   by_rank : ranked (first_dummy_row s (symbols_of t) (basics_of t)) (smallest_ratio (negative_ratios s (symbols_of t) (basics_of t))) (smallest_ratio (positive_ratios s (symbols_of t) (basics_of t))) (last_external_row s (symbols_of t) none (basics_of t)) ≡ row_named (marker_leaving_of p t)
   unfolding marker_leaving_of

@@ -14,8 +14,8 @@ use Rattle.steps.specs.State.{Basic}
 use Rattle.steps.specs.Work.{Work, with_tableau, with_rows, drop_row, purge}
 use Rattle.keeps.specs.Fits.{FitsW}
 use Rattle.keeps.specs.Fallen.{purge-fits}
-use Rattle.rows.specs.declared.choose.Found.{Found}
-use Rattle.rows.specs.declared.choose.Found.TheVariants.{At, Nothing}
+use Rattle.rows.specs.choose.Choose.{Found}
+use Rattle.std.specs.Prelude.{Some, None}
 use Rattle.rows.specs.moves.Close.{closed}
 use Rattle.sparse.specs.Places.{symbol_count_at, cell_count_at, variable_count_at, ids_at, kinds_at, row_places_at, variable_places_at, objective_at}
 use Rattle.sparse.specs.Sparse.{Sparse, symbol_count, row_count, cell_count, variable_count, symbol_at, basic_of, basics_of, read}
@@ -81,10 +81,10 @@ module _ (p : ℕ) (t : Sparse) (so : Sound false t) (low : 1 ≤ p) (high : p �
     frees = λ q g. g;
   }
 
-  pub bares-found : (i : ℕ) {u : Sparse} {f : Found} → f ≡ row_for p t.words t.bytes → f ≡ At i → Drops false i t u → Bares p t u
+  pub bares-found : (i : ℕ) {u : Sparse} {f : Found} → f ≡ row_for p t.words t.bytes → f ≡ Some i → Drops false i t u → Bares p t u
   bares-found i e q d = bares-at i (row_at t p i (sym e ∙ q)) d
 
-  pub bares-none : {f : Found} → f ≡ row_for p t.words t.bytes → f ≡ Nothing → Bares p t t
+  pub bares-none : {f : Found} → f ≡ row_for p t.words t.bytes → f ≡ None → Bares p t t
   bares-none e q = bares-free (row-free t p (sym e ∙ q))
 
 -- ---- its place and its cells

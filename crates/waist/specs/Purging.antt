@@ -17,7 +17,7 @@ use Rattle.steps.specs.Symbol.{Symbol, is_symbol, delete_cell, delete_symbol}
 use Rattle.steps.specs.State.{Variable}
 use Rattle.steps.specs.Work.{Work, with_tableau}
 use Rattle.layout.specs.Laying.{tab-from}
-use Rattle.rows.specs.declared.choose.Found.TheVariants.{At, Nothing}
+use Rattle.std.specs.Prelude.{Some, None}
 use Rattle.rows.specs.choose.Own.{first-is}
 use Rattle.rows.specs.choose.Chosen.{as-cond}
 use Rattle.rows.specs.moves.Walk.{drop-walk}
@@ -125,8 +125,8 @@ module _ (p : ℕ) (t u : Sparse) (gl : Closing p t u) (so : Sound false t) (low
       let o = so.named.up q p a b high in
       ne_eqb id (symbol_at t q).id (λ e. let z = sym (id-at t p) ∙ e ∙ id-at t q in omega (arith, z, o))
 
-  found : first asked At Nothing 1 (1 + suc (k - 1)) ≡ At p
-  found = first-is asked At Nothing 1 (1 + suc (k - 1)) p low (omega (arith, low, high)) (eq-eqb id id refl) apart
+  found : first asked Some None 1 (1 + suc (k - 1)) ≡ Some p
+  found = first-is asked Some None 1 (1 + suc (k - 1)) p low (omega (arith, low, high)) (eq-eqb id id refl) apart
 
   -- cells along the symbols
   module _ (g g' : ℕ → Float) (same : (q : ℕ) → 1 ≤ q → q < p → g' q ≡ g q) (next : (q : ℕ) → p ≤ q → q < k → g' q ≡ g (suc q)) where

@@ -18,9 +18,8 @@ use Rattle.steps.specs.Remove.{cell_in, positive_ratios}
 use Rattle.layout.specs.Layout.{cells_of}
 use Rattle.layout.specs.Laying.{tab-from}
 use Rattle.rows.specs.Place.{coefficient-at}
-use Rattle.rows.specs.declared.choose.Found.{Found}
-use Rattle.rows.specs.declared.choose.Best.{Best}
-use Rattle.rows.specs.choose.Choose.{on_found, no_best, better_of, found_of, smallest_of}
+use Rattle.rows.specs.choose.Choose.{Found}
+use Rattle.rows.specs.choose.Choose.{on_found, Least, no_best, better_of, found_of, smallest_of}
 use Rattle.rows.specs.choose.Chosen.{as-cond}
 use Rattle.rows.specs.choose.Walk.{smallest-walk}
 use Rattle.sparse.specs.Places.{symbol_count_at, kinds_at, row_places_at, constants_at, objective_at}
@@ -51,14 +50,14 @@ unfoldable pub over : Bool → Float → Float
 over true x = neg x
 over false x = x
 
-unfoldable pub ratio_turn : Bool → ℕ → Sparse → ℕ → Best → Best
+unfoldable pub ratio_turn : Bool → ℕ → Sparse → ℕ → Least → Least
 ratio_turn down p t i b = better_of i (not (is_external_kind (row_kind t i)) && signed down (column_at t p i)) (over down (get_or t.reals (constants_at + i) nan) /₆₄ column_at t p i) b
 
 unfoldable pub ratio_row_of : Bool → ℕ → Sparse → Found
 ratio_row_of down p t = found_of (row_count t) (run (ratio_turn down p t) 1 (1 + row_count t) no_best)
 
 -- the code's turn, over variables
-pub ratio-turn : (down : Bool) (p : ℕ) (t : Sparse) (i : ℕ) (b : Best) {k : ℕ} {c : Float} {z : Best} → k ≡ row_kind t i → c ≡ cell_at t.keys t.values (cell_count t) (i * row_span + p)
+pub ratio-turn : (down : Bool) (p : ℕ) (t : Sparse) (i : ℕ) (b : Least) {k : ℕ} {c : Float} {z : Least} → k ≡ row_kind t i → c ≡ cell_at t.keys t.values (cell_count t) (i * row_span + p)
     → z ≡ better_of i (not (is_external_kind k) && signed down c) (over down (get_or t.reals (constants_at + i) nan) /₆₄ c) b → z ≡ ratio_turn down p t i b
 unfolding ratio_turn column_at
 ratio-turn down p t i b e f h = rw (← e, ← f) h
@@ -108,13 +107,13 @@ column-reads art t so p low high i =
 -- ---- along a dense row, with the objective
 
 -- "the non-dummy positive cell with strictly smallest objective cell / cell, the lowest id on a tie"
-unfoldable pub dual_turn : List ℕ → List Float → List Float → ℕ → Best → Best
+unfoldable pub dual_turn : List ℕ → List Float → List Float → ℕ → Least → Least
 dual_turn bytes reals row p b = better_of p (not (is_dummy_kind (get_or bytes (kinds_at + p) 0)) && lt zero64 (get_or row p nan)) (get_or reals (objective_at + p) nan /₆₄ get_or row p nan) b
 
 unfoldable pub dual_entering_of : List ℕ → List ℕ → List Float → List Float → Found
 dual_entering_of words bytes reals row = found_of (get_or words symbol_count_at 0) (run (dual_turn bytes reals row) 1 (1 + get_or words symbol_count_at 0) no_best)
 
-pub dual-turn : (bytes : List ℕ) (reals row : List Float) (p : ℕ) (b : Best) {z : Best} → z ≡ better_of p (not (is_dummy_kind (get_or bytes (kinds_at + p) 0)) && lt zero64 (get_or row p nan)) (get_or reals (objective_at + p) nan /₆₄ get_or row p nan) b → z ≡ dual_turn bytes reals row p b
+pub dual-turn : (bytes : List ℕ) (reals row : List Float) (p : ℕ) (b : Least) {z : Least} → z ≡ better_of p (not (is_dummy_kind (get_or bytes (kinds_at + p) 0)) && lt zero64 (get_or row p nan)) (get_or reals (objective_at + p) nan /₆₄ get_or row p nan) b → z ≡ dual_turn bytes reals row p b
 unfolding dual_turn
 dual-turn bytes reals row p b h = h
 

@@ -13,8 +13,8 @@ use Rattle.steps.specs.Symbol.{is_symbol}
 use Rattle.steps.specs.Row.{Row}
 use Rattle.steps.specs.Work.{find_row}
 use Rattle.layout.specs.Laying.{tab-from}
-use Rattle.rows.specs.declared.choose.Found.{Found}
-use Rattle.rows.specs.declared.choose.Found.TheVariants.{At, Nothing}
+use Rattle.rows.specs.choose.Choose.{Found}
+use Rattle.std.specs.Prelude.{Some, None}
 use Rattle.rows.specs.choose.Choose.{on_found}
 use Rattle.rows.specs.choose.Chosen.{as-cond}
 use Rattle.rows.specs.choose.Walk.{first_walk}
@@ -27,32 +27,32 @@ use Rattle.waist.specs.Dropping.{Free}
 
 -- the row that is for the symbol at place p
 unfoldable pub row_for : ℕ → List ℕ → List ℕ → Found
-row_for p words bytes = first (λ i. eqb p (get_or bytes (row_places_at + i) 0)) At Nothing 1 (1 + get_or words row_count_at 0)
+row_for p words bytes = first (λ i. eqb p (get_or bytes (row_places_at + i) 0)) Some None 1 (1 + get_or words row_count_at 0)
 
 module _ (t : Sparse) (p : ℕ) where
   abbrev by_place : ℕ → Bool
   by_place i = eqb p (get_or t.bytes (row_places_at + i) 0)
 
-  pub row-free : row_for p t.words t.bytes ≡ Nothing → Free p t
+  pub row-free : row_for p t.words t.bytes ≡ None → Free p t
   unfolding row_for
   row-free e q a b f =
       clash (eq-eqb p (get_or t.bytes (row_places_at + q) 0) (sym f))
-      (first-elim by_place At Nothing (λ (r : Found). r ≡ Nothing → by_place q ≡ false) 1 (1 + row_count t) (omega arith) (λ r u v w x z. let o : ◌≡◌ {A = Bool} true false = cc in absurd (clash refl o)) (λ x z. x q a (omega (arith, b))) e)
+      (first-elim by_place Some None (λ (r : Found). r ≡ None → by_place q ≡ false) 1 (1 + row_count t) (omega arith) (λ r u v w x z. let o : ◌≡◌ {A = Bool} true false = cc in absurd (clash refl o)) (λ x z. x q a (omega (arith, b))) e)
 
-  pub row_at : (i : ℕ) → row_for p t.words t.bytes ≡ At i → get_or t.bytes (row_places_at + i) 0 ≡ p
+  pub row_at : (i : ℕ) → row_for p t.words t.bytes ≡ Some i → get_or t.bytes (row_places_at + i) 0 ≡ p
   unfolding row_for
   row_at i e =
       sym (eqb-true p (get_or t.bytes (row_places_at + i) 0)
-      (first-elim by_place At Nothing (λ (r : Found). r ≡ At i → by_place i ≡ true) 1 (1 + row_count t) (omega arith) (λ r u v w x z. let o : r ≡ i = cc in rw (← o) w) (λ x z. let o : ◌≡◌ {A = Bool} true false = cc in absurd (clash refl o)) e))
+      (first-elim by_place Some None (λ (r : Found). r ≡ Some i → by_place i ≡ true) 1 (1 + row_count t) (omega arith) (λ r u v w x z. let o : r ≡ i = cc in rw (← o) w) (λ x z. let o : ◌≡◌ {A = Bool} true false = cc in absurd (clash refl o)) e))
 
 module _ (art : Bool) (t : Sparse) (so : Sound art t) (p : ℕ) (low : 1 ≤ p) (high : p ≤ symbol_count t) where
   abbrev by_id : ℕ → Bool
   by_id i = eqb (get_or t.words (ids_at + p) 0) (get_or t.words (ids_at + get_or t.bytes (row_places_at + i) 0) 0)
 
-  look-same : first by_id At Nothing 1 (1 + row_count t) ≡ row_for p t.words t.bytes
+  look-same : first by_id Some None 1 (1 + row_count t) ≡ row_for p t.words t.bytes
   unfolding row_for
   look-same =
-      first-moved by_id (by_place t p) At At Nothing (row_count t) 1 1
+      first-moved by_id (by_place t p) Some Some None (row_count t) 1 1
       (λ j l. let r = so.rows (1 + j) (omega arith) (omega (arith, l)) in sym (same_place t.words t.bytes so.named p (get_or t.bytes (row_places_at + (1 + j)) 0) low high r.0 r.1))
       (λ j l. refl)
 

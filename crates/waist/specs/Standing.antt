@@ -5,7 +5,7 @@ use Rattle.steps.specs.Number.{Mark}
 use Rattle.steps.specs.Symbol.{Symbol}
 use Rattle.steps.specs.Work.{Work}
 use Rattle.keeps.specs.Fits.{FitsW}
-use Rattle.rows.specs.declared.choose.Found.{Found}
+use Rattle.rows.specs.choose.Choose.{Found}
 use Rattle.rows.specs.choose.Choose.{Within, on_found}
 use Rattle.sparse.specs.Places.{variable_places_at}
 use Rattle.sparse.specs.Sparse.{Sparse, variable_count, basic_of}

@@ -13,8 +13,8 @@ use Rattle.steps.specs.Symbol.{Symbol, is_pivotable, coefficient_for}
 use Rattle.steps.specs.CreateRow.{Created, negative_tag, choose_subject, all_dummies}
 use Rattle.layout.specs.Layout.{cells_of}
 use Rattle.rows.specs.Reading as dense
-use Rattle.rows.specs.declared.choose.Found.{Found}
-use Rattle.rows.specs.declared.choose.Found.TheVariants.{At, Nothing}
+use Rattle.rows.specs.choose.Choose.{Found}
+use Rattle.std.specs.Prelude.{Some, None}
 use Rattle.rows.specs.declared.choose.Want.TheVariants as want
 use Rattle.rows.specs.choose.Choose.{Within, on_found, wants, is_nothing, or_else}
 use Rattle.rows.specs.choose.Steps.{picked, on_some}
@@ -29,46 +29,46 @@ use Rattle.waist.specs.Tags.{tag_at}
 
 -- "slack or Error with negative cell", of the tag's symbol at place p
 unfoldable pub negative_of : ℕ → List ℕ → List Float → Found
-negative_of p bytes row = cond (is_pivotable (of_kind (get_or bytes (kinds_at + p) 0)) && below_zero (get_or row p nan)) (At p) Nothing
+negative_of p bytes row = cond (is_pivotable (of_kind (get_or bytes (kinds_at + p) 0)) && below_zero (get_or row p nan)) (Some p) None
 
 -- "first External; else marker if slack or Error with negative cell; else other likewise"; 0 is no other
 unfoldable pub subject_of : ℕ → ℕ → List ℕ → List ℕ → List Float → Found
-subject_of marker other words bytes row = or_else (look_of want.External false words bytes row) (or_else (negative_of marker bytes row) (cond (eqb other 0) Nothing (negative_of other bytes row)))
+subject_of marker other words bytes row = or_else (look_of want.External false words bytes row) (or_else (negative_of marker bytes row) (cond (eqb other 0) None (negative_of other bytes row)))
 
 pub negative-within : (p n : ℕ) (bytes : List ℕ) (row : List Float) → 1 ≤ p → p ≤ n → Within n (negative_of p bytes row)
 unfolding negative_of
 negative-within p n bytes row a b = go (is_pivotable (of_kind (get_or bytes (kinds_at + p) 0)) && below_zero (get_or row p nan))
   where
-    go : (c : Bool) → Within n (cond c (At p) Nothing)
+    go : (c : Bool) → Within n (cond c (Some p) None)
     go true = (a, b)
     go false = tt
 
 -- ---- the code's branches, over variables
 
 module _ (p : ℕ) (bytes : List ℕ) (row : List Float) {k : ℕ} {b : Bool} (e : k ≡ get_or bytes (kinds_at + p) 0) (q : b ≡ (is_pivotable (of_kind k) && below_zero (get_or row p nan))) where
-  pub tag-taken : b ≡ true → At p ≡ negative_of p bytes row
+  pub tag-taken : b ≡ true → Some p ≡ negative_of p bytes row
   unfolding negative_of
   tag-taken t = rw (← e, ← q, t)
 
-  pub tag-left : b ≡ false → Nothing ≡ negative_of p bytes row
+  pub tag-left : b ≡ false → None ≡ negative_of p bytes row
   unfolding negative_of
   tag-left t = rw (← e, ← q, t)
 
 module _ (marker other : ℕ) (words bytes : List ℕ) (row : List Float) {f : Found} (qf : f ≡ look_of want.External false words bytes row) where
-  pub subject-external : {i : ℕ} → f ≡ At i → f ≡ subject_of marker other words bytes row
+  pub subject-external : {i : ℕ} → f ≡ Some i → f ≡ subject_of marker other words bytes row
   unfolding subject_of
   subject-external e = rw (← qf, e)
 
-  module _ {m : Found} (nf : f ≡ Nothing) (qm : m ≡ negative_of marker bytes row) where
-    pub subject-marker : {i : ℕ} → m ≡ At i → m ≡ subject_of marker other words bytes row
+  module _ {m : Found} (nf : f ≡ None) (qm : m ≡ negative_of marker bytes row) where
+    pub subject-marker : {i : ℕ} → m ≡ Some i → m ≡ subject_of marker other words bytes row
     unfolding subject_of
     subject-marker e = rw (← qf, nf, ← qm, e)
 
-    pub subject-none : m ≡ Nothing → eqb other 0 ≡ true → Nothing ≡ subject_of marker other words bytes row
+    pub subject-none : m ≡ None → eqb other 0 ≡ true → None ≡ subject_of marker other words bytes row
     unfolding subject_of
     subject-none e t = rw (← qf, nf, ← qm, e, t)
 
-    pub subject-other : {o : Found} → m ≡ Nothing → eqb other 0 ≡ false → o ≡ negative_of other bytes row → o ≡ subject_of marker other words bytes row
+    pub subject-other : {o : Found} → m ≡ None → eqb other 0 ≡ false → o ≡ negative_of other bytes row → o ≡ subject_of marker other words bytes row
     unfolding subject_of
     subject-other e t qo = rw (← qf, nf, ← qm, e, t) qo
 
@@ -85,9 +85,9 @@ so-first true s o = refl
 so-first false s o = refl
 
 module _ (t : Sparse) (n : Named t.words t.bytes) (row : List Float) where
-  first-named : (f g : Found) → is_first_of (named t f) (named t g) ≡ named t (on_found At g f)
-  first-named (At i) g = refl
-  first-named Nothing g = refl
+  first-named : (f g : Found) → is_first_of (named t f) (named t g) ≡ named t (on_found Some g f)
+  first-named (Some i) g = refl
+  first-named None g = refl
 
   abbrev cell : Symbol → Float
   cell s = coefficient_for s.id (symbols_of t) (cells_of (symbol_count t) row)
@@ -102,18 +102,18 @@ module _ (t : Sparse) (n : Named t.words t.bytes) (row : List Float) where
   unfolding negative_of is_pivotable symbol_at
   tag-chosen p low high = ap (λ (x : Float). if_so (is_pivotable (symbol_at t p) && below_zero x) (symbol_at t p)) (cell-at p low high) ∙ by (is_pivotable (symbol_at t p) && below_zero (get_or row p nan))
     where
-      by : (b : Bool) → if_so b (symbol_at t p) ≡ named t (cond b (At p) Nothing)
+      by : (b : Bool) → if_so b (symbol_at t p) ≡ named t (cond b (Some p) None)
       by true = refl
       by false = refl
 
   abbrev other_taken : Option Symbol → Option Symbol
   other_taken o = picked (λ (s : Symbol). if_so (is_pivotable s && below_zero (cell s)) s) none o
 
-  other-chosen : (o : ℕ) → o ≤ symbol_count t → other_taken (other_at t o) ≡ named t (cond (eqb o 0) Nothing (negative_of o t.bytes row))
+  other-chosen : (o : ℕ) → o ≤ symbol_count t → other_taken (other_at t o) ≡ named t (cond (eqb o 0) None (negative_of o t.bytes row))
   unfolding other_at
   other-chosen o high = by (eqb o 0) refl
     where
-      by : (b : Bool) → eqb o 0 ≡ b → other_taken (cond b none (some (symbol_at t o))) ≡ named t (cond b Nothing (negative_of o t.bytes row))
+      by : (b : Bool) → eqb o 0 ≡ b → other_taken (cond b none (some (symbol_at t o))) ≡ named t (cond b None (negative_of o t.bytes row))
       by true e = refl
       by false e = let d = eqb-false o 0 e in tag-chosen o (omega (arith, d)) high
 
@@ -126,7 +126,7 @@ module _ (t : Sparse) (n : Named t.words t.bytes) (row : List Float) where
     unfolding choose_subject negative_tag subject_of wants seen work_of read dense.row_of tag_at
     subject-is low high high₁ {r} q =
         let m : Found = negative_of marker t.bytes row in
-        let o : Found = cond (eqb other 0) Nothing (negative_of other t.bytes row) in
+        let o : Found = cond (eqb other 0) None (negative_of other t.bytes row) in
         let e : Found = look_of want.External false t.words t.bytes row in
         let b : Bool = is_pivotable (symbol_at t marker) && below_zero (cell (symbol_at t marker)) in
         let c : Option Symbol = other_taken (other_at t other) in
@@ -135,7 +135,7 @@ module _ (t : Sparse) (n : Named t.words t.bytes) (row : List Float) where
         ∙ ap (λ (z : Option Symbol). is_first_of z c) (tag-chosen marker low high)
         ∙ ap (λ (z : Option Symbol). is_first_of (named t m) z) (other-chosen other high₁)
         ∙ first-named m o)
-        ∙ first-named e (on_found At o m)
+        ∙ first-named e (on_found Some o m)
         ∙ ap (named t) (sym q)
 
     pub all-dummies-is : {r : Found} {b : Bool} → r ≡ look_of want.NonDummy false t.words t.bytes row → b ≡ is_nothing r → b ≡ all_dummies created

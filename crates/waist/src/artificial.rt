@@ -17,14 +17,15 @@ ghost use Rattle.waist.specs.Standing.{Standing, Makes};
 ghost use Rattle.waist.specs.Growing.{next_id};
 ghost use Rattle.waist.specs.ArtificialCopy.{Copies};
 ghost use Rattle.waist.specs.ArtificialStands.{Holds};
+ghost use Rattle.sparse.specs.Tables.{held, Same};
 
 use crate::basis::keep_row;
-use crate::symbols::append_symbol;
+use crate::symbols::{Kind, append_symbol};
 use layout::cells::row::replace_row;
 use layout::cells::search::find;
 use layout::cells::{ROW_ROOM, ROW_SPAN};
 use rows::number::Wrote;
-use rows::row::wide;
+use sparse::tables::TablesMut;
 use sparse::{Bytes, CELL_COUNT, CONSTANTS, Keys, ROW_COUNT, Reals, SYMBOL_COUNT, Values, Words};
 
 // "a copy is the artificial objective": the row, dense, goes to the line after the rows.
@@ -49,29 +50,35 @@ fn copy_row(
 }
 
 // "a temporary slack is basic with this row, a copy is the artificial objective": the temporary's place.
-pub fn stand_temporary(
-    words: &mut Words,
-    keys: &mut Keys,
-    bytes: &mut Bytes,
-    reals: &mut Reals,
-    values: &mut Values,
-    row: &mut [f64; ROW_ROOM],
-    before: Wrote,
-) -> u8
-    requires standing { Standing false (mark_of before) (sparse words.old keys.old bytes.old reals.old values.old) }
-    requires values_bound { symbol_count (sparse words.old keys.old bytes.old reals.old values.old) < last_place }
-    requires values_bound_2 { row_count (sparse words.old keys.old bytes.old reals.old values.old) + 2 < most_rows }
-    requires values_bound_3 { next_id (sparse words.old keys.old bytes.old reals.old values.old) < 9223372036854775808 }
-    requires settled_row { SettledRow (symbol_count (sparse words.old keys.old bytes.old reals.old values.old)) row.old }
-    requires holds { Holds (work_of false (mark_of before) 0 (sparse words.old keys.old bytes.old reals.old values.old)) (row_of (symbol_count (sparse words.old keys.old bytes.old reals.old values.old)) row.old) }
-    ensures value { result ≡ 1 + symbol_count (sparse words.old keys.old bytes.old reals.old values.old) }
-    ensures makes { Makes false true (mark_of before) (mark_of before) (λ w. stand_temporary (new_symbol Slack w) (record { work = w; row = row_of (symbol_count (sparse words.old keys.old bytes.old reals.old values.old)) row.old })) (sparse words.old keys.old bytes.old reals.old values.old) (sparse words.new keys.new bytes.new reals.new values.new) }
+pub fn stand_temporary(room: &mut TablesMut, row: &mut [f64; ROW_ROOM], before: Wrote) -> u8
+    requires standing { Standing false (mark_of before) (held room.old) }
+    requires values_bound { symbol_count (held room.old) < last_place }
+    requires values_bound_2 { row_count (held room.old) + 2 < most_rows }
+    requires values_bound_3 { next_id (held room.old) < 9223372036854775808 }
+    requires settled_row { SettledRow (symbol_count (held room.old)) row.old }
+    requires holds { Holds (work_of false (mark_of before) 0 (held room.old)) (row_of (symbol_count (held room.old)) row.old) }
+    ensures value { result ≡ 1 + symbol_count (held room.old) }
+    ensures makes { Makes false true (mark_of before) (mark_of before) (λ w. stand_temporary (new_symbol Slack w) (record { work = w; row = row_of (symbol_count (held room.old)) row.old })) (held room.old) (held room.new) }
+    ensures same { Same room.old room.new }
 {
-    wide(row);
-    let p = append_symbol(words, keys, bytes, reals, values, 1);
+    let p = append_symbol(
+        room.words,
+        room.keys,
+        room.bytes,
+        room.reals,
+        room.values,
+        Kind::Slack,
+    );
     row[p as usize] = 0.0;
-    keep_row(false, words, keys, bytes, reals, values, p, row);
-    copy_row(words, keys, bytes, reals, values, row);
+    keep_row(false, room, p, row);
+    copy_row(
+        room.words,
+        room.keys,
+        room.bytes,
+        room.reals,
+        room.values,
+        row,
+    );
     p
 }
 

@@ -9,20 +9,21 @@ ghost use Rattle.sparse.specs.Places.{most_rows, symbol_count_at, row_count_at};
 ghost use Rattle.sparse.specs.Sparse.{symbol_count, row_count, symbol_at, basic_of};
 ghost use Rattle.layout.specs.cells.Names.{last_place};
 ghost use Rattle.waist.specs.substituting.Notes.{is_external_kind};
-ghost use Rattle.waist.specs.Working.{work_of, lent, Sound};
+ghost use Rattle.waist.specs.Working.{work_of, Sound};
 ghost use Rattle.waist.specs.Standing.{row_symbol, Chooses};
 ghost use Rattle.waist.specs.Choosing.{goal_of, is_dummy_kind, dual_leaving_of, entering_of};
 ghost use Rattle.waist.specs.Rows.{row_for};
+ghost use Rattle.sparse.specs.Tables.{held};
 
 use crate::looks::{first_along, is_nothing, load_line};
 use crate::marker::{first_dummy_row, last_external_row};
 use crate::ratios::{dual_along, ratio_row};
 use crate::substituting::notes::{is_external, kind_at};
 use layout::cells::ROW_ROOM;
-use rows::choose::{Found, Want};
+use rows::choose::Want;
+use sparse::tables::TablesMut;
 use sparse::{
-    Bytes, CONSTANTS, KINDS, Keys, OBJECTIVE, ROW_COUNT, ROW_PLACES, Reals, SYMBOL_COUNT, Values,
-    Words,
+    Bytes, CONSTANTS, KINDS, OBJECTIVE, ROW_COUNT, ROW_PLACES, Reals, SYMBOL_COUNT, Words,
 };
 
 fn is_below(kind: u8, constant: f64) -> bool
@@ -32,21 +33,19 @@ fn is_below(kind: u8, constant: f64) -> bool
 }
 
 // "the restricted row below 0 with the lowest id": rows stand by ascending id.
-pub fn get_dual_leaving_row(words: &Words, bytes: &Bytes, reals: &Reals) -> Found
+pub fn get_dual_leaving_row(words: &Words, bytes: &Bytes, reals: &Reals) -> Option<usize>
     requires { get_or words.now row_count_at 0 < most_rows }
     ensures value { result ≡ dual_leaving_of words.now bytes.now reals.now }
     ensures within { Within (get_or words.now row_count_at 0) result }
 {
     let n = words[ROW_COUNT] as usize;
-    let mut i = 1;
-    while i <= n {
+    for i in 1..n + 1 {
         let p = bytes[ROW_PLACES + i];
         if is_below(kind_at(bytes, p), reals[CONSTANTS + i]) {
-            return Found::At(i);
+            return Some(i);
         }
-        i += 1;
     }
-    Found::Nothing
+    None
 }
 
 fn can_enter(kind: u8, cell: f64) -> bool
@@ -56,157 +55,111 @@ fn can_enter(kind: u8, cell: f64) -> bool
 }
 
 // "entering is the first non-dummy with a cell below 0", in the objective.
-pub fn get_entering_symbol(words: &Words, bytes: &Bytes, reals: &Reals) -> Found
+pub fn get_entering_symbol(words: &Words, bytes: &Bytes, reals: &Reals) -> Option<usize>
     requires { get_or words.now symbol_count_at 0 ≤ last_place }
     ensures value { result ≡ entering_of words.now bytes.now reals.now }
     ensures within { Within (get_or words.now symbol_count_at 0) result }
 {
     let n = words[SYMBOL_COUNT] as usize;
-    let mut p = 1;
-    while p <= n {
+    for p in 1..n + 1 {
         if can_enter(bytes[KINDS + p], reals[OBJECTIVE + p]) {
-            return Found::At(p);
+            return Some(p);
         }
-        p += 1;
     }
-    Found::Nothing
+    None
 }
 
 // In the objective, or in the artificial objective: the line after the rows.
-pub fn get_goal_entering_symbol(
-    art: bool,
-    words: &Words,
-    keys: &Keys,
-    bytes: &Bytes,
-    reals: &Reals,
-    values: &Values,
-) -> Found
-    requires { Sound art (lent words keys bytes reals values) }
-    ensures { Chooses art (get_entering_symbol (goal_of art)) (symbol_at (lent words.entry keys.entry bytes.entry reals.entry values.entry)) (get_or words.now symbol_count_at 0) (lent words.entry keys.entry bytes.entry reals.entry values.entry) result }
+pub fn get_goal_entering_symbol(art: bool, room: &TablesMut) -> Option<usize>
+    requires { Sound art (held room.now) }
+    ensures { Chooses art (get_entering_symbol (goal_of art)) (symbol_at (held room.now)) (get_or room.now.words.now symbol_count_at 0) (held room.now) result }
 {
+    let words = &*room.words;
     if art {
         let mut row: [f64; ROW_ROOM] = [0.0; ROW_ROOM];
         let i = 1 + words[ROW_COUNT] as u8;
-        load_line(words, keys, bytes, reals, values, i, &mut row);
-        return first_along(Want::NonDummy, true, words, bytes, &row);
+        load_line(room, i, &mut row);
+        return first_along(Want::NonDummy, true, words, room.bytes, &row);
     }
-    get_entering_symbol(words, bytes, reals)
+    get_entering_symbol(words, room.bytes, room.reals)
 }
 
 // "Leaving is the restricted row with a negative cell there and the smallest -constant/cell".
-pub fn get_leaving_row(
-    art: bool,
-    words: &Words,
-    keys: &Keys,
-    bytes: &Bytes,
-    reals: &Reals,
-    values: &Values,
-    p: u8,
-) -> Found
-    requires sound { Sound art (lent words keys bytes reals values) }
+pub fn get_leaving_row(art: bool, room: &TablesMut, p: u8) -> Option<usize>
+    requires sound { Sound art (held room.now) }
     requires le_p { 1 ≤ p }
-    requires p_bound { p ≤ get_or words.now symbol_count_at 0 }
-    ensures { Chooses art (get_leaving_row (symbol_at (lent words.entry keys.entry bytes.entry reals.entry values.entry) p)) (row_symbol (lent words.entry keys.entry bytes.entry reals.entry values.entry)) (get_or words.now row_count_at 0) (lent words.entry keys.entry bytes.entry reals.entry values.entry) result }
+    requires p_bound { p ≤ get_or room.now.words.now symbol_count_at 0 }
+    ensures { Chooses art (get_leaving_row (symbol_at (held room.now) p)) (row_symbol (held room.now)) (get_or room.now.words.now row_count_at 0) (held room.now) result }
 {
-    ratio_row(true, art, words, keys, bytes, reals, values, p)
+    ratio_row(true, art, room, p)
 }
 
 // "Entering is the non-dummy positive cell with strictly smallest objective cell / cell, the lowest id on a tie", of row i.
-pub fn get_dual_entering_symbol(
-    words: &Words,
-    keys: &Keys,
-    bytes: &Bytes,
-    reals: &Reals,
-    values: &Values,
-    i: u8,
-) -> Found
-    requires sound { Sound false (lent words keys bytes reals values) }
-    requires i_bound { i ≤ get_or words.now row_count_at 0 }
-    ensures { Chooses false (get_dual_entering_symbol (basic_of (lent words.entry keys.entry bytes.entry reals.entry values.entry) i).row) (symbol_at (lent words.entry keys.entry bytes.entry reals.entry values.entry)) (get_or words.now symbol_count_at 0) (lent words.entry keys.entry bytes.entry reals.entry values.entry) result }
+pub fn get_dual_entering_symbol(room: &TablesMut, i: u8) -> Option<usize>
+    requires sound { Sound false (held room.now) }
+    requires i_bound { i ≤ get_or room.now.words.now row_count_at 0 }
+    ensures { Chooses false (get_dual_entering_symbol (basic_of (held room.now) i).row) (symbol_at (held room.now)) (get_or room.now.words.now symbol_count_at 0) (held room.now) result }
 {
     let mut row: [f64; ROW_ROOM] = [0.0; ROW_ROOM];
-    load_line(words, keys, bytes, reals, values, i, &mut row);
-    dual_along(words, bytes, reals, &row)
+    load_line(room, i, &mut row);
+    dual_along(room.words, room.bytes, room.reals, &row)
 }
 
 // The row that is for the symbol at place p.
-pub fn row_of(words: &Words, bytes: &Bytes, p: u8) -> Found
+pub fn row_of(words: &Words, bytes: &Bytes, p: u8) -> Option<usize>
     requires { get_or words.now row_count_at 0 < most_rows }
     ensures value { result ≡ row_for p words.now bytes.now }
     ensures within { Within (get_or words.now row_count_at 0) result }
 {
     let n = words[ROW_COUNT] as usize;
-    let mut i = 1;
-    while i <= n {
+    for i in 1..n + 1 {
         if p == bytes[ROW_PLACES + i] {
-            return Found::At(i);
+            return Some(i);
         }
-        i += 1;
     }
-    Found::Nothing
+    None
 }
 
 // "the row's first slack or Error", of row i.
-pub fn any_pivotable_symbol(
-    words: &Words,
-    keys: &Keys,
-    bytes: &Bytes,
-    reals: &Reals,
-    values: &Values,
-    i: u8,
-) -> Found
-    requires sound { Sound false (lent words keys bytes reals values) }
-    requires i_bound { i ≤ get_or words.now row_count_at 0 }
-    ensures { Chooses false (any_pivotable_symbol (basic_of (lent words.entry keys.entry bytes.entry reals.entry values.entry) i).row) (symbol_at (lent words.entry keys.entry bytes.entry reals.entry values.entry)) (get_or words.now symbol_count_at 0) (lent words.entry keys.entry bytes.entry reals.entry values.entry) result }
+pub fn any_pivotable_symbol(room: &TablesMut, i: u8) -> Option<usize>
+    requires sound { Sound false (held room.now) }
+    requires i_bound { i ≤ get_or room.now.words.now row_count_at 0 }
+    ensures { Chooses false (any_pivotable_symbol (basic_of (held room.now) i).row) (symbol_at (held room.now)) (get_or room.now.words.now symbol_count_at 0) (held room.now) result }
 {
     let mut row: [f64; ROW_ROOM] = [0.0; ROW_ROOM];
-    load_line(words, keys, bytes, reals, values, i, &mut row);
-    first_along(Want::Pivotable, false, words, bytes, &row)
+    load_line(room, i, &mut row);
+    first_along(Want::Pivotable, false, room.words, room.bytes, &row)
 }
 
 // "an empty row": row i.
-pub fn is_empty_row(
-    words: &Words,
-    keys: &Keys,
-    bytes: &Bytes,
-    reals: &Reals,
-    values: &Values,
-    i: u8,
-) -> bool
-    requires sound { Sound false (lent words keys bytes reals values) }
-    requires i_bound { i ≤ get_or words.now row_count_at 0 }
-    ensures { (a : Mark) (v : ℕ) → result ≡ is_empty_row (basic_of (lent words.entry keys.entry bytes.entry reals.entry values.entry) i).row (work_of false a v (lent words.entry keys.entry bytes.entry reals.entry values.entry)) }
+pub fn is_empty_row(room: &TablesMut, i: u8) -> bool
+    requires sound { Sound false (held room.now) }
+    requires i_bound { i ≤ get_or room.now.words.now row_count_at 0 }
+    ensures { (a : Mark) (v : ℕ) → result ≡ is_empty_row (basic_of (held room.now) i).row (work_of false a v (held room.now)) }
 {
     let mut row: [f64; ROW_ROOM] = [0.0; ROW_ROOM];
-    load_line(words, keys, bytes, reals, values, i, &mut row);
-    is_nothing(first_along(Want::Any, false, words, bytes, &row))
+    load_line(room, i, &mut row);
+    is_nothing(first_along(Want::Any, false, room.words, room.bytes, &row))
 }
 
 // "the leaving row is, in rank: .."
-pub fn get_marker_leaving_row(
-    words: &Words,
-    keys: &Keys,
-    bytes: &Bytes,
-    reals: &Reals,
-    values: &Values,
-    p: u8,
-) -> Found
-    requires sound { Sound false (lent words keys bytes reals values) }
+pub fn get_marker_leaving_row(room: &TablesMut, p: u8) -> Option<usize>
+    requires sound { Sound false (held room.now) }
     requires le_p { 1 ≤ p }
-    requires p_bound { p ≤ get_or words.now symbol_count_at 0 }
-    ensures { Chooses false (get_marker_leaving_row (symbol_at (lent words.entry keys.entry bytes.entry reals.entry values.entry) p).id) (row_symbol (lent words.entry keys.entry bytes.entry reals.entry values.entry)) (get_or words.now row_count_at 0) (lent words.entry keys.entry bytes.entry reals.entry values.entry) result }
+    requires p_bound { p ≤ get_or room.now.words.now symbol_count_at 0 }
+    ensures { Chooses false (get_marker_leaving_row (symbol_at (held room.now) p).id) (row_symbol (held room.now)) (get_or room.now.words.now row_count_at 0) (held room.now) result }
 {
-    let f = first_dummy_row(words, keys, bytes, reals, values, p);
-    let Found::Nothing = f else {
+    let f = first_dummy_row(room, p);
+    let None = f else {
         return f;
     };
-    let g = ratio_row(true, false, words, keys, bytes, reals, values, p);
-    let Found::Nothing = g else {
+    let g = ratio_row(true, false, room, p);
+    let None = g else {
         return g;
     };
-    let h = ratio_row(false, false, words, keys, bytes, reals, values, p);
-    let Found::Nothing = h else {
+    let h = ratio_row(false, false, room, p);
+    let None = h else {
         return h;
     };
-    last_external_row(words, keys, bytes, reals, values, p)
+    last_external_row(room, p)
 }

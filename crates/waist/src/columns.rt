@@ -1,15 +1,14 @@
 // A place that goes out of the sparse tables: the cells and the names of the places past it come one place down.
-ghost use Rattle.std.specs.Prelude.{◌≡◌, ◌+◌, ◌≤◌, ◌<◌, length};
+ghost use Rattle.std.specs.Prelude.{◌≡◌, ◌+◌, ◌≤◌, ◌<◌};
 ghost use Rattle.laws.specs.Loops.{map_in};
-ghost use Rattle.rows.specs.moves.Close.{closed};
 ghost use Rattle.layout.specs.cells.Names.{cell_room};
 ghost use Rattle.layout.specs.cells.Cells.{nearer_of, cells};
-ghost use Rattle.sparse.specs.Places.{words_size, bytes_size};
+ghost use Rattle.sparse.specs.Places.{bytes_size};
 ghost use Rattle.waist.specs.PurgingCells.{purge_turn, purged_cells};
 ghost use Rattle.waist.specs.Lowering.{near_place};
 
 use layout::cells::ROW_SPAN;
-use sparse::{Bytes, Keys, Values, Words};
+use sparse::{Bytes, Keys, Values};
 
 // A cell's key once place p is gone.
 fn nearer_key(key: u16, p: u8) -> u16
@@ -43,10 +42,8 @@ pub fn drop_place(keys: &mut Keys, values: &mut Values, n: usize, p: u8) -> usiz
     ensures { cells keys.new values.new result ≡ purged_cells n p keys.old values.old }
 {
     let mut at = 0;
-    let mut j = 0;
-    while j < n {
+    for j in 0..n {
         at = keep_cell(keys, values, j, at, p);
-        j += 1;
     }
     at
 }
@@ -66,33 +63,7 @@ pub fn lower_places(bytes: &mut Bytes, a: usize, e: usize, p: u8)
     requires { e ≤ bytes_size }
     ensures { bytes.new ≡ map_in (near_place p) a e bytes.old }
 {
-    let mut j = a;
-    while j < e {
+    for j in a..e {
         bytes[j] = near_place(bytes[j], p);
-        j += 1;
-    }
-}
-
-// An array by value tells its length, and one behind a reference does not: these hand it over.
-fn told_words(t: Words)
-    ensures { length t ≡ words_size }
-{}
-
-fn wide_words(t: &Words)
-    ensures { length t.now ≡ words_size }
-{
-    told_words(*t);
-}
-
-pub fn close_words(words: &mut Words, i: usize, e: usize)
-    requires i_le_e { i ≤ e }
-    requires e_lt_words_size { e < words_size }
-    ensures { words.new ≡ closed 0 i e words.old }
-{
-    wide_words(words);
-    let mut j = i;
-    while j < e {
-        words[j] = words[j + 1];
-        j += 1;
     }
 }

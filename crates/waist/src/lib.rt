@@ -10,6 +10,7 @@ pub mod holding;
 pub mod looks;
 pub mod marker;
 pub mod merging;
+pub mod moves;
 pub mod objective;
 pub mod pivoting;
 pub mod ratios;

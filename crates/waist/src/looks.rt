@@ -4,15 +4,15 @@ ghost use Rattle.rows.specs.choose.Choose.{Within, wants, is_nothing};
 ghost use Rattle.sparse.specs.Places.{most_rows, symbol_count_at};
 ghost use Rattle.sparse.specs.Sparse.{Sparse};
 ghost use Rattle.layout.specs.cells.Names.{last_place};
-ghost use Rattle.waist.specs.Working.{lent};
 ghost use Rattle.waist.specs.Looks.{of_kind, seen, look_of, Loadable, Loads};
+ghost use Rattle.sparse.specs.Tables.{held};
 
 use crate::substituting::notes::is_external;
 use layout::cells::ROW_ROOM;
 use layout::cells::row::load_row;
-use rows::choose::{Found, Want};
-use rows::row::wide;
-use sparse::{Bytes, CELL_COUNT, KINDS, Keys, Reals, SYMBOL_COUNT, Values, Words};
+use rows::choose::Want;
+use sparse::tables::TablesMut;
+use sparse::{Bytes, CELL_COUNT, KINDS, SYMBOL_COUNT, Words};
 
 fn wanted(want: Want, kind: u8) -> bool
     ensures { result ≡ wants want (of_kind kind) }
@@ -47,47 +47,37 @@ pub fn first_along(
     words: &Words,
     bytes: &Bytes,
     row: &[f64; ROW_ROOM],
-) -> Found
+) -> Option<usize>
     requires { get_or words.now symbol_count_at 0 ≤ last_place }
     ensures value { result ≡ look_of want below words.now bytes.now row.now }
     ensures within { Within (get_or words.now symbol_count_at 0) result }
 {
     let n = words[SYMBOL_COUNT] as usize;
-    let mut p = 1;
-    while p <= n {
+    for p in 1..n + 1 {
         if passes(want, below, bytes[KINDS + p], row[p]) {
-            return Found::At(p);
+            return Some(p);
         }
-        p += 1;
     }
-    Found::Nothing
+    None
 }
 
-pub fn is_nothing(f: Found) -> bool
+pub fn is_nothing(f: Option<usize>) -> bool
     ensures { result ≡ is_nothing f }
 {
     match f {
-        Found::At(_) => false,
-        Found::Nothing => true,
+        Some(_) => false,
+        None => true,
     }
 }
 
 // Line i as a dense row.
-pub fn load_line(
-    words: &Words,
-    keys: &Keys,
-    bytes: &Bytes,
-    reals: &Reals,
-    values: &Values,
-    i: u8,
-    row: &mut [f64; ROW_ROOM],
-)
-    requires loadable { Loadable (lent words keys bytes reals values) }
+pub fn load_line(room: &TablesMut, i: u8, row: &mut [f64; ROW_ROOM])
+    requires loadable { Loadable (held room.now) }
     requires i_le_most_rows { i ≤ most_rows }
-    ensures { Loads i (lent words.entry keys.entry bytes.entry reals.entry values.entry) row.new }
+    ensures { Loads i (held room.now) row.new }
 {
-    wide(row);
+    let words = &*room.words;
     let n = words[CELL_COUNT] as usize;
     let k = words[SYMBOL_COUNT] as usize;
-    load_row(keys, values, n, i, k, row);
+    load_row(room.keys, room.values, n, i, k, row);
 }

@@ -6,37 +6,30 @@ ghost use Rattle.sparse.specs.Places.{most_rows, row_count_at, cell_count_at};
 ghost use Rattle.layout.specs.cells.Names.{last_place};
 ghost use Rattle.layout.specs.cells.Spots.{Spots};
 ghost use Rattle.waist.specs.substituting.Notes.{is_external_kind};
-ghost use Rattle.waist.specs.Working.{lent, Sound};
+ghost use Rattle.waist.specs.Working.{Sound};
 ghost use Rattle.waist.specs.Choosing.{is_dummy_kind};
 ghost use Rattle.waist.specs.Ratios.{column_at};
 ghost use Rattle.waist.specs.MarkerRow.{dummy_row_of, external_row_of};
+ghost use Rattle.sparse.specs.Tables.{held};
 
 use crate::spots::spots_of;
 use crate::substituting::notes::{is_external, kind_at};
 use layout::cells::LINES_ROOM;
 use layout::cells::spots::spot_cell;
-use rows::choose::Found;
-use sparse::{Bytes, CELL_COUNT, Keys, ROW_COUNT, ROW_PLACES, Reals, Values, Words};
+use sparse::tables::TablesMut;
+use sparse::{CELL_COUNT, ROW_COUNT, ROW_PLACES};
 
 // Row i's cell at place p.
-fn column_at(
-    words: &Words,
-    keys: &Keys,
-    bytes: &Bytes,
-    reals: &Reals,
-    values: &Values,
-    p: u8,
-    spots: &[u16; LINES_ROOM],
-    i: usize,
-) -> f64
-    requires sound { Sound false (lent words keys bytes reals values) }
+fn column_at(room: &TablesMut, p: u8, spots: &[u16; LINES_ROOM], i: usize) -> f64
+    requires sound { Sound false (held room.now) }
     requires p_le_last_place { p ≤ last_place }
     requires i_le_most_rows { i ≤ most_rows }
-    requires spots { Spots keys.now (get_or words.now cell_count_at 0) p spots.now }
-    ensures { result ≡ column_at (lent words.entry keys.entry bytes.entry reals.entry values.entry) p i }
+    requires spots { Spots room.now.keys.now (get_or room.now.words.now cell_count_at 0) p spots.now }
+    ensures { result ≡ column_at (held room.now) p i }
 {
+    let words = &*room.words;
     let m = words[CELL_COUNT] as usize;
-    spot_cell(keys, values, m, p, spots, i)
+    spot_cell(room.keys, room.values, m, p, spots, i)
 }
 
 fn holds_as_dummy(kind: u8, x: f64) -> bool
@@ -46,31 +39,24 @@ fn holds_as_dummy(kind: u8, x: f64) -> bool
 }
 
 // "the first Dummy row holding the marker"
-pub fn first_dummy_row(
-    words: &Words,
-    keys: &Keys,
-    bytes: &Bytes,
-    reals: &Reals,
-    values: &Values,
-    p: u8,
-) -> Found
-    requires sound { Sound false (lent words keys bytes reals values) }
+pub fn first_dummy_row(room: &TablesMut, p: u8) -> Option<usize>
+    requires sound { Sound false (held room.now) }
     requires p_le_last_place { p ≤ last_place }
-    ensures value { result ≡ dummy_row_of p (lent words.entry keys.entry bytes.entry reals.entry values.entry) }
-    ensures within { Within (get_or words.now row_count_at 0) result }
+    ensures value { result ≡ dummy_row_of p (held room.now) }
+    ensures within { Within (get_or room.now.words.now row_count_at 0) result }
 {
+    let words = &*room.words;
+    let bytes = &*room.bytes;
     let n = words[ROW_COUNT] as usize;
-    let spots = spots_of(false, words, keys, bytes, reals, values, p);
-    let mut i = 1;
-    while i <= n {
+    let spots = spots_of(false, room, p);
+    for i in 1..n + 1 {
         let kind = kind_at(bytes, bytes[ROW_PLACES + i]);
-        let x = column_at(words, keys, bytes, reals, values, p, &spots, i);
+        let x = column_at(room, p, &spots, i);
         if holds_as_dummy(kind, x) {
-            return Found::At(i);
+            return Some(i);
         }
-        i += 1;
     }
-    Found::Nothing
+    None
 }
 
 fn holds_as_external(kind: u8, x: f64) -> bool
@@ -80,28 +66,22 @@ fn holds_as_external(kind: u8, x: f64) -> bool
 }
 
 // "the last External row holding it"
-pub fn last_external_row(
-    words: &Words,
-    keys: &Keys,
-    bytes: &Bytes,
-    reals: &Reals,
-    values: &Values,
-    p: u8,
-) -> Found
-    requires sound { Sound false (lent words keys bytes reals values) }
+pub fn last_external_row(room: &TablesMut, p: u8) -> Option<usize>
+    requires sound { Sound false (held room.now) }
     requires p_le_last_place { p ≤ last_place }
-    ensures value { result ≡ external_row_of p (lent words.entry keys.entry bytes.entry reals.entry values.entry) }
-    ensures within { Within (get_or words.now row_count_at 0) result }
+    ensures value { result ≡ external_row_of p (held room.now) }
+    ensures within { Within (get_or room.now.words.now row_count_at 0) result }
 {
-    let spots = spots_of(false, words, keys, bytes, reals, values, p);
-    let mut i = words[ROW_COUNT] as usize;
-    while 0 < i {
+    let words = &*room.words;
+    let bytes = &*room.bytes;
+    let spots = spots_of(false, room, p);
+    let n = words[ROW_COUNT] as usize;
+    for i in (1..n + 1).rev() {
         let kind = kind_at(bytes, bytes[ROW_PLACES + i]);
-        let x = column_at(words, keys, bytes, reals, values, p, &spots, i);
+        let x = column_at(room, p, &spots, i);
         if holds_as_external(kind, x) {
-            return Found::At(i);
+            return Some(i);
         }
-        i -= 1;
     }
-    Found::Nothing
+    None
 }

@@ -7,18 +7,16 @@ ghost use Rattle.rows.specs.Marks.{mark_of};
 ghost use Rattle.sparse.specs.Places.{symbol_count_at, row_count_at};
 ghost use Rattle.sparse.specs.Sparse.{symbol_at, basic_of};
 ghost use Rattle.layout.specs.cells.Names.{last_place};
-ghost use Rattle.waist.specs.substituting.Objective.{aim};
 ghost use Rattle.waist.specs.Working.{sparse};
 ghost use Rattle.waist.specs.Dropping.{Free};
 ghost use Rattle.waist.specs.Standing.{Standing, Makes};
-ghost use Rattle.waist.specs.Goals.{symbol_goal, symbol_goal_mark, row_goal};
+ghost use Rattle.waist.specs.Goals.{symbol_goal, symbol_goal_mark};
 
-use crate::substituting::objective::insert_at;
+use crate::substituting::objective::insert_cells;
 use layout::cells::ROW_ROOM;
 use layout::cells::row::load_row;
 use rows::cell::{cell_value, insert_cell, mark_cell};
-use rows::number::{OBJECTIVE_BOUND, Wrote, joined, nothing};
-use rows::row::wide;
+use rows::number::{OBJECTIVE_BOUND, Wrote, joined};
 use sparse::{Bytes, CELL_COUNT, CUTOFF, Keys, OBJECTIVE, Reals, SYMBOL_COUNT, Values, Words};
 
 fn insert_symbol(reals: &mut Reals, p: u8, k: f64, before: Wrote) -> Wrote
@@ -53,21 +51,6 @@ pub fn insert_in_objective(
     insert_symbol(reals, p, k, before)
 }
 
-// The cells of a dense row times k.
-fn insert_cells(reals: &mut Reals, row: &[f64; ROW_ROOM], width: usize, k: f64) -> Wrote
-    requires { width ≤ last_place }
-    ensures { aim reals.new (mark_of result) ≡ row_goal width k row.now reals.old }
-{
-    let cutoff = reals[CUTOFF];
-    let mut w = nothing();
-    let mut p = 1;
-    while p <= width {
-        w = insert_at(cutoff, reals, p, row[p], k, w);
-        p += 1;
-    }
-    w
-}
-
 // The cells of row i times k.
 pub fn insert_row_in_objective(
     words: &Words,
@@ -85,10 +68,10 @@ pub fn insert_row_in_objective(
     ensures { Makes false false (mark_of before) (mark_of result) (insert_row_in_objective (basic_of (sparse words.now keys.now bytes.now reals.old values.now) i).row k) (sparse words.now keys.now bytes.now reals.old values.now) (sparse words.now keys.now bytes.now reals.new values.now) }
 {
     let mut row: [f64; ROW_ROOM] = [0.0; ROW_ROOM];
-    wide(&row);
     let width = words[SYMBOL_COUNT] as usize;
     let n = words[CELL_COUNT] as usize;
     load_row(keys, values, n, i, width, &mut row);
-    let w = insert_cells(reals, &row, width, k);
+    let cutoff = reals[CUTOFF];
+    let w = insert_cells(cutoff, reals, &row, width, k);
     joined(before, w)
 }

@@ -2,57 +2,69 @@
 ghost use Rattle.std.specs.Prelude.{◌≡◌, true, not, ◌&&◌, ◌≤◌, ◌<◌, get_or};
 ghost use Rattle.std.specs.Float.Ieee.{lt};
 ghost use Rattle.steps.specs.Number.{zero64, ◌/₆₄◌};
-ghost use Rattle.rows.specs.choose.Choose.{Within, no_best, better_of, found_of};
+ghost use Rattle.rows.specs.choose.Choose.{Within, no_best, ratio_of, better_of, found_of};
 ghost use Rattle.sparse.specs.Places.{symbol_count_at, row_count_at};
 ghost use Rattle.layout.specs.cells.Names.{last_place};
 ghost use Rattle.waist.specs.substituting.Notes.{is_external_kind};
-ghost use Rattle.waist.specs.Working.{lent, Sound};
+ghost use Rattle.waist.specs.Working.{Sound};
 ghost use Rattle.waist.specs.Choosing.{is_dummy_kind};
 ghost use Rattle.waist.specs.Ratios.{signed, over, ratio_row_of, dual_entering_of};
+ghost use Rattle.sparse.specs.Tables.{held};
 
 use crate::spots::spots_of;
 use crate::substituting::notes::{is_external, kind_at};
 use layout::cells::ROW_ROOM;
 use layout::cells::spots::spot_cell;
-use rows::choose::{Best, Found};
+use rows::choose::Best;
+use sparse::tables::TablesMut;
 use sparse::{
-    Bytes, CELL_COUNT, CONSTANTS, KINDS, Keys, OBJECTIVE, ROW_COUNT, ROW_PLACES, Reals,
-    SYMBOL_COUNT, Values, Words,
+    Bytes, CELL_COUNT, CONSTANTS, KINDS, OBJECTIVE, ROW_COUNT, ROW_PLACES, Reals, SYMBOL_COUNT,
+    Words,
 };
 
-// Place 0 and an infinite ratio stand for none.
-fn no_best() -> Best
+fn no_best() -> Option<Best>
     ensures { result ≡ no_best }
 {
-    Best {
-        at: 0,
-        ratio: 1.0 / 0.0,
+    None
+}
+
+// What a ratio has to be below: where there is none so far, every finite one is.
+fn ratio_of(b: Option<Best>) -> f64
+    ensures { result ≡ ratio_of b }
+{
+    match b {
+        Some(best) => best.ratio,
+        None => 1.0 / 0.0,
     }
 }
 
-fn better(i: usize, ratio: f64, b: Best) -> Best
+fn better(i: usize, ratio: f64, b: Option<Best>) -> Option<Best>
     ensures { result ≡ better_of i true ratio b }
 {
     let top = 1.0 / 0.0;
-    if (-top < ratio) & (ratio < b.ratio) {
-        Best { at: i, ratio }
+    let least = ratio_of(b);
+    if (-top < ratio) & (ratio < least) {
+        Some(Best { at: i, ratio })
     } else {
         b
     }
 }
 
-fn found_of(b: Best, n: usize) -> Found
+fn found_of(b: Option<Best>, n: usize) -> Option<usize>
     ensures value { result ≡ found_of n b }
     ensures within { Within n result }
 {
-    let at = b.at;
+    let Some(best) = b else {
+        return None;
+    };
+    let at = best.at;
     if 1 > at {
-        return Found::Nothing;
+        return None;
     }
     if at > n {
-        return Found::Nothing;
+        return None;
     }
-    Found::At(at)
+    Some(at)
 }
 
 // ---- down a column
@@ -75,7 +87,14 @@ fn numerator(down: bool, x: f64) -> f64
     x
 }
 
-fn row_better(down: bool, i: usize, kind: u8, cell: f64, constant: f64, b: Best) -> Best
+fn row_better(
+    down: bool,
+    i: usize,
+    kind: u8,
+    cell: f64,
+    constant: f64,
+    b: Option<Best>,
+) -> Option<Best>
     ensures { result ≡ better_of i (not (is_external_kind kind) && signed down cell) (over down constant /₆₄ cell) b }
 {
     if !is_external(kind) & is_signed(down, cell) {
@@ -86,38 +105,30 @@ fn row_better(down: bool, i: usize, kind: u8, cell: f64, constant: f64, b: Best)
 }
 
 // With `down`: "the restricted row with a negative cell there and the smallest -constant/cell"; else "restricted with positive cell, smallest constant/cell".
-pub fn ratio_row(
-    down: bool,
-    art: bool,
-    words: &Words,
-    keys: &Keys,
-    bytes: &Bytes,
-    reals: &Reals,
-    values: &Values,
-    p: u8,
-) -> Found
-    requires sound { Sound art (lent words keys bytes reals values) }
+pub fn ratio_row(down: bool, art: bool, room: &TablesMut, p: u8) -> Option<usize>
+    requires sound { Sound art (held room.now) }
     requires p_le_last_place { p ≤ last_place }
-    ensures value { result ≡ ratio_row_of down p (lent words.entry keys.entry bytes.entry reals.entry values.entry) }
-    ensures within { Within (get_or words.now row_count_at 0) result }
+    ensures value { result ≡ ratio_row_of down p (held room.now) }
+    ensures within { Within (get_or room.now.words.now row_count_at 0) result }
 {
+    let words = &*room.words;
+    let bytes = &*room.bytes;
+    let reals = &*room.reals;
     let n = words[ROW_COUNT] as usize;
     let m = words[CELL_COUNT] as usize;
-    let spots = spots_of(art, words, keys, bytes, reals, values, p);
+    let spots = spots_of(art, room, p);
     let mut b = no_best();
-    let mut i = 1;
-    while i <= n {
+    for i in 1..n + 1 {
         let kind = kind_at(bytes, bytes[ROW_PLACES + i]);
-        let x = spot_cell(keys, values, m, p, &spots, i);
+        let x = spot_cell(room.keys, room.values, m, p, &spots, i);
         b = row_better(down, i, kind, x, reals[CONSTANTS + i], b);
-        i += 1;
     }
     found_of(b, n)
 }
 
 // ---- along a dense row
 
-fn dual_better(p: usize, kind: u8, cell: f64, objective: f64, b: Best) -> Best
+fn dual_better(p: usize, kind: u8, cell: f64, objective: f64, b: Option<Best>) -> Option<Best>
     ensures { result ≡ better_of p (not (is_dummy_kind kind) && lt zero64 cell) (objective /₆₄ cell) b }
 {
     if (kind != 3) & (0.0 < cell) {
@@ -128,17 +139,20 @@ fn dual_better(p: usize, kind: u8, cell: f64, objective: f64, b: Best) -> Best
 }
 
 // "the non-dummy positive cell with strictly smallest objective cell / cell, the lowest id on a tie"
-pub fn dual_along(words: &Words, bytes: &Bytes, reals: &Reals, row: &[f64; ROW_ROOM]) -> Found
+pub fn dual_along(
+    words: &Words,
+    bytes: &Bytes,
+    reals: &Reals,
+    row: &[f64; ROW_ROOM],
+) -> Option<usize>
     requires { get_or words.now symbol_count_at 0 ≤ last_place }
     ensures value { result ≡ dual_entering_of words.now bytes.now reals.now row.now }
     ensures within { Within (get_or words.now symbol_count_at 0) result }
 {
     let n = words[SYMBOL_COUNT] as usize;
     let mut b = no_best();
-    let mut p = 1;
-    while p <= n {
+    for p in 1..n + 1 {
         b = dual_better(p, bytes[KINDS + p], row[p], reals[OBJECTIVE + p], b);
-        p += 1;
     }
     found_of(b, n)
 }

@@ -18,7 +18,7 @@ ghost use Rattle.waist.specs.Subject.{negative_of, subject_of};
 use crate::looks::{first_along, is_nothing};
 use crate::substituting::notes::kind_at;
 use layout::cells::ROW_ROOM;
-use rows::choose::{Found, Want};
+use rows::choose::Want;
 use sparse::{Bytes, Words};
 
 fn negative_pivotable(kind: u8, x: f64) -> bool
@@ -27,18 +27,24 @@ fn negative_pivotable(kind: u8, x: f64) -> bool
     ((kind == 1) | (kind == 2)) & (x < 0.0)
 }
 
-fn negative_tag(bytes: &Bytes, row: &[f64; ROW_ROOM], p: u8) -> Found
+fn negative_tag(bytes: &Bytes, row: &[f64; ROW_ROOM], p: u8) -> Option<usize>
     requires { p ≤ last_place }
     ensures { result ≡ negative_of p bytes.now row.now }
 {
     if negative_pivotable(kind_at(bytes, p), row[p as usize]) {
-        return Found::At(p as usize);
+        return Some(p as usize);
     }
-    Found::Nothing
+    None
 }
 
 // "first External; else marker if slack or Error with negative cell; else other likewise"; 0 is no other.
-fn subject_of(words: &Words, bytes: &Bytes, row: &[f64; ROW_ROOM], marker: u8, other: u8) -> Found
+fn subject_of(
+    words: &Words,
+    bytes: &Bytes,
+    row: &[f64; ROW_ROOM],
+    marker: u8,
+    other: u8,
+) -> Option<usize>
     requires symbol_count_at_bound { get_or words.now symbol_count_at 0 ≤ last_place }
     requires le_marker { 1 ≤ marker }
     requires marker_bound { marker ≤ get_or words.now symbol_count_at 0 }
@@ -47,15 +53,15 @@ fn subject_of(words: &Words, bytes: &Bytes, row: &[f64; ROW_ROOM], marker: u8, o
     ensures within { Within (get_or words.now symbol_count_at 0) result }
 {
     let f = first_along(Want::External, false, words, bytes, row);
-    let Found::Nothing = f else {
+    let None = f else {
         return f;
     };
     let m = negative_tag(bytes, row, marker);
-    let Found::Nothing = m else {
+    let None = m else {
         return m;
     };
     if other == 0 {
-        return Found::Nothing;
+        return None;
     }
     negative_tag(bytes, row, other)
 }
@@ -67,7 +73,7 @@ pub fn choose_subject(
     row: &[f64; ROW_ROOM],
     marker: u8,
     other: u8,
-) -> Found
+) -> Option<usize>
     requires named { Named words.now bytes.now }
     requires le_marker { 1 ≤ marker }
     requires marker_bound { marker ≤ get_or words.now symbol_count_at 0 }

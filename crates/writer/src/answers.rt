@@ -1,7 +1,7 @@
 // Answers as text: the plain line, `no NUMBER`, or `?` for what is no constraint in the text format.
 ghost use Rattle.std.specs.Prelude.{◌+◌, ◌≤◌, length};
 
-use crate::given::{Given, Head, read_given};
+use crate::given::{Given, read_given};
 use text::writing::{put_byte, put_number, put_unread};
 use writing::write_line;
 
@@ -10,16 +10,9 @@ fn put_plain(out: &mut [u8], at: usize, plain: &[u8; 200]) -> usize
     requires { at + 200 ≤ length out.old }
     ensures { result ≤ at + 200 }
 {
-    let mut i: usize = 0;
-    while i < 200 {
-        let b = plain[i];
-        if b == 0 {
-            return at + i;
-        }
-        out[at + i] = b;
-        i += 1;
-    }
-    at + i
+    let n = plain.iter().position(|b| *b == 0).unwrap_or(200);
+    out[at..at + n].copy_from_slice(&plain[..n]);
+    at + n
 }
 
 fn put_refused(out: &mut [u8], at: usize, number: u32) -> usize
@@ -32,17 +25,15 @@ fn put_refused(out: &mut [u8], at: usize, number: u32) -> usize
     put_number(out, c, number as u64)
 }
 
-fn put_given(out: &mut [u8], at: usize, g: Given) -> usize
+fn put_given(out: &mut [u8], at: usize, g: Option<Given>) -> usize
     requires { at + 200 ≤ length out.old }
     ensures { result ≤ at + 200 }
 {
-    let h = g.head;
-    let t = g.terms;
-    let Head::Of(relation, group, constant) = h else {
+    let Some(g) = g else {
         return put_unread(out, at);
     };
     let mut plain = [0u8; 200];
-    let number = write_line(&mut plain, relation, group, constant, t);
+    let number = write_line(&mut plain, g.relation, g.group, g.constant, g.terms);
     if number == 0 {
         return put_plain(out, at, &plain);
     }

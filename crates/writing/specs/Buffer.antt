@@ -2,7 +2,6 @@
 use Rattle.std.specs.Prelude.{◌≡◌, ℕ, zero, suc, ◌+◌, ◌-◌, ◌/◌, ◌%◌, ◌<◌, ◌≤◌, List, [], ◌∷◌, ◌++◌, length, replicate, ◌≢◌, slice_set, refl}
 use Rattle.std.proofs.Common.{sym, ap, ◌∙◌, subst, append_assoc, append-nil, arith, lt-ltb, le-ltb, length-append, length-set}
 use Rattle.std.proofs.lemmas.List.{length-replicate}
-use Rattle.laws.specs.Loops.{map_in}
 use Rattle.grammar.specs.plain.Plain.{room}
 use Rattle.grammar.specs.plain.Decimal.{decimal_in}
 
@@ -38,12 +37,6 @@ padded-more l b h =
 length_more : (l : List ℕ) (b : ℕ) → length (l ++ (b ∷ [])) ≡ suc (length l)
 length_more l b = rw length-append (omega arith)
 
--- zeros at every place
-pub zeros : (l : List ℕ) → map_in (λ (x : ℕ). 0) 0 (length l) l ≡ replicate (length l) 0
-unfolding map_in
-zeros [] = refl
-zeros (x ∷ l) = ap (λ (r : List ℕ). 0 ∷ r) (zeros l)
-
 -- ---- one byte
 
 pub adds-byte : (o : List ℕ) (i b : ℕ) → i < length o → Adds o (slice_set o i b) i (i + 1) (b ∷ [])
@@ -78,9 +71,6 @@ then {a} {b} {c} {i} {j} {k} {s} {t} f g = adds_then a b c i j k s t f g
 
 pub text-as : {a b : List ℕ} {i j : ℕ} {s t : List ℕ} → t ≡ s → Adds a b i j s → Adds a b i j t
 text-as e w = rw e w
-
-pub adds-as : (a b : List ℕ) (i j : ℕ) {s t : List ℕ} → t ≡ s → Adds a b i j s → Adds a b i j t
-adds-as a b i j e w = rw e w
 
 -- ---- digit by digit
 

@@ -1,7 +1,7 @@
 -- The writer's answer: "36 for terms not ascending or anything a line can't say, then 32, and its buffer is all zero".
-use Rattle.std.specs.Prelude.{◌≡◌, ℕ, ◌<◌, ◌≤◌, Bool, true, false, cond, not, ◌&&◌, T, List, [], ◌∷◌, ◌++◌, length, replicate, ◌==◌, ◌≢◌, nat_le, unsigned_abs, Float}
+use Rattle.std.specs.Prelude.{◌≡◌, ℕ, ◌<◌, ◌≤◌, Bool, true, false, cond, not, ◌&&◌, T, List, [], ◌∷◌, ◌++◌, length, replicate, ◌==◌, ◌≢◌, ◌⊎◌, nat_le, unsigned_abs, Float}
 use Rattle.std.proofs.Math.Path.{refl, sym, ap, ap₂, subst⁻¹}
-use Rattle.std.proofs.Common.{◌∙◌, subst, append_assoc, arith, le-leb, eq-eqb, ne_eqb, leb→le}
+use Rattle.std.proofs.Common.{◌∙◌, inl, inr, subst, append_assoc, arith, le-leb, eq-eqb, ne_eqb, leb→le}
 use Rattle.std.proofs.lemmas.Bool.{lt-leb}
 use Rattle.std.proofs.lemmas.List.{length-replicate}
 use Rattle.laws.specs.Lists.{tab, length-tab}
@@ -18,7 +18,6 @@ use Rattle.changes.specs.declared.tags.Relation.{Relation as Given}
 use Rattle.changes.specs.declared.tags.Relation.TheVariants.{AtMost, Equal, AtLeast}
 use Rattle.changes.specs.declared.terms.Pack.{Pack}
 use Rattle.writing.specs.declared.figures.Figure.{Figure}
-use Rattle.writing.specs.declared.said.Related.{Related}
 use Rattle.writing.specs.Buffer.{padded, Holds, fits, passed, Adds}
 use Rattle.writing.specs.Figures.{is_figure, figure_of}
 use Rattle.writing.specs.Texts.{up_to, const_text, relation_text, line_text}
@@ -31,14 +30,17 @@ relation_in (AtMost s) = at_most
 relation_in (Equal s) = equal
 relation_in (AtLeast s) = at_least
 
--- a relation carries its strength: the first byte of its mark, and the strength
-unfoldable pub related_of : Given → Related
-related_of (AtMost s) = record { mark = 60; strength = s }
-related_of (Equal s) = record { mark = 61; strength = s }
-related_of (AtLeast s) = record { mark = 62; strength = s }
+-- a relation carries its strength
+unfoldable pub strength_in : Given → Float
+strength_in (AtMost s) = s
+strength_in (Equal s) = s
+strength_in (AtLeast s) = s
 
-abbrev pub strength_in : Given → Float
-strength_in r = (related_of r).strength
+pub strength-any : (r : Given) (s : Float) → (r ≡ AtMost s) ⊎ ((r ≡ Equal s) ⊎ (r ≡ AtLeast s)) → s ≡ strength_in r
+unfolding strength_in
+strength-any r s (inl e) = sym (ap strength_in e)
+strength-any r s (inr (inl e)) = sym (ap strength_in e)
+strength-any r s (inr (inr e)) = sym (ap strength_in e)
 
 -- the constraint as numbers
 unfoldable pub constraint_of : Given → ℕ → Float → Pack → Constraint
@@ -107,8 +109,8 @@ size_is x h = by (is_figure x) h
     by true h = refl
     by false h = absurd h
 
-mark-is : (r : Given) → relation_text (related_of r).mark ≡ mark_of (relation_in r)
-unfolding relation_text related_of
+mark-is : (r : Given) → relation_text r ≡ mark_of (relation_in r)
+unfolding relation_text
 mark-is (AtMost s) = refl
 mark-is (Equal s) = refl
 mark-is (AtLeast s) = refl
@@ -206,15 +208,15 @@ module _ (r : Given) (g : ℕ) (x : Float) (p : Pack) where
   -- ---- what the code answers
 
   abbrev text : List ℕ
-  text = line_text p.vars p.coefs p.count (figure_of x) (related_of r).mark (figure_of y).size g
+  text = line_text p.vars p.coefs p.count (figure_of x) r (figure_of y).size g
 
   text-is : Facts → text ≡ plain_text c
   unfolding line_text plain_text constraint_of
   text-is f =
       let list = tab (term_at p.vars p.coefs) 0 p.count in
       let e = sum_is p.vars p.coefs p.count x f.wholes f.constant in
-      sym (append_assoc (up_to p.vars p.coefs p.count) (const_text (figure_of x) (p.count == 0)) (relation_text (related_of r).mark ++ ((48 ∷ []) ++ ending_text (figure_of y).size g)))
-      ∙ (ap (λ (w : List ℕ). w ++ (relation_text (related_of r).mark ++ (48 ∷ ending_text (figure_of y).size g))) e
+      sym (append_assoc (up_to p.vars p.coefs p.count) (const_text (figure_of x) (p.count == 0)) (relation_text r ++ ((48 ∷ []) ++ ending_text (figure_of y).size g)))
+      ∙ (ap (λ (w : List ℕ). w ++ (relation_text r ++ (48 ∷ ending_text (figure_of y).size g))) e
       ∙ ap₂ (λ (m : List ℕ) (n : ℕ). sum_text (val x) list ++ (m ++ (48 ∷ ending_text n g))) (mark-is r) (size_is y f.strong))
 
   written : Facts → writes r g x p ≡ cond (nat_le (length text) room) (wrote text) (refused 32)
@@ -287,12 +289,12 @@ module _ (p : Pack) (c s : Figure) (g : ℕ) where
 pub count-few : (p : Pack) → p.finite && nat_le p.count 16 ≡ true → p.count ≤ 16
 count-few p e = leb→le p.count 16 (both p.finite (nat_le p.count 16) (rw e tt)).1
 
-module _ (r : Given) (g : ℕ) (x : Float) (p : Pack) (q : Related) (c s : Figure) {t : Bool} (eq : q ≡ related_of r) (ec : c ≡ figure_of x) (es : s ≡ figure_of q.strength) (et : t ≡ said_in p c s g) where
+module _ (r : Given) (g : ℕ) (x : Float) (p : Pack) (q : Float) (c s : Figure) {t : Bool} (eq : q ≡ strength_in r) (ec : c ≡ figure_of x) (es : s ≡ figure_of q) (et : t ≡ said_in p c s g) where
   tested-is : t ≡ tested r g x p
-  tested-is = et ∙ (ap₂ (λ (a b : Figure). said_in p a b g) ec (es ∙ ap (λ (k : Related). figure_of k.strength) eq))
+  tested-is = et ∙ (ap₂ (λ (a b : Figure). said_in p a b g) ec (es ∙ ap figure_of eq))
 
   abbrev in_hand : List ℕ
-  in_hand = line_text p.vars p.coefs p.count c q.mark s.size g
+  in_hand = line_text p.vars p.coefs p.count c r s.size g
 
   text_in-hand : in_hand ≡ text r g x p
   text_in-hand = rw (ec, es, eq)

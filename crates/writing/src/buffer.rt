@@ -6,17 +6,13 @@ ghost use Rattle.writing.specs.Buffer.{Adds};
 // "Its lent buffer is 200 bytes"
 pub const ROOM: usize = 200;
 
+// A place where nothing is put: all that follows stays there, and the whole line is measured once, at its end.
 const PAST: usize = 201;
 
 pub fn clear(out: &mut [u8])
     ensures { out.new ≡ replicate (length out.old) 0 }
 {
-    let n = out.len();
-    let mut i = 0;
-    while i < n {
-        out[i] = 0;
-        i += 1;
-    }
+    out.fill(0);
 }
 
 pub fn put(out: &mut [u8], at: usize, b: u8) -> usize

@@ -5,6 +5,8 @@ ghost use Rattle.writing.specs.Figures.{figure_of};
 // "a whole strength up to 1,001,001,000 (required)"
 pub const REQUIRED: u64 = 1001001000;
 
+// Sign and size stand beside `whole`, and not in an Option: the parts of a line are put only of what was found whole, and each would have to
+// say what it puts of None.
 #[derive(Clone, Copy)]
 pub struct Figure {
     pub whole: bool,

@@ -11,7 +11,7 @@ pub mod texts;
 
 use crate::buffer::{ROOM, clear};
 use crate::figures::figure_of;
-use crate::said::{related_of, said};
+use crate::said::{said, strength_of};
 use crate::texts::put_line;
 use changes::tags::Relation;
 use changes::terms::Pack;
@@ -21,11 +21,10 @@ fn write_in(out: &mut [u8], relation: Relation, group: u16, constant: f64, p: Pa
     ensures { called_is result out.new ≡ called out.old (writes relation group constant p) }
 {
     clear(out);
-    let r = related_of(relation);
     let c = figure_of(constant);
-    let s = figure_of(r.strength);
+    let s = figure_of(strength_of(relation));
     if said(p, c, s, group) {
-        let n = put_line(out, p, p.count, c, r.mark, s.size, group);
+        let n = put_line(out, p, p.count, c, relation, s.size, group);
         if n <= ROOM {
             return 0;
         }
@@ -35,6 +34,7 @@ fn write_in(out: &mut [u8], relation: Relation, group: u16, constant: f64, p: Pa
     36
 }
 
+// The numbers are those that `knobharbor_write_line` answers C.
 // "Its lent buffer is 200 bytes, zero past the line." 0, or 18 for a buffer of another length, which stays as it is; "36 for terms not ascending
 // or anything a line can't say, then 32, and its buffer is all zero".
 pub fn write_line(out: &mut [u8], relation: Relation, group: u16, constant: f64, p: Pack) -> u32

@@ -1,7 +1,7 @@
 // What a line can say.
 ghost use Rattle.std.specs.Prelude.{◌≡◌, ◌≤◌};
 ghost use Rattle.writing.specs.Given.{ok_figure, rises_at, all_up_to};
-ghost use Rattle.writing.specs.Writes.{related_of, said_in};
+ghost use Rattle.writing.specs.Writes.{strength_in, said_in};
 
 use crate::figures::{Figure, REQUIRED, figure_of};
 use changes::tags::Relation;
@@ -18,29 +18,11 @@ const MOST_GROUP: u16 = 65535;
 // "more than 16 variables"
 const MOST_TERMS: usize = 16;
 
-// The first byte of a relation's mark, and its strength.
-#[derive(Clone, Copy)]
-pub struct Related {
-    pub mark: u8,
-    pub strength: f64,
-}
-
-pub fn related_of(relation: Relation) -> Related
-    ensures { result ≡ related_of relation }
+pub fn strength_of(relation: Relation) -> f64
+    ensures { result ≡ strength_in relation }
 {
     match relation {
-        Relation::AtMost(s) => Related {
-            mark: b'<',
-            strength: s,
-        },
-        Relation::Equal(s) => Related {
-            mark: b'=',
-            strength: s,
-        },
-        Relation::AtLeast(s) => Related {
-            mark: b'>',
-            strength: s,
-        },
+        Relation::AtMost(s) | Relation::Equal(s) | Relation::AtLeast(s) => s,
     }
 }
 
@@ -68,11 +50,9 @@ fn terms_said(p: Pack, n: usize) -> bool
     let vars = p.vars;
     let coefs = p.coefs;
     let mut ok = true;
-    let mut i: usize = 0;
-    while i < n {
+    for i in 0..n {
         let f = figure_of(coefs[i]);
         ok = ok & (figure_said(f, vars[i]) & rises_at(vars, n, i));
-        i += 1;
     }
     ok
 }

@@ -11,7 +11,7 @@ use Rattle.steps.specs.Work.{new_symbol, append_symbol}
 use Rattle.steps.specs.Changes.{find_variable}
 use Rattle.steps.specs.CreateRow.{Building, append_to, keep_variable, with_variables, add_variable}
 use Rattle.layout.specs.Layout.{kind_of}
-use Rattle.rows.specs.declared.choose.Found.TheVariants.{At, Nothing}
+use Rattle.std.specs.Prelude.{Some, None}
 use Rattle.rows.specs.Reading as dense
 use Rattle.layout.specs.cells.Names.{row_room, last_place}
 use Rattle.sparse.specs.Places.{most_variables, next_id_at, variable_count_at, variable_numbers_at, variable_uses_at, kinds_at}
@@ -40,7 +40,7 @@ kind-zero : (k : ℕ) → k ≤ 3 → kind_of k ≡ External → k ≡ 0
 unfolding kind_code
 kind-zero k h e = sym (kind-back k h) ∙ ap kind_code e
 
-module _ (n : ℕ) (a : Mark) (t u : Sparse) (s : Standing false a t) (fit : symbol_count t < last_place) (room : variable_count t < most_variables) (none_yet : found_in n t.words ≡ Nothing)
+module _ (n : ℕ) (a : Mark) (t u : Sparse) (s : Standing false a t) (fit : symbol_count t < last_place) (room : variable_count t < most_variables) (none_yet : found_in n t.words ≡ None)
     (g : Grown 0 t u) (m : Makes false false a a (λ w. append_symbol (new_symbol (kind_of 0) w) w) t u) (row : List Float) (wide : length row ≡ row_room) where
   abbrev p : ℕ
   p = 1 + symbol_count t
@@ -60,7 +60,7 @@ module _ (n : ℕ) (a : Mark) (t u : Sparse) (s : Standing false a t) (fit : sym
   count : variable_count u ≡ variable_count t
   count = g.words variable_count_at (λ e. omega (arith, e)) (λ e. omega (arith, e)) (λ e. omega (arith, e))
 
-  none-now : found_in n u.words ≡ Nothing
+  none-now : found_in n u.words ≡ None
   none-now = found-same n t.words u.words count (λ j h. word (variable_numbers_at + j) (omega arith)) ∙ none_yet
 
   room₁ : variable_count u < most_variables
@@ -127,20 +127,20 @@ pub record Knows (n : ℕ) (a : Mark) (t u : Sparse) (row row₁ : List Float) :
   pub builds : Builds a a (known_by n) t u row row₁
   pub steps : Steps 1 0 t u
 
-pub known-here : (n : ℕ) (a : Mark) (t : Sparse) (row : List Float) (i : ℕ) → found_in n t.words ≡ At i → Standing false a t → Knows n a t t row row
+pub known-here : (n : ℕ) (a : Mark) (t : Sparse) (row : List Float) (i : ℕ) → found_in n t.words ≡ Some i → Standing false a t → Knows n a t t row row
 unfolding known_by
 known-here n a t row i e s =
     let f : find_variable n (building_of a t row).work.changes.variables ≡ some (variable_of t i) = find-of a t row n ∙ rw e refl in
     record { builds = record { reads = rw (f, known_by) refl; stands = s }; steps = steps-none 1 0 t }
 
-pub known-new : (n : ℕ) (a : Mark) (t u : Sparse) (row row₁ : List Float) → found_in n t.words ≡ Nothing → Builds a a (add_variable n) t u row row₁ → Steps 1 0 t u → Knows n a t u row row₁
+pub known-new : (n : ℕ) (a : Mark) (t u : Sparse) (row row₁ : List Float) → found_in n t.words ≡ None → Builds a a (add_variable n) t u row row₁ → Steps 1 0 t u → Knows n a t u row row₁
 unfolding known_by
 known-new n a t u row row₁ e h s =
     let f : find_variable n (building_of a t row).work.changes.variables ≡ none = find-of a t row n ∙ rw e refl in
     record { builds = record { reads = h.reads ∙ rw (f, known_by) refl; stands = h.stands }; steps = s }
 
 -- the code's calls put together
-pub new-calls : (n : ℕ) (a : Mark) (t u : Sparse) (row : List Float) (p q : ℕ) (ws bs : List ℕ) (rs : List Float) → p ≡ 1 + symbol_count t → q ≡ p → Standing false a t → symbol_count t < last_place → variable_count t < most_variables → found_in n t.words ≡ Nothing
+pub new-calls : (n : ℕ) (a : Mark) (t u : Sparse) (row : List Float) (p q : ℕ) (ws bs : List ℕ) (rs : List Float) → p ≡ 1 + symbol_count t → q ≡ p → Standing false a t → symbol_count t < last_place → variable_count t < most_variables → found_in n t.words ≡ None
     → Grown 0 t u → ((a : Mark) → Standing false a t → Makes false false a a (λ w. append_symbol (new_symbol (kind_of 0) w) w) t u) → length row ≡ row_room
     → ws ≡ kept_words n u.words → bs ≡ kept_bytes n p u.words u.bytes → rs ≡ kept_reals n u.words u.reals
     → (Builds a a (add_variable n) t (sparse ws u.keys bs rs u.values) row (set row q zero64)) × Steps 1 0 t (sparse ws u.keys bs rs u.values)

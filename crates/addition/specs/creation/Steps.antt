@@ -8,7 +8,7 @@ use Rattle.laws.specs.Loops.{seek, first}
 use Rattle.laws.specs.Lists.{length-tab}
 use Rattle.steps.specs.Number.{Mark}
 use Rattle.steps.specs.Changes.{find_variable}
-use Rattle.rows.specs.declared.choose.Found.TheVariants.{At, Nothing}
+use Rattle.std.specs.Prelude.{Some, None}
 use Rattle.rows.specs.choose.Choose.{on_found}
 use Rattle.sparse.specs.Places.{most_variables, variable_count_at, variable_numbers_at, variable_uses_at}
 use Rattle.sparse.specs.Sparse.{Sparse, symbol_count, row_count, variable_count, variable_of, read}
@@ -28,7 +28,7 @@ most_spare = 4294900016
 
 -- ids, symbols and variables have room for one more, and two symbols for the tag
 abbrev pub Room : ℕ → Sparse → Type 0
-Room n t = found_in n t.words ≡ Nothing → (next_id t < 4294900016) × (symbol_count t < 126) × (variable_count t < most_variables)
+Room n t = found_in n t.words ≡ None → (next_id t < 4294900016) × (symbol_count t < 126) × (variable_count t < most_variables)
 
 -- at most i ids are taken, each for a new variable, and no use grows by more than m
 pub record Steps (i m : ℕ) (t u : Sparse) : Type 0 where
@@ -50,7 +50,7 @@ steps_then {m = m} a b =
 
 -- ---- a variable by its number
 
-seek-ext : (p q : ℕ → Bool) (n i : ℕ) → ((j : ℕ) → i ≤ j → j < i + n → p j ≡ q j) → seek p At Nothing n i ≡ seek q At Nothing n i
+seek-ext : (p q : ℕ → Bool) (n i : ℕ) → ((j : ℕ) → i ≤ j → j < i + n → p j ≡ q j) → seek p Some None n i ≡ seek q Some None n i
 unfolding seek
 seek-ext p q zero i h = refl
 seek-ext p q (suc n) i h = rw (h i (omega arith) (omega arith), seek-ext p q n (suc i) (λ j a b. h j (omega (arith, a)) (omega (arith, b)))) refl

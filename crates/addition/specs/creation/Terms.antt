@@ -12,8 +12,8 @@ use Rattle.steps.specs.State.{Term}
 use Rattle.steps.specs.Work.{find_row, with_changes}
 use Rattle.steps.specs.Changes.{find_variable}
 use Rattle.steps.specs.CreateRow.{Building, written, insert_into, with_variables, use_once, count_use, insert_variable, insert_term}
-use Rattle.rows.specs.declared.choose.Found.{Found}
-use Rattle.rows.specs.declared.choose.Found.TheVariants.{At, Nothing}
+use Rattle.rows.specs.choose.Choose.{Found}
+use Rattle.std.specs.Prelude.{Some, None}
 use Rattle.rows.specs.choose.Choose.{Within, on_found}
 use Rattle.rows.specs.declared.number.Wrote.{Wrote}
 use Rattle.rows.specs.Marks.{mark_of, join}
@@ -44,13 +44,13 @@ module _ (a : Mark) (t : Sparse) (p : ℕ) (row : List Float) (k : Float) (f : F
   found-row : {o : Option Row} → on_found (λ i. some (basic_of t i).row) none f ≡ o → find_row (symbol_at t p).id b.work.tableau.rows ≡ o
   found-row e = rw (rows_of a t row) (asked ∙ e)
 
-  pub variable-symbol : {c : Mark} {row₁ : List Float} → f ≡ Nothing → Builds a c (insert_into (symbol_at t p).id k) t t row row₁ → Builds a c (insert_variable (symbol_at t p) k) t t row row₁
+  pub variable-symbol : {c : Mark} {row₁ : List Float} → f ≡ None → Builds a c (insert_into (symbol_at t p).id k) t t row row₁ → Builds a c (insert_variable (symbol_at t p) k) t t row row₁
   unfolding insert_variable
   variable-symbol e h =
       let q : find_row (symbol_at t p).id b.work.tableau.rows ≡ none = found-row (rw e refl) in
       record { reads = h.reads ∙ rw (q, insert_variable) refl; stands = h.stands }
 
-  pub variable-row : {c : Mark} {row₁ : List Float} (i : ℕ) → f ≡ At i → Builds a c (λ b. written (insert_row b.work.tableau.cutoff (basic_of t i).row k b.row) b.work) t t row row₁ → Builds a c (insert_variable (symbol_at t p) k) t t row row₁
+  pub variable-row : {c : Mark} {row₁ : List Float} (i : ℕ) → f ≡ Some i → Builds a c (λ b. written (insert_row b.work.tableau.cutoff (basic_of t i).row k b.row) b.work) t t row row₁ → Builds a c (insert_variable (symbol_at t p) k) t t row row₁
   unfolding insert_variable
   variable-row i e h =
       let q : find_row (symbol_at t p).id b.work.tableau.rows ≡ some (basic_of t i).row = found-row (rw e refl) in
@@ -78,17 +78,17 @@ module _ (n : ℕ) (k : Float) (a : Mark) (t : Sparse) (s : Standing false a t) 
   begun = building_of a t row
 
   -- no variable has the number
-  pub used-none : found_in n t.words ≡ Nothing → Builds a a (used_by n k) t t row row
+  pub used-none : found_in n t.words ≡ None → Builds a a (used_by n k) t t row row
   unfolding used_by
   used-none e =
       let same : count_use n begun ≡ begun = unchanged e in
       let f : find_variable n begun.work.changes.variables ≡ none = find-of a t row n ∙ rw e refl in
       record { reads = sym (ap (λ (x : Building). elim (find_variable n x.work.changes.variables) [ none ↦ x | some v ↦ insert_variable v.symbol k x ]) same ∙ rw f refl); stands = s }
     where
-      unchanged : found_in n t.words ≡ Nothing → count_use n begun ≡ begun
+      unchanged : found_in n t.words ≡ None → count_use n begun ≡ begun
       unchanged e = unfold count_use with_variables with_changes in rw (changes-of a t row, unused t n e) refl
 
-  module _ (v : ℕ) (found : found_in n t.words ≡ At v) where
+  module _ (v : ℕ) (found : found_in n t.words ≡ Some v) where
     abbrev u : Sparse
     u = used_in v t
 
@@ -111,7 +111,7 @@ module _ (n : ℕ) (k : Float) (a : Mark) (t : Sparse) (s : Standing false a t) 
     unfolding building_of count_use
     used-read = rw (makes.reads 0, symbols) refl
 
-    found-again : found_in n u.words ≡ At v
+    found-again : found_in n u.words ≡ Some v
     found-again = found-same n t.words u.words (word variable_count_at (λ e. omega (arith, e))) (λ j h. word (variable_numbers_at + j) (λ e. omega (arith, e, h, few))) ∙ found
 
     symbol-of : (variable_of u v).symbol ≡ symbol_at u (get_or t.bytes (variable_places_at + v) 0)
@@ -152,7 +152,7 @@ module _ (n : ℕ) (k : Float) (a : Mark) (t : Sparse) (s : Standing false a t) 
             rw (word (variable_uses_at + q) (λ z. omega (arith, z, o))) (omega (arith, l))
 
 -- the code's calls put together: ws are the words with the use counted
-module _ (n v : ℕ) (a : Mark) (t : Sparse) (s : Standing false a t) (found : found_in n t.words ≡ At v) (ws : List ℕ) (e : ws ≡ used_words v t.words) where
+module _ (n v : ℕ) (a : Mark) (t : Sparse) (s : Standing false a t) (found : found_in n t.words ≡ Some v) (ws : List ℕ) (e : ws ≡ used_words v t.words) where
   abbrev place : ℕ
   place = get_or t.bytes (variable_places_at + v) 0
 
@@ -168,7 +168,7 @@ module _ (n v : ℕ) (a : Mark) (t : Sparse) (s : Standing false a t) (found : f
       rw e (used-found n k a t s row v found h', use-steps n k a t s row v found)
 
 -- the place found is one of the first m
-pub within-at : {m i : ℕ} {f : Found} → Within m f → f ≡ At i → Within m (At i)
+pub within-at : {m i : ℕ} {f : Found} → Within m f → f ≡ Some i → Within m (Some i)
 within-at {m} b q = rw q at b
 
 -- ---- a term

@@ -8,6 +8,7 @@ ghost use Rattle.rows.specs.Marks.{mark_of};
 ghost use Rattle.layout.specs.cells.Names.{last_place};
 ghost use Rattle.sparse.specs.Sparse.{symbol_count};
 ghost use Rattle.changes.specs.tags.Tags.{relation_of};
+ghost use Rattle.waist.specs.Kinds.{kind_byte};
 ghost use Rattle.waist.specs.Working.{sparse};
 ghost use Rattle.waist.specs.Standing.{Standing};
 ghost use Rattle.waist.specs.Growing.{next_id};
@@ -22,7 +23,7 @@ use rows::row::{insert_symbol, wide};
 use rows::strength::REQUIRED;
 use sparse::{Bytes, CUTOFF, Keys, Reals, SYMBOL_COUNT, Values, Words};
 use waist::objective::insert_in_objective;
-use waist::symbols::append_symbol;
+use waist::symbols::{Kind, append_symbol};
 
 // The places of a constraint's symbols, other 0 if there is none, and what was written so far.
 #[derive(Clone, Copy)]
@@ -47,16 +48,15 @@ fn add_symbol(
     reals: &mut Reals,
     values: &Values,
     row: &mut [f64; ROW_ROOM],
-    kind: u8,
+    kind: Kind,
     k: f64,
     past: Wrote,
 ) -> Wrote
     requires standing { Standing false (mark_of past) (sparse words.old keys.now bytes.old reals.old values.now) }
     requires values_bound { symbol_count (sparse words.old keys.now bytes.old reals.old values.now) < last_place }
     requires values_bound_2 { next_id (sparse words.old keys.now bytes.old reals.old values.now) < 9223372036854775808 }
-    requires kind_bound { kind ≤ 3 }
-    ensures grows { Grows kind (sparse words.old keys.now bytes.old reals.old values.now) (sparse words.new keys.now bytes.new reals.new values.now) }
-    ensures builds { Builds (mark_of past) (mark_of result) (λ b. add_symbol (new_symbol (kind_of kind) b.work) k b) (sparse words.old keys.now bytes.old reals.old values.now) (sparse words.new keys.now bytes.new reals.new values.now) row.old row.new }
+    ensures grows { Grows (kind_byte kind) (sparse words.old keys.now bytes.old reals.old values.now) (sparse words.new keys.now bytes.new reals.new values.now) }
+    ensures builds { Builds (mark_of past) (mark_of result) (λ b. add_symbol (new_symbol (kind_of (kind_byte kind)) b.work) k b) (sparse words.old keys.now bytes.old reals.old values.now) (sparse words.new keys.now bytes.new reals.new values.now) row.old row.new }
 {
     wide(row);
     let p = index(append_symbol(words, keys, bytes, reals, values, kind));
@@ -84,7 +84,7 @@ fn add_error(
     ensures builds { Builds (mark_of past) (mark_of result) (λ b. add_error (new_symbol (kind_of 2) b.work) k strength b) (sparse words.old keys.now bytes.old reals.old values.now) (sparse words.new keys.now bytes.new reals.new values.now) row.old row.new }
 {
     let p = 1 + words[SYMBOL_COUNT] as u8;
-    let v = add_symbol(words, keys, bytes, reals, values, row, 2, k, past);
+    let v = add_symbol(words, keys, bytes, reals, values, row, Kind::Error, k, past);
     insert_in_objective(words, keys, bytes, reals, values, p, strength, v)
 }
 
@@ -106,7 +106,17 @@ fn inequality(
     ensures { Tags (inequality sign strength) (mark_of past) (sparse words.old keys.now bytes.old reals.old values.now) (sparse words.new keys.now bytes.new reals.new values.now) row.old row.new result }
 {
     let p = 1 + words[SYMBOL_COUNT] as u8;
-    let v = add_symbol(words, keys, bytes, reals, values, row, 1, sign, past);
+    let v = add_symbol(
+        words,
+        keys,
+        bytes,
+        reals,
+        values,
+        row,
+        Kind::Slack,
+        sign,
+        past,
+    );
     if strength < REQUIRED {
         let w = add_error(words, keys, bytes, reals, values, row, -sign, strength, v);
         return Tagged {
@@ -164,7 +174,17 @@ fn required_equality(
     ensures { Tags required_equality (mark_of past) (sparse words.old keys.now bytes.old reals.old values.now) (sparse words.new keys.now bytes.new reals.new values.now) row.old row.new result }
 {
     let p = 1 + words[SYMBOL_COUNT] as u8;
-    let w = add_symbol(words, keys, bytes, reals, values, row, 3, 1.0, past);
+    let w = add_symbol(
+        words,
+        keys,
+        bytes,
+        reals,
+        values,
+        row,
+        Kind::Dummy,
+        1.0,
+        past,
+    );
     Tagged {
         marker: p,
         other: 0,

@@ -4,7 +4,7 @@ ghost use Rattle.steps.specs.Number.{Mark, near_zero};
 ghost use Rattle.steps.specs.Row.{insert_row};
 ghost use Rattle.steps.specs.CreateRow.{written, add_variable, insert_variable, insert_term, insert_terms};
 ghost use Rattle.rows.specs.Marks.{mark_of};
-ghost use Rattle.rows.specs.declared.choose.Found.TheVariants.{Nothing};
+ghost use Rattle.std.specs.Prelude.{None};
 ghost use Rattle.layout.specs.cells.Names.{last_place};
 ghost use Rattle.sparse.specs.Places.{most_variables, symbol_count_at, row_count_at};
 ghost use Rattle.sparse.specs.Sparse.{symbol_count, row_count, variable_count, symbol_at, basic_of};
@@ -23,7 +23,6 @@ use crate::creation::tag::index;
 use changes::terms::{Pack, shown};
 use layout::cells::ROW_ROOM;
 use layout::cells::row::load_row;
-use rows::choose::Found;
 use rows::number::{CELL_BOUND, Wrote, joined, near_zero};
 use rows::row::{insert_row, insert_symbol, wide};
 use sparse::{
@@ -32,7 +31,7 @@ use sparse::{
 use variables::found::{count_use, find_variable};
 use variables::kept::keep_variable;
 use waist::choices::row_of;
-use waist::symbols::append_symbol;
+use waist::symbols::{Kind, append_symbol};
 
 // A new variable with a new symbol.
 fn new_variable(
@@ -48,11 +47,11 @@ fn new_variable(
     requires values_bound { symbol_count (sparse words.old keys.now bytes.old reals.old values.now) < last_place }
     requires values_bound_2 { next_id (sparse words.old keys.now bytes.old reals.old values.now) < 9223372036854775808 }
     requires values_bound_3 { variable_count (sparse words.old keys.now bytes.old reals.old values.now) < most_variables }
-    requires words_value { found_in n words.old ≡ Nothing }
+    requires words_value { found_in n words.old ≡ None }
     ensures { (a : Mark) → Standing false a (sparse words.old keys.now bytes.old reals.old values.now) → (Builds a a (add_variable n) (sparse words.old keys.now bytes.old reals.old values.now) (sparse words.new keys.now bytes.new reals.new values.now) row.old row.new) × Steps 1 0 (sparse words.old keys.now bytes.old reals.old values.now) (sparse words.new keys.now bytes.new reals.new values.now) }
 {
     wide(row);
-    let p = append_symbol(words, keys, bytes, reals, values, 0);
+    let p = append_symbol(words, keys, bytes, reals, values, Kind::External);
     row[index(p)] = 0.0;
     keep_variable(words, bytes, reals, n, p);
 }
@@ -73,7 +72,7 @@ fn know_variable(
     ensures { (a : Mark) → Standing false a (sparse words.old keys.now bytes.old reals.old values.now) → Knows n a (sparse words.old keys.now bytes.old reals.old values.now) (sparse words.new keys.now bytes.new reals.new values.now) row.old row.new }
 {
     let f = find_variable(words, n);
-    let Found::At(_i) = f else {
+    let Some(_i) = f else {
         new_variable(words, keys, bytes, reals, values, row, n);
         return;
     };
@@ -149,7 +148,7 @@ fn insert_variable(
 {
     wide(row);
     let f = row_of(words, bytes, p);
-    let Found::At(i) = f else {
+    let Some(i) = f else {
         let w = insert_symbol(reals[CUTOFF], row, index(p), k, CELL_BOUND);
         return joined(past, w);
     };
@@ -174,7 +173,7 @@ fn insert_known(
     ensures steps { Steps 0 1 (sparse words.old keys.now bytes.now reals.now values.now) (sparse words.new keys.now bytes.now reals.now values.now) }
 {
     let f = find_variable(words, n);
-    let Found::At(v) = f else {
+    let Some(v) = f else {
         return past;
     };
     count_use(words, v);
@@ -265,8 +264,7 @@ pub fn insert_terms(
     let coefs = p.coefs;
     let cutoff = reals[CUTOFF];
     let mut w = past;
-    let mut j = 0;
-    while j < e {
+    for j in 0..e {
         w = insert_kept(
             cutoff,
             words,
@@ -279,7 +277,6 @@ pub fn insert_terms(
             coefs[j],
             w,
         );
-        j += 1;
     }
     w
 }

@@ -20,4 +20,4 @@ pub returns : goal.returns
 returns c =
     let t = lists c.args.words.now c.args.keys.now c.args.bytes.now c.args.reals.now c.args.values.now in
     let f = reset-fit-by t c.once-ok.ensures (isnt-not _ c.if-not-ok.false) in
-    record { values_after = fit-reset c.args.cutoff t f c.reset.ensures; then = fit-kept c.args.cutoff t f _ }
+    record { values_after = fit-reset c.args.cutoff t f c.reset.ensures.does; then = fit-kept c.args.cutoff t f _ }

@@ -1,14 +1,14 @@
 // A line of text added. Its own refusals come first, 19 to 23, the solver's then.
 ghost use Rattle.std.specs.Prelude.{◌≡◌};
-ghost use Rattle.waist.specs.Working.{lent, sparse};
 ghost use Rattle.lending.specs.sparse_copy.Over.{cleared};
 ghost use Rattle.lending.specs.Lending.{called};
 ghost use Rattle.entry.specs.typed.Adding.{mark_in, text, text_answer, text_of};
+ghost use Rattle.sparse.specs.Tables.{held, lent, Same};
 
 use crate::typed::pack::{pack_of, required_by, whole};
 use changes::Change;
 use reader::answers::read_line;
-use sparse::{Bytes, Keys, Reals, Values, Words};
+use sparse::tables::{Tables, TablesMut};
 
 // A changing call's answer, and beside 20 where the line leaves the grammar; else the offset is 0.
 #[repr(C)]
@@ -21,38 +21,32 @@ pub struct TextAnswer {
 }
 
 // "A refusal answers the stored mark", no where there is none.
-fn mark_of(words: &Words, keys: &Keys, bytes: &Bytes, reals: &Reals, values: &Values) -> bool
-    ensures { result ≡ mark_in (lent words.entry keys.entry bytes.entry reals.entry values.entry) }
+fn mark_of(tables: &Tables) -> bool
+    ensures { result ≡ mark_in (lent tables.now) }
 {
-    if !sparse_test::reads_as_state(words, keys, bytes, reals, values) {
+    if !sparse_test::reads_as_state(tables) {
         return false;
     }
-    words[sparse::WHOLE] == 1
+    tables.words[sparse::WHOLE] == 1
 }
 
 // "without it the constraint is required and in group 1"
 pub fn add_text(
-    words: &mut Words,
-    keys: &mut Keys,
-    bytes: &mut Bytes,
-    reals: &mut Reals,
-    values: &mut Values,
-    wwords: &mut Words,
-    wkeys: &mut Keys,
-    wbytes: &mut Bytes,
-    wreals: &mut Reals,
-    wvalues: &mut Values,
+    tables: &mut TablesMut,
+    room: &mut TablesMut,
     number: u32,
     line: &[u8],
     budget: u16,
 ) -> TextAnswer
-    ensures values_value { text result.offset (called (text_answer result) (sparse words.new keys.new bytes.new reals.new values.new)) ≡ text_of number line.now budget (sparse wwords.old wkeys.old wbytes.old wreals.old wvalues.old) (sparse words.old keys.old bytes.old reals.old values.old) }
-    ensures wvalues_value { sparse wwords.new wkeys.new wbytes.new wreals.new wvalues.new ≡ cleared (sparse wwords.old wkeys.old wbytes.old wreals.old wvalues.old) }
+    ensures values_value { text result.offset (called (text_answer result) (held tables.new)) ≡ text_of number line.now budget (held room.old) (held tables.old) }
+    ensures wvalues_value { held room.new ≡ cleared (held room.old) }
+    ensures same_tables { Same tables.old tables.new }
+    ensures same_room { Same room.old room.new }
 {
     let r = read_line(line);
     if r.number != 0 {
-        let mark = mark_of(words, keys, bytes, reals, values);
-        lending::clearing::clear_room(wwords, wkeys, wbytes, wreals, wvalues);
+        let mark = mark_of(&tables.lend());
+        lending::clearing::clear_room(room);
         return TextAnswer {
             number: r.number,
             pivots: 0,
@@ -65,9 +59,7 @@ pub fn add_text(
     let m = r.relation;
     let relation = required_by(m);
     let c = Change::Add(1, number, constant, relation);
-    let a = solver::change(
-        words, keys, bytes, reals, values, wwords, wkeys, wbytes, wreals, wvalues, c, p, budget,
-    );
+    let a = solver::change(tables, room, c, p, budget);
     TextAnswer {
         number: a.number,
         pivots: a.pivots,

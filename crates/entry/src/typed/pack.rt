@@ -61,11 +61,9 @@ pub fn pack_of(r: Reading) -> Pack
 {
     let n = shown(r.count);
     let mut p = changes::terms::none();
-    let mut i = 0;
-    while i < n {
+    for i in 0..n {
         let t = term_of(r, i);
         p = changes::terms::push(p, t);
-        i += 1;
     }
     p
 }

@@ -1,19 +1,18 @@
 -- What the service line's readers hand to a caller, in places that the caller lends. Assumes nothing.
-use Rattle.std.specs.Prelude.{◌≡◌, ℕ, zero, suc, ◌+◌, ◌-◌, ◌≤◌, Bool, true, false, cond, ◌&&◌, List, [], ◌∷◌, ◌++◌, map, length, replicate, ℤ, pos, ◌==◌, nat_le, slice_set, unsigned_abs, Float}
+use Rattle.std.specs.Prelude.{◌≡◌, ℕ, zero, suc, ◌+◌, ◌-◌, ◌≤◌, Bool, true, false, cond, ◌&&◌, List, [], ◌∷◌, ◌++◌, map, length, replicate, ℤ, pos, ◌==◌, nat_le, slice_set, unsigned_abs, Float, Option as Optional, Some, None, is_some}
 use Rattle.std.proofs.Math.Path.{refl, ap}
 use Rattle.std.proofs.Common.{sym, ◌∙◌, arith, ne_eqb, leb-true}
 use Rattle.std.proofs.Math.Option.{Option, none, some}
 use Rattle.std.proofs.Math.Nat.{zero-add, suc-add}
 use Rattle.std.specs.Float.Ieee.{of_bits, of_int}
-use Rattle.laws.specs.Loops.{zip_in}
 use Rattle.grammar.specs.Sums.{Relation, at_most, equal, at_least, Term, Reading, most, small_terms}
 use Rattle.laws.specs.streams.Lines.{grown}
 use Rattle.reader.specs.sums.Held.{zero_at, value_of}
 use Rattle.reader.specs.Sides.{relation_of}
-use Rattle.reader.specs.Answers.{stands_as, mark_of, laid, no_coefficients}
+use Rattle.reader.specs.Answers.{stands_as, mark_of, laid, no_coefficients, refusal}
 use Rattle.grammar.specs.edition.Endings.{Constraint, Reply, taken, astray, denied}
 use Rattle.grammar.specs.edition.Steps.{read_second}
-use Rattle.reader.specs.second.Replies.{as_reply}
+use Rattle.reader.specs.second.Replies.{unread, as_reply}
 use Rattle.reader.specs.declared.second.Reply as code
 use Rattle.cable_lines.specs.Cable.{limit, new, answer_of, Step, further, takes, closes}
 use Rattle.cable_lines.specs.Bytes.{bytes_of}
@@ -76,25 +75,24 @@ read_by w = handed_of (some (read_second w)) (length w) []
 unfoldable pub whole_at : ℕ → Float
 whole_at x = whole_of (value_of x)
 
+-- where no line ended, what a refusal of number 0 has
+abbrev pub reply_in : Optional code.Reply → code.Reply
+reply_in None = unread (refusal 0 0)
+reply_in (Some x) = x
+
 abbrev pub reads_in : Taken → Bool
-reads_in t = t.answered && t.answer.reading.number == 0
+reads_in t = is_some t.answer && (reply_in t.answer).reading.number == 0
 
 abbrev pub kind_in : Taken → ℕ
-kind_in t = cond (reads_in t) (kind_of (relation_of t.answer.reading.relation)) 0
+kind_in t = cond (reads_in t) (kind_of (relation_of (reply_in t.answer).reading.relation)) 0
 
 abbrev pub words_in : Taken → List ℕ
-words_in t = t.taken ∷ t.answer.reading.number ∷ t.answer.reading.offset ∷ kind_in t ∷ t.answer.reading.count ∷ t.answer.group ∷ []
+words_in t =
+    let x : code.Reply = reply_in t.answer in
+    t.taken ∷ x.reading.number ∷ x.reading.offset ∷ kind_in t ∷ x.reading.count ∷ x.group ∷ []
 
 abbrev pub reals_in : Taken → List Float
-reals_in t = whole_at t.answer.reading.constant ∷ whole_of (pos t.answer.strength) ∷ []
-
-pub wholes-start : (n : ℕ) (l : List Float) (x : List ℕ) → length l ≡ n → length x ≡ n → zip_in (λ _ y. whole_at y) 0 n l x ≡ map whole_at x
-unfolding zip_in
-wholes-start n [] [] e f = refl
-wholes-start n [] (y ∷ x) e f = absurd (omega arith)
-wholes-start n (k ∷ l) [] e f = absurd (omega arith)
-wholes-start zero (k ∷ l) (y ∷ x) e f = absurd (omega arith)
-wholes-start (suc n) (k ∷ l) (y ∷ x) e f = ap (λ (r : List Float). whole_at y ∷ r) (wholes-start n l x (omega arith) (omega arith))
+reals_in t = whole_at (reply_in t.answer).reading.constant ∷ whole_of (pos (reply_in t.answer).strength) ∷ []
 
 zero-at : whole_at zero_at ≡ zero64
 unfolding whole_at whole_of zero64 of_bits of_int
@@ -180,7 +178,7 @@ closes-fit (some (b ∷ w)) = λ e. omega arith
 -- ---- what the code has is what is handed over
 
 abbrev over : Taken → List ℕ → Handed
-over t c = handed t.answered (words_in t) (reals_in t) t.answer.reading.variables (map whole_at t.answer.reading.coefficients) c
+over t c = handed (is_some t.answer) (words_in t) (reals_in t) (reply_in t.answer).reading.variables (map whole_at (reply_in t.answer).reading.coefficients) c
 
 over-is : (a : Option Reply) (n : ℕ) (c : List ℕ) → FitOf a → over (as_taken a n) c ≡ handed_of a n c
 unfolding handed_of
@@ -191,10 +189,10 @@ over-is (some (taken x)) n c (small, all, few) =
 over-is (some (astray at)) n c f = rw (zero-at, no-strength) refl
 over-is (some (denied k)) n c f = rw (ne_eqb k 0 f, zero-at, no-strength) refl
 
-pub hands-over : {t : Taken} {c : List ℕ} {w : List ℕ} {x : List Float} {v : List ℕ} {k : List Float} (s : Step) → FitOf s.answer → given t c ≡ as_given s → w ≡ words_in t → x ≡ reals_in t → v ≡ t.answer.reading.variables → k ≡ map whole_at t.answer.reading.coefficients
-    → handed t.answered w x v k c ≡ handed_by s
+pub hands-over : {t : Taken} {c : List ℕ} {w : List ℕ} {x : List Float} {v : List ℕ} {k : List Float} (s : Step) → FitOf s.answer → given t c ≡ as_given s → w ≡ words_in t → x ≡ reals_in t → v ≡ (reply_in t.answer).reading.variables → k ≡ map whole_at (reply_in t.answer).reading.coefficients
+    → handed (is_some t.answer) w x v k c ≡ handed_by s
 hands-over s f e p q r z = rw (p, q, r, z) (ap (λ (g : Given). over g.back g.left) e ∙ over-is s.answer s.taken (bytes_of s.left) f)
 
-pub reads_over : {x : code.Reply} {w : List ℕ} {y : List Float} {v : List ℕ} {k : List Float} (line : List ℕ) → x ≡ as_reply (read_second line) → w ≡ words_in (record { answered = true; answer = x; taken = length line })
-    → y ≡ reals_in (record { answered = true; answer = x; taken = length line }) → v ≡ x.reading.variables → k ≡ map whole_at x.reading.coefficients → handed true w y v k [] ≡ read_by line
-reads_over line e p q r z = rw (p, q, r, z) (ap (λ (g : code.Reply). over (record { answered = true; answer = g; taken = length line }) []) e ∙ over-is (some (read_second line)) (length line) [] (line-fits line))
+pub reads_over : {x : code.Reply} {w : List ℕ} {y : List Float} {v : List ℕ} {k : List Float} (line : List ℕ) → x ≡ as_reply (read_second line) → w ≡ words_in (record { answer = Some x; taken = length line })
+    → y ≡ reals_in (record { answer = Some x; taken = length line }) → v ≡ x.reading.variables → k ≡ map whole_at x.reading.coefficients → handed true w y v k [] ≡ read_by line
+reads_over line e p q r z = rw (p, q, r, z) (ap (λ (g : code.Reply). over (record { answer = Some g; taken = length line }) []) e ∙ over-is (some (read_second line)) (length line) [] (line-fits line))

@@ -1,7 +1,7 @@
 -- The walk along a column: it stops at every cell that names the place, and at no other; a row that holds the place has such a cell.
 -- Assumes nothing.
 use Rattle.std.specs.Prelude.{ℕ, zero, suc, ◌+◌, ◌-◌, ◌*◌, ◌%◌, ◌≤◌, ◌<◌, ◌≡◌, refl, Bool, true, false, cond, List, eqb, ltb, Float, get_or}
-use Rattle.std.proofs.Common.{sym, subst, arith, ltb-true, ltb-false, eqb-true, eq-eqb, ne_eqb}
+use Rattle.std.proofs.Common.{sym, ◌∙◌, subst, arith, ltb-true, ltb-false, eqb-true, eq-eqb, ne_eqb}
 use Rattle.std.specs.Float.{nan}
 use Rattle.std.proofs.lemmas.Bool.{eqb-false}
 use Rattle.steps.specs.Number.{zero64}
@@ -19,13 +19,14 @@ pub unnamed : (keys : List ℕ) (p j : ℕ) → (get_or keys j 0 % row_span ≡ 
 unfolding names
 unnamed keys p j h = ne_eqb p (get_or keys j 0 % row_span) λ e. h (sym e)
 
-pub last-here : (keys : List ℕ) (p r : ℕ) {z : ℕ} → 0 < r → get_or keys (r - 1) 0 % row_span ≡ p → last_before keys p r ≡ z → r ≡ z
+pub last-here : (keys : List ℕ) (p r : ℕ) {z : ℕ} → 0 < r → get_or keys (r - 1) 0 % row_span ≡ p → last_before keys p r ≡ z → r - 1 + 1 ≡ z
 unfolding last_before
 last-here keys p zero h q e = absurd (omega (arith, h))
 last-here keys p (suc j) h q e =
     let o : suc j - 1 ≡ j = omega arith in
+    let o₁ : suc j - 1 + 1 ≡ suc j = omega arith in
     let q₁ : get_or keys j 0 % row_span ≡ p = rw o at q in
-    rw (named keys p j q₁) at e
+    o₁ ∙ (rw (named keys p j q₁) at e)
 
 pub last-next : (keys : List ℕ) (p r : ℕ) {z : ℕ} → 0 < r → (get_or keys (r - 1) 0 % row_span ≡ p → ⊥) → last_before keys p r ≡ z → last_before keys p (r - 1) ≡ z
 unfolding last_before

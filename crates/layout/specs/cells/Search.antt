@@ -1,6 +1,8 @@
 -- The lower bound on ascending keys, and what stands beside a key.
-use Rattle.std.specs.Prelude.{ℕ, ◌+◌, ◌≤◌, ◌<◌, ◌≡◌, refl, Bool, true, false, List, leb, ltb, get_or}
-use Rattle.std.proofs.Common.{sym, ◌∙◌, subst, arith, ltb-true, ltb-false, leb-true, leb-false}
+use Rattle.std.specs.Prelude.{ℕ, zero, suc, ◌≤◌, ◌<◌, ◌≡◌, refl, Bool, true, false, List, [], ◌∷◌, leb, ltb, length, get_or, take}
+use Rattle.std.proofs.Common.{sym, ap, ◌∙◌, subst, arith, ltb-true, ltb-false, leb-true, leb-false, not-suc-le-zero, le_of_suc-le-suc}
+use Rattle.std.proofs.Math.Seq.{length-take-le, get_or-take}
+use borrow.Author.Tests.{lt-ltb}
 use Rattle.layout.specs.cells.Seek.{first-elim}
 use Rattle.layout.specs.cells.Cells.{Ascending, lower_in}
 
@@ -32,38 +34,42 @@ bound-one keys x a e r s h k = both r s (bound-le keys x a e r s h k) (bound-le 
 pub lower-is : (keys : List ℕ) (x a e : ℕ) {r : ℕ} → Bound keys x a e r → lower_in keys x a e ≡ r
 lower-is keys x a e {r} h = bound-one keys x a e _ r (lower-bound keys x a e (omega (arith, h.0, h.1))) h
 
--- a key within that is below: the bound lies after it, where the keys ascend
-pub lower-right : (keys : List ℕ) (n x a e m : ℕ) {z : ℕ} → Ascending keys n → a ≤ m → m < e → e ≤ n → get_or keys m 0 < x → lower_in keys x a e ≡ z → lower_in keys x (m + 1) e ≡ z
-unfolding Ascending
-lower-right keys n x a e m up h k l q r =
-    let b = lower-bound keys x (m + 1) e (omega arith) in
-    let g : (j : ℕ) → a ≤ j → j < lower_in keys x (m + 1) e → get_or keys j 0 < x = λ j u v. go j u v (ltb j m) refl (ltb m j) refl in
-    sym (lower-is keys x a e (omega (arith, b.0), b.1, g, b.3)) ∙ r
-  where
-    b₁ : Bound keys x (m + 1) e (lower_in keys x (m + 1) e)
-    b₁ = lower-bound keys x (m + 1) e (omega arith)
+-- ---- what the library's halving finds in the first n keys
 
-    go : (j : ℕ) → a ≤ j → j < lower_in keys x (m + 1) e → (s : Bool) → ltb j m ≡ s → (t : Bool) → ltb m j ≡ t → get_or keys j 0 < x
-    go j u v true p t w = omega (arith, up j m (ltb-true j m p) (omega arith), q)
-    go j u v false p true w = b₁.2 j (omega (arith, ltb-true m j w)) v
-    go j u v false p false w =
-        let c : m ≡ j = omega (arith, ltb-false j m p, ltb-false m j w) in
-        subst (λ (y : ℕ). get_or keys y 0 < x) c q
+pub same-at : (l : List ℕ) (j d : ℕ) → j < length l → get_or l j d ≡ get_or l j 0
+same-at [] j d h = absurd (not-suc-le-zero h)
+same-at (y ∷ l) zero d h = refl
+same-at (y ∷ l) (suc j) d h = same-at l j d (le_of_suc-le-suc h)
 
--- a key within that is not below: the bound is not after it
-pub lower-left : (keys : List ℕ) (x a e m : ℕ) {z : ℕ} → a ≤ m → m < e → x ≤ get_or keys m 0 → lower_in keys x a e ≡ z → lower_in keys x a m ≡ z
-lower-left keys x a e m {z} h k q r =
-    let b : Bound keys x a m (lower_in keys x a m) = lower-bound keys x a m h in
-    sym (lower-is keys x a e (b.0, omega (arith, b.1), b.2, λ _. go (lower_in keys x a m) b.1 b.3 (ltb (lower_in keys x a m) m) refl)) ∙ r
-  where
-    go : (s : ℕ) → s ≤ m → (s < m → x ≤ get_or keys s 0) → (t : Bool) → ltb s m ≡ t → x ≤ get_or keys s 0
-    go s u f true p = f (ltb-true s m p)
-    go s u f false p =
-        let c : m ≡ s = omega (arith, ltb-false s m p, u) in
-        subst (λ (y : ℕ). x ≤ get_or keys y 0) c q
+module _ (keys : List ℕ) (n x : ℕ) (fit : n ≤ length keys) where
+  long : length (take n keys) ≡ n
+  long = length-take-le n keys fit
 
-pub lower_last : (keys : List ℕ) (x a e : ℕ) {z : ℕ} → a ≡ e → lower_in keys x a e ≡ z → a ≡ z
-lower_last keys x a e h r =
-    let b = lower-bound keys x a e (omega arith) in
-    let c : lower_in keys x a e ≡ a = omega (arith, b.0, b.1, h) in
-    sym c ∙ r
+  read : (j d : ℕ) → j < n → get_or (take n keys) j d ≡ get_or keys j 0
+  read j d h = get_or-take n keys j d h ∙ same-at keys j d (omega (arith, fit, h))
+
+  -- no key below x comes after one that is not
+  pub parted : Ascending keys n → (i j d : ℕ) → i ≤ j → j < length (take n keys) → ltb (get_or (take n keys) j d) x ≡ true → ltb (get_or (take n keys) i d) x ≡ true
+  unfolding Ascending
+  parted up i j d h k q = rw (read i d (omega (arith, h, l))) (lt-ltb (get_or keys i 0) x (go (ltb i j) refl))
+    where
+      l : j < n
+      l = omega (arith, k, long)
+
+      at : get_or keys j 0 < x
+      at = ltb-true (get_or keys j 0) x (rw (read j d l) at q)
+
+      go : (b : Bool) → ltb i j ≡ b → get_or keys i 0 < x
+      go true e = let v = up i j (ltb-true i j e) l in omega (arith, v, at)
+      go false e =
+          let c : j ≡ i = omega (arith, h, ltb-false i j e) in
+          subst (λ (y : ℕ). get_or keys y 0 < x) c at
+
+  pub point-is : {r : ℕ} → r ≤ n → ((j d : ℕ) → 0 ≤ j → j < r → ltb (get_or (take n keys) j d) x ≡ true) → ((j d : ℕ) → r ≤ j → j < length (take n keys) → ltb (get_or (take n keys) j d) x ≡ false) → r ≡ lower_in keys x 0 n
+  point-is {r} h below above =
+      sym (lower-is keys x 0 n (
+        omega arith,
+        h,
+        (λ j u v. ltb-true (get_or keys j 0) x (sym (ap (λ (y : ℕ). ltb y x) (read j 0 (omega (arith, v, h)))) ∙ below j 0 u v)),
+        λ q. ltb-false (get_or keys r 0) x (sym (ap (λ (y : ℕ). ltb y x) (read r 0 q)) ∙ above r 0 (omega arith) (omega (arith, q, long))),
+      ))

@@ -12,12 +12,10 @@ pub fn next_in_column(keys: &[u16; CELL_ROOM], n: usize, j: usize, p: u8) -> usi
     ensures value { result ≡ next_in keys.now p j n }
     ensures upper_bound { result ≤ n }
 {
-    let mut r = j;
-    while r < n {
+    for r in j..n {
         if keys[r] % ROW_SPAN == p as u16 {
             return r;
         }
-        r += 1;
     }
     n
 }
@@ -28,12 +26,10 @@ pub fn last_in_column(keys: &[u16; CELL_ROOM], j: usize, p: u8) -> usize
     ensures value { result ≡ last_before keys.now p j }
     ensures upper_bound { result ≤ j }
 {
-    let mut r = j;
-    while 0 < r {
-        if keys[r - 1] % ROW_SPAN == p as u16 {
-            return r;
+    for r in (0..j).rev() {
+        if keys[r] % ROW_SPAN == p as u16 {
+            return r + 1;
         }
-        r -= 1;
     }
     0
 }

@@ -11,12 +11,10 @@ pub fn run_start(keys: &[u16; CELL_ROOM], a: usize, c: usize, low: u16) -> usize
     requires c_le_cell_room { c ≤ cell_room }
     ensures { Begins keys.now low a c result }
 {
-    let mut r = c;
-    while a < r {
-        if keys[r - 1] < low {
-            return r;
+    for r in (a..c).rev() {
+        if keys[r] < low {
+            return r + 1;
         }
-        r -= 1;
     }
     a
 }
@@ -27,12 +25,10 @@ pub fn run_end(keys: &[u16; CELL_ROOM], c: usize, e: usize, high: u16) -> usize
     requires e_le_cell_room { e ≤ cell_room }
     ensures { Ends keys.now high c e result }
 {
-    let mut r = c;
-    while r < e {
+    for r in c..e {
         if high <= keys[r] {
             return r;
         }
-        r += 1;
     }
     e
 }

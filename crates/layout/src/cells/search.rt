@@ -12,17 +12,7 @@ pub fn find(keys: &[u16; CELL_ROOM], n: usize, x: u16) -> usize
     ensures value { result ≡ lower_in keys.now x 0 n }
     ensures upper_bound { result ≤ n }
 {
-    let mut a = 0;
-    let mut e = n;
-    while a < e {
-        let m = (a + e) / 2;
-        if keys[m] < x {
-            a = m + 1;
-            continue;
-        }
-        e = m;
-    }
-    a
+    keys[..n].partition_point(|key| *key < x)
 }
 
 // The value beside this key, or 0.0.
@@ -46,10 +36,8 @@ pub fn ascends(keys: &[u16; CELL_ROOM], n: usize) -> bool
     ensures { result ≡ ascends_of keys.now n }
 {
     let mut ok = true;
-    let mut j = 1;
-    while j < n {
-        ok = ok & (keys[j - 1] < keys[j]);
-        j += 1;
+    for j in 1..n {
+        ok &= keys[j - 1] < keys[j];
     }
     ok
 }
@@ -60,10 +48,8 @@ pub fn present(vals: &[f64; CELL_ROOM], n: usize) -> bool
     ensures { result ≡ present_of vals.now n }
 {
     let mut ok = true;
-    let mut j = 0;
-    while j < n {
-        ok = ok & (vals[j] != 0.0);
-        j += 1;
+    for j in 0..n {
+        ok &= vals[j] != 0.0;
     }
     ok
 }

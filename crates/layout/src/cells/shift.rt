@@ -1,5 +1,5 @@
 // Rows and places that go, or come.
-ghost use Rattle.std.specs.Prelude.{◌≡◌, ◌-◌, ◌<◌, ◌≤◌};
+ghost use Rattle.std.specs.Prelude.{ℕ, ◌≡◌, ◌-◌, ◌<◌, ◌≤◌};
 ghost use Rattle.laws.specs.Loops.{map_in};
 ghost use Rattle.layout.specs.cells.Names.{cell_room, row_span, top_row};
 ghost use Rattle.layout.specs.cells.Cells.{nearer_of, row_after, opened, dropped, Ascending, cells};
@@ -8,6 +8,17 @@ use crate::cells::search::find;
 use crate::cells::slide::slide;
 use crate::cells::{CELL_ROOM, KEYS_END, ROW_SPAN};
 
+// The keys from place a up to n become what f gives of them.
+fn each_key<F: Fn(u16) -> u16>(keys: &mut [u16; CELL_ROOM], a: usize, n: usize, f: F)
+    requires n_le_cell_room { n ≤ cell_room }
+    requires callable { F.IsAlwaysCallable f }
+    ensures { (g : ℕ → ℕ) → ((x y : ℕ) → F.post f x y → y ≡ g x) → keys.new ≡ map_in g a n keys.old }
+{
+    for j in a..n {
+        keys[j] = f(keys[j]);
+    }
+}
+
 fn row_before(key: u16) -> u16
     ensures { result ≡ key - row_span }
 {
@@ -15,18 +26,6 @@ fn row_before(key: u16) -> u16
         return 0;
     }
     key - ROW_SPAN
-}
-
-// The keys from place a up to n name the row before theirs.
-fn lower_rows(keys: &mut [u16; CELL_ROOM], a: usize, n: usize)
-    requires { n ≤ cell_room }
-    ensures { keys.new ≡ map_in (λ x. x - row_span) a n keys.old }
-{
-    let mut j = a;
-    while j < n {
-        keys[j] = row_before(keys[j]);
-        j += 1;
-    }
 }
 
 // Row i goes, and the rows after it come one row down; how many cells there are then.
@@ -41,7 +40,7 @@ pub fn drop_row(keys: &mut [u16; CELL_ROOM], vals: &mut [f64; CELL_ROOM], n: usi
     let e = find(keys, n, base + ROW_SPAN);
     slide(keys, vals, e, n, a);
     let left = n - e + a;
-    lower_rows(keys, a, left);
+    each_key(keys, a, left, row_before);
     left
 }
 
@@ -54,18 +53,6 @@ fn row_after(key: u16) -> u16
     key
 }
 
-// The keys from place a up to n name the row after theirs.
-fn raise_rows(keys: &mut [u16; CELL_ROOM], a: usize, n: usize)
-    requires { n ≤ cell_room }
-    ensures { keys.new ≡ map_in row_after a n keys.old }
-{
-    let mut j = a;
-    while j < n {
-        keys[j] = row_after(keys[j]);
-        j += 1;
-    }
-}
-
 // Row i comes, without a cell: the rows from i on go one row up, and no cell moves.
 pub fn open_row(keys: &mut [u16; CELL_ROOM], n: usize, i: u8)
     requires n_le_cell_room { n ≤ cell_room }
@@ -73,7 +60,7 @@ pub fn open_row(keys: &mut [u16; CELL_ROOM], n: usize, i: u8)
     ensures { keys.new ≡ opened n i keys.old }
 {
     let a = find(keys, n, i as u16 * ROW_SPAN);
-    raise_rows(keys, a, n);
+    each_key(keys, a, n, row_after);
 }
 
 fn nearer(key: u16, p: u8) -> u16
@@ -90,9 +77,5 @@ pub fn close_place(keys: &mut [u16; CELL_ROOM], n: usize, p: u8)
     requires { n ≤ cell_room }
     ensures { keys.new ≡ map_in (nearer_of p) 0 n keys.old }
 {
-    let mut j = 0;
-    while j < n {
-        keys[j] = nearer(keys[j], p);
-        j += 1;
-    }
+    each_key(keys, 0, n, |key| nearer(key, p));
 }

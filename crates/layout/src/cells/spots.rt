@@ -22,10 +22,8 @@ fn any_names(keys: &[u16; CELL_ROOM], a: usize, p: u8) -> bool
     ensures { result ≡ false → Unnamed keys.now p a (a + block_size) }
 {
     let mut on = false;
-    let mut j = 0;
-    while j < BLOCK {
-        on = on | (keys[a + j] % ROW_SPAN == p as u16);
-        j += 1;
+    for j in 0..BLOCK {
+        on |= keys[a + j] % ROW_SPAN == p as u16;
     }
     on
 }
@@ -46,15 +44,11 @@ fn fill_part(
     requires spots_to { SpotsTo keys.now n p a spots.old }
     ensures { SpotsTo keys.now n p e spots.new }
 {
-    let mut j = a;
-    while j < e {
+    for j in a..e {
         let x = keys[j];
         if x % ROW_SPAN == p as u16 {
             spots[(x / ROW_SPAN) as usize] = j as u16;
-            j += 1;
-            continue;
         }
-        j += 1;
     }
 }
 
@@ -65,16 +59,14 @@ pub fn fill_spots(keys: &[u16; CELL_ROOM], n: usize, p: u8, spots: &mut [u16; LI
     requires spots_value { spots.old ≡ replicate lines_room cell_room }
     ensures { Spots keys.now n p spots.new }
 {
-    let mut j = 0;
-    while j + BLOCK <= n {
+    let blocks = n / BLOCK;
+    for b in 0..blocks {
+        let j = b * BLOCK;
         if any_names(keys, j, p) {
             fill_part(keys, n, p, j, j + BLOCK, spots);
-            j += BLOCK;
-            continue;
         }
-        j += BLOCK;
     }
-    fill_part(keys, n, p, j, n, spots);
+    fill_part(keys, n, p, blocks * BLOCK, n, spots);
 }
 
 fn wide(x: u16) -> usize

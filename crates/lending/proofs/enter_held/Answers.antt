@@ -1,17 +1,18 @@
+use Rattle.sparse.specs.Tables.{held, lent}
 use Rattle.lending.specs.sparse_copy.Over.{tables}
 use Rattle.sparse_test.specs.Meaning.{reads-form}
 use Rattle.lending.specs.Entered.{entered}
 use Rattle.lending.proofs.enter_held.Goals as goal
 
 pub put_bare-requires : goal.put_bare-requires
-put_bare-requires c = record { wwords_len = c.long-2.ensures.0; words_len = c.long.ensures.0; counts = (reads-form (tables c.args.words.now c.args.keys.now c.args.bytes.now c.args.reals.now c.args.values.now) c.requires).counts }
+put_bare-requires c = record { wwords_len = c.long-2.ensures.0; words_len = c.long.ensures.0; counts = (reads-form (lent c.args.tables.now) c.requires).counts }
 
-pub returns : goal.returns
-returns c =
+pub returns-clause-does : goal.returns-clause-does
+returns-clause-does c =
     entered
-    (tables c.args.words.now c.args.keys.now c.args.bytes.now c.args.reals.now c.args.values.now)
-    (tables c.args.wwords.now c.args.wkeys.now c.args.wbytes.now c.args.wreals.now c.args.wvalues.now)
+    (lent c.args.tables.now)
+    (held c.args.room.now)
     c.long.ensures.0
     c.long-2.ensures
     c.requires
-    c.put_bare.ensures
+    c.put_bare.ensures.does

@@ -1,17 +1,18 @@
+use Rattle.sparse.specs.Tables.{held}
 use mathlib.Core.Path.{refl, ◌∙◌}
 use Rattle.laws.specs.Given.{then-given}
 use Rattle.lending.specs.sparse_copy.Over.{tables}
 use Rattle.lending.specs.Entered.{terms-in}
 use Rattle.lending.proofs.put_back_if.Goals as goal
 
-pub all_terms-m-requires : goal.all_terms-m-requires
-all_terms-m-requires c = (then-given _ c.if-on.true c.requires).constraints
+pub term_count-m-requires : goal.term_count-m-requires
+term_count-m-requires c = (then-given _ c.if-on.true c.requires).constraints
 
 pub put_over-requires : goal.put_over-requires
-put_over-requires c = record { counts = then-given _ c.if-on.true c.requires; m_value = c.all_terms-m.ensures ∙ terms-in (tables c.args.wwords.now c.args.wkeys.now c.args.wbytes.now c.args.wreals.now c.args.wvalues.now) }
+put_over-requires c = record { counts = then-given _ c.if-on.true c.requires; m_value = c.term_count-m.ensures.value ∙ terms-in (held c.args.room.now) }
 
-pub returns-then-on : goal.returns-then-on
-returns-then-on c = rw c.if-on.true c.put_over.ensures
+pub returns-then-on-clause-does : goal.returns-then-on-clause-does
+returns-then-on-clause-does c = rw c.if-on.true c.put_over.ensures.does
 
-pub returns-else-on : goal.returns-else-on
-returns-else-on c = rw c.if-on.false refl
+pub returns-else-on-clause-does : goal.returns-else-on-clause-does
+returns-else-on-clause-does c = rw c.if-on.false refl

@@ -4,36 +4,36 @@ use Rattle.waist.specs.FreePlaces.{dual-free}
 use Rattle.optimising.specs.Chosen.{turn-ends, turn-stuck, dual-turns, dual-ended, dual-stuck, dual-pivots}
 use Rattle.optimising.proofs.dual_turn.Goals as goal
 
-pub returns-in_default : goal.returns-in_default
-returns-in_default c = turn-ends dual-turns _ _ _ _ _ c.requires (dual-ended _ _ _ c.get_dual_leaving_row-f.ensures.value c.in_default.is) c.stopped.ensures
+pub returns-in_default-clause-does : goal.returns-in_default-clause-does
+returns-in_default-clause-does c = turn-ends dual-turns _ _ _ _ _ c.requires (dual-ended _ _ _ c.get_dual_leaving_row-f.ensures.value c.in_default.is) c.stopped.ensures
 
 pub overflow_cast-i : goal.overflow_cast-i
 overflow_cast-i c =
-    let i = within c.get_dual_leaving_row-f.ensures.within c.in-At.is in
+    let i = within c.get_dual_leaving_row-f.ensures.within c.in-Some.is in
     omega (arith, i.1, c.requires.sound.few)
 
 pub get_dual_entering_symbol-g-requires : goal.get_dual_entering_symbol-g-requires
-get_dual_entering_symbol-g-requires c = let i = within c.get_dual_leaving_row-f.ensures.within c.in-At.is in
+get_dual_entering_symbol-g-requires c = let i = within c.get_dual_leaving_row-f.ensures.within c.in-Some.is in
     record { sound = c.requires.sound; i_bound = i.1 }
 
-pub returns-in_default-g : goal.returns-in_default-g
-returns-in_default-g c = turn-stuck dual-turns _ _ _ _ _ (dual-stuck _ _ _ c.get_dual_leaving_row-f.ensures.value c.in-At.is c.get_dual_entering_symbol-g.ensures c.in_default-g.is) c.stopped-in_default-g.ensures
+pub returns-in_default-g-clause-does : goal.returns-in_default-g-clause-does
+returns-in_default-g-clause-does c = turn-stuck dual-turns _ _ _ _ _ (dual-stuck _ _ _ c.get_dual_leaving_row-f.ensures.value c.in-Some.is c.get_dual_entering_symbol-g.ensures c.in_default-g.is) c.stopped-in_default-g.ensures
 
 pub overflow_cast-i-2 : goal.overflow_cast-i-2
 overflow_cast-i-2 c =
-    let i = within c.get_dual_leaving_row-f.ensures.within c.in-At.is in
+    let i = within c.get_dual_leaving_row-f.ensures.within c.in-Some.is in
     omega (arith, i.1, c.requires.sound.few)
 
 pub overflow_cast-p : goal.overflow_cast-p
 overflow_cast-p c =
-    let p = within c.get_dual_entering_symbol-g.ensures.within c.in-At-g.is in
+    let p = within c.get_dual_entering_symbol-g.ensures.within c.in-Some-g.is in
     omega (arith, p.1, c.requires.sound.named.few-symbols)
 
 pub pivot_within-requires : goal.pivot_within-requires
 pivot_within-requires c =
-    let i = within c.get_dual_leaving_row-f.ensures.within c.in-At.is in
-    let p = within c.get_dual_entering_symbol-g.ensures.within c.in-At-g.is in
-    record { standing = c.requires; le_i = i.0; i_bound = i.1; le_p = p.0; p_bound = p.1; free = dual-free _ _ _ c.requires c.in-At-g.is _ i.0 i.1 c.get_dual_entering_symbol-g.ensures }
+    let i = within c.get_dual_leaving_row-f.ensures.within c.in-Some.is in
+    let p = within c.get_dual_entering_symbol-g.ensures.within c.in-Some-g.is in
+    record { standing = c.requires; le_i = i.0; i_bound = i.1; le_p = p.0; p_bound = p.1; free = dual-free _ _ _ c.requires c.in-Some-g.is _ i.0 i.1 c.get_dual_entering_symbol-g.ensures }
 
-pub returns : goal.returns
-returns c = c.pivot_within.ensures _ _ _ dual-turns (dual-pivots _ _ _ c.get_dual_leaving_row-f.ensures.value c.in-At.is c.get_dual_entering_symbol-g.ensures c.in-At-g.is)
+pub returns-clause-does : goal.returns-clause-does
+returns-clause-does c = c.pivot_within.ensures.does _ _ _ dual-turns (dual-pivots _ _ _ c.get_dual_leaving_row-f.ensures.value c.in-Some.is c.get_dual_entering_symbol-g.ensures c.in-Some-g.is)

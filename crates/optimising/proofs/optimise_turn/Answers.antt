@@ -4,36 +4,36 @@ use Rattle.waist.specs.FreePlaces.{goal-free}
 use Rattle.optimising.specs.Chosen.{turn-ends, turn-stuck, optimise-turns, optimise-ended, optimise-stuck, optimise-pivots}
 use Rattle.optimising.proofs.optimise_turn.Goals as goal
 
-pub returns-in_default : goal.returns-in_default
-returns-in_default c = turn-ends (optimise-turns c.args.art) _ _ _ _ _ c.requires (optimise-ended _ _ _ _ c.get_goal_entering_symbol-f.ensures c.in_default.is) c.stopped.ensures
+pub returns-in_default-clause-does : goal.returns-in_default-clause-does
+returns-in_default-clause-does c = turn-ends (optimise-turns c.args.art) _ _ _ _ _ c.requires (optimise-ended _ _ _ _ c.get_goal_entering_symbol-f.ensures c.in_default.is) c.stopped.ensures
 
 pub overflow_cast-p : goal.overflow_cast-p
 overflow_cast-p c =
-    let p = within c.get_goal_entering_symbol-f.ensures.within c.in-At.is in
+    let p = within c.get_goal_entering_symbol-f.ensures.within c.in-Some.is in
     omega (arith, p.1, c.requires.sound.named.few-symbols)
 
 pub get_leaving_row-g-requires : goal.get_leaving_row-g-requires
-get_leaving_row-g-requires c = let p = within c.get_goal_entering_symbol-f.ensures.within c.in-At.is in
+get_leaving_row-g-requires c = let p = within c.get_goal_entering_symbol-f.ensures.within c.in-Some.is in
     let rest = p in record { sound = c.requires.sound; le_p = rest.0; p_bound = rest.1 }
 
-pub returns-in_default-g : goal.returns-in_default-g
-returns-in_default-g c = turn-stuck (optimise-turns c.args.art) _ _ _ _ _ (optimise-stuck _ _ _ _ c.get_goal_entering_symbol-f.ensures c.in-At.is c.get_leaving_row-g.ensures c.in_default-g.is) c.stopped-in_default-g.ensures
+pub returns-in_default-g-clause-does : goal.returns-in_default-g-clause-does
+returns-in_default-g-clause-does c = turn-stuck (optimise-turns c.args.art) _ _ _ _ _ (optimise-stuck _ _ _ _ c.get_goal_entering_symbol-f.ensures c.in-Some.is c.get_leaving_row-g.ensures c.in_default-g.is) c.stopped-in_default-g.ensures
 
 pub overflow_cast-i : goal.overflow_cast-i
 overflow_cast-i c =
-    let i = within c.get_leaving_row-g.ensures.within c.in-At-g.is in
+    let i = within c.get_leaving_row-g.ensures.within c.in-Some-g.is in
     omega (arith, i.1, c.requires.sound.few)
 
 pub overflow_cast-p-2 : goal.overflow_cast-p-2
 overflow_cast-p-2 c =
-    let p = within c.get_goal_entering_symbol-f.ensures.within c.in-At.is in
+    let p = within c.get_goal_entering_symbol-f.ensures.within c.in-Some.is in
     omega (arith, p.1, c.requires.sound.named.few-symbols)
 
 pub pivot_within-requires : goal.pivot_within-requires
 pivot_within-requires c =
-    let p = within c.get_goal_entering_symbol-f.ensures.within c.in-At.is in
-    let i = within c.get_leaving_row-g.ensures.within c.in-At-g.is in
-    record { standing = c.requires; le_i = i.0; i_bound = i.1; le_p = p.0; p_bound = p.1; free = goal-free _ _ _ c.requires c.in-At.is c.get_goal_entering_symbol-f.ensures }
+    let p = within c.get_goal_entering_symbol-f.ensures.within c.in-Some.is in
+    let i = within c.get_leaving_row-g.ensures.within c.in-Some-g.is in
+    record { standing = c.requires; le_i = i.0; i_bound = i.1; le_p = p.0; p_bound = p.1; free = goal-free _ _ _ c.requires c.in-Some.is c.get_goal_entering_symbol-f.ensures }
 
-pub returns : goal.returns
-returns c = c.pivot_within.ensures _ _ _ (optimise-turns c.args.art) (optimise-pivots _ _ _ _ c.get_goal_entering_symbol-f.ensures c.in-At.is c.get_leaving_row-g.ensures c.in-At-g.is)
+pub returns-clause-does : goal.returns-clause-does
+returns-clause-does c = c.pivot_within.ensures.does _ _ _ (optimise-turns c.args.art) (optimise-pivots _ _ _ _ c.get_goal_entering_symbol-f.ensures c.in-Some.is c.get_leaving_row-g.ensures c.in-Some-g.is)

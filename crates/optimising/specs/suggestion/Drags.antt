@@ -16,7 +16,7 @@ use Rattle.steps.specs.Row.{Row}
 use Rattle.steps.specs.State.{Basic}
 use Rattle.steps.specs.Work.{Work}
 use Rattle.steps.specs.Edit.{is_basic_row, own_shift, cell_shift, shift_of}
-use Rattle.rows.specs.declared.choose.Found.{Found}
+use Rattle.rows.specs.choose.Choose.{Found}
 use Rattle.rows.specs.choose.Choose.{on_found}
 use Rattle.rows.specs.choose.Chosen.{as-cond}
 use Rattle.rows.specs.choose.Steps.{picked, on_some}

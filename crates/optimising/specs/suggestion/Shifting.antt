@@ -1,10 +1,11 @@
 -- The constants that a suggestion shifts, row by row, and the notes of the Externals among them.
-use Rattle.std.specs.Prelude.{ℕ, ◌+◌, ◌*◌, ◌≡◌, Bool, true, false, not, ◌&&◌, cond, List, eqb, Float, get_or, set}
+use Rattle.std.specs.Prelude.{ℕ, ◌+◌, ◌*◌, ◌≡◌, Bool, true, false, not, ◌&&◌, cond, List, eqb, Float, get_or, set, Option as Given, Some, None}
 use Rattle.std.proofs.Math.Path.{refl}
 use Rattle.std.proofs.Common.{sym, eq-eqb, ne_eqb}
 use Rattle.std.proofs.Math.Option.{Option, none, some}
 use Rattle.std.specs.Float.{nan}
 use Rattle.std.specs.Float.Ieee.{ne}
+use Rattle.std.specs.Bool.{then_some}
 use Rattle.laws.specs.Loops.{run}
 use Rattle.steps.specs.Number.{zero64, constant_bound, ◌+₆₄◌, ◌*₆₄◌, Mark, all_whole, worse, mark_write}
 use Rattle.steps.specs.Symbol.{absent}
@@ -14,13 +15,18 @@ use Rattle.layout.specs.cells.Names.{row_span}
 use Rattle.layout.specs.cells.Cells.{cell_at}
 use Rattle.waist.specs.substituting.Notes.{Noted, noted, var_changed_if, is_external_kind}
 use Rattle.optimising.specs.declared.suggestion.shifting.Drag.{Drag}
-use Rattle.optimising.specs.declared.suggestion.shifting.Shift.{Shift}
 
 unfoldable pub gets : Bool → Float → Option Float
 gets on x = cond on (some x) none
 
-unfoldable pub optional : Shift → Option Float
-optional s = gets s.on s.by
+unfoldable pub optional : Given Float → Option Float
+optional None = none
+optional (Some x) = some x
+
+pub given : (on : Bool) (x : Float) → optional (then_some on x) ≡ gets on x
+unfolding optional gets
+given true x = refl
+given false x = refl
 
 -- the row of the symbol at place p gets x
 abbrev pub own_row : ℕ → Float → Drag
@@ -87,11 +93,11 @@ module _ (d : Drag) (n : ℕ) (keys : List ℕ) (vals : List Float) (p i : ℕ) 
   own-shift e = rw (ne_eqb d.own 0 e) refl
 
 -- what one row gets, as the code has it
-pub shift-some : (on : Bool) (x : Float) (i : ℕ) (r : List Float) (a : Mark) {y : Float} {m n : Mark} → on ≡ true → y ≡ get_or r (constants_at + i) nan +₆₄ x → m ≡ mark_write constant_bound y → n ≡ worse a m
-    → (n ≡ worse a (shift_mark (gets on x) i r)) × (set r (constants_at + i) y ≡ shift_reals (gets on x) i r)
-unfolding shift_mark shift_reals gets
-shift-some on x i r a e f g h = rw (e, h, g, f) (refl, refl)
+pub shift-some : (o : Given Float) (x : Float) (i : ℕ) (r : List Float) (a : Mark) {y : Float} {m n : Mark} → o ≡ Some x → y ≡ get_or r (constants_at + i) nan +₆₄ x → m ≡ mark_write constant_bound y → n ≡ worse a m
+    → (n ≡ worse a (shift_mark (optional o) i r)) × (set r (constants_at + i) y ≡ shift_reals (optional o) i r)
+unfolding shift_mark shift_reals optional
+shift-some o x i r a e f g h = rw (e, h, g, f) (refl, refl)
 
-pub shift_none : (on : Bool) (x : Float) (i : ℕ) (r : List Float) (a : Mark) → on ≡ false → (a ≡ worse a (shift_mark (gets on x) i r)) × (r ≡ shift_reals (gets on x) i r)
-unfolding shift_mark shift_reals gets
-shift_none on x i r a e = rw e (sym (worse-unit a), refl)
+pub shift_none : (o : Given Float) (i : ℕ) (r : List Float) (a : Mark) → o ≡ None → (a ≡ worse a (shift_mark (optional o) i r)) × (r ≡ shift_reals (optional o) i r)
+unfolding shift_mark shift_reals optional
+shift_none o i r a e = rw e (sym (worse-unit a), refl)

@@ -17,7 +17,6 @@ ghost use Rattle.optimising.specs.suggestion.Shifting.{optional, shift_by, chang
 
 use layout::cells::LINES_ROOM;
 use layout::cells::spots::{fill_spots, no_spots, spot_cell};
-use rows::choose::Found;
 use rows::number::{CONSTANT_BOUND, Wrote, joined, mark_write};
 use sparse::{Bytes, CELL_COUNT, CONSTANTS, Keys, ROW_COUNT, ROW_PLACES, Reals, Values, Words};
 use waist::choices::row_of;
@@ -31,19 +30,12 @@ pub struct Drag {
     pub by: f64,
 }
 
-// What one row gets, if it gets anything.
-#[derive(Clone, Copy)]
-pub struct Shift {
-    pub on: bool,
-    pub by: f64,
-}
-
-fn is_found(f: Found) -> bool
+fn is_found(f: Option<usize>) -> bool
     ensures { result ≡ is_found f }
 {
     match f {
-        Found::At(_) => true,
-        Found::Nothing => false,
+        Some(_) => true,
+        None => false,
     }
 }
 
@@ -102,7 +94,7 @@ fn spots_for(d: Drag, keys: &Keys, n: usize) -> [u16; LINES_ROOM]
     spots
 }
 
-// What row i gets, whose symbol stands at place p.
+// What row i gets, if it gets anything: its symbol stands at place p.
 fn shift_of(
     d: Drag,
     keys: &Keys,
@@ -111,7 +103,7 @@ fn shift_of(
     spots: &[u16; LINES_ROOM],
     p: u8,
     i: u8,
-) -> Shift
+) -> Option<f64>
     requires n_le_cell_room { n ≤ cell_room }
     requires i_lt_most_rows { i < most_rows }
     requires ascending { Ascending keys.now n }
@@ -120,36 +112,33 @@ fn shift_of(
 {
     if d.own == 0 {
         let c = spot_cell(keys, values, n, d.at, spots, i as usize);
-        return Shift {
-            on: c != 0.0,
-            by: d.by * c,
-        };
+        return (c != 0.0).then_some(d.by * c);
     }
-    Shift {
-        on: d.own == p,
-        by: d.by,
-    }
+    (d.own == p).then_some(d.by)
 }
 
 // "A product that isn't zero notes an External."
-fn is_noted(kind: u8, s: Shift) -> bool
+fn is_noted(kind: u8, s: Option<f64>) -> bool
     ensures { result ≡ (is_external_kind kind && changes_by (optional s)) }
 {
-    is_external(kind) & s.on & (s.by != 0.0)
+    match s {
+        Some(by) => is_external(kind) & (by != 0.0),
+        None => false,
+    }
 }
 
-fn shift_row(reals: &mut Reals, i: u8, s: Shift, before: Wrote) -> Wrote
+fn shift_row(reals: &mut Reals, i: u8, s: Option<f64>, before: Wrote) -> Wrote
     requires { i < most_rows }
     ensures result_value { mark_of result ≡ worse (mark_of before) (shift_mark (optional s) i reals.old) }
     ensures reals_after { reals.new ≡ shift_reals (optional s) i reals.old }
 {
-    if s.on {
-        let at = CONSTANTS + i as usize;
-        let total = reals[at] + s.by;
-        reals[at] = total;
-        return joined(before, mark_write(CONSTANT_BOUND, total));
-    }
-    before
+    let Some(by) = s else {
+        return before;
+    };
+    let at = CONSTANTS + i as usize;
+    let total = reals[at] + by;
+    reals[at] = total;
+    joined(before, mark_write(CONSTANT_BOUND, total))
 }
 
 // In all rows.
@@ -173,14 +162,12 @@ fn shift_rows(
     let n = words[CELL_COUNT] as usize;
     let spots = spots_for(d, keys, n);
     let mut w = before;
-    let mut i: u8 = 1;
-    while i <= count {
+    for i in 1..count + 1 {
         let p = bytes[ROW_PLACES + i as usize];
         let s = shift_of(d, keys, values, n, &spots, p, i);
         let on = is_noted(kind_at(bytes, p), s);
         var_changed_if(on, words, bytes, p);
         w = shift_row(reals, i, s, w);
-        i += 1;
     }
     w
 }

@@ -3,16 +3,17 @@ ghost use Rattle.std.specs.Prelude.{◌≡◌, false, ◌≤◌, get_or};
 ghost use Rattle.steps.specs.Edit.{suggest_steps};
 ghost use Rattle.rows.specs.Marks.{mark_of};
 ghost use Rattle.sparse.specs.Places.{symbol_count_at};
-ghost use Rattle.waist.specs.Working.{work_of, sparse};
+ghost use Rattle.waist.specs.Working.{work_of};
 ghost use Rattle.waist.specs.Tags.{tag_at};
 ghost use Rattle.waist.specs.Standing.{Standing};
 ghost use Rattle.waist.specs.Ending.{outcome_of, Goes};
 ghost use Rattle.optimising.specs.suggestion.Suggested.{edit_by, suggested_mark};
+ghost use Rattle.sparse.specs.Tables.{held, Same};
 
 use crate::dual_optimise;
 use crate::suggestion::shifting::shift_constants;
 use rows::number::{CONSTANT_BOUND, Wrote, joined, whole_within};
-use sparse::{Bytes, Keys, Reals, Values, Words};
+use sparse::tables::TablesMut;
 use waist::ending::{Ended, check_finite};
 
 // The suggestion is an input, so it is marked.
@@ -29,11 +30,7 @@ fn mark_suggestion(new: f64, before: Wrote) -> Wrote
 
 // "Suggest: delta is new minus stored.": by the edit's two places, 0 no other, and its last suggestion.
 pub fn suggest_steps(
-    words: &mut Words,
-    keys: &mut Keys,
-    bytes: &mut Bytes,
-    reals: &mut Reals,
-    values: &mut Values,
+    room: &mut TablesMut,
     marker: u8,
     other: u8,
     stored: f64,
@@ -41,20 +38,21 @@ pub fn suggest_steps(
     budget: u32,
     before: Wrote,
 ) -> Ended
-    requires standing { Standing false (mark_of before) (sparse words.old keys.old bytes.old reals.old values.old) }
+    requires standing { Standing false (mark_of before) (held room.old) }
     requires le_marker { 1 ≤ marker }
-    requires marker_bound { marker ≤ get_or words.old symbol_count_at 0 }
-    requires other_bound { other ≤ get_or words.old symbol_count_at 0 }
-    ensures values_value { outcome_of false result (sparse words.new keys.new bytes.new reals.new values.new) ≡ suggest_steps budget (edit_by (tag_at (sparse words.old keys.old bytes.old reals.old values.old) marker other) stored) new (work_of false (mark_of before) 0 (sparse words.old keys.old bytes.old reals.old values.old)) }
-    ensures goes { Goes false result (sparse words.new keys.new bytes.new reals.new values.new) }
+    requires marker_bound { marker ≤ get_or room.old.words.now symbol_count_at 0 }
+    requires other_bound { other ≤ get_or room.old.words.now symbol_count_at 0 }
+    ensures values_value { outcome_of false result (held room.new) ≡ suggest_steps budget (edit_by (tag_at (held room.old) marker other) stored) new (work_of false (mark_of before) 0 (held room.old)) }
+    ensures goes { Goes false result (held room.new) }
+    ensures same { Same room.old room.new }
 {
     let given = mark_suggestion(new, before);
     let wrote = shift_constants(
-        words,
-        keys,
-        bytes,
-        reals,
-        values,
+        room.words,
+        room.keys,
+        room.bytes,
+        room.reals,
+        room.values,
         marker,
         other,
         new - stored,
@@ -64,5 +62,5 @@ pub fn suggest_steps(
     if checked.number != 0 {
         return checked;
     }
-    dual_optimise(words, keys, bytes, reals, values, budget, 0, wrote)
+    dual_optimise(room, budget, 0, wrote)
 }

@@ -1,5 +1,5 @@
 -- The second edition's reader over a line's two sides, and what the code finds behind them.
-use Rattle.std.specs.Prelude.{ℕ, ◌+◌, ◌≤◌, ◌<◌, ◌≡◌, refl, Bool, true, false, cond, List, eqb, ltb, length, get_or}
+use Rattle.std.specs.Prelude.{ℕ, ◌+◌, ◌≤◌, ◌<◌, ◌≡◌, refl, Bool, true, false, cond, List, eqb, ltb, length, get_or, Result, Ok, Err}
 use Rattle.std.proofs.Common.{sym, ap, subst, ◌∙◌, arith, ne_eqb, ltb-true, ltb-false}
 use Rattle.grammar.specs.Bytes.{kind_of}
 use Rattle.grammar.specs.Sums.{Sums, one}
@@ -12,17 +12,16 @@ use Rattle.grammar.proofs.edition.Descent.{byte, no_byte, left-sum, right-sum}
 use Rattle.reader.specs.Run.{Follows, first_step}
 use Rattle.reader.specs.Parts.{sums_of}
 use Rattle.reader.specs.Sides.{relation_of}
-use Rattle.reader.specs.Ends.{Descends, goes_on, sided-is, reach_of, Reached, Far, SidesIs, none-follows}
+use Rattle.reader.specs.Ends.{Descends, goes_on, sided-is, reach_of, Reached, SidesIs, none-follows}
 use Rattle.reader.specs.declared.parts.Place.{Place}
 use Rattle.reader.specs.declared.sides.Mark.{Mark}
-use Rattle.reader.specs.declared.sides.Sides.{Sides}
-use Rattle.reader.specs.declared.sides.Sides.TheVariants.{Both, Neither}
+use Rattle.reader.specs.Faults.{number_of, place_of}
+use Rattle.reader.specs.declared.fault.Fault.{Fault}
+use Rattle.reader.specs.declared.fault.Fault.TheVariants.{Astray}
 use Rattle.reader.specs.second.Numbers.{capped, capped-in}
 use Rattle.reader.specs.second.Tails.{EndingIs}
 use Rattle.reader.specs.declared.second.endings.Ending.{Ending}
-use Rattle.reader.specs.declared.second.endings.Ending.TheVariants.{Is, Bad}
 use Rattle.reader.specs.declared.second.ends.Second.{Second}
-use Rattle.reader.specs.declared.second.ends.Second.TheVariants.{Whole, Refused}
 
 -- ---- it takes the first edition's steps up to an `@`
 
@@ -70,20 +69,16 @@ module _ (w : List ℕ) where
 
 -- ---- the end
 
-abbrev pub ended_by : Mark → Place → Ending → Second
-ended_by m e (Is n g) = Whole m e n g
-ended_by m e (Bad b) = Refused 20 b
-
 -- the strength and the group as far as they are in range
-abbrev pub Agrees : List ℕ → List ℕ → Second → Found → Type 0
-Agrees numbers sums (Whole m p n g) x = (j k : ℕ) × (x ≡ found (relation_of m) (sums_of numbers sums p) j k) × (n ≡ capped required j) × (g ≡ capped most_group k)
-Agrees numbers sums (Refused n b) x = x ≡ met n b
+abbrev pub Agrees : List ℕ → List ℕ → Result Second Fault → Found → Type 0
+Agrees numbers sums (Ok z) x = (j k : ℕ) × (x ≡ found (relation_of z.relation) (sums_of numbers sums z.place) j k) × (z.ending.strength ≡ capped required j) × (z.ending.group ≡ capped most_group k)
+Agrees numbers sums (Err e) x = x ≡ met (number_of e) (place_of e)
 
-abbrev pub Counted : Second → Type 0
-Counted (Whole m p n g) = p.count ≤ 1366
-Counted (Refused n b) = Unit {0}
+abbrev pub Counted : Result Second Fault → Type 0
+Counted (Ok z) = z.place.count ≤ 1366
+Counted (Err e) = Unit {0}
 
-pub record EndIs (w : List ℕ) (m : Mark) (e : Place) (l : Second) : Type 0 where
+pub record EndIs (w : List ℕ) (m : Mark) (e : Place) (l : Result Second Fault) : Type 0 where
   pub outcome : (numbers sums : List ℕ) → Agrees numbers sums l (head_from w e.at (rested e.bare) (right (relation_of m)) (sums_of numbers sums e))
   pub counted : Counted l
 
@@ -98,14 +93,13 @@ module _ (w : List ℕ) (m : Mark) (e : Place) (h : Reached w e) where
   to-ending c k true s = byte w at (head (rested true) (right (relation_of m)) s) k ∙ rw c
   to-ending c k false s = byte w at (head (rested false) (right (relation_of m)) s) k ∙ rw c
 
-  pub end_marked : {l : Second} (x : Ending) → get_or w at 0 ≡ 64 → at < length w → EndingIs w (at + 1) x → l ≡ ended_by m e x → EndIs w m e l
-  end_marked {l} x c k y q = subst (EndIs w m e) (sym q) (by x y)
-    where
-      by : (x : Ending) → EndingIs w (at + 1) x → EndIs w m e (ended_by m e x)
-      by (Is n g) (j, i, f, a, b) = record { outcome = λ numbers sums. (j, i, to-ending c k e.bare (sums_of numbers sums e) ∙ f (relation_of m) (sums_of numbers sums e), a, b); counted = h.counted }
-      by (Bad b) f = record { outcome = λ numbers sums. to-ending c k e.bare (sums_of numbers sums e) ∙ f (relation_of m) (sums_of numbers sums e); counted = tt }
+  pub end_marked : {x : Ending} → get_or w at 0 ≡ 64 → at < length w → EndingIs w (at + 1) (Ok x) → EndIs w m e (Ok (record { relation = m; place = e; ending = x }))
+  end_marked c k (j, i, f, a, b) = record { outcome = λ numbers sums. (j, i, to-ending c k e.bare (sums_of numbers sums e) ∙ f (relation_of m) (sums_of numbers sums e), a, b); counted = h.counted }
 
-  pub end_whole : e.bare ≡ true → at ≡ length w → EndIs w m e (Whole m e required 1)
+  pub end-astray : {x : Fault} → get_or w at 0 ≡ 64 → at < length w → EndingIs w (at + 1) (Err x) → EndIs w m e (Err x)
+  end-astray c k f = record { outcome = λ numbers sums. to-ending c k e.bare (sums_of numbers sums e) ∙ f (relation_of m) (sums_of numbers sums e); counted = tt }
+
+  pub end_whole : e.bare ≡ true → at ≡ length w → EndIs w m e (Ok (record { relation = m; place = e; ending = record { strength = required; group = 1 } }))
   end_whole b q =
       record {
         outcome = λ numbers sums.
@@ -113,7 +107,7 @@ module _ (w : List ℕ) (m : Mark) (e : Place) (h : Reached w e) where
         counted = h.counted;
       }
 
-  pub end-not : (get_or w at 0 ≡ 64 → ⊥) → (e.bare ≡ true → at ≡ length w → ⊥) → EndIs w m e (Refused 20 at)
+  pub end-not : (get_or w at 0 ≡ 64 → ⊥) → (e.bare ≡ true → at ≡ length w → ⊥) → EndIs w m e (Err (Astray at))
   end-not c n = record { outcome = λ numbers sums. by e.bare (sums_of numbers sums e) n; counted = tt }
     where
       by : (t : Bool) (s : Sums) → (t ≡ true → at ≡ length w → ⊥) → behind t s ≡ met 20 at
@@ -126,15 +120,13 @@ module _ (w : List ℕ) (m : Mark) (e : Place) (h : Reached w e) where
 
 -- ---- the whole line
 
-module _ (w numbers sums : List ℕ) (x : Sides) (h : SidesIs w numbers sums x) where
+module _ (w numbers sums : List ℕ) (x : Result (Mark × Place) Fault) (h : SidesIs w numbers sums x) where
   goes_on_lem : pass_from w 0 start ≡ goes_on w (head_from w) met (resumed w) (descends w) (reach_of numbers sums x)
   goes_on_lem = sided-is w (head_from w) met (resumed w) (descends w) h.sided
 
-  pub reached : {m : Mark} {e : Place} → x ≡ Both m e → Reached w e
-  reached e = subst (Far w) e h.far
+module _ (w numbers sums : List ℕ) where
+  pub line-sides : {m : Mark} {e : Place} (l : Result Second Fault) → SidesIs w numbers sums (Ok (m, e)) → EndIs w m e l → Agrees numbers sums l (pass_from w 0 start) × Counted l
+  line-sides {m} {e} l h k = (subst (Agrees numbers sums l) (sym (goes_on_lem w numbers sums (Ok (m, e)) h)) (k.outcome numbers sums), k.counted)
 
-  pub line-sides : {m : Mark} {e : Place} (l : Second) → x ≡ Both m e → EndIs w m e l → Agrees numbers sums l (pass_from w 0 start) × Counted l
-  line-sides l e k = (subst (Agrees numbers sums l) (sym (goes_on_lem ∙ ap (λ (z : Sides). goes_on w (head_from w) met (resumed w) (descends w) (reach_of numbers sums z)) e)) (k.outcome numbers sums), k.counted)
-
-  pub line-halted : {n b : ℕ} → x ≡ Neither n b → (pass_from w 0 start ≡ met n b) × Unit {0}
-  line-halted e = (goes_on_lem ∙ ap (λ (z : Sides). goes_on w (head_from w) met (resumed w) (descends w) (reach_of numbers sums z)) e, tt)
+  pub line-halted : {x : Fault} → SidesIs w numbers sums (Err x) → pass_from w 0 start ≡ met (number_of x) (place_of x)
+  line-halted {x} h = goes_on_lem w numbers sums (Err x) h

@@ -1,13 +1,13 @@
 -- The ending's numbers, of any length: their worth, and what the code keeps of it.
-use Rattle.std.specs.Prelude.{ℕ, ◌+◌, ◌-◌, ◌*◌, ◌≤◌, ◌<◌, ◌≡◌, refl, Bool, true, false, cond, List, leb, eqb, length, get_or}
+use Rattle.std.specs.Prelude.{ℕ, ◌+◌, ◌-◌, ◌*◌, ◌≤◌, ◌<◌, ◌≡◌, refl, Bool, true, false, cond, List, leb, eqb, length, get_or, Some, Result, Ok, Err}
 use Rattle.std.proofs.Common.{sym, ap, ◌∙◌, arith, leb-true, leb-false, le-leb, eqb-true}
 use Rattle.std.proofs.lemmas.Bool.{lt-leb}
 use Rattle.grammar.specs.Bytes.{is_digit}
-use Rattle.reader.specs.Scan.{digit_at, digit-here}
+use Rattle.reader.specs.Scan.{digit_at, digit-by, digit-here}
 use Rattle.grammar.specs.edition.Endings.{is_group}
 use Rattle.grammar.specs.edition.Steps.{Mark, digit, space, comma, other, mark_at}
-use Rattle.reader.specs.declared.second.endings.Digits.{Digits}
-use Rattle.reader.specs.declared.second.endings.Digits.TheVariants.{Are, Missing}
+use Rattle.reader.specs.declared.fault.Fault.{Fault}
+use Rattle.reader.specs.declared.fault.Fault.TheVariants.{Astray, TooDeep, TooLarge}
 
 -- ---- a byte of the ending
 
@@ -19,15 +19,8 @@ module _ (P : Mark → Type 0) where
   pub by-mark : (b : ℕ) → (is_digit b ≡ true → P (digit (b - 48))) → (b ≡ 32 → P space) → (b ≡ 44 → P comma) → P other → P (mark_at b)
   by-mark b d s c o = pick (is_digit b) d (pick (eqb b 32) (λ e. s (eqb-true b 32 e)) (pick (eqb b 44) (λ e. c (eqb-true b 44 e)) o))
 
-pub digit-mark : (b : ℕ) → digit_at b < 10 → mark_at b ≡ digit (digit_at b)
-digit-mark b h = by (is_digit b) h
-  where
-    by : (t : Bool) → cond t (b - 48) 10 < 10 → cond t (digit (b - 48)) (cond (eqb b 32) space (cond (eqb b 44) comma other)) ≡ digit (cond t (b - 48) 10)
-    by true h = refl
-    by false h = absurd (e h)
-      where
-        e : 10 < 10 → ⊥
-        e h = omega arith
+pub digit-mark : (b d : ℕ) → digit_at b ≡ Some d → mark_at b ≡ digit d
+digit-mark b d h = let k = digit-by b d h in rw (k.0, k.1) refl
 
 -- ---- digits
 
@@ -40,19 +33,20 @@ pub data Worth (w : List ℕ) (at : ℕ) : ℕ → ℕ → Type 0 where
 unfoldable pub capped : ℕ → ℕ → ℕ
 capped most n = cond (leb n most) n (most + 1)
 
-abbrev pub DigitsAre : List ℕ → ℕ → ℕ → Digits → Type 0
-DigitsAre w most at (Are n j) = (k : ℕ) × Worth w at j k × (n ≡ capped most k) × (j ≤ length w) × (is_digit (get_or w j 0) ≡ false)
-DigitsAre w most at Missing = is_digit (get_or w at 0) ≡ false
+abbrev pub DigitsAre : List ℕ → ℕ → ℕ → Result (ℕ × ℕ) Fault → Type 0
+DigitsAre w most at (Ok (n, j)) = (k : ℕ) × Worth w at j k × (n ≡ capped most k) × (j ≤ length w) × (is_digit (get_or w j 0) ≡ false)
+DigitsAre w most at (Err (Astray j)) = (j ≡ at) × (is_digit (get_or w at 0) ≡ false)
+DigitsAre w most at (Err (TooDeep j)) = ⊥
+DigitsAre w most at (Err (TooLarge j)) = ⊥
 
 -- what the code knows of a digit at a place
 pub record MarkHere (w : List ℕ) (at d : ℕ) : Type 0 where
   pub within : at < length w
   pub mark : mark_at (get_or w at 0) ≡ digit d
+  pub small : d < 10
 
-pub mark-here : (w : List ℕ) (at d : ℕ) → d ≡ digit_at (get_or w at 0) → d < 10 → MarkHere w at d
-mark-here w at d e h =
-    let k : digit_at (get_or w at 0) < 10 = rw e at h in
-    record { within = (digit-here w at d e h).within; mark = digit-mark (get_or w at 0) k ∙ ap digit (sym e) }
+pub mark-here : (w : List ℕ) (at d : ℕ) → digit_at (get_or w at 0) ≡ Some d → MarkHere w at d
+mark-here w at d e = let h = digit-here w at d e in record { within = h.within; mark = digit-mark (get_or w at 0) d e; small = h.small }
 
 -- ---- what is kept of a number
 

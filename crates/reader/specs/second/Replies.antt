@@ -1,7 +1,7 @@
 -- The code's answer to a line of the second edition, by the grammar's.
-use Rattle.std.specs.Prelude.{ℕ, ◌≤◌, ◌<◌, ◌≡◌, Bool, cond, ◌&&◌, ◌||◌, List, leb, ltb, eqb, length, nat_abs}
+use Rattle.std.specs.Prelude.{ℕ, ◌≤◌, ◌<◌, ◌≡◌, Bool, cond, ◌&&◌, ◌||◌, List, leb, ltb, eqb, length, nat_abs, Ok, Err}
 use Rattle.std.proofs.Math.Path.{refl}
-use Rattle.std.proofs.Common.{sym, ap, ap₂, subst, ◌∙◌, arith}
+use Rattle.std.proofs.Common.{sym, ap, ap₂, ◌∙◌, arith}
 use Rattle.std.proofs.Math.Bool.{true, false}
 use Rattle.std.proofs.lemmas.Bool.{false≢true}
 use borrow.Author.Tests.{leb-true, le-leb, lt-leb, ltb-true, ltb-false, eq-eqb, ne_eqb}
@@ -15,13 +15,12 @@ use Rattle.reader.specs.Sides.{relation_of}
 use Rattle.reader.specs.Parts.{sums_of}
 use Rattle.reader.specs.Answers.{refusal, as_read}
 use Rattle.reader.specs.declared.answers.Reading.{Reading}
-use Rattle.reader.specs.declared.parts.Place.{Place}
-use Rattle.reader.specs.declared.sides.Mark.{Mark}
 use Rattle.reader.specs.second.Numbers.{capped, capped-in, capped-range, capped-group}
-use Rattle.reader.specs.second.Ends.{Agrees, Counted}
+use Rattle.reader.specs.second.Ends.{Agrees}
 use Rattle.reader.specs.declared.second.Reply.{Reply}
 use Rattle.reader.specs.declared.second.ends.Second.{Second}
-use Rattle.reader.specs.declared.second.ends.Second.TheVariants.{Whole, Refused}
+use Rattle.reader.specs.Faults.{number_of, place_of}
+use Rattle.reader.specs.declared.fault.Fault.{Fault}
 
 -- a refusal, or what has none yet
 abbrev pub unread : Reading → Reply
@@ -115,17 +114,11 @@ module _ (w : List ℕ) where
   unfolding read_second
   too_long h = rw (lt-leb (length w) 4096 h)
 
-  module _ (numbers sums : List ℕ) {l : Second} (h : length w ≤ 4096) (a : Agrees numbers sums l (pass_from w 0 start)) where
-    pub read_whole : {m : Mark} {p : Place} {n g : ℕ} {r : Reading} {x : Reply} → l ≡ Whole m p n g → r ≡ as_read (judged (summed (relation_of m) (sums_of numbers sums p))) → x ≡ ranged_by r n g → x ≡ as_reply (read_second w)
-    read_whole {m} {p} {n} {g} e q y =
-        let z = subst (λ (v : Second). Agrees numbers sums v (pass_from w 0 start)) e a in
-        let a = summed (relation_of m) (sums_of numbers sums p) in
-        y ∙ (ap (λ (v : Reading). ranged_by v n g) q ∙ (ap₂ (ranged_by (as_read (judged a))) z.3 z.4 ∙ (ranged-is a z.0 z.1 ∙ sym (ap as_reply (short h ∙ ap replied z.2)))))
+  module _ (numbers sums : List ℕ) (h : length w ≤ 4096) where
+    pub read_whole : (z : Second) {r : Reading} {x : Reply} → Agrees numbers sums (Ok z) (pass_from w 0 start) → r ≡ as_read (judged (summed (relation_of z.relation) (sums_of numbers sums z.place))) → x ≡ ranged_by r z.ending.strength z.ending.group → x ≡ as_reply (read_second w)
+    read_whole z (j, k, e, f, g) q y =
+        let a = summed (relation_of z.relation) (sums_of numbers sums z.place) in
+        y ∙ (ap (λ (v : Reading). ranged_by v z.ending.strength z.ending.group) q ∙ (ap₂ (ranged_by (as_read (judged a))) f g ∙ (ranged-is a j k ∙ sym (ap as_reply (short h ∙ ap replied e)))))
 
-    pub read-refused : {n b : ℕ} {r : Reading} {x : Reply} → l ≡ Refused n b → r ≡ as_read (refuses n b) → x ≡ unread r → x ≡ as_reply (read_second w)
-    read-refused {n} {b} e q y =
-        let z = subst (λ (v : Second). Agrees numbers sums v (pass_from w 0 start)) e a in
-        y ∙ (ap unread q ∙ (refused-is n b ∙ sym (ap as_reply (short h ∙ ap replied z))))
-
-pub counted : {l : Second} {m : Mark} {p : Place} {n g : ℕ} → Counted l → l ≡ Whole m p n g → p.count ≤ 1366
-counted c e = subst Counted e c
+    pub read-refused : (e : Fault) {r : Reading} {x : Reply} → Agrees numbers sums (Err e) (pass_from w 0 start) → r ≡ as_read (refuses (number_of e) (place_of e)) → x ≡ unread r → x ≡ as_reply (read_second w)
+    read-refused e z q y = y ∙ (ap unread q ∙ (refused-is (number_of e) (place_of e) ∙ sym (ap as_reply (short h ∙ ap replied z))))

@@ -1,6 +1,6 @@
 -- What the code finds behind an `@`, and how the second edition's reader goes over it.
-use Rattle.std.specs.Prelude.{ℕ, ◌+◌, ◌*◌, ◌≤◌, ◌<◌, ◌≡◌, refl, Bool, true, false, List, ltb, length, get_or}
-use Rattle.std.proofs.Common.{sym, ap, subst, ◌∙◌, arith, ltb-true, ltb-false}
+use Rattle.std.specs.Prelude.{ℕ, ◌+◌, ◌*◌, ◌≤◌, ◌<◌, ◌≡◌, refl, Bool, true, false, List, ltb, length, get_or, Result, Ok, Err}
+use Rattle.std.proofs.Common.{sym, ap, ◌∙◌, arith, ltb-true, ltb-false}
 use Rattle.std.proofs.lemmas.Bool.{false≢true}
 use Rattle.std.proofs.Math.Option.{Option, none, some}
 use Rattle.grammar.specs.Bytes.{is_digit}
@@ -12,22 +12,20 @@ use Rattle.grammar.specs.edition.Steps.{Mark, digit, space, mark_at, Tail, opene
 use Rattle.grammar.specs.edition.Descent.{pass_from}
 use Rattle.grammar.proofs.edition.Descent.{byte, no_byte}
 use Rattle.reader.specs.second.Numbers.{by-mark, Worth, alone, longer, capped, DigitsAre}
-use Rattle.reader.specs.declared.second.endings.Digits.{Digits}
-use Rattle.reader.specs.declared.second.endings.Digits.TheVariants.{Are, Missing}
-use Rattle.reader.specs.declared.second.endings.Group.{Group}
-use Rattle.reader.specs.declared.second.endings.Group.TheVariants.{Is as GroupOf, Bad as NoGroup}
+use Rattle.reader.specs.Faults.{number_of, place_of}
+use Rattle.reader.specs.declared.fault.Fault.{Fault}
+use Rattle.reader.specs.declared.fault.Fault.TheVariants.{Astray, TooDeep, TooLarge}
 use Rattle.reader.specs.declared.second.endings.Ending.{Ending}
-use Rattle.reader.specs.declared.second.endings.Ending.TheVariants.{Is, Bad}
 
 -- behind the comma
-abbrev pub GroupIs : List ℕ → ℕ → Group → Type 0
-GroupIs w at (GroupOf g) = (k : ℕ) × ((r : Relation) (s : Sums) (n : ℕ) → pass_from w at (tail r s (parted n)) ≡ found r s n k) × (g ≡ capped most_group k)
-GroupIs w at (NoGroup b) = (r : Relation) (s : Sums) (n : ℕ) → pass_from w at (tail r s (parted n)) ≡ met 20 b
+abbrev pub GroupIs : List ℕ → ℕ → Result ℕ Fault → Type 0
+GroupIs w at (Ok g) = (k : ℕ) × ((r : Relation) (s : Sums) (n : ℕ) → pass_from w at (tail r s (parted n)) ≡ found r s n k) × (g ≡ capped most_group k)
+GroupIs w at (Err x) = (r : Relation) (s : Sums) (n : ℕ) → pass_from w at (tail r s (parted n)) ≡ met (number_of x) (place_of x)
 
 -- behind the `@`
-abbrev pub EndingIs : List ℕ → ℕ → Ending → Type 0
-EndingIs w at (Is n g) = (j k : ℕ) × ((r : Relation) (s : Sums) → pass_from w at (tail r s opened) ≡ found r s j k) × (n ≡ capped required j) × (g ≡ capped most_group k)
-EndingIs w at (Bad b) = (r : Relation) (s : Sums) → pass_from w at (tail r s opened) ≡ met 20 b
+abbrev pub EndingIs : List ℕ → ℕ → Result Ending Fault → Type 0
+EndingIs w at (Ok x) = (j k : ℕ) × ((r : Relation) (s : Sums) → pass_from w at (tail r s opened) ≡ found r s j k) × (x.strength ≡ capped required j) × (x.group ≡ capped most_group k)
+EndingIs w at (Err e) = (r : Relation) (s : Sums) → pass_from w at (tail r s opened) ≡ met (number_of e) (place_of e)
 
 module _ (w : List ℕ) (r : Relation) (s : Sums) where
   -- ---- one byte of the ending
@@ -102,44 +100,36 @@ module _ (w : List ℕ) (r : Relation) (s : Sums) where
 
 -- ---- the code
 
-module _ (w : List ℕ) (at : ℕ) {t : Digits} where
-  module _ (i : ℕ) (k : Skips w at i) where
-    pub group-is : {g end : ℕ} → DigitsAre w most_group i t → t ≡ Are g end → end ≡ length w → GroupIs w at (GroupOf g)
-    group-is {g} {end} h e q =
-        let d = subst (DigitsAre w most_group i) e h in
-        (d.0, (λ r s n. over-spaces w r s (parted n) refl at i k ∙ (over-digits w r s (parted n) (grouped n) (λ c. refl) (λ v c. refl) i d.1 ∙ ends-grouped w r s n d.0 end q)), d.2)
+module _ (w : List ℕ) (at i : ℕ) (k : Skips w at i) where
+  pub group-is : {g end : ℕ} → DigitsAre w most_group i (Ok (g, end)) → end ≡ length w → GroupIs w at (Ok g)
+  group-is {g} {end} d q = (d.0, (λ r s n. over-spaces w r s (parted n) refl at i k ∙ (over-digits w r s (parted n) (grouped n) (λ c. refl) (λ v c. refl) i d.1 ∙ ends-grouped w r s n d.0 end q)), d.2)
 
-    pub group-behind : {g end : ℕ} → DigitsAre w most_group i t → t ≡ Are g end → (end ≡ length w → ⊥) → GroupIs w at (NoGroup end)
-    group-behind {g} {end} h e q =
-        let d = subst (DigitsAre w most_group i) e h in
-        λ r s n. over-spaces w r s (parted n) refl at i k ∙ (over-digits w r s (parted n) (grouped n) (λ c. refl) (λ v c. refl) i d.1 ∙ not-grouped w r s n d.0 end (other d.3 q) d.4)
-      where
-        other : end ≤ length w → (end ≡ length w → ⊥) → end < length w
-        other l q = omega arith
+  pub group-behind : {g end : ℕ} → DigitsAre w most_group i (Ok (g, end)) → (end ≡ length w → ⊥) → GroupIs w at (Err (Astray end))
+  group-behind {g} {end} d q = λ r s n. over-spaces w r s (parted n) refl at i k ∙ (over-digits w r s (parted n) (grouped n) (λ c. refl) (λ v c. refl) i d.1 ∙ not-grouped w r s n d.0 end (other d.3 q) d.4)
+    where
+      other : end ≤ length w → (end ≡ length w → ⊥) → end < length w
+      other l q = omega arith
 
-    pub group-missing : DigitsAre w most_group i t → t ≡ Missing → GroupIs w at (NoGroup i)
-    group-missing h e = λ r s n. not-parted w r s n at i k (subst (DigitsAre w most_group i) e h)
+  pub group-missing : (e : Fault) → DigitsAre w most_group i (Err e) → GroupIs w at (Err e)
+  group-missing (Astray b) (q, d) = λ r s n. rw q (not-parted w r s n at i k d)
+  group-missing (TooDeep b) h = absurd h
+  group-missing (TooLarge b) h = absurd h
 
-    pub ending-missing : DigitsAre w required i t → t ≡ Missing → EndingIs w at (Bad i)
-    ending-missing h e = λ r s. not_opened w r s at i k (subst (DigitsAre w required i) e h)
+  pub ending-missing : (e : Fault) → DigitsAre w required i (Err e) → EndingIs w at (Err e)
+  ending-missing (Astray b) (q, d) = λ r s. rw q (not_opened w r s at i k d)
+  ending-missing (TooDeep b) h = absurd h
+  ending-missing (TooLarge b) h = absurd h
 
-    module _ {n next : ℕ} (h : DigitsAre w required i t) (e : t ≡ Are n next) (mark : ℕ) (l : Skips w next mark) where
-      abbrev d : DigitsAre w required i (Are n next)
-      d = subst (DigitsAre w required i) e h
+  module _ {n next : ℕ} (d : DigitsAre w required i (Ok (n, next))) (mark : ℕ) (l : Skips w next mark) where
+    to-strength : (r : Relation) (s : Sums) → pass_from w at (tail r s opened) ≡ pass_from w next (tail r s (strong d.0))
+    to-strength r s = over-spaces w r s opened refl at i k ∙ over-digits w r s opened strong (λ c. refl) (λ v c. refl) i d.1
 
-      to-strength : (r : Relation) (s : Sums) → pass_from w at (tail r s opened) ≡ pass_from w next (tail r s (strong d.0))
-      to-strength r s = over-spaces w r s opened refl at i k ∙ over-digits w r s opened strong (λ c. refl) (λ v c. refl) i d.1
+    pub ending-no-comma : (get_or w mark 0 ≡ 44 → ⊥) → EndingIs w at (Err (Astray mark))
+    ending-no-comma c = λ r s. to-strength r s ∙ comma-not w r s d.0 next mark l d.4 c
 
-      pub ending-no-comma : (get_or w mark 0 ≡ 44 → ⊥) → EndingIs w at (Bad mark)
-      ending-no-comma c = λ r s. to-strength r s ∙ comma-not w r s d.0 next mark l d.4 c
+    module _ (c : get_or w mark 0 ≡ 44) where
+      pub ending-is : {g : ℕ} → GroupIs w (mark + 1) (Ok g) → EndingIs w at (Ok (record { strength = n; group = g }))
+      ending-is z = (d.0, z.0, (λ r s. to-strength r s ∙ (comma-on w r s d.0 next mark l c ∙ z.1 r s d.0)), d.2, z.2)
 
-      module _ (c : get_or w mark 0 ≡ 44) {x : Group} (y : GroupIs w (mark + 1) x) where
-        pub ending-is : {g : ℕ} → x ≡ GroupOf g → EndingIs w at (Is n g)
-        ending-is q =
-            let z = subst (GroupIs w (mark + 1)) q y in
-            (d.0, z.0, (λ r s. to-strength r s ∙ (comma-on w r s d.0 next mark l c ∙ z.1 r s d.0)), d.2, z.2)
-
-        pub ending-no-group : {b : ℕ} → x ≡ NoGroup b → EndingIs w at (Bad b)
-        ending-no-group q =
-            let z = subst (GroupIs w (mark + 1)) q y in
-            λ r s. to-strength r s ∙ (comma-on w r s d.0 next mark l c ∙ z r s d.0)
+      pub ending-no-group : (e : Fault) → GroupIs w (mark + 1) (Err e) → EndingIs w at (Err e)
+      ending-no-group e z = λ r s. to-strength r s ∙ (comma-on w r s d.0 next mark l c ∙ z r s d.0)

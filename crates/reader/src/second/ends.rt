@@ -4,54 +4,54 @@ ghost use Rattle.std.specs.Prelude.{◌≡◌, ◌≤◌, length};
 ghost use Rattle.grammar.specs.edition.Steps.{start};
 ghost use Rattle.grammar.specs.edition.Descent.{pass_from};
 ghost use Rattle.reader.specs.Ends.{Reached};
-ghost use Rattle.reader.specs.second.Ends.{ended_by, EndIs, Agrees, Counted};
+ghost use Rattle.reader.specs.second.Ends.{EndIs, Agrees, Counted};
 
+use crate::fault::Fault;
 use crate::parts::Place;
 use crate::scan::byte_at;
 use crate::second::endings::{Ending, REQUIRED, ending_at};
-use crate::sides::{Mark, Sides, both_sides};
+use crate::sides::{Mark, both_sides};
 use crate::sums::{Numbers, Sums};
 
-// A line read to its end, with its strength and its group; or a refusal and where it is met.
+// A line read to its end, with its strength and its group.
 #[derive(Clone, Copy)]
-pub enum Second {
-    Whole(Mark, Place, u64, u64),
-    Refused(u32, usize),
+pub struct Second {
+    pub relation: Mark,
+    pub place: Place,
+    pub ending: Ending,
 }
 
-fn ended(m: Mark, e: Place, x: Ending) -> Second
-    ensures { result ≡ ended_by m e x }
-{
-    match x {
-        Ending::Is(n, g) => Second::Whole(m, e, n, g),
-        Ending::Bad(b) => Second::Refused(20, b),
-    }
-}
-
-fn end_of(s: &[u8], m: Mark, e: Place) -> Second
+fn end_of(s: &[u8], m: Mark, e: Place) -> Result<Second, Fault>
     requires { Reached s.now e }
     ensures { EndIs s.now m e result }
 {
     if byte_at(s, e.at) == b'@' {
-        let x = ending_at(s, e.at + 1);
-        return ended(m, e, x);
+        let ending = ending_at(s, e.at + 1)?;
+        return Ok(Second {
+            relation: m,
+            place: e,
+            ending,
+        });
     }
-    if e.bare {
-        if e.at == s.len() {
-            return Second::Whole(m, e, REQUIRED, 1);
-        }
+    if e.bare && e.at == s.len() {
+        let ending = Ending {
+            strength: REQUIRED,
+            group: 1,
+        };
+        return Ok(Second {
+            relation: m,
+            place: e,
+            ending,
+        });
     }
-    Second::Refused(20, e.at)
+    Err(Fault::Astray(e.at))
 }
 
-pub fn second_line(s: &[u8], numbers: &mut Numbers, sums: &mut Sums) -> Second
+pub fn second_line(s: &[u8], numbers: &mut Numbers, sums: &mut Sums) -> Result<Second, Fault>
     requires { length s.now ≤ 4096 }
     ensures agrees { Agrees numbers.new sums.new result (pass_from s.now 0 start) }
     ensures counted { Counted result }
 {
-    let x = both_sides(s, numbers, sums);
-    match x {
-        Sides::Both(m, e) => end_of(s, m, e),
-        Sides::Neither(n, b) => Second::Refused(n, b),
-    }
+    let (m, e) = both_sides(s, numbers, sums)?;
+    end_of(s, m, e)
 }

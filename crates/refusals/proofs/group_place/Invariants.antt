@@ -1,4 +1,4 @@
-use Prim.Native.Nat.{◌+◌, ◌-◌, ◌≤◌}
+use Prim.Native.Nat.{◌+◌, ◌≤◌}
 use mathlib.Core.Path.{◌≡◌}
 use lib.Dec.{eqb}
 use lib.ListN.{get_or}
@@ -8,7 +8,4 @@ use Rattle.sparse.specs.Lookup.{place_from}
 use Rattle.refusals.proofs.group_place.Given as goal
 
 abbrev pub invariant-loop-i : goal.invariant-loop-i
-invariant-loop-i l = (first (λ j. eqb l.g (get_or l.words (constraint_groups_at + j) 0)) (λ j. j) l.c l.i l.c ≡ place_from l.words constraint_groups_at l.c l.g) × (l.i ≤ l.c) × (l.c ≤ most_constraints)
-
-abbrev pub decreases-loop-i : goal.decreases-loop-i
-decreases-loop-i l = l.c - l.i
+invariant-loop-i l = first (λ j. eqb l.g (get_or l.words (constraint_groups_at + j) 0)) (λ j. j) l.c l.i l.c ≡ place_from l.words constraint_groups_at l.c l.g

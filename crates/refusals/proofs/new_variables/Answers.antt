@@ -11,8 +11,6 @@ unfolding new_in
 loop-i-init c = (
   sum-start _ 0 _ ∙ ap (λ (k : ℕ). sum_in (new_at c.args.words.now c.args.v c.args.p) 0 k) c.shown-e.ensures.value,
   omega arith,
-  omega arith,
-  c.shown-e.ensures.upper_bound,
 )
 
 pub new_at-s-requires : goal.new_at-s-requires
@@ -25,8 +23,6 @@ pub loop-i-preserved : goal.loop-i-preserved
 loop-i-preserved c = (
   sum-next _ _ _ c.loop-i.s (omega arith) (ap (λ (k : ℕ). c.loop-i.s + k) c.new_at-s.ensures.value) c.loop-i.invariant.0,
   omega (arith, c.new_at-s.ensures.upper_bound),
-  omega arith,
-  c.loop-i.invariant.3,
 )
 
 pub returns : goal.returns

@@ -1,4 +1,4 @@
-use Prim.Native.Nat.{◌-◌, ◌≤◌}
+use Prim.Native.Nat.{◌≤◌}
 use mathlib.Core.Path.{◌≡◌}
 use Rattle.laws.specs.Lists.{sum_on}
 use Rattle.layout.specs.Layout.{term_room}
@@ -6,7 +6,4 @@ use Rattle.refusals.specs.Refusals.{new_at, new_in}
 use Rattle.refusals.proofs.new_variables.Given as goal
 
 abbrev pub invariant-loop-i : goal.invariant-loop-i
-invariant-loop-i l = (sum_on (new_at l.words l.v l.p) l.i l.e l.s ≡ new_in l.words l.v l.p) × (l.s ≤ l.i) × (l.i ≤ l.e) × (l.e ≤ term_room)
-
-abbrev pub decreases-loop-i : goal.decreases-loop-i
-decreases-loop-i l = l.e - l.i
+invariant-loop-i l = (sum_on (new_at l.words l.v l.p) l.i l.e l.s ≡ new_in l.words l.v l.p) × (l.s ≤ l.i)

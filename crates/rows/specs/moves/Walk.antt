@@ -8,7 +8,7 @@ use Rattle.std.proofs.Math.Nat.{add-zero}
 use native.Mathlib.Omega.{arith}
 use Rattle.laws.specs.Loops.{seek, first}
 use Rattle.laws.specs.Lists.{tab}
-use Rattle.rows.specs.declared.choose.Found.TheVariants.{At, Nothing}
+use Rattle.std.specs.Prelude.{Some, None}
 
 seek-between : (p : ℕ → Bool) (e n i : ℕ) → i + n ≡ e → (i ≤ seek p (λ j. j) e n i) × (seek p (λ j. j) e n i ≤ e)
 unfolding seek
@@ -28,18 +28,18 @@ module _ {A : Type 0} where
   tab-up g g' i (suc n) q =
       rw (q i (omega arith) (omega arith)) (ap (λ (r : List A). g i ∷ r) (tab-up g g' (suc i) n λ j a b. q j (omega arith) (omega arith)))
 
-never : {X : Type 0} {z : ℕ} → At z ≡ Nothing → X
+never : {X : Type 0} {z : ℕ} → Some z ≡ None → X
 never e = absurd (let c : ◌≡◌ {A = ℕ} 0 1 = cc in omega arith)
 
-same_at : {y z : ℕ} → At y ≡ At z → z ≡ y
+same_at : {y z : ℕ} → Some y ≡ Some z → z ≡ y
 same_at e = cc
 
-seek-low : (q : ℕ → Bool) (n i z : ℕ) → seek q At Nothing n i ≡ At z → i ≤ z
+seek-low : (q : ℕ → Bool) (n i z : ℕ) → seek q Some None n i ≡ Some z → i ≤ z
 unfolding seek
 seek-low q zero i z e = never (sym e)
 seek-low q (suc n) i z e = by (q i) e (λ f. seek-low q n (suc i) z f)
   where
-    by : (b : Bool) → cond b (At i) (seek q At Nothing n (suc i)) ≡ At z → (seek q At Nothing n (suc i) ≡ At z → suc i ≤ z) → i ≤ z
+    by : (b : Bool) → cond b (Some i) (seek q Some None n (suc i)) ≡ Some z → (seek q Some None n (suc i) ≡ Some z → suc i ≤ z) → i ≤ z
     by true f r = omega (arith, same_at f)
     by false f r = omega (arith, r f)
 
@@ -87,14 +87,14 @@ module _ {A : Type 0} (a : ℕ) (q : ℕ → Bool) (g g' : ℕ → A) (look : �
 
   -- ---- one less: the first that passes the test goes
 
-  drop-case : (i n z : ℕ) (b : Bool) → cond b (At (a + i)) (seek q At Nothing n (suc (a + i))) ≡ At z → (a + i < z → g' i ≡ g i)
-      → (z ≡ a + i → tab g (suc i) n ≡ tab g' i n) → (seek q At Nothing n (suc (a + i)) ≡ At z → g i ∷ look (suc i) n ≡ tab g' i n)
+  drop-case : (i n z : ℕ) (b : Bool) → cond b (Some (a + i)) (seek q Some None n (suc (a + i))) ≡ Some z → (a + i < z → g' i ≡ g i)
+      → (z ≡ a + i → tab g (suc i) n ≡ tab g' i n) → (seek q Some None n (suc (a + i)) ≡ Some z → g i ∷ look (suc i) n ≡ tab g' i n)
       → cond b (tab g (suc i) n) (g i ∷ look (suc i) n) ≡ tab g' i n
   drop-case i n z true e u v w = v (same_at e)
   drop-case i n z false e u v w = w e
 
   module _ (none : (i : ℕ) → look i zero ≡ []) (some : (i n : ℕ) → look i (suc n) ≡ cond (q (a + i)) (tab g (suc i) n) (g i ∷ look (suc i) n)) where
-    drop-go : (n i z : ℕ) → seek q At Nothing (suc n) (a + i) ≡ At z
+    drop-go : (n i z : ℕ) → seek q Some None (suc n) (a + i) ≡ Some z
         → ((j : ℕ) → i ≤ j → a + j < z → g' j ≡ g j) → ((j : ℕ) → z ≤ a + j → j < i + n → g' j ≡ g (suc j))
         → look i (suc n) ≡ tab g' i n
     unfolding seek tab
@@ -111,7 +111,7 @@ module _ {A : Type 0} (a : ℕ) (q : ℕ → Bool) (g g' : ℕ → A) (look : �
         rw (before i (omega arith) (omega arith)) (ap (λ (r : List A). g i ∷ r) (drop-go n (suc i) z (rw s at f) (λ j c d. before j (omega arith) d) (λ j c d. after j c (omega arith)))))
 
     -- the list without it is what the table reads as after its place was closed up
-    pub drop-walk : (n z : ℕ) → first q At Nothing a (a + suc n) ≡ At z
+    pub drop-walk : (n z : ℕ) → first q Some None a (a + suc n) ≡ Some z
         → ((j : ℕ) → a + j < z → g' j ≡ g j) → ((j : ℕ) → z ≤ a + j → j < n → g' j ≡ g (suc j))
         → look 0 (suc n) ≡ tab g' 0 n
     unfolding first

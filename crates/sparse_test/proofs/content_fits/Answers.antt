@@ -1,3 +1,4 @@
+use Rattle.sparse.specs.Tables.{lent}
 use Prim.Native.Nat.{ℕ}
 use mathlib.Core.Path.{◌≡◌, refl, sym, ◌∙◌}
 use mathlib.Core.Bool.{Bool, true, false, ◌&&◌}
@@ -32,19 +33,19 @@ pub owned_fit-requires : goal.owned_fit-requires
 owned_fit-requires c = record { k_le_last_place = c.requires.symbol_count_at_bound; v_le_most_variables = c.requires.variable_count_at_bound; c_le_most_constraints = c.requires.constraint_count_at_bound; e_le_most_constraints = c.requires.edit_count_at_bound; table_value = c.fill_codes.ensures }
 
 pub returns-then-not-owned_fit : goal.returns-then-not-owned_fit
-returns-then-not-owned_fit c = none (tables c.args.words.now c.args.keys.now c.args.bytes.now c.args.reals.now c.args.values.now) c.owned_fit.ensures.value c.if-not-owned_fit.true
+returns-then-not-owned_fit c = none (lent c.args.tables.now) c.owned_fit.ensures.value c.if-not-owned_fit.true
 
 pub shut_basics-costs-requires : goal.shut_basics-costs-requires
-shut_basics-costs-requires c = record { r_le_most_rows = omega arith; opened = all-open (tables c.args.words.now c.args.keys.now c.args.bytes.now c.args.reals.now c.args.values.now) (omega arith) c.owned_fit.ensures.value c.if-not-owned_fit.false c.owned_fit.ensures.table_after }
+shut_basics-costs-requires c = record { r_le_most_rows = omega arith; opened = all-open (lent c.args.tables.now) (omega arith) c.owned_fit.ensures.value c.if-not-owned_fit.false c.owned_fit.ensures.table_after }
 
 pub reals_fit-requires : goal.reals_fit-requires
-reals_fit-requires c = record { k_le_last_place = c.requires.symbol_count_at_bound; r_le_most_rows = c.requires.row_count_at_bound; v_le_most_variables = c.requires.variable_count_at_bound; c_le_most_constraints = c.requires.constraint_count_at_bound; e_le_most_constraints = c.requires.edit_count_at_bound; m_le_most_terms = c.term_count-m.ensures.upper_bound }
+reals_fit-requires c = record { k_le_last_place = c.requires.symbol_count_at_bound; r_le_most_rows = c.requires.row_count_at_bound; v_le_most_variables = c.requires.variable_count_at_bound; c_le_most_constraints = c.requires.constraint_count_at_bound; e_le_most_constraints = c.requires.edit_count_at_bound; m_le_most_terms = c.term_count-m.ensures.upper_bound c.requires.term_room_value }
 
 pub edits_up-requires : goal.edits_up-requires
 edits_up-requires c = record { v_le_most_variables = c.requires.variable_count_at_bound; e_le_most_constraints = c.requires.edit_count_at_bound; indexed = c.fill_index.ensures }
 
 pub uses_fit-requires : goal.uses_fit-requires
-uses_fit-requires c = record { v_le_most_variables = c.requires.variable_count_at_bound; e_le_most_constraints = c.requires.edit_count_at_bound; m_le_most_terms = c.term_count-m.ensures.upper_bound; indexed = c.fill_index.ensures }
+uses_fit-requires c = record { v_le_most_variables = c.requires.variable_count_at_bound; e_le_most_constraints = c.requires.edit_count_at_bound; m_le_most_terms = c.term_count-m.ensures.upper_bound c.requires.term_room_value; indexed = c.fill_index.ensures }
 
 pub keys_fit-requires : goal.keys_fit-requires
 keys_fit-requires c = record { n_le_cell_room = c.requires.cell_count_at_bound; r_le_most_rows = c.requires.row_count_at_bound; opened = c.shut_basics-costs.ensures.opened_2 }
@@ -56,4 +57,4 @@ pub values_fit-requires : goal.values_fit-requires
 values_fit-requires c = c.requires.cell_count_at_bound
 
 pub returns : goal.returns
-returns c = glue (tables c.args.words.now c.args.keys.now c.args.bytes.now c.args.reals.now c.args.values.now) c.owned_fit.ensures.value c.if-not-owned_fit.false c.term_count-m.ensures.value c.reals_fit.ensures c.edits_up.ensures c.uses_fit.ensures c.shut_basics-costs.ensures.value c.keys_fit.ensures c.values_fit.ensures c.returned_fit.ensures
+returns c = glue (lent c.args.tables.now) c.owned_fit.ensures.value c.if-not-owned_fit.false c.term_count-m.ensures.value c.reals_fit.ensures c.edits_up.ensures c.uses_fit.ensures c.shut_basics-costs.ensures.value c.keys_fit.ensures c.values_fit.ensures c.returned_fit.ensures

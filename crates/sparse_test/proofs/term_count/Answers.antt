@@ -16,16 +16,10 @@ few b n i h k e = let q = most b term_counts_at n term_room h i k in omega (arit
 
 pub loop-i-init : goal.loop-i-init
 unfolding term_count
-loop-i-init c = (sum-start _ _ _, omega arith, omega arith)
-
-pub overflow_add-m : goal.overflow_add-m
-overflow_add-m c = let q = few _ _ _ c.requires.term_room_value (omega arith) c.wide-m.ensures.value in omega (arith, q)
-
-pub loop-i-smaller : goal.loop-i-smaller
-loop-i-smaller c = omega arith
+loop-i-init c = (sum-start _ _ _, omega arith, λ h. omega arith)
 
 pub loop-i-preserved : goal.loop-i-preserved
-loop-i-preserved c = let q = few _ _ _ c.requires.term_room_value (omega arith) c.wide-m.ensures.value in (sum-next _ _ _ _ (omega arith) (ap (λ (x : ℕ). c.loop-i.m + x) c.wide-m.ensures.value) c.loop-i.invariant.0, omega (arith, q), omega arith)
+loop-i-preserved c = (sum-next _ _ _ _ (omega arith) (ap (λ (x : ℕ). c.loop-i.m + x) c.from-m.ensures) c.loop-i.invariant.0, let b = c.fits-bytes (term_counts_at + c.loop-i.i) in omega (arith, b, c.from-m.ensures), λ h. let q = few _ _ _ h (omega arith) c.from-m.ensures in let m = c.loop-i.invariant.2 h in omega (arith, q, m))
 
 pub returns : goal.returns
-returns c = record { value = sum-last _ _ _ _ (omega arith) c.loop-i.invariant.0; upper_bound = omega arith }
+returns c = record { value = sum-last _ _ _ _ (omega arith) c.loop-i.invariant.0; upper_bound = λ h. let m = c.loop-i.invariant.2 h in omega (arith, m) }

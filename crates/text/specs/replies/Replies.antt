@@ -1,7 +1,7 @@
 -- The answer to a line as text: `ok RELATION STRENGTH GROUP CONSTANT N V1 K1 ..`, `no 20 OFFSET`, or `no NUMBER`.
-use Rattle.std.specs.Prelude.{◌≡◌, ℕ, zero, suc, ◌+◌, ◌-◌, ◌≤◌, cond, List, [], ◌∷◌, ◌++◌, length, ◌==◌, nat_le, nat_lt, slice_index}
+use Rattle.std.specs.Prelude.{◌≡◌, ℕ, zero, suc, ◌+◌, ◌-◌, cond, List, [], ◌∷◌, ◌++◌, ◌==◌, nat_le, nat_lt, slice_index}
 use Rattle.std.proofs.Common.{add-one}
-use Rattle.text.specs.Answers.{number_text, decimal-short}
+use Rattle.text.specs.Answers.{number_text}
 use Rattle.reader.specs.declared.sides.Mark.{Mark}
 use Rattle.reader.specs.declared.sides.Mark.TheVariants.{AtMost, Equal, AtLeast}
 use Rattle.reader.specs.declared.answers.Reading.{Reading}
@@ -47,9 +47,6 @@ usual r = record { reading = r; strength = 1001001000; group = 1 }
 
 unfoldable pub reply_text : Reply → List ℕ
 reply_text x = cond (x.reading.number == 0) (reading_text x) (refusal_text x.reading.number x.reading.offset)
-
-pub number_short : (n : ℕ) → length (number_text n) ≤ 20
-number_short n = decimal-short 20 n
 
 pub terms-next : (n : ℕ) (vs ks : List ℕ) → terms_text (n + 1) vs ks ≡ terms_text n vs ks ++ term_text (slice_index vs n) (slice_index ks n)
 unfolding terms_text

@@ -1,5 +1,5 @@
 -- "`show C`: `REL STRENGTH GROUP CONSTANT N V1 K1 ...` or `no 5`": which constraint a line asks for, and the text of what is shown.
-use Rattle.std.specs.Prelude.{◌≡◌, ℕ, zero, suc, ◌+◌, ◌*◌, ◌<◌, ◌≤◌, cond, List, [], ◌∷◌, ◌++◌, map, length, ◌==◌, slice_index, slice_index_or, to_bits, refl, Float}
+use Rattle.std.specs.Prelude.{◌≡◌, ℕ, zero, suc, ◌+◌, ◌*◌, ◌<◌, ◌≤◌, cond, List, [], ◌∷◌, ◌++◌, map, length, ◌==◌, slice_index, slice_index_or, to_bits, refl, Float, Option, None}
 use Rattle.std.proofs.Common.{sym, ◌∙◌, add-one, arith, length-append}
 use Rattle.std.proofs.Math.Path.{ap}
 use mathlib.Core.List.{append_assoc, append-nil}
@@ -10,8 +10,6 @@ use Rattle.laws.specs.Lists.{tab, list_of, list_of-is}
 use Rattle.rows.specs.choose.Walk.{tab-snoc}
 use Rattle.steps.specs.State.{Term, Relation, at_most, equal, at_least, strength_of, comparison_of}
 use Rattle.layout.specs.Layout.{comparison_code}
-use Rattle.text.specs.declared.floats.Id.{Id}
-use Rattle.text.specs.declared.floats.Id.TheVariants.{No32}
 use Rattle.text.specs.Digits.{same_bytes}
 use Rattle.text.specs.Floats.{id_of}
 use Rattle.text.specs.Names.{le_name, eq_name, ge_name}
@@ -23,8 +21,8 @@ abbrev pub show_name : List ℕ
 show_name = 115 ∷ 104 ∷ 111 ∷ 119 ∷ []
 
 -- two words, the second a constraint's number
-unfoldable pub asks_for : List (List ℕ) → Id
-asks_for ws = cond (length ws == 2) (cond (same_bytes (word ws 0) show_name) (id_of (word ws 1)) No32) No32
+unfoldable pub asks_for : List (List ℕ) → Option ℕ
+asks_for ws = cond (length ws == 2) (cond (same_bytes (word ws 0) show_name) (id_of (word ws 1)) None) None
 
 -- ---- the answer, part by part: each with the space before it
 

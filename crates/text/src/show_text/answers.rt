@@ -1,67 +1,50 @@
 // A constraint as it was added, `REL STRENGTH GROUP CONSTANT N V1 K1 ..`, or `no NUMBER`: out of the places in which one is lent, into a buffer from a
 // place on; each function answers the next place.
 ghost use Rattle.std.specs.Prelude.{◌≡◌, ◌+◌, ◌<◌, ◌≤◌, [], ◌∷◌, slice_index};
-ghost use Rattle.text.specs.show_text.Puts.{Puts};
+ghost use Rattle.text.specs.Put.{Put};
 ghost use Rattle.text.specs.show_text.Show.{number_after, float_after, term_text, terms_in, kind_text, head_text, line_text, no_text, shown_text};
 
-use crate::writing;
-
-pub type Out = [u8; 8192];
-
-fn put_byte(out: &mut Out, at: usize, b: u8) -> usize
-    requires { at < 8192 }
-    ensures puts { Puts out.old out.new at result (b ∷ []) }
-    ensures upper_bound { result ≤ at + 1 }
-{
-    writing::put_byte(out, at, b)
-}
-
-fn put_word(out: &mut Out, at: usize, a: u8, b: u8) -> usize
-    requires { at + 2 ≤ 8192 }
-    ensures puts { Puts out.old out.new at result (a ∷ b ∷ []) }
-    ensures upper_bound { result ≤ at + 2 }
-{
-    let i = put_byte(out, at, a);
-    put_byte(out, i, b)
-}
+use crate::buffer::{Out, put_byte, put_text};
+use crate::{buffer, writing};
 
 fn put_number(out: &mut Out, at: usize, n: u64) -> usize
     requires { at + 21 ≤ 8192 }
-    ensures puts { Puts out.old out.new at result (number_after n) }
+    ensures put { Put out.old out.new at result (number_after n) }
     ensures upper_bound { result ≤ at + 21 }
 {
     let i = put_byte(out, at, b' ');
-    writing::put_number(out, i, n)
+    buffer::put_number(out, i, n)
 }
 
 // "floats .. as `0x` and 16 hexadecimal digits", as the format takes them in.
 fn put_float(out: &mut Out, at: usize, x: f64) -> usize
     requires { at + 19 ≤ 8192 }
-    ensures puts { Puts out.old out.new at result (float_after x) }
+    ensures put { Put out.old out.new at result (float_after x) }
     ensures upper_bound { result ≤ at + 19 }
 {
     let i = put_byte(out, at, b' ');
-    let j = put_word(out, i, b'0', b'x');
+    let j = put_text(out, i, b"0x");
     writing::put_float(out, j, x)
 }
 
+// The kind is a word among those that `knobharbor_show` fills for C.
 fn put_kind(out: &mut Out, at: usize, kind: u64) -> usize
     requires { at + 2 ≤ 8192 }
-    ensures puts { Puts out.old out.new at result (kind_text kind) }
+    ensures put { Put out.old out.new at result (kind_text kind) }
     ensures upper_bound { result ≤ at + 2 }
 {
     if kind == 0 {
-        return put_word(out, at, b'l', b'e');
+        return put_text(out, at, b"le");
     }
     if kind == 1 {
-        return put_word(out, at, b'e', b'q');
+        return put_text(out, at, b"eq");
     }
-    put_word(out, at, b'g', b'e')
+    put_text(out, at, b"ge")
 }
 
 fn put_head(out: &mut Out, at: usize, words: &[u64; 6], reals: &[f64; 2]) -> usize
     requires { at + 82 ≤ 8192 }
-    ensures puts { Puts out.old out.new at result (head_text words.now reals.now) }
+    ensures put { Put out.old out.new at result (head_text words.now reals.now) }
     ensures upper_bound { result ≤ at + 82 }
 {
     let i = put_kind(out, at, words[3]);
@@ -73,7 +56,7 @@ fn put_head(out: &mut Out, at: usize, words: &[u64; 6], reals: &[f64; 2]) -> usi
 
 fn put_term(out: &mut Out, at: usize, v: u32, k: f64) -> usize
     requires { at + 40 ≤ 8192 }
-    ensures puts { Puts out.old out.new at result (term_text v k) }
+    ensures put { Put out.old out.new at result (term_text v k) }
     ensures upper_bound { result ≤ at + 40 }
 {
     let i = put_number(out, at, v as u64);
@@ -89,14 +72,12 @@ fn put_terms(
 ) -> usize
     requires n_bound { n ≤ 16 }
     requires at_bound { at + 640 ≤ 8192 }
-    ensures puts { Puts out.old out.new at result (terms_in n variables.now coefficients.now) }
+    ensures put { Put out.old out.new at result (terms_in n variables.now coefficients.now) }
     ensures upper_bound { result ≤ at + 640 }
 {
     let mut next = at;
-    let mut i: usize = 0;
-    while i < n as usize {
+    for i in 0..n as usize {
         next = put_term(out, next, variables[i], coefficients[i]);
-        i += 1;
     }
     next
 }
@@ -111,7 +92,7 @@ fn put_line(
 ) -> usize
     requires words_bound { slice_index words.now 4 ≤ 16 }
     requires at_bound { at + 722 ≤ 8192 }
-    ensures puts { Puts out.old out.new at result (line_text words.now reals.now variables.now coefficients.now) }
+    ensures put { Put out.old out.new at result (line_text words.now reals.now variables.now coefficients.now) }
     ensures upper_bound { result ≤ at + 722 }
 {
     let i = put_head(out, at, words, reals);
@@ -120,10 +101,10 @@ fn put_line(
 
 fn put_no(out: &mut Out, at: usize, number: u64) -> usize
     requires { at + 23 ≤ 8192 }
-    ensures puts { Puts out.old out.new at result (no_text number) }
+    ensures put { Put out.old out.new at result (no_text number) }
     ensures upper_bound { result ≤ at + 23 }
 {
-    let i = put_word(out, at, b'n', b'o');
+    let i = put_text(out, at, b"no");
     put_number(out, i, number)
 }
 
@@ -138,7 +119,7 @@ pub fn put_shown(
 ) -> usize
     requires words_bound { slice_index words.now 4 ≤ 16 }
     requires at_bound { at + 722 ≤ 8192 }
-    ensures puts { Puts out.old out.new at result (shown_text words.now reals.now variables.now coefficients.now) }
+    ensures put { Put out.old out.new at result (shown_text words.now reals.now variables.now coefficients.now) }
     ensures upper_bound { result ≤ at + 722 }
 {
     let number = words[1];

@@ -132,7 +132,7 @@ module _ (cutoff : Float) (at m : ℕ) (y : Float) (cols : List ℕ) (others : L
 
   module _ (fk fk' k₁ k₂ : List ℕ) (fv fv' v₁ v₂ : List Float) (z : ℕ) (lk : length fk ≡ row_room) (lv : length fv ≡ row_room)
       (q : cells fk' fv' z ≡ packed last_place i (merged_row cutoff k (own_cell u.keys u.vals a e i at) (other_cell cols others m)) (cells fk fv 0))
-      (h₁ : k₁ ≡ moved s (s - (s - b)) (a - s) u.keys) (h₂ : v₁ ≡ moved s (s - (s - b)) (a - s) u.vals) (h₃ : k₂ ≡ pasted 0 (b + (a - s)) z fk' k₁) (h₄ : v₂ ≡ pasted nan (b + (a - s)) z fv' v₁) where
+      (h₁ : k₁ ≡ moved s b (a - s) u.keys) (h₂ : v₁ ≡ moved s b (a - s) u.vals) (h₃ : k₂ ≡ pasted 0 (b + (a - s)) z fk' k₁) (h₄ : v₂ ≡ pasted nan (b + (a - s)) z fv' v₁) where
     abbrev row : List Float
     row = merged_row cutoff k (own_in t.size i at t.keys t.vals) (other_cell cols others m)
 

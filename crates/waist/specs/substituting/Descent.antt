@@ -8,17 +8,12 @@ use Rattle.waist.specs.merging.Merge.{pasted}
 use Rattle.waist.specs.substituting.Pasted.{Stands, pasted-stands}
 
 -- those from place s up to a come to place b on, and z new ones stand behind them
-module _ {A : Type 0} (d : A) (b s a z : ℕ) (l new k₁ k₂ : List A) (bs : b ≤ s) (sa : s ≤ a) (al : a ≤ length l) (fit : b + (a - s) + z ≤ length l) (h₁ : k₁ ≡ moved s (s - (s - b)) (a - s) l) (h₂ : k₂ ≡ pasted d (b + (a - s)) z new k₁) where
-  down : k₁ ≡ moved s b (a - s) l
-  down =
-      let o : s - (s - b) ≡ b = omega (arith, bs) in
-      h₁ ∙ ap (λ (x : ℕ). moved s x (a - s) l) o
-
+module _ {A : Type 0} (d : A) (b s a z : ℕ) (l new k₁ k₂ : List A) (bs : b ≤ s) (sa : s ≤ a) (al : a ≤ length l) (fit : b + (a - s) + z ≤ length l) (h₁ : k₁ ≡ moved s b (a - s) l) (h₂ : k₂ ≡ pasted d (b + (a - s)) z new k₁) where
   ends : (s + (a - s) ≤ length l) × (b + (a - s) ≤ length l)
   ends = (omega (arith, sa, al), omega (arith, fit))
 
   long₁ : length k₁ ≡ length l
-  long₁ = ap length down ∙ length_moved s b (a - s) l ends.0 ends.1
+  long₁ = ap length h₁ ∙ length_moved s b (a - s) l ends.0 ends.1
 
   stands : Stands d (b + (a - s)) new k₁ z k₂
   stands = subst (Stands d (b + (a - s)) new k₁ z) (sym h₂) (pasted-stands d (b + (a - s)) new k₁ z (let w = long₁ in omega (arith, w, fit)))
@@ -27,13 +22,13 @@ module _ {A : Type 0} (d : A) (b s a z : ℕ) (l new k₁ k₂ : List A) (bs : b
   came-long = stands.long ∙ long₁
 
   came-front : (j : ℕ) → j < b → get_or k₂ j d ≡ get_or l j d
-  came-front j u = stands.before j (omega (arith, u)) ∙ ap (λ (x : List A). get_or x j d) down ∙ moved_before s b (a - s) l j d ends.0 ends.1 u
+  came-front j u = stands.before j (omega (arith, u)) ∙ ap (λ (x : List A). get_or x j d) h₁ ∙ moved_before s b (a - s) l j d ends.0 ends.1 u
 
   came_down : (j : ℕ) → j < a - s → get_or k₂ (b + j) d ≡ get_or l (s + j) d
-  came_down j u = stands.before (b + j) (omega (arith, u)) ∙ ap (λ (x : List A). get_or x (b + j) d) down ∙ moved_in s b (a - s) l j d ends.0 ends.1 u
+  came_down j u = stands.before (b + j) (omega (arith, u)) ∙ ap (λ (x : List A). get_or x (b + j) d) h₁ ∙ moved_in s b (a - s) l j d ends.0 ends.1 u
 
   pub stayed : (j : ℕ) → b + (a - s) + z ≤ j → get_or k₂ j d ≡ get_or l j d
-  stayed j u = stands.after j u ∙ ap (λ (x : List A). get_or x j d) down ∙ moved-after s b (a - s) l j d ends.0 ends.1 (omega (arith, u))
+  stayed j u = stands.after j u ∙ ap (λ (x : List A). get_or x j d) h₁ ∙ moved-after s b (a - s) l j d ends.0 ends.1 (omega (arith, u))
 
   -- beside a list t that had the same, and w, which is t with the new ones in place of those from a up to e
   module _ (e top : ℕ) (t w : List A) (ae : a ≤ e) (et : e ≤ top) (fits : b + (a - s) + z ≤ e) (front : (j : ℕ) → j < b → get_or l j d ≡ get_or t j d) (back : (j : ℕ) → s + j < top → get_or l (s + j) d ≡ get_or t (b + j) d)

@@ -162,18 +162,15 @@ module _ (cutoff : Float) (at m : ℕ) (y : Float) (cols : List ℕ) (others : L
 
   -- ---- how it ends
 
-  pub going_end : (i s : ℕ) (u goal : Lines) (k₂ : List ℕ) (v₂ : List Float) → Going i s u goal → count < i → k₂ ≡ moved s (s - (s - u.size)) (cell_room - s) u.keys → v₂ ≡ moved s (s - (s - u.size)) (cell_room - s) u.vals
+  pub going_end : (i s : ℕ) (u goal : Lines) (k₂ : List ℕ) (v₂ : List Float) → Going i s u goal → count < i → k₂ ≡ moved s u.size (cell_room - s) u.keys → v₂ ≡ moved s u.size (cell_room - s) u.vals
       → Alike (lines k₂ v₂ (u.size + (cell_room - s)) u.reals u.mark) goal
-  going_end i s u goal k₂ v₂ g l h₁ h₂ =
+  going_end i s u goal k₂ v₂ g l k v =
       let p = g.apart in
       let r = apart-room n keys₀ i s u g.t p count few g.held in
       let mo = p.most in
       let wd = p.wide in
       let ws = p.wides in
-      let o : s - (s - u.size) ≡ u.size = omega (arith, r) in
       let e : g.t ≡ goal = run-last turn i (count + 1) g.t (omega (arith, l)) g.rest in
-      let k : k₂ ≡ moved s u.size (cell_room - s) u.keys = h₁ ∙ ap (λ (x : ℕ). moved s x (cell_room - s) u.keys) o in
-      let v : v₂ ≡ moved s u.size (cell_room - s) u.vals = h₂ ∙ ap (λ (x : ℕ). moved s x (cell_room - s) u.vals) o in
       let a₁ : s + (cell_room - s) ≤ length u.keys = omega (arith, mo, wd) in
       let a₂ : u.size + (cell_room - s) ≤ length u.keys = omega (arith, r, mo, wd) in
       let b₁ : s + (cell_room - s) ≤ length u.vals = omega (arith, mo, ws) in

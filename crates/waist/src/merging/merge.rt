@@ -7,6 +7,7 @@ ghost use Rattle.layout.specs.cells.Names.{cell_room, row_room, row_span, top_ro
 ghost use Rattle.layout.specs.cells.Cells.{cells, put_if, packed};
 ghost use Rattle.waist.specs.merging.Merge.{RunOf, front_of, own_value, own_cell, other_cell, merged_row, merged_mark};
 
+use layout::cells::row::put_if;
 use layout::cells::{CELL_ROOM, ROW_ROOM, ROW_SPAN};
 use rows::cell::{Left, cell_value, insert_cell, mark_cell};
 use rows::number::{Wrote, nothing};
@@ -18,25 +19,14 @@ pub struct Merged {
     pub wrote: Wrote,
 }
 
-// The place of cell j of a row's run that ends at e, or ROW_SPAN past it.
-fn front(keys: &[u16; CELL_ROOM], j: usize, e: usize) -> u16
-    requires { e ≤ cell_room }
+// The place of cell j of a run that ends at e, or ROW_SPAN past it.
+fn front<const N: usize>(keys: &[u16; N], j: usize, e: usize) -> u16
+    requires { e ≤ N }
     ensures value { result ≡ front_of keys.now j e }
     ensures upper_bound { result ≤ row_span }
 {
     if j < e {
         return keys[j] % ROW_SPAN;
-    }
-    ROW_SPAN
-}
-
-fn loose_front(cols: &[u16; ROW_ROOM], j: usize, m: usize) -> u16
-    requires { m ≤ row_room }
-    ensures value { result ≡ front_of cols.now j m }
-    ensures upper_bound { result ≤ row_span }
-{
-    if j < m {
-        return cols[j] % ROW_SPAN;
     }
     ROW_SPAN
 }
@@ -56,26 +46,9 @@ fn inserted(cutoff: f64, k: f64, o: f64, c: f64) -> Left
     ensures { cell_of result ≡ insert_times cutoff k o c }
 {
     if o == 0.0 {
-        return Left {
-            wrote: false,
-            value: c,
-        };
+        return Left::Kept(c);
     }
     insert_cell(cutoff, c, o * k)
-}
-
-// A cell that is not zero goes to place n; where the next one goes.
-fn put(keys: &mut [u16; ROW_ROOM], vals: &mut [f64; ROW_ROOM], n: usize, key: u16, x: f64) -> usize
-    requires { n < row_room }
-    ensures result_after { cells keys.new vals.new result ≡ put_if key x (cells keys.old vals.old n) }
-    ensures upper_bound { result ≤ n + 1 }
-{
-    if x != 0.0 {
-        keys[n] = key;
-        vals[n] = x;
-        return n + 1;
-    }
-    n
 }
 
 // The sum at one place, laid down and marked.
@@ -97,7 +70,7 @@ fn put_sum(
     ensures size_bound { result.size ≤ n + 1 }
 {
     let l = inserted(cutoff, k, o, c);
-    let next = put(keys, vals, n, key, cell_value(l));
+    let next = put_if(keys, vals, n, key, cell_value(l));
     Merged {
         size: next,
         wrote: mark_cell(bound, before, l),
@@ -136,12 +109,13 @@ pub fn merge_run(
     let mut j = 0;
     let mut n = 0;
     let mut w = nothing();
+    // Two walks, each at its own pace: no range counts both.
     while s + j < e + m {
         let p = front(keys, s, e);
-        let q = loose_front(cols, j, m);
+        let q = front(cols, j, m);
         if p < q {
             let x = own(vals[s], p, at);
-            n = put(fresh, sums, n, base + p, x);
+            n = put_if(fresh, sums, n, base + p, x);
             s += 1;
             continue;
         }

@@ -1,21 +1,10 @@
 // What a merge leaves, put into the tables.
-ghost use Rattle.std.specs.Prelude.{◌≡◌, ◌+◌, ◌≤◌, length};
+ghost use Rattle.std.specs.Prelude.{◌≡◌, ◌+◌, ◌≤◌};
 ghost use Rattle.std.specs.Float.{nan};
 ghost use Rattle.layout.specs.cells.Names.{cell_room, row_room};
 ghost use Rattle.waist.specs.merging.Merge.{pasted};
 
 use layout::cells::{CELL_ROOM, ROW_ROOM};
-
-// An array by value tells its length, and one behind a reference does not: these hand it over.
-fn told(t: [u16; ROW_ROOM])
-    ensures { length t ≡ row_room }
-{}
-
-pub fn loose_wide(t: &[u16; ROW_ROOM])
-    ensures { length t.now ≡ row_room }
-{
-    told(*t);
-}
 
 // The first m cells of a loose run, put from place a on.
 pub fn paste(
@@ -31,10 +20,6 @@ pub fn paste(
     ensures keys_after { keys.new ≡ pasted 0 a m cols.now keys.old }
     ensures vals_after { vals.new ≡ pasted nan a m others.now vals.old }
 {
-    let mut j = 0;
-    while j < m {
-        keys[a + j] = cols[j];
-        vals[a + j] = others[j];
-        j += 1;
-    }
+    keys[a..a + m].copy_from_slice(&cols[..m]);
+    vals[a..a + m].copy_from_slice(&others[..m]);
 }

@@ -17,17 +17,14 @@ pub fn loose_run(
     ensures upper_bound { result ≤ k }
 {
     let mut n = 0;
-    let mut p = 1;
-    while p <= k {
+    for p in 1..k + 1 {
         let x = row[p];
         if x == 0.0 {
-            p += 1;
             continue;
         }
         cols[n] = p as u16;
         others[n] = x;
         n += 1;
-        p += 1;
     }
     n
 }

@@ -18,11 +18,7 @@ fn clear_changed(bytes: &mut Bytes, count: usize)
     requires { count ≤ most_variables }
     ensures { bytes.new ≡ map_in (λ _. 0) changed_at (changed_at + count) bytes.old }
 {
-    let mut v = CHANGED;
-    while v < CHANGED + count {
-        bytes[v] = 0;
-        v += 1;
-    }
+    bytes[CHANGED..CHANGED + count].fill(0);
 }
 
 fn clear_changed_if(on: bool, bytes: &mut Bytes, count: usize)
@@ -39,14 +35,11 @@ fn flag_place(bytes: &mut Bytes, count: usize, p: u8)
     requires { count ≤ most_variables }
     ensures { bytes.new ≡ flagged_in p count bytes.old }
 {
-    let mut v = 0;
-    while v < count {
-        if bytes[VARIABLE_PLACES + v] == p {
-            bytes[CHANGED + v] = 1;
-            v += 1;
+    for v in 0..count {
+        if bytes[VARIABLE_PLACES + v] != p {
             continue;
         }
-        v += 1;
+        bytes[CHANGED + v] = 1;
     }
 }
 
@@ -111,12 +104,10 @@ pub fn note_rows(
     requires variable_count_at_bound { get_or words.old variable_count_at 0 ≤ most_variables }
     ensures { noted words.new bytes.new ≡ note_rows at y n keys.now values.now count (noted words.old bytes.old) }
 {
-    let mut i: u8 = 1;
-    while i <= count {
+    for i in 1..count + 1 {
         let p = bytes[ROW_PLACES + i as usize];
         let k = spot_cell(keys, values, n, at, spots, i as usize);
         let on = is_noted(kind_at(bytes, p), k, y);
         var_changed_if(on, words, bytes, p);
-        i += 1;
     }
 }

@@ -13,12 +13,11 @@ ghost use Rattle.waist.specs.substituting.Carried.{Carries};
 ghost use Rattle.waist.specs.substituting.Passed.{FirstSpot, Alike};
 
 use crate::merging::merge::{Merged, merge_run};
-use crate::merging::row::{loose_wide, paste};
+use crate::merging::row::paste;
 use layout::cells::edges::{run_end, run_start};
-use layout::cells::slide::{slide_down, slide_up};
+use layout::cells::slide::slide;
 use layout::cells::{CELL_ROOM, LINES_ROOM, ROW_ROOM, ROW_SPAN};
 use rows::number::{CELL_BOUND, CONSTANT_BOUND, Wrote, joined, mark_write, nothing};
-use rows::row::wide;
 use sparse::{CONSTANTS, Keys, Reals, Values};
 
 // How many cells have come down, where those still at the far end begin, and what was written.
@@ -54,8 +53,6 @@ fn merge_line(
     requires run_of { RunOf cols.now 0 0 m }
     ensures { Carries cutoff at m y cols.now others.now i s (lines keys.old values.old b reals.old (mark_of before)) result.back (lines keys.new values.new result.front reals.new (mark_of result.wrote)) }
 {
-    loose_wide(fresh);
-    wide(sums);
     let low = i as u16 * ROW_SPAN;
     let a = run_start(keys, s, c, low);
     let e = run_end(keys, c, CELL_ROOM, low + ROW_SPAN);
@@ -68,7 +65,7 @@ fn merge_line(
     );
     let w = r.wrote;
     let next = b + (a - s);
-    slide_down(keys, values, s, a, s - b);
+    slide(keys, values, s, a, b);
     paste(fresh, sums, r.size, keys, values, next);
     let t = mark_write(CONSTANT_BOUND, total);
     Passed {
@@ -78,23 +75,15 @@ fn merge_line(
     }
 }
 
-fn spot_at(x: u16) -> usize
-    ensures { result ≡ x }
-{
-    x as usize
-}
-
 // The first line that holds the symbol, or one past the last.
 fn first_line(spots: &[u16; LINES_ROOM], n: usize, count: u8) -> u8
     requires { count ≤ most_rows }
     ensures { FirstSpot spots.now n count result }
 {
-    let mut i: u8 = 1;
-    while i <= count {
-        if spot_at(spots[i as usize]) < n {
+    for i in 1..count + 1 {
+        if (spots[i as usize] as usize) < n {
             return i;
         }
-        i += 1;
     }
     1 + count
 }
@@ -125,45 +114,43 @@ pub fn substitute_lines(
     ensures { Alike (lines keys.new values.new result.size reals.new (mark_of result.wrote)) (lines_in cutoff at m y cols.now others.now count (lines keys.old values.old n reals.old all_whole)) }
 {
     let mut w = nothing();
-    let mut i = first_line(spots, n, count);
-    if count < i {
+    let first = first_line(spots, n, count);
+    if count < first {
         return Merged { size: n, wrote: w };
     }
     let d = CELL_ROOM - n;
-    let low = i as u16 * ROW_SPAN;
-    let mut b = run_start(keys, 0, spot_at(spots[i as usize]), low);
-    slide_up(keys, values, b, n, d);
+    let low = first as u16 * ROW_SPAN;
+    let mut b = run_start(keys, 0, spots[first as usize] as usize, low);
     let mut s = b + d;
-    while i <= count {
-        let c = spot_at(spots[i as usize]);
-        if c < n {
-            let r = merge_line(
-                cutoff,
-                keys,
-                values,
-                reals,
-                i,
-                at,
-                b,
-                s,
-                c + d,
-                cols,
-                others,
-                m,
-                y,
-                fresh,
-                sums,
-                w,
-            );
-            b = r.front;
-            s = r.back;
-            w = r.wrote;
-            i += 1;
+    slide(keys, values, b, n, s);
+    for i in first..count + 1 {
+        let c = spots[i as usize] as usize;
+        if c >= n {
             continue;
         }
-        i += 1;
+        let r = merge_line(
+            cutoff,
+            keys,
+            values,
+            reals,
+            i,
+            at,
+            b,
+            s,
+            c + d,
+            cols,
+            others,
+            m,
+            y,
+            fresh,
+            sums,
+            w,
+        );
+        b = r.front;
+        s = r.back;
+        w = r.wrote;
     }
-    slide_down(keys, values, s, CELL_ROOM, s - b);
+    slide(keys, values, s, CELL_ROOM, b);
     Merged {
         size: b + (CELL_ROOM - s),
         wrote: w,

@@ -1,4 +1,4 @@
-use Prim.Native.Nat.{◌-◌, ◌≤◌}
+use Prim.Native.Nat.{◌≤◌}
 use mathlib.Core.Path.{◌≡◌}
 use mathlib.Core.Bool.{true}
 use Rattle.laws.specs.Lists.{all_on}
@@ -8,6 +8,3 @@ use Rattle.addition.proofs.inputs.whole_terms.Given as goal
 
 abbrev pub invariant-loop-i : goal.invariant-loop-i
 invariant-loop-i l = (all_on (whole_at l.coefs) l.i l.n l.ok ≡ all_on (whole_at l.coefs) 0 l.n true) × (l.n ≤ term_room)
-
-abbrev pub decreases-loop-i : goal.decreases-loop-i
-decreases-loop-i l = l.n - l.i

@@ -1,3 +1,4 @@
+use Rattle.std.proofs.Common.{rules}
 use mathlib.Core.Path.{refl}
 use native.Mathlib.Omega.{arith}
 use borrow.Author.Tests.{eq-eqb, ne_eqb}
@@ -8,21 +9,21 @@ use Rattle.addition.specs.Removed.{pivotable-none, pivot-refused, pivot-gone}
 use Rattle.addition.proofs.temporary.pivot_temporary.Goals as goal
 
 pub returns-in_default : goal.returns-in_default
-returns-in_default c = let all = pivotable-none _ _ _ _ _ c.requires.looked refl c.any_pivotable_symbol-f.ensures c.in_default.is in record { values_value = all.0; goes = all.1 }
+returns-in_default c = let all = pivotable-none _ _ _ _ _ c.requires.looked refl c.any_pivotable_symbol-f.ensures c.in_default.is in record { values_value = all.0; goes = all.1; same = search rules }
 
 pub overflow_cast-q : goal.overflow_cast-q
-overflow_cast-q c = let b = within c.any_pivotable_symbol-f.ensures.within c.in-At.is in omega (arith, b, c.requires.standing.sound.named.few-symbols)
+overflow_cast-q c = let b = within c.any_pivotable_symbol-f.ensures.within c.in-Some.is in omega (arith, b, c.requires.standing.sound.named.few-symbols)
 
 pub pivot_on-w-requires : goal.pivot_on-w-requires
-pivot_on-w-requires c = let b = within c.any_pivotable_symbol-f.ensures.within c.in-At.is in
-    record { standing = c.requires.standing; le_i = c.requires.le_i; i_bound = c.requires.i_bound; le_p = b.0; p_bound = b.1; free = pivotable-free _ _ _ c.requires.standing c.in-At.is _ c.requires.le_i c.requires.i_bound c.any_pivotable_symbol-f.ensures }
+pivot_on-w-requires c = let b = within c.any_pivotable_symbol-f.ensures.within c.in-Some.is in
+    record { standing = c.requires.standing; le_i = c.requires.le_i; i_bound = c.requires.i_bound; le_p = b.0; p_bound = b.1; free = pivotable-free _ _ _ c.requires.standing c.in-Some.is _ c.requires.le_i c.requires.i_bound c.any_pivotable_symbol-f.ensures }
 
 pub returns-then-e-ne0 : goal.returns-then-e-ne0
-returns-then-e-ne0 c = let all = pivot-refused _ _ _ _ _ c.requires.looked refl c.any_pivotable_symbol-f.ensures _ c.in-At.is _ _ c.pivot_on-w.ensures.makes c.check_finite-e.ensures (ne_eqb _ _ c.if-e-ne0.true) in record { values_value = all.0; goes = all.1 }
+returns-then-e-ne0 c = let all = pivot-refused _ _ _ _ _ c.requires.looked refl c.any_pivotable_symbol-f.ensures _ c.in-Some.is _ _ c.pivot_on-w.ensures.makes c.check_finite-e.ensures (ne_eqb _ _ c.if-e-ne0.true) in record { values_value = all.0; goes = all.1; same = search rules }
 
 pub purge_temporary-requires : goal.purge_temporary-requires
 purge_temporary-requires c = record { standing = c.pivot_on-w.ensures.makes.stands; temporary = temporary-alike _ _ _ (alike-later _ _ c.pivot_on-w.ensures.later c.requires.standing.sound.named.few-symbols) c.requires.temporary }
 
 pub returns : goal.returns
 returns c = let a = alike-later _ _ c.pivot_on-w.ensures.later c.requires.standing.sound.named.few-symbols in
-    let all = pivot-gone _ _ _ _ _ c.requires.looked refl c.any_pivotable_symbol-f.ensures _ c.in-At.is _ _ c.pivot_on-w.ensures.makes c.check_finite-e.ensures (eq-eqb _ _ c.if-e-ne0.false) (a.at _ c.requires.temporary.low c.requires.temporary.high) _ _ c.purge_temporary.ensures.values_value c.purge_temporary.ensures.goes in record { values_value = all.0; goes = all.1 }
+    let all = pivot-gone _ _ _ _ _ c.requires.looked refl c.any_pivotable_symbol-f.ensures _ c.in-Some.is _ _ c.pivot_on-w.ensures.makes c.check_finite-e.ensures (eq-eqb _ _ c.if-e-ne0.false) (a.at _ c.requires.temporary.low c.requires.temporary.high) _ _ c.purge_temporary.ensures.values_value c.purge_temporary.ensures.goes in record { values_value = all.0; goes = all.1; same = search rules }

@@ -18,12 +18,12 @@ ended : (ys : List Term) (i : ℕ) (d : Pack) → i ≡ length ys → pack_from 
 unfolding pack_from
 ended ys i d e h = sym (ap (pack_from d) (ap (λ (k : ℕ). drop k ys) e ∙ drop-length ys)) ∙ h
 
-pub loop-i-init : goal.loop-i-init
+pub loop-t-init : goal.loop-t-init
 unfolding pack_of
-loop-i-init c = record { most = omega arith; same = rw c.none-p.ensures refl }
+loop-t-init c = rw c.none-p.ensures refl
 
-pub loop-i-preserved : goal.loop-i-preserved
-loop-i-preserved c = record { most = omega arith; same = packs _ _ _ _ _ c.loop-i-test.true c.term_at-t.ensures c.push-p.ensures c.loop-i.invariant.same }
+pub loop-t-preserved : goal.loop-t-preserved
+loop-t-preserved c = packs _ _ _ _ _ (omega arith) refl c.push-p.ensures c.loop-t.invariant
 
 pub returns : goal.returns
-returns c = ended _ _ _ (omega arith) c.loop-i.invariant.same
+returns c = ended _ _ _ (omega arith) c.loop-t.invariant

@@ -16,7 +16,7 @@ few b i j h k e = let q = most b term_counts_at (i + 1) term_room h j (omega (ar
 
 pub loop-j-init : goal.loop-j-init
 unfolding term_count
-loop-j-init c = (sum-start _ _ _, omega arith, omega arith)
+loop-j-init c = (sum-start _ _ _, omega arith)
 
 pub overflow_add-m : goal.overflow_add-m
 overflow_add-m c = let q = few _ _ _ c.requires.term_room_value (omega arith) c.wide-m.ensures.value in omega (arith, q)
@@ -24,7 +24,7 @@ overflow_add-m c = let q = few _ _ _ c.requires.term_room_value (omega arith) c.
 pub loop-j-preserved : goal.loop-j-preserved
 loop-j-preserved c =
     let q = few _ _ _ c.requires.term_room_value (omega arith) c.wide-m.ensures.value in
-    (sum-next _ _ _ _ (omega arith) (ap (λ (x : ℕ). c.loop-j.m + x) c.wide-m.ensures.value) c.loop-j.invariant.0, omega (arith, q), omega arith)
+    (sum-next _ _ _ _ (omega arith) (ap (λ (x : ℕ). c.loop-j.m + x) c.wide-m.ensures.value) c.loop-j.invariant.0, omega (arith, q))
 
 pub returns : goal.returns
 returns c = record { value = sum-last _ _ _ _ (omega arith) c.loop-j.invariant.0; term_room_bound = omega arith }

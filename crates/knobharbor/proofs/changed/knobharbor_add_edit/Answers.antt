@@ -1,4 +1,11 @@
+use Rattle.std.proofs.Common.{rules}
+use Rattle.steps.specs.Calls.{add_edit}
+use Rattle.lending.specs.Lending.{call_of}
+use Rattle.knobharbor.specs.Together.{put-back, cleared-back}
 use Rattle.knobharbor.proofs.changed.knobharbor_add_edit.Goals as goal
 
-pub returns : goal.returns
-returns c = record { values_after = c.change.ensures.values_after; wvalues_value = c.change.ensures.wvalues_value }
+pub returns-clause-values_after : goal.returns-clause-values_after
+returns-clause-values_after c = put-back c.change.new.tables (search rules) (call_of (add_edit c.args.variable c.args.strength c.args.budget)) c.to_write-2.ensures.value c.to_write.ensures.value c.change.ensures.values_after
+
+pub returns-clause-wvalues_value : goal.returns-clause-wvalues_value
+returns-clause-wvalues_value c = cleared-back c.change.new.room (search rules) c.to_write-2.ensures.value c.change.ensures.wvalues_value

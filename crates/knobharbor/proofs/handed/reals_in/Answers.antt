@@ -5,4 +5,4 @@ use Rattle.knobharbor.proofs.handed.reals_in.Goals as goal
 
 pub returns : goal.returns
 unfolding whole_at whole_of
-returns c = rw (c.whole-constant.ensures, c.nearest_u64_to_f64-strength.ensures) refl
+returns c = rw (← c.reply_in-x.ensures, c.whole-constant.ensures, c.nearest_u64_to_f64-strength.ensures) refl

@@ -1,15 +1,17 @@
+use Rattle.sparse.specs.Tables.{held, lent}
+use Rattle.std.specs.Float.{nan}
 use Rattle.lending.specs.sparse_copy.Over.{tables}
 use Rattle.lending.specs.Bare.{bare-over}
 use Rattle.lending.proofs.entering.put_bare.Goals as goal
 
-pub returns : goal.returns
-returns c =
+pub returns-clause-does : goal.returns-clause-does
+returns-clause-does c =
     bare-over
-    (tables c.args.words.now c.args.keys.now c.args.bytes.now c.args.reals.now c.args.values.now)
-    (tables c.args.wwords.now c.args.wkeys.now c.args.wbytes.now c.args.wreals.now c.args.wvalues.now)
+    (lent c.args.tables.now)
+    (held c.args.room.now)
     c.requires.words_len
     c.put_bare_words.ensures
-    c.put_keys.ensures
-    c.put_values.ensures
+    (c.part.ensures 0)
+    (c.part-2.ensures nan)
     c.put_names.ensures
     c.put_reals.ensures

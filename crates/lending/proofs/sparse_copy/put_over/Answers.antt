@@ -1,5 +1,7 @@
+use Rattle.sparse.specs.Tables.{held}
+use Rattle.std.specs.Float.{nan}
 use Rattle.lending.specs.sparse_copy.Over.{tables, all-over}
 use Rattle.lending.proofs.sparse_copy.put_over.Goals as goal
 
-pub returns : goal.returns
-returns c = all-over (tables c.args.wwords.now c.args.wkeys.now c.args.wbytes.now c.args.wreals.now c.args.wvalues.now) (tables c.args.words.now c.args.keys.now c.args.bytes.now c.args.reals.now c.args.values.now) c.requires.m_value c.put_words.ensures c.put_keys.ensures c.put_values.ensures c.put_names.ensures c.put_records.ensures c.put_reals.ensures
+pub returns-clause-does : goal.returns-clause-does
+returns-clause-does c = all-over (held c.args.room.now) (held c.args.tables.now) c.requires.m_value c.put_words.ensures (c.part.ensures 0) (c.part-2.ensures nan) c.put_names.ensures c.put_records.ensures c.put_reals.ensures

@@ -4,16 +4,16 @@ use Rattle.reader.specs.second.Replies.{is-group, refused-first, too-strong, no-
 use Rattle.reader.proofs.second.ranged.Goals as goal
 
 pub returns-then-r-ne0 : goal.returns-then-r-ne0
-returns-then-r-ne0 c = c.refused.ensures ∙ refused-first c.args.r c.args.strength c.args.group c.if-r-ne0.true
+returns-then-r-ne0 c = c.refused.ensures ∙ refused-first c.args.r c.args.x.strength c.args.x.group c.if-r-ne0.true
 
-pub returns-then-strength-gt-REQUIRED : goal.returns-then-strength-gt-REQUIRED
-returns-then-strength-gt-REQUIRED c = c.refuse.ensures ∙ too-strong c.args.r c.args.strength c.args.group c.if-r-ne0.false c.if-strength-gt-REQUIRED.true
+pub returns-then-x-gt-REQUIRED : goal.returns-then-x-gt-REQUIRED
+returns-then-x-gt-REQUIRED c = c.refuse.ensures ∙ too-strong c.args.r c.args.x.strength c.args.x.group c.if-r-ne0.false c.if-x-gt-REQUIRED.true
 
-pub returns-then-group : goal.returns-then-group
-returns-then-group c = c.refuse-then-group.ensures ∙ no-group c.args.r c.args.strength c.args.group c.if-r-ne0.false (omega arith) c.if-group.true
+pub returns-then-x : goal.returns-then-x
+returns-then-x c = c.refuse-then-x.ensures ∙ no-group c.args.r c.args.x.strength c.args.x.group c.if-r-ne0.false (omega arith) c.if-x.true
 
-pub overflow_cast-g : goal.overflow_cast-g
-overflow_cast-g c = omega (arith, (is-group c.args.group c.if-group.false).1)
+pub overflow_cast-result : goal.overflow_cast-result
+overflow_cast-result c = omega (arith, (is-group c.args.x.group c.if-x.false).1)
 
 pub returns : goal.returns
-returns c = all-in-range c.args.r c.args.strength c.args.group c.if-r-ne0.false (omega arith) c.if-group.false
+returns c = all-in-range c.args.r c.args.x.strength c.args.x.group c.if-r-ne0.false (omega arith) c.if-x.false

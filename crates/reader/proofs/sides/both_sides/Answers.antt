@@ -1,11 +1,9 @@
-use Rattle.reader.specs.Ends.{left-rests, both_read, left-halted}
+use Rattle.std.proofs.lemmas.Result.{err_from_is_err_and}
+use Rattle.reader.specs.Ends.{both_read, left-halted}
 use Rattle.reader.proofs.sides.both_sides.Goals as goal
 
-pub right_side-requires : goal.right_side-requires
-right_side-requires c = let rest = left-rests c.args.s.now c.left_side-l.new.numbers c.left_side-l.new.sums c.left_side-l.result c.left_side-l.ensures c.in-Read.is in record { s_len_bound = c.requires; rests = rest.0; unjoined = rest.1 }
+pub returns-in_err-q : goal.returns-in_err-q
+returns-in_err-q c = let p = err_from_is_err_and c.from_residual.result c.from_residual.ensures.1 in rw (p.1, p.2) (left-halted c.args.s.now c.left_side.new.numbers c.left_side.new.sums c.in_err-q.ensures)
 
-pub returns-in-Read : goal.returns-in-Read
-returns-in-Read c = both_read c.args.s.now c.left_side-l.new.numbers c.left_side-l.new.sums c.right_side.new.numbers c.right_side.new.sums c.left_side-l.result c.right_side.result c.left_side-l.ensures c.in-Read.is c.right_side.ensures
-
-pub returns-in-Halted : goal.returns-in-Halted
-returns-in-Halted c = left-halted c.args.s.now c.left_side-l.new.numbers c.left_side-l.new.sums c.left_side-l.result c.left_side-l.ensures c.in-Halted.is
+pub returns : goal.returns
+returns c = both_read c.args.s.now c.left_side.new.numbers c.left_side.new.sums c.right_side.new.numbers c.right_side.new.sums c.right_side.result c.in_ok-q.ensures c.right_side.ensures

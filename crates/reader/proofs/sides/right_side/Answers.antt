@@ -1,20 +1,17 @@
-use native.Mathlib.Omega.{arith}
+use Rattle.std.proofs.lemmas.Result.{err_from_is_err_and}
 use Rattle.reader.specs.Ends.{next-ready, right-read, right-halted, right-bad}
 use Rattle.reader.proofs.sides.right_side.Goals as goal
 
-pub relation_at-requires : goal.relation_at-requires
-relation_at-requires c = record { at_in_bounds = c.requires.rests.within; unjoined = c.requires.unjoined }
+pub returns-in_err-m : goal.returns-in_err-m
+returns-in_err-m c = let p = err_from_is_err_and c.from_residual.result c.from_residual.ensures.1 in rw (p.1, p.2) (right-bad c.args.s.now c.args.numbers.now c.args.sums.now c.args.q c.in_err-m.field-0.0 c.in_err-m.ensures)
 
-pub sum-r-requires : goal.sum-r-requires
-sum-r-requires c =
-    let r = next-ready c.args.s.now c.args.numbers.now c.args.sums.now c.args.q c.requires.rests c.relation_at.ensures c.in-By.is in
-    record { at_in_bounds = (r.0, c.requires.s_len_bound, omega arith); ready = r.1 }
+pub sum-requires-clause-ready : goal.sum-requires-clause-ready
+sum-requires-clause-ready c = rw c.behind-p.ensures (next-ready c.args.s.now c.args.numbers.now c.args.sums.now c.args.q c.in_ok-m.m c.in_ok-m.at c.requires.rests c.in_ok-m.ensures).1
 
-pub returns-in-Read : goal.returns-in-Read
-returns-in-Read c = right-read c.args.s.now c.args.numbers.now c.args.sums.now c.sum-r.new.numbers c.sum-r.new.sums c.args.q c.sum-r.result c.requires.s_len_bound c.relation_at.ensures c.in-By.is c.sum-r.ensures.result_after c.sum-r.ensures.sound c.sum-r.ensures.ended c.in-Read.is
+pub returns-in_err-e : goal.returns-in_err-e
+returns-in_err-e c =
+    let p = err_from_is_err_and c.from_residual-in_err-e.result c.from_residual-in_err-e.ensures.1 in rw (p.1, p.2)
+    (right-halted c.args.s.now c.args.numbers.now c.args.sums.now c.sum.new.numbers c.sum.new.sums c.args.q c.in_ok-m.m c.in_ok-m.at c.in_err-e.field-0.0 c.in_ok-m.ensures (rw c.behind-p.ensures at c.in_err-e.ensures.result_after))
 
-pub returns-in-Halted : goal.returns-in-Halted
-returns-in-Halted c = right-halted c.args.s.now c.args.numbers.now c.args.sums.now c.sum-r.new.numbers c.sum-r.new.sums c.args.q c.sum-r.result c.relation_at.ensures c.in-By.is c.sum-r.ensures.result_after c.in-Halted.is
-
-pub returns-in-NoMark : goal.returns-in-NoMark
-returns-in-NoMark c = right-bad c.args.s.now c.args.numbers.now c.args.sums.now c.args.q c.relation_at.ensures c.in-NoMark.is
+pub returns : goal.returns
+returns c = right-read c.args.s.now c.args.numbers.now c.args.sums.now c.sum.new.numbers c.sum.new.sums c.args.q c.in_ok-m.m c.in_ok-m.at c.in_ok-e.e c.requires.s_len_bound c.in_ok-m.ensures (rw c.behind-p.ensures at c.in_ok-e.ensures.result_after) (rw c.behind-p.ensures at c.in_ok-e.ensures.sound) c.in_ok-e.ensures.ended

@@ -1,11 +1,9 @@
-use Rattle.reader.specs.Ends.{reached, line-sides, line-halted}
+use Rattle.std.proofs.lemmas.Result.{err_from_is_err_and}
+use Rattle.reader.specs.Ends.{line-sides, line-halted}
 use Rattle.reader.proofs.sides.whole_line.Goals as goal
 
-pub end_of-requires : goal.end_of-requires
-end_of-requires c = reached c.args.s.now c.both_sides-x.new.numbers c.both_sides-x.new.sums c.both_sides-x.result c.both_sides-x.ensures c.in-Both.is
+pub returns-in_err-m-clause-nothing_value : goal.returns-in_err-m-clause-nothing_value
+returns-in_err-m-clause-nothing_value c = let p = err_from_is_err_and c.from_residual.result c.from_residual.ensures.1 in rw (p.1, p.2) (line-halted c.args.s.now c.both_sides.new.numbers c.both_sides.new.sums c.in_err-m.ensures)
 
-pub returns-in-Both : goal.returns-in-Both
-returns-in-Both c = let all = line-sides c.args.s.now c.both_sides-x.new.numbers c.both_sides-x.new.sums c.both_sides-x.result c.both_sides-x.ensures c.end_of.result c.in-Both.is c.end_of.ensures in record { nothing_value = all.0; counted = all.1 }
-
-pub returns-in-Neither : goal.returns-in-Neither
-returns-in-Neither c = let all = line-halted c.args.s.now c.both_sides-x.new.numbers c.both_sides-x.new.sums c.both_sides-x.result c.both_sides-x.ensures c.in-Neither.is in record { nothing_value = all.0; counted = all.1 }
+pub returns-clause-nothing_value : goal.returns-clause-nothing_value
+returns-clause-nothing_value c = (line-sides c.args.s.now c.both_sides.new.numbers c.both_sides.new.sums c.end_of.result c.in_ok-m.ensures c.end_of.ensures).0

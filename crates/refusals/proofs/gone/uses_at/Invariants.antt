@@ -1,4 +1,4 @@
-use Prim.Native.Nat.{◌+◌, ◌-◌, ◌≤◌}
+use Prim.Native.Nat.{◌+◌, ◌≤◌}
 use mathlib.Core.Path.{◌≡◌}
 use lib.Dec.{eqb}
 use lib.ListN.{get_or}
@@ -9,7 +9,4 @@ use Rattle.refusals.specs.Refusals.{uses_at}
 use Rattle.refusals.proofs.gone.uses_at.Given as goal
 
 abbrev pub invariant-loop-j : goal.invariant-loop-j
-invariant-loop-j l = (sum_on (λ j. bit_of (eqb l.p (get_or l.bytes (terms_at + (l.from + j)) 0))) l.j l.n l.s ≡ uses_at l.bytes l.from l.n l.p) × (l.s ≤ l.j) × (l.j ≤ l.n) × (l.from + l.n ≤ most_terms)
-
-abbrev pub decreases-loop-j : goal.decreases-loop-j
-decreases-loop-j l = l.n - l.j
+invariant-loop-j l = (sum_on (λ j. bit_of (eqb l.p (get_or l.bytes (terms_at + (l.from + j)) 0))) l.j l.n l.s ≡ uses_at l.bytes l.from l.n l.p) × (l.s ≤ l.j)

@@ -1,10 +1,11 @@
+use Rattle.std.proofs.Common.{rules}
 use Rattle.rows.specs.Marks.{mark_of}
 use Rattle.removal.specs.Reading.{count_same, rows_same}
 use Rattle.removal.specs.Marker.{noted-symbols, noted-rows, noted-free, pivots-marker}
 use Rattle.removal.proofs.marker.pivot_marker.Goals as goal
 
 pub returns : goal.returns
-returns c = let all = pivots-marker (mark_of c.args.before) _ _ _ _ _ c.args.pivots _ _ c.requires.le_i c.requires.i_bound c.requires.le_p c.requires.p_bound (c.note_leaving.ensures (mark_of c.args.before) c.requires.standing) c.pivot_on-w.ensures.makes c.check_finite.ensures in record { values_value = all.0; goes = all.1 }
+returns c = let all = pivots-marker (mark_of c.args.before) _ _ _ _ _ c.args.pivots _ _ c.requires.le_i c.requires.i_bound c.requires.le_p c.requires.p_bound (c.note_leaving.ensures (mark_of c.args.before) c.requires.standing) c.pivot_on-w.ensures.makes c.check_finite.ensures in record { values_value = all.0; goes = all.1; same = search rules }
 
 pub note_leaving-requires : goal.note_leaving-requires
 note_leaving-requires c = record { sound = c.requires.standing.sound; le_i = c.requires.le_i; i_bound = c.requires.i_bound }

@@ -1,11 +1,12 @@
+use Rattle.std.proofs.Common.{refl}
 use Rattle.rows.specs.Marks.{cell_of}
 use Rattle.steps.specs.Row.{cell_value}
 use Rattle.rows.proofs.cell.cell_value.Goals as goal
 
-pub returns-then-c : goal.returns-then-c
+pub returns-in-Kept : goal.returns-in-Kept
 unfolding cell_of cell_value
-returns-then-c c = rw c.if-c.true c.stored.ensures
+returns-in-Kept c = rw c.in-Kept.is refl
 
-pub returns-else-c : goal.returns-else-c
+pub returns-in-Written : goal.returns-in-Written
 unfolding cell_of cell_value
-returns-else-c c = rw c.if-c.false
+returns-in-Written c = rw c.in-Written.is c.stored.ensures

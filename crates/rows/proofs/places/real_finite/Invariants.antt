@@ -1,4 +1,4 @@
-use Rattle.std.proofs.Common.{◌≡◌, ◌+◌, ◌-◌, get_or}
+use Rattle.std.proofs.Common.{◌≡◌, ◌+◌, get_or}
 use lib.Ieee.{nan}
 use Rattle.laws.specs.Lists.{all_on}
 use Rattle.rows.specs.places.Shares.{finite_in}
@@ -7,6 +7,3 @@ use Rattle.rows.proofs.places.real_finite.Given as goal
 
 abbrev pub invariant-loop-i : goal.invariant-loop-i
 invariant-loop-i l = (all_on (λ j. is_finite (get_or l.row (l.a + j) nan)) l.i l.n l.ok ≡ finite_in l.row l.a l.n)
-
-abbrev pub decreases-loop-i : goal.decreases-loop-i
-decreases-loop-i l = l.n - l.i

@@ -1,34 +1,30 @@
 -- Each arm says what its call is answered.
-use Rattle.waist.specs.Working.{sparse}
-use Rattle.session.specs.Calls.{reset-said, change-said, asked-said, fetched-said, bad-said}
+use Rattle.std.proofs.Common.{subst}
+use Rattle.text.specs.Answers.{Wrote}
+use Rattle.sparse.specs.Tables.{held}
+use Rattle.session.specs.Calls.{asked_text, reset-said, change-said, asked-said, fetched-said}
 use Rattle.session.proofs.answers.answer.Goals as goal
 
 pub returns-in-Reset : goal.returns-in-Reset
 returns-in-Reset c =
     let a = c.args in
     let w = c.put_answer in
-    reset-said a.call a.p (sparse a.words.now a.keys.now a.bytes.now a.reals.now a.values.now) a.out.now w.new.out a.at w.result c.reset-a.result c.in-Reset.is c.reset-a.ensures w.ensures
+    reset-said a.call a.p (held a.tables.now) a.out.now w.new.out a.at w.result c.reset-a.result c.in-Reset.is c.reset-a.ensures.does w.ensures
 
 pub returns-in-Change : goal.returns-in-Change
 returns-in-Change c =
     let a = c.args in
     let w = c.put_answer-in-Change in
-    change-said a.call a.p (sparse a.words.now a.keys.now a.bytes.now a.reals.now a.values.now) a.out.now w.new.out a.at w.result c.change-a.result c.in-Change.is c.change-a.ensures w.ensures
+    change-said a.call a.p (held a.tables.now) a.out.now w.new.out a.at w.result c.change-a.result c.in-Change.is c.change-a.ensures w.ensures
 
 pub returns-in-Ask : goal.returns-in-Ask
 returns-in-Ask c =
     let a = c.args in
     let w = c.ask in
-    asked-said a.call a.p (sparse a.words.now a.keys.now a.bytes.now a.reals.now a.values.now) a.out.now w.new.out a.at w.result c.in-Ask.is w.ensures
+    asked-said a.call a.p (held a.tables.now) a.out.now w.new.out a.at w.result c.in-Ask.is (subst (λ t. Wrote a.out.now w.new.out a.at w.result (asked_text c.in-Ask.q t)) c.lend.ensures w.ensures)
 
 pub returns-in-Fetch : goal.returns-in-Fetch
 returns-in-Fetch c =
     let a = c.args in
     let w = c.say_fetch in
-    fetched-said a.call a.p (sparse a.words.now a.keys.now a.bytes.now a.reals.now a.values.now) a.out.now w.new.out a.at w.result c.in-Fetch.is w.ensures
-
-pub returns-in-Bad : goal.returns-in-Bad
-returns-in-Bad c =
-    let a = c.args in
-    let w = c.put_unread in
-    bad-said a.call a.p (sparse a.words.now a.keys.now a.bytes.now a.reals.now a.values.now) a.out.now w.new.out a.at w.result c.in-Bad.is w.ensures
+    fetched-said a.call a.p (held a.tables.now) a.out.now w.new.out a.at w.result c.in-Fetch.is w.ensures

@@ -1,6 +1,6 @@
 -- A fetch fills all of its three lists, and counts few enough of their places.
 use Rattle.std.proofs.Common.{arith}
-use Rattle.waist.specs.Working.{sparse}
+use Rattle.sparse.specs.Tables.{held}
 use Rattle.session.specs.Said.{fetched-few, fetched-long, fetch-said}
 use Rattle.session.proofs.answers.say_fetch.Goals as goal
 
@@ -8,7 +8,7 @@ pub put_fetch-requires : goal.put_fetch-requires
 put_fetch-requires c =
     let a = c.args in
     let f = c.fetch_changes-f in
-    let t = sparse a.words.now a.keys.now a.bytes.now a.reals.now a.values.now in
+    let t = held a.tables.now in
     let few = fetched-few t f.result f.ensures in
     let long = fetched-long t f.result f.ensures in
     record {
@@ -23,4 +23,4 @@ returns c =
     let a = c.args in
     let f = c.fetch_changes-f in
     let w = c.put_fetch in
-    fetch-said (sparse a.words.now a.keys.now a.bytes.now a.reals.now a.values.now) f.result f.ensures a.out.now w.new.out a.at w.result w.ensures
+    fetch-said (held a.tables.now) f.result f.ensures a.out.now w.new.out a.at w.result w.ensures

@@ -1,3 +1,4 @@
+use Rattle.sparse.specs.Tables.{held, lent}
 use mathlib.Core.Path.{sym, ap, ◌∙◌}
 use lib.Ieee.{Float}
 use Rattle.changes.specs.tags.Tags.{relation_of}
@@ -11,19 +12,19 @@ use Rattle.solver.proofs.add.add.Goals as goal
 
 pub add_tests-number-requires : goal.add_tests-number-requires
 add_tests-number-requires c =
-    let t = tables c.args.words.now c.args.keys.now c.args.bytes.now c.args.reals.now c.args.values.now in
-    let w = tables c.args.wwords.now c.args.wkeys.now c.args.wbytes.now c.args.wreals.now c.args.wvalues.now in
+    let t = lent c.args.tables.now in
+    let w = held c.args.room.now in
     let k = counts-at-start t w c.requires in
     record { words_bound = k.variables; words_bound_2 = k.constraints; words_bound_3 = k.edits; ascends = numbers-at-start t w c.requires; ascends_2 = constraints-at-start t w c.requires }
 
 pub by_test-requires : goal.by_test-requires
-by_test-requires c = rw c.add_tests-number.ensures (add_low _ c.args.g c.args.n c.proper-q.result c.args.constant c.strength_of-strength.result c.args.words.now)
+by_test-requires c = rw c.add_tests-number.ensures (add_low _ c.args.g c.args.n c.proper-q.result c.args.constant c.strength_of-strength.result c.args.tables.now.words.now)
 
-pub returns-then-number-ne0 : goal.returns-then-number-ne0
-returns-then-number-ne0 c = add-by-test c.args.g c.args.n c.args.budget c.proper-q.result c.args.constant (relation_of c.args.relation) (tables c.args.words.now c.args.keys.now c.args.bytes.now c.args.reals.now c.args.values.now) (tables c.args.wwords.now c.args.wkeys.now c.args.wbytes.now c.args.wreals.now c.args.wvalues.now) (tables c.args.wwords.now c.args.wkeys.now c.args.wbytes.now c.args.wreals.now c.args.wvalues.now) c.by_test.result c.requires (c.add_tests-number.ensures ∙ ap (λ (s : Float). add_refusal (cutoff_in c.args.reals.now) c.args.g c.args.n c.proper-q.result c.args.constant s c.args.words.now) c.strength_of-strength.ensures) c.if-number-ne0.true c.by_test.ensures (listed c.args.p) c.proper-q.ensures
+pub returns-then-number-ne0-clause-does : goal.returns-then-number-ne0-clause-does
+returns-then-number-ne0-clause-does c = add-by-test c.args.g c.args.n c.args.budget c.proper-q.result c.args.constant (relation_of c.args.relation) (lent c.args.tables.now) (held c.args.room.now) (held c.args.room.now) c.by_test.result c.requires (c.add_tests-number.ensures ∙ ap (λ (s : Float). add_refusal (cutoff_in c.args.tables.now.reals.now) c.args.g c.args.n c.proper-q.result c.args.constant s c.args.tables.now.words.now) c.strength_of-strength.ensures) c.if-number-ne0.true c.by_test.ensures (listed c.args.p) c.proper-q.ensures
 
 pub add_known-requires : goal.add_known-requires
-add_known-requires c = record { entered = c.requires; packed = (listed c.args.p, c.proper-q.ensures); words_value = sym (c.add_tests-number.ensures ∙ ap (λ (s : Float). add_refusal (cutoff_in c.args.reals.now) c.args.g c.args.n c.proper-q.result c.args.constant s c.args.words.now) c.strength_of-strength.ensures) ∙ c.if-number-ne0.false }
+add_known-requires c = record { entered = c.requires; packed = (listed c.args.p, c.proper-q.ensures); words_value = sym (c.add_tests-number.ensures ∙ ap (λ (s : Float). add_refusal (cutoff_in c.args.tables.now.reals.now) c.args.g c.args.n c.proper-q.result c.args.constant s c.args.tables.now.words.now) c.strength_of-strength.ensures) ∙ c.if-number-ne0.false }
 
-pub returns : goal.returns
-returns c = c.add_known.ensures (listed c.args.p) c.proper-q.ensures
+pub returns-clause-does : goal.returns-clause-does
+returns-clause-does c = c.add_known.ensures.does (listed c.args.p) c.proper-q.ensures

@@ -1,11 +1,12 @@
+use Rattle.sparse.specs.Tables.{held, lent}
 use native.Mathlib.Omega.{arith}
 use Rattle.lending.specs.sparse_copy.Over.{tables}
 use Rattle.solver.specs.Brings.{stores_both, edit-comes}
 use Rattle.solver.proofs.bringing.with_edit.Goals as goal
 
 pub keep_edit-requires : goal.keep_edit-requires
-keep_edit-requires c = let b = stores_both (tables c.args.words.now c.args.keys.now c.args.bytes.now c.args.reals.now c.args.values.now) (tables c.args.wwords.now c.args.wkeys.now c.args.wbytes.now c.args.wreals.now c.args.wvalues.now) c.requires.comes in
+keep_edit-requires c = let b = stores_both (lent c.args.tables.now) (held c.args.room.now) c.requires.comes in
     record { stores = b.0; stores_2 = b.1; edit_count_at_bound = omega (arith, c.requires.values_bound) }
 
-pub returns : goal.returns
-returns c = edit-comes (tables c.args.words.now c.args.keys.now c.args.bytes.now c.args.reals.now c.args.values.now) (tables c.args.wwords.now c.args.wkeys.now c.args.wbytes.now c.args.wreals.now c.args.wvalues.now) c.requires.comes c.keep_edit.new.words c.keep_edit.new.bytes c.keep_edit.new.reals c.keep_edit.result c.args.n c.args.marker c.args.other c.args.strength c.requires.le_marker c.requires.marker_bound c.requires.other_bound c.requires.values_bound c.requires.wvalues_value c.keep_edit.ensures
+pub returns-clause-does : goal.returns-clause-does
+returns-clause-does c = edit-comes (lent c.args.tables.now) (held c.args.room.now) c.requires.comes c.keep_edit.new.words c.keep_edit.new.bytes c.keep_edit.new.reals c.keep_edit.result c.args.n c.args.marker c.args.other c.args.strength c.requires.le_marker c.requires.marker_bound c.requires.other_bound c.requires.values_bound c.requires.wvalues_value c.keep_edit.ensures

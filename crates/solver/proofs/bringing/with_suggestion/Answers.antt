@@ -1,14 +1,15 @@
+use Rattle.sparse.specs.Tables.{held, lent}
 use native.Mathlib.Omega.{arith}
 use Rattle.lending.specs.sparse_copy.Over.{tables}
 use Rattle.solver.specs.Brings.{stores_both, suggestion-comes}
 use Rattle.solver.proofs.bringing.with_suggestion.Goals as goal
 
 pub keep_records-requires : goal.keep_records-requires
-keep_records-requires c = let b = stores_both (tables c.args.words.now c.args.keys.now c.args.bytes.now c.args.reals.now c.args.values.now) (tables c.args.wwords.now c.args.wkeys.now c.args.wbytes.now c.args.wreals.now c.args.wvalues.now) c.requires.comes in
+keep_records-requires c = let b = stores_both (lent c.args.tables.now) (held c.args.room.now) c.requires.comes in
     record { stores = b.0; stores_2 = b.1 }
 
 pub set_suggestion-requires : goal.set_suggestion-requires
-set_suggestion-requires c = let b = (stores_both (tables c.args.words.now c.args.keys.now c.args.bytes.now c.args.reals.now c.args.values.now) (tables c.args.wwords.now c.args.wkeys.now c.args.wbytes.now c.args.wreals.now c.args.wvalues.now) c.requires.comes).0.edits in omega (arith, c.requires.j_bound, b)
+set_suggestion-requires c = let b = (stores_both (lent c.args.tables.now) (held c.args.room.now) c.requires.comes).0.edits in omega (arith, c.requires.j_bound, b)
 
-pub returns : goal.returns
-returns c = suggestion-comes (tables c.args.words.now c.args.keys.now c.args.bytes.now c.args.reals.now c.args.values.now) (tables c.args.wwords.now c.args.wkeys.now c.args.wbytes.now c.args.wreals.now c.args.wvalues.now) c.requires.comes c.keep_records.new.words c.keep_records.new.bytes c.keep_records.new.reals c.keep_records.result c.args.j c.args.new c.requires.j_bound c.requires.wvalues_value c.keep_records.ensures c.set_suggestion.ensures
+pub returns-clause-does : goal.returns-clause-does
+returns-clause-does c = suggestion-comes (lent c.args.tables.now) (held c.args.room.now) c.requires.comes c.keep_records.new.words c.keep_records.new.bytes c.keep_records.new.reals c.keep_records.result c.args.j c.args.new c.requires.j_bound c.requires.wvalues_value c.keep_records.ensures c.set_suggestion.ensures

@@ -1,12 +1,12 @@
+use Rattle.sparse.specs.Tables.{held, Same}
 use lib.ListN.{get_or}
 use Rattle.sparse.specs.Places.{constraint_count_at}
-use Rattle.lending.specs.sparse_copy.Over.{tables}
 use Rattle.solver.specs.Dropped.{Halfway}
 use Rattle.solver.proofs.drop.drop_all.Given as goal
 
-abbrev pub invariant-loop-words : goal.invariant-loop-words
-invariant-loop-words l = Halfway l.g l.budget (tables l.initial.words l.initial.keys l.initial.bytes l.initial.reals l.initial.values) (tables l.words l.keys l.bytes l.reals l.values) l.pivots
+abbrev pub invariant-loop-room : goal.invariant-loop-room
+invariant-loop-room l = Halfway l.g l.budget (held l.initial.room) (held l.room) l.pivots × Same l.initial.room l.room
 
 -- a constraint less at each turn
-abbrev pub decreases-loop-words : goal.decreases-loop-words
-decreases-loop-words l = get_or l.words constraint_count_at 0
+abbrev pub decreases-loop-room : goal.decreases-loop-room
+decreases-loop-room l = get_or l.room.words.now constraint_count_at 0

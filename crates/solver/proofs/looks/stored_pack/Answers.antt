@@ -22,9 +22,6 @@ loop-i-init c = (pack-gathered _ _ _ _ _ c.none-p.ensures, c.requires)
 pub stored_term-t-requires : goal.stored_term-t-requires
 stored_term-t-requires c = record { terms = c.loop-i.invariant.1; i_lt_n = c.loop-i-test.true }
 
-pub overflow_add-i : goal.overflow_add-i
-overflow_add-i c = omega (arith, c.loop-i.invariant.1.few)
-
 pub loop-i-preserved : goal.loop-i-preserved
 loop-i-preserved c = (run-next _ _ _ _ (omega arith) (turn _ _ _ _ _ _ c.stored_term-t.ensures c.push-p.ensures) c.loop-i.invariant.0, c.loop-i.invariant.1)
 

@@ -1,4 +1,4 @@
-use Prim.Native.Nat.{ℕ, ◌-◌}
+use Prim.Native.Nat.{ℕ}
 use mathlib.Core.Path.{◌≡◌}
 use mathlib.Core.List.{List}
 use lib.Ieee.{Float}
@@ -13,6 +13,3 @@ pushes w b r from j q = pushed q (stored_term w b r from j)
 
 abbrev pub invariant-loop-i : goal.invariant-loop-i
 invariant-loop-i l = (run (pushes l.words l.bytes l.reals l.from) l.i l.n l.p ≡ stored_pack l.words l.bytes l.reals l.from l.n) × (Terms l.words l.bytes l.from l.n)
-
-abbrev pub decreases-loop-i : goal.decreases-loop-i
-decreases-loop-i l = l.n - l.i

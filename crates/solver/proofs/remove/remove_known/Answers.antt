@@ -1,3 +1,4 @@
+use Rattle.sparse.specs.Tables.{held}
 use native.Mathlib.Omega.{arith}
 use Rattle.lending.specs.sparse_copy.Over.{tables}
 use Rattle.solver.specs.Begin.{counts-at-start, constraints-at-start, standing-at-start}
@@ -8,35 +9,35 @@ use Rattle.solver.proofs.remove.remove_known.Goals as goal
 pub look_up-j-requires : goal.look_up-j-requires
 look_up-j-requires c =
     let t = tables c.args.words.now c.requires.entered_from.0 c.args.bytes.now c.args.reals.now c.requires.entered_from.1 in
-    let w = tables c.args.wwords.now c.args.wkeys.now c.args.wbytes.now c.args.wreals.now c.args.wvalues.now in
+    let w = held c.args.room.now in
     let k = (counts-at-start t w c.requires.entered_from.2).constraints in
     record { n_bound = omega (arith, k); ascends = constraints-at-start t w c.requires.entered_from.2 }
 
 pub overflow_add-marker : goal.overflow_add-marker
-overflow_add-marker c = let k = (counts-at-start (tables c.args.words.now c.requires.entered_from.0 c.args.bytes.now c.args.reals.now c.requires.entered_from.1) (tables c.args.wwords.now c.args.wkeys.now c.args.wbytes.now c.args.wreals.now c.args.wvalues.now) c.requires.entered_from.2).constraints in omega (arith, k, c.look_up-j.ensures.upper_bound)
+overflow_add-marker c = let k = (counts-at-start (tables c.args.words.now c.requires.entered_from.0 c.args.bytes.now c.args.reals.now c.requires.entered_from.1) (held c.args.room.now) c.requires.entered_from.2).constraints in omega (arith, k, c.look_up-j.ensures.upper_bound)
 
 pub bounds-bytes-j : goal.bounds-bytes-j
-bounds-bytes-j c = let k = (counts-at-start (tables c.args.words.now c.requires.entered_from.0 c.args.bytes.now c.args.reals.now c.requires.entered_from.1) (tables c.args.wwords.now c.args.wkeys.now c.args.wbytes.now c.args.wreals.now c.args.wvalues.now) c.requires.entered_from.2).constraints in omega (arith, k, c.look_up-j.ensures.upper_bound)
+bounds-bytes-j c = let k = (counts-at-start (tables c.args.words.now c.requires.entered_from.0 c.args.bytes.now c.args.reals.now c.requires.entered_from.1) (held c.args.room.now) c.requires.entered_from.2).constraints in omega (arith, k, c.look_up-j.ensures.upper_bound)
 
 pub overflow_add-other : goal.overflow_add-other
-overflow_add-other c = let k = (counts-at-start (tables c.args.words.now c.requires.entered_from.0 c.args.bytes.now c.args.reals.now c.requires.entered_from.1) (tables c.args.wwords.now c.args.wkeys.now c.args.wbytes.now c.args.wreals.now c.args.wvalues.now) c.requires.entered_from.2).constraints in omega (arith, k, c.look_up-j.ensures.upper_bound)
+overflow_add-other c = let k = (counts-at-start (tables c.args.words.now c.requires.entered_from.0 c.args.bytes.now c.args.reals.now c.requires.entered_from.1) (held c.args.room.now) c.requires.entered_from.2).constraints in omega (arith, k, c.look_up-j.ensures.upper_bound)
 
 pub bounds-bytes-j-2 : goal.bounds-bytes-j-2
-bounds-bytes-j-2 c = let k = (counts-at-start (tables c.args.words.now c.requires.entered_from.0 c.args.bytes.now c.args.reals.now c.requires.entered_from.1) (tables c.args.wwords.now c.args.wkeys.now c.args.wbytes.now c.args.wreals.now c.args.wvalues.now) c.requires.entered_from.2).constraints in omega (arith, k, c.look_up-j.ensures.upper_bound)
+bounds-bytes-j-2 c = let k = (counts-at-start (tables c.args.words.now c.requires.entered_from.0 c.args.bytes.now c.args.reals.now c.requires.entered_from.1) (held c.args.room.now) c.requires.entered_from.2).constraints in omega (arith, k, c.look_up-j.ensures.upper_bound)
 
 pub overflow_add-strength : goal.overflow_add-strength
-overflow_add-strength c = let k = (counts-at-start (tables c.args.words.now c.requires.entered_from.0 c.args.bytes.now c.args.reals.now c.requires.entered_from.1) (tables c.args.wwords.now c.args.wkeys.now c.args.wbytes.now c.args.wreals.now c.args.wvalues.now) c.requires.entered_from.2).constraints in omega (arith, k, c.look_up-j.ensures.upper_bound)
+overflow_add-strength c = let k = (counts-at-start (tables c.args.words.now c.requires.entered_from.0 c.args.bytes.now c.args.reals.now c.requires.entered_from.1) (held c.args.room.now) c.requires.entered_from.2).constraints in omega (arith, k, c.look_up-j.ensures.upper_bound)
 
 pub offset_bounds-reals-j : goal.offset_bounds-reals-j
-offset_bounds-reals-j c = let k = (counts-at-start (tables c.args.words.now c.requires.entered_from.0 c.args.bytes.now c.args.reals.now c.requires.entered_from.1) (tables c.args.wwords.now c.args.wkeys.now c.args.wbytes.now c.args.wreals.now c.args.wvalues.now) c.requires.entered_from.2).constraints in omega (arith, k, c.look_up-j.ensures.upper_bound)
+offset_bounds-reals-j c = let k = (counts-at-start (tables c.args.words.now c.requires.entered_from.0 c.args.bytes.now c.args.reals.now c.requires.entered_from.1) (held c.args.room.now) c.requires.entered_from.2).constraints in omega (arith, k, c.look_up-j.ensures.upper_bound)
 
 pub bounds-reals-j : goal.bounds-reals-j
-bounds-reals-j c = let k = (counts-at-start (tables c.args.words.now c.requires.entered_from.0 c.args.bytes.now c.args.reals.now c.requires.entered_from.1) (tables c.args.wwords.now c.args.wkeys.now c.args.wbytes.now c.args.wreals.now c.args.wvalues.now) c.requires.entered_from.2).constraints in omega (arith, k, c.look_up-j.ensures.upper_bound)
+bounds-reals-j c = let k = (counts-at-start (tables c.args.words.now c.requires.entered_from.0 c.args.bytes.now c.args.reals.now c.requires.entered_from.1) (held c.args.room.now) c.requires.entered_from.2).constraints in omega (arith, k, c.look_up-j.ensures.upper_bound)
 
 pub constraint_terms-p-requires : goal.constraint_terms-p-requires
 constraint_terms-p-requires c =
     let t = tables c.args.words.now c.requires.entered_from.0 c.args.bytes.now c.args.reals.now c.requires.entered_from.1 in
-    let w = tables c.args.wwords.now c.args.wkeys.now c.args.wbytes.now c.args.wreals.now c.args.wvalues.now in
+    let w = held c.args.room.now in
     let l = in-range c.args.n c.args.budget t w c.requires.entered_from.2 c.look_up-j.result c.requires.reals_value c.look_up-j.ensures.value in
     let k = (counts-at-start t w c.requires.entered_from.2).constraints in
     record { j_lt_most_constraints = omega (arith, l, k); terms = stored-terms t c.requires.entered_from.2.reads c.look_up-j.result l }
@@ -44,37 +45,37 @@ constraint_terms-p-requires c =
 pub remove_steps-e-requires : goal.remove_steps-e-requires
 remove_steps-e-requires c =
     let t = tables c.args.words.now c.requires.entered_from.0 c.args.bytes.now c.args.reals.now c.requires.entered_from.1 in
-    let w = tables c.args.wwords.now c.args.wkeys.now c.args.wbytes.now c.args.wreals.now c.args.wvalues.now in
+    let w = held c.args.room.now in
     let l = in-range c.args.n c.args.budget t w c.requires.entered_from.2 c.look_up-j.result c.requires.reals_value c.look_up-j.ensures.value in
     record { standing = rw c.stored_mark-before.ensures (standing-at-start t w c.requires.entered_from.2); tag_lives = removal-tag c.args.n c.args.budget t w c.requires.entered_from.2 c.look_up-j.result c.requires.reals_value c.look_up-j.ensures.value; room = removal-room c.args.n c.args.budget t w c.requires.entered_from.2 c.look_up-j.result c.requires.reals_value c.look_up-j.ensures.value c.stored_mark-before.result c.stored_mark-before.ensures c.constraint_terms-p.result (pack-is t c.requires.entered_from.2.reads c.look_up-j.result l c.constraint_terms-p.ensures) }
 
-pub returns-then-e-ne0 : goal.returns-then-e-ne0
-returns-then-e-ne0 c =
+pub returns-then-e-ne0-clause-does : goal.returns-then-e-ne0-clause-does
+returns-then-e-ne0-clause-does c =
     λ k v en.
     let t = tables c.args.words.now k c.args.bytes.now c.args.reals.now v in
-    let w = tables c.args.wwords.now c.args.wkeys.now c.args.wbytes.now c.args.wreals.now c.args.wvalues.now in
+    let w = held c.args.room.now in
     let l = in-range c.args.n c.args.budget t w en c.look_up-j.result c.requires.reals_value c.look_up-j.ensures.value in
-    let u = tables c.remove_steps-e.new.words c.remove_steps-e.new.keys c.remove_steps-e.new.bytes c.remove_steps-e.new.reals c.remove_steps-e.new.values in
+    let u = tables c.remove_steps-e.new.room.words.now c.remove_steps-e.new.room.keys.now c.remove_steps-e.new.room.bytes.now c.remove_steps-e.new.room.reals.now c.remove_steps-e.new.room.values.now in
     removal-refused c.args.n c.args.budget t w en c.look_up-j.result c.requires.reals_value c.look_up-j.ensures.value c.stored_mark-before.result c.stored_mark-before.ensures
     c.constraint_terms-p.result (pack-is t en.reads c.look_up-j.result l c.constraint_terms-p.ensures) c.remove_steps-e.result u c.remove_steps-e.ensures.values_value c.answer_of.result c.answer_of.ensures c.if-e-ne0.true u
 
 pub drop_constraint-requires : goal.drop_constraint-requires
 drop_constraint-requires c =
     let t = tables c.args.words.now c.requires.entered_from.0 c.args.bytes.now c.args.reals.now c.requires.entered_from.1 in
-    let w = tables c.args.wwords.now c.args.wkeys.now c.args.wbytes.now c.args.wreals.now c.args.wvalues.now in
+    let w = held c.args.room.now in
     let l = in-range c.args.n c.args.budget t w c.requires.entered_from.2 c.look_up-j.result c.requires.reals_value c.look_up-j.ensures.value in
-    let u = tables c.remove_steps-e.new.words c.remove_steps-e.new.keys c.remove_steps-e.new.bytes c.remove_steps-e.new.reals c.remove_steps-e.new.values in
+    let u = tables c.remove_steps-e.new.room.words.now c.remove_steps-e.new.room.keys.now c.remove_steps-e.new.room.bytes.now c.remove_steps-e.new.room.reals.now c.remove_steps-e.new.room.values.now in
     let s = removal-stores c.args.n c.args.budget t w c.requires.entered_from.2 c.look_up-j.result c.requires.reals_value c.look_up-j.ensures.value c.stored_mark-before.result c.stored_mark-before.ensures
     c.constraint_terms-p.result (pack-is t c.requires.entered_from.2.reads c.look_up-j.result l c.constraint_terms-p.ensures) c.remove_steps-e.result u c.remove_steps-e.ensures.values_value c.remove_steps-e.ensures.goes c.if-e-ne0.false in
     rw c.close.ensures (record { stores = s.0; stores_2 = s.1; j_bound = l })
 
-pub returns : goal.returns
-returns c =
+pub returns-clause-does : goal.returns-clause-does
+returns-clause-does c =
     λ k v en.
     let t = tables c.args.words.now k c.args.bytes.now c.args.reals.now v in
-    let w = tables c.args.wwords.now c.args.wkeys.now c.args.wbytes.now c.args.wreals.now c.args.wvalues.now in
+    let w = held c.args.room.now in
     let l = in-range c.args.n c.args.budget t w en c.look_up-j.result c.requires.reals_value c.look_up-j.ensures.value in
-    let u = tables c.remove_steps-e.new.words c.remove_steps-e.new.keys c.remove_steps-e.new.bytes c.remove_steps-e.new.reals c.remove_steps-e.new.values in
+    let u = tables c.remove_steps-e.new.room.words.now c.remove_steps-e.new.room.keys.now c.remove_steps-e.new.room.bytes.now c.remove_steps-e.new.room.reals.now c.remove_steps-e.new.room.values.now in
     removal-accepted c.args.n c.args.budget t w en c.look_up-j.result c.requires.reals_value c.look_up-j.ensures.value c.stored_mark-before.result c.stored_mark-before.ensures
     c.constraint_terms-p.result (pack-is t en.reads c.look_up-j.result l c.constraint_terms-p.ensures) c.remove_steps-e.result u c.remove_steps-e.ensures.values_value c.answer_of-2.result c.answer_of-2.ensures
     c.remove_steps-e.ensures.goes c.if-e-ne0.false c.drop_constraint.new.words c.drop_constraint.new.bytes c.drop_constraint.new.reals c.drop_constraint.result

@@ -1,21 +1,26 @@
+use Prim.Native.Nat.{ℕ, ◌+◌, ◌-◌, ◌≤◌}
+use mathlib.Core.Path.{◌≡◌, ap}
 use native.Mathlib.Omega.{arith}
-use Rattle.sparse.specs.Lookup.{halved-all, halved-left, halved-right, place_here, place-nowhere}
+use Rattle.std.specs.Prelude.{ltb, length, take, drop}
+use Rattle.std.proofs.Common.{rules}
+use Rattle.std.proofs.lemmas.List.Sorted.{IsPartitionPoint-from_clause}
+use Rattle.sparse.specs.Lookup.{long, parted, halved, place_here, place-nowhere}
 use Rattle.sparse.proofs.lookup.look_up.Goals as goal
+use Rattle.sparse.proofs.lookup.look_up.Goals.{else-i-n-via-then-i-n+else-words-a, else-i-n-via-else-i-n}
 
-pub loop-lo-init : goal.loop-lo-init
-loop-lo-init c = (halved-all _ _ _ _, omega arith, omega arith)
+pub returns-then-words-a-clause-value : goal.returns-then-words-a-clause-value
+returns-then-words-a-clause-value c = place_here _ _ _ _ c.requires.ascends _ (omega arith) c.if-words-a.true
 
-pub loop-lo-preserved-then-words-a : goal.loop-lo-preserved-then-words-a
-loop-lo-preserved-then-words-a c = (halved-right _ _ _ _ c.requires.ascends _ (omega arith) c.loop-lo.invariant.0 c.if-words-a.true, omega arith, omega arith)
-
-pub loop-lo-preserved : goal.loop-lo-preserved
-loop-lo-preserved c = (halved-left _ _ _ _ _ c.loop-lo.invariant.0 c.if-words-a.false, omega arith, omega arith)
-
-pub returns-then-words-a-2 : goal.returns-then-words-a-2
-returns-then-words-a-2 c = record { value = place_here _ _ _ _ c.requires.ascends _ (omega arith) c.if-words-a-2.true; upper_bound = omega arith }
-
-pub returns-else-words-a-2 : goal.returns-else-words-a-2
-returns-else-words-a-2 c = record { value = place-nowhere _ _ _ _ c.requires.ascends (omega arith) c.loop-lo.invariant.0 (λ _. c.if-words-a-2.false); upper_bound = omega arith }
-
-pub returns-else-lo-n : goal.returns-else-lo-n
-returns-else-lo-n c = record { value = place-nowhere _ _ _ _ c.requires.ascends (omega arith) c.loop-lo.invariant.0 (λ h. absurd (omega (arith, h))); upper_bound = omega arith }
+pub returns-else-i-n-clause-value : goal.returns-else-i-n-clause-value
+returns-else-i-n-clause-value c =
+    let fit : c.args.a + c.args.n ≤ length c.args.words.now = omega arith in
+    let e : c.args.a + c.args.n - c.args.a ≡ c.args.n = omega arith in
+    let is = ap (λ (k : ℕ). take k (drop c.args.a c.args.words.now)) e in
+    let b : c.partition_point-i.result ≤ c.args.n = omega (arith, long _ _ _ c.args.x fit _ is, c.partition_point-i.ensures.bound) in
+    let h = IsPartitionPoint-from_clause (λ y. ltb y c.args.x) _ _ c.partition_point-i.ensures.partitioned (parted _ _ _ _ fit _ is c.requires.ascends) (λ s r f' q. search (rules, q)) in
+    place-nowhere _ _ _ _ c.requires.ascends (halved _ _ _ _ fit _ is b h.0 h.1) (
+    elim c.else-i-n.branch [
+      | else-i-n-via-then-i-n+else-words-a w ↦ λ _. w.if-words-a.false
+      | else-i-n-via-else-i-n w ↦ λ q. absurd (omega (arith, q, w.if-i-n.false))
+    ]
+    )

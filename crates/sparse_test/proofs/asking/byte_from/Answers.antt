@@ -8,13 +8,13 @@ use Rattle.sparse_test.proofs.asking.byte_from.Goals as goal
 
 pub loop-i-init : goal.loop-i-init
 unfolding place_from place_in
-loop-i-init c = (refl, omega arith)
+loop-i-init c = refl
 
 pub returns-then-x-bytes : goal.returns-then-x-bytes
-returns-then-x-bytes c = record { value = first-here _ _ _ _ _ (omega arith) (eq-eqb _ _ c.if-x-bytes.true) c.loop-i.invariant.0; upper_bound = omega arith }
+returns-then-x-bytes c = record { value = first-here _ _ _ _ _ (omega arith) (eq-eqb _ _ c.if-x-bytes.true) c.loop-i.invariant; upper_bound = omega arith }
 
 pub loop-i-preserved : goal.loop-i-preserved
-loop-i-preserved c = (first_next _ _ _ _ _ (omega arith) (ne_eqb _ _ c.if-x-bytes.false) c.loop-i.invariant.0, omega arith)
+loop-i-preserved c = first_next _ _ _ _ _ (omega arith) (ne_eqb _ _ c.if-x-bytes.false) c.loop-i.invariant
 
 pub returns : goal.returns
-returns c = record { value = first-last _ _ _ _ _ (omega arith) c.loop-i.invariant.0; upper_bound = omega arith }
+returns c = record { value = first-last _ _ _ _ _ (omega arith) c.loop-i.invariant; upper_bound = omega arith }

@@ -1,3 +1,4 @@
+use Rattle.sparse.specs.Tables.{lent}
 use mathlib.Core.Path.{sym, ◌∙◌}
 use Rattle.steps.specs.Number.{zero64}
 use Rattle.steps.specs.Changes.{value}
@@ -7,10 +8,10 @@ use Rattle.sparse_test.proofs.asking.get_value.Goals as goal
 
 pub returns-then-not-reads_as_state : goal.returns-then-not-reads_as_state
 unfolding zero64
-returns-then-not-reads_as_state c = not-asked (tables c.args.words.now c.args.keys.now c.args.bytes.now c.args.reals.now c.args.values.now) c.reads_as_state.ensures (value c.args.n) zero64 c.if-not-reads_as_state.true
+returns-then-not-reads_as_state c = not-asked (lent c.args.tables.now) c.reads_as_state.ensures (value c.args.n) zero64 c.if-not-reads_as_state.true
 
 pub get_value_held-requires : goal.get_value_held-requires
 get_value_held-requires c = sym c.reads_as_state.ensures ∙ c.if-not-reads_as_state.false
 
 pub returns : goal.returns
-returns c = c.get_value_held.ensures ∙ answered (tables c.args.words.now c.args.keys.now c.args.bytes.now c.args.reals.now c.args.values.now) c.reads_as_state.ensures (value c.args.n) zero64 c.if-not-reads_as_state.false
+returns c = c.get_value_held.ensures ∙ answered (lent c.args.tables.now) c.reads_as_state.ensures (value c.args.n) zero64 c.if-not-reads_as_state.false

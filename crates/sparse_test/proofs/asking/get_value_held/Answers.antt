@@ -1,3 +1,4 @@
+use Rattle.sparse.specs.Tables.{lent}
 use mathlib.Core.Path.{sym, ◌∙◌}
 use Rattle.sparse_test.specs.Whole.{tables}
 use Rattle.sparse_test.specs.Meaning.{reads-form}
@@ -11,5 +12,5 @@ value_in-requires c =
 
 pub returns : goal.returns
 returns c =
-    let t = tables c.args.words.now c.args.keys.now c.args.bytes.now c.args.reals.now c.args.values.now in
+    let t = lent c.args.tables.now in
     c.value_in.ensures ∙ sym (value-is t c.args.n (reads-form t c.requires))

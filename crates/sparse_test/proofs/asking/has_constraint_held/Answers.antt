@@ -1,3 +1,4 @@
+use Rattle.sparse.specs.Tables.{lent}
 use Prim.Native.Nat.{ℕ}
 use mathlib.Core.Path.{sym, ap, ◌∙◌}
 use native.Mathlib.Omega.{arith}
@@ -16,5 +17,5 @@ look_up-requires c =
 
 pub returns : goal.returns
 returns c =
-    let t = tables c.args.words.now c.args.keys.now c.args.bytes.now c.args.reals.now c.args.values.now in
+    let t = lent c.args.tables.now in
     ap (λ (z : ℕ). ltb z (constraint_count t)) c.look_up.ensures.value ∙ sym (has-constraint t c.args.n)

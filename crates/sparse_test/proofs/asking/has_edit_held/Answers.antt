@@ -1,3 +1,4 @@
+use Rattle.sparse.specs.Tables.{lent}
 use mathlib.Core.Path.{sym, ◌∙◌}
 use Rattle.sparse_test.specs.Whole.{tables}
 use Rattle.sparse_test.specs.Meaning.{reads-form}
@@ -12,5 +13,5 @@ edit_in-requires c =
 
 pub returns : goal.returns
 returns c =
-    let t = tables c.args.words.now c.args.keys.now c.args.bytes.now c.args.reals.now c.args.values.now in
+    let t = lent c.args.tables.now in
     c.edit_in.ensures ∙ sym (has-edit t (reads-form t c.requires) (reads-apart t c.requires) c.args.n)

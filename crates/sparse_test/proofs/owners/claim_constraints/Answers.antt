@@ -23,10 +23,10 @@ ends e q = (ap (λ (s : Shares). s.left) e, rw (← e, q) refl)
 
 pub loop-i-init : goal.loop-i-init
 unfolding all_on claim_constraints constraint_fits
-loop-i-init c = (refl, refl, omega arith)
+loop-i-init c = (refl, refl)
 
 pub loop-i-preserved : goal.loop-i-preserved
-loop-i-preserved c = (run-next _ _ _ _ (omega arith) (marked _ _ _ c.marker_code-x.ensures c.claim_tag-ok.ensures) c.loop-i.invariant.0, all-next _ _ _ _ (omega arith) (soft c.loop-i.fits (leb (get_or c.args.bytes.now (relations_at + c.loop-i.i) 0) 2) c.strength_fits-soft.ensures) c.loop-i.invariant.1, omega arith)
+loop-i-preserved c = (run-next _ _ _ _ (omega arith) (marked _ _ _ c.marker_code-x.ensures c.claim_tag-ok.ensures) c.loop-i.invariant.0, all-next _ _ _ _ (omega arith) (soft c.loop-i.fits (leb (get_or c.args.bytes.now (relations_at + c.loop-i.i) 0) 2) c.strength_fits-soft.ensures) c.loop-i.invariant.1)
 
 pub returns : goal.returns
 returns c = let all = ends (run-last _ _ _ _ (omega arith) c.loop-i.invariant.0) (all-last _ _ _ _ (omega arith) c.loop-i.invariant.1) in record { table_after = all.0; value = all.1 }

@@ -15,11 +15,11 @@ ends e q = (ap (λ (s : Shares). s.left) e, rw (← e, q) refl)
 
 pub loop-i-init : goal.loop-i-init
 unfolding all_on claim_edits edit_fits
-loop-i-init c = (refl, refl, omega arith)
+loop-i-init c = (refl, refl)
 
 pub loop-i-preserved : goal.loop-i-preserved
 unfolding required
-loop-i-preserved c = (run-next _ _ _ _ (omega arith) c.claim_tag-ok.ensures c.loop-i.invariant.0, all-next _ _ _ _ (omega arith) refl c.loop-i.invariant.1, omega arith)
+loop-i-preserved c = (run-next _ _ _ _ (omega arith) c.claim_tag-ok.ensures c.loop-i.invariant.0, all-next _ _ _ _ (omega arith) refl c.loop-i.invariant.1)
 
 pub returns : goal.returns
 returns c = let all = ends (run-last _ _ _ _ (omega arith) c.loop-i.invariant.0) (all-last _ _ _ _ (omega arith) c.loop-i.invariant.1) in record { table_after = all.0; value = all.1 }

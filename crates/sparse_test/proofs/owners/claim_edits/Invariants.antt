@@ -1,4 +1,4 @@
-use Prim.Native.Nat.{◌+◌, ◌-◌, ◌≤◌}
+use Prim.Native.Nat.{◌+◌}
 use mathlib.Core.Path.{◌≡◌}
 use mathlib.Core.Bool.{true, not, ◌&&◌}
 use lib.Dec.{eqb}
@@ -13,7 +13,4 @@ use Rattle.sparse_test.specs.Tested.{claim, claim_other, claim_edits, edit_fits}
 use Rattle.sparse_test.proofs.owners.claim_edits.Given as goal
 
 abbrev pub invariant-loop-i : goal.invariant-loop-i
-invariant-loop-i l = (run (λ j z. claim_other (get_or l.bytes (edit_others_at + j) 0) (claim (get_or l.bytes (edit_markers_at + j) 0) 3 z)) l.i l.e (shares l.table l.ok) ≡ claim_edits l.bytes l.e (shares l.initial.table true)) × (all_on (λ j. lt (get_or l.reals (edit_strengths_at + j) nan) required && not (eqb (get_or l.bytes (edit_others_at + j) 0) 0)) l.i l.e l.fits ≡ edit_fits l.bytes l.reals l.e) × (l.i ≤ l.e)
-
-abbrev pub decreases-loop-i : goal.decreases-loop-i
-decreases-loop-i l = l.e - l.i
+invariant-loop-i l = (run (λ j z. claim_other (get_or l.bytes (edit_others_at + j) 0) (claim (get_or l.bytes (edit_markers_at + j) 0) 3 z)) l.i l.e (shares l.table l.ok) ≡ claim_edits l.bytes l.e (shares l.initial.table true)) × (all_on (λ j. lt (get_or l.reals (edit_strengths_at + j) nan) required && not (eqb (get_or l.bytes (edit_others_at + j) 0) 0)) l.i l.e l.fits ≡ edit_fits l.bytes l.reals l.e)

@@ -15,10 +15,10 @@ ends e q = (ap (λ (s : Shares). s.left) e, rw (← e, q) refl)
 
 pub loop-i-init : goal.loop-i-init
 unfolding all_on claim_variables most_in
-loop-i-init c = (refl, refl, omega arith)
+loop-i-init c = (refl, refl)
 
 pub loop-i-preserved : goal.loop-i-preserved
-loop-i-preserved c = (run-next _ _ _ _ (omega arith) c.claim-ok.ensures c.loop-i.invariant.0, all-next _ _ _ _ (omega arith) refl c.loop-i.invariant.1, omega arith)
+loop-i-preserved c = (run-next _ _ _ _ (omega arith) c.claim-ok.ensures c.loop-i.invariant.0, all-next _ _ _ _ (omega arith) refl c.loop-i.invariant.1)
 
 pub returns : goal.returns
 returns c = let all = ends (run-last _ _ _ _ (omega arith) c.loop-i.invariant.0) (all-last _ _ _ _ (omega arith) c.loop-i.invariant.1) in record { table_after = all.0; value = all.1 }

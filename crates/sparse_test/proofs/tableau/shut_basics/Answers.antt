@@ -20,11 +20,11 @@ done b k r i {l} h g f =
 
 pub loop-i-init : goal.loop-i-init
 unfolding all_on costs_fit
-loop-i-init c = (c.requires.opened, refl, omega arith)
+loop-i-init c = (c.requires.opened, refl)
 
 pub loop-i-preserved : goal.loop-i-preserved
 unfolding absent zero64 of_bits
-loop-i-preserved c = (one-shut _ _ _ c.loop-i.invariant.0 c.wide-p.ensures.value c.wide-p.ensures.upper_bound, all-next _ _ _ _ (omega arith) (ap (λ (p : ℕ). c.loop-i.ok && absent (get_or c.args.reals.now (objective_at + p) nan)) c.wide-p.ensures.value) c.loop-i.invariant.1, omega arith)
+loop-i-preserved c = (one-shut _ _ _ c.loop-i.invariant.0 c.wide-p.ensures.value c.wide-p.ensures.upper_bound, all-next _ _ _ _ (omega arith) (ap (λ (p : ℕ). c.loop-i.ok && absent (get_or c.args.reals.now (objective_at + p) nan)) c.wide-p.ensures.value) c.loop-i.invariant.1)
 
 pub returns : goal.returns
 returns c = record { opened_2 = done _ _ _ _ (omega arith) (omega arith) c.loop-i.invariant.0; value = all-last _ _ _ _ (omega arith) c.loop-i.invariant.1 }

@@ -1,4 +1,4 @@
-use Prim.Native.Nat.{◌+◌, ◌-◌, ◌≤◌}
+use Prim.Native.Nat.{◌+◌}
 use mathlib.Core.Path.{◌≡◌}
 use lib.Ieee.{nan}
 use lib.ListN.{get_or}
@@ -10,7 +10,4 @@ use Rattle.sparse_test.specs.Open.{Opened}
 use Rattle.sparse_test.proofs.tableau.shut_basics.Given as goal
 
 abbrev pub invariant-loop-i : goal.invariant-loop-i
-invariant-loop-i l = Opened l.table l.bytes l.k l.i × (all_on (λ j. absent (get_or l.reals (objective_at + get_or l.bytes (row_places_at + 1 + j) 0) nan)) l.i l.r l.ok ≡ costs_fit l.reals l.bytes l.r) × (l.i ≤ l.r)
-
-abbrev pub decreases-loop-i : goal.decreases-loop-i
-decreases-loop-i l = l.r - l.i
+invariant-loop-i l = Opened l.table l.bytes l.k l.i × (all_on (λ j. absent (get_or l.reals (objective_at + get_or l.bytes (row_places_at + 1 + j) 0) nan)) l.i l.r l.ok ≡ costs_fit l.reals l.bytes l.r)

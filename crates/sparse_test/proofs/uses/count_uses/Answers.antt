@@ -19,13 +19,13 @@ more l i j f p = let q = one-most l i (most_terms + j) f p in omega (arith, q)
 
 pub loop-j-init : goal.loop-j-init
 unfolding count_uses
-loop-j-init c = (refl, λ p. let q = c.requires.most p in omega (arith, q), omega arith)
+loop-j-init c = (refl, λ p. let q = c.requires.most p in omega (arith, q))
 
 pub overflow_add-counts : goal.overflow_add-counts
 overflow_add-counts c = let q = c.loop-j.invariant.1 c.index_at-i.result in omega (arith, q)
 
 pub loop-j-preserved : goal.loop-j-preserved
-loop-j-preserved c = (run-next _ _ _ _ (omega arith) (counted _ c.index_at-i.ensures.value) c.loop-j.invariant.0, more c.loop-j.counts c.index_at-i.result c.loop-j.j c.loop-j.invariant.1, omega arith)
+loop-j-preserved c = (run-next _ _ _ _ (omega arith) (counted _ c.index_at-i.ensures.value) c.loop-j.invariant.0, more c.loop-j.counts c.index_at-i.result c.loop-j.j c.loop-j.invariant.1)
 
 pub returns : goal.returns
 returns c = run-last _ _ _ _ (omega arith) c.loop-j.invariant.0

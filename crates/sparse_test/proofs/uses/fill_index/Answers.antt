@@ -18,22 +18,10 @@ done b v i {l} h f =
     subst (λ (z : ℕ). IndexedFrom l b v z) o f
 
 pub loop-i-init : goal.loop-i-init
-loop-i-init c = (index-none _ _ c.requires.v_le_most_variables c.requires.index_value, omega arith)
-
-pub overflow_cast-index : goal.overflow_cast-index
-overflow_cast-index c = omega arith
-
-pub overflow_add-i : goal.overflow_add-i
-overflow_add-i c = omega arith
-
-pub bounds-bytes-i : goal.bounds-bytes-i
-bounds-bytes-i c = omega arith
-
-pub loop-i-smaller : goal.loop-i-smaller
-loop-i-smaller c = omega arith
+loop-i-init c = index-none _ _ c.requires.v_le_most_variables c.requires.index_value
 
 pub loop-i-preserved : goal.loop-i-preserved
-loop-i-preserved c = (before _ _ _ (omega arith) (omega arith) c.loop-i.invariant.0 c.wide.ensures.value c.wide.ensures.upper_bound, omega arith)
+loop-i-preserved c = before _ _ _ (omega arith) (omega arith) c.loop-i.invariant c.wide.ensures.value c.wide.ensures.upper_bound
 
 pub returns : goal.returns
-returns c = done _ _ _ (omega arith) c.loop-i.invariant.0
+returns c = done _ _ _ (omega arith) c.loop-i.invariant

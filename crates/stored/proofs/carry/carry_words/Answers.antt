@@ -1,7 +1,8 @@
+use Rattle.std.proofs.Common.{rules}
 use mathlib.Core.Path.{refl}
 use native.Mathlib.Omega.{arith}
 use Rattle.stored.specs.Carried.{words-carried}
 use Rattle.stored.proofs.carry.carry_words.Goals as goal
 
 pub returns : goal.returns
-returns c = words-carried _ _ _ _ c.long_words.ensures (omega arith) refl refl c.split_words.ensures.region c.split_words.ensures.rest c.split_words-2.ensures.region c.split_words-2.ensures.rest
+returns c = words-carried _ _ _ _ (search rules) (omega arith) refl refl (c.split.ensures.region 0) (c.split.ensures.rest 0) (c.split-2.ensures.region 0) (c.split-2.ensures.rest 0)

@@ -7,13 +7,13 @@ use Rattle.stored.proofs.new.number_of.Goals as goal
 
 pub loop-v-init : goal.loop-v-init
 unfolding number_of
-loop-v-init c = (refl, omega arith, c.requires.variables)
+loop-v-init c = refl
 
 pub returns-then-p-bytes : goal.returns-then-p-bytes
-returns-then-p-bytes c = first-here _ _ _ _ _ (omega arith) (eq-eqb _ _ c.if-p-bytes.true) c.loop-v.invariant.0
+returns-then-p-bytes c = first-here _ _ _ _ _ (omega arith) (eq-eqb _ _ c.if-p-bytes.true) c.loop-v.invariant
 
 pub loop-v-preserved : goal.loop-v-preserved
-loop-v-preserved c = (first_next _ _ _ _ _ (omega arith) (ne_eqb _ _ c.if-p-bytes.false) c.loop-v.invariant.0, omega arith, omega arith)
+loop-v-preserved c = first_next _ _ _ _ _ (omega arith) (ne_eqb _ _ c.if-p-bytes.false) c.loop-v.invariant
 
 pub returns : goal.returns
-returns c = first-last _ _ _ _ _ (omega arith) c.loop-v.invariant.0
+returns c = first-last _ _ _ _ _ (omega arith) c.loop-v.invariant

@@ -1,7 +1,8 @@
+use Rattle.std.proofs.Common.{rules}
 use mathlib.Core.Path.{refl}
 use native.Mathlib.Omega.{arith}
 use Rattle.stored.specs.Put.{constraint-put}
 use Rattle.stored.proofs.new.put_constraint.Goals as goal
 
 pub returns : goal.returns
-returns c = constraint-put _ _ _ _ _ _ _ _ _ _ _ _ _ c.long_words.ensures c.long_bytes.ensures c.long_reals.ensures (omega arith) (omega arith) refl c.put_terms.ensures c.put_coefficients.ensures
+returns c = constraint-put _ _ _ _ _ _ _ _ _ _ _ _ _ (search rules) (search rules) (search rules) (omega arith) (omega arith) refl c.put_terms.ensures c.put_coefficients.ensures

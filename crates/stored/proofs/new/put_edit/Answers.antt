@@ -1,3 +1,4 @@
+use Rattle.std.proofs.Common.{rules}
 use mathlib.Core.Path.{refl}
 use native.Mathlib.Omega.{arith}
 use Rattle.steps.specs.Number.{zero64}
@@ -6,4 +7,4 @@ use Rattle.stored.proofs.new.put_edit.Goals as goal
 
 pub returns : goal.returns
 unfolding zero64
-returns c = edit-put _ _ _ _ _ _ _ _ c.long_bytes.ensures c.long_reals.ensures (omega arith) c.number_place-x.ensures refl
+returns c = edit-put _ _ _ _ _ _ _ _ (search rules) (search rules) (omega arith) c.number_place-x.ensures refl

@@ -1,12 +1,6 @@
-use Prim.Native.Nat.{◌-◌, ◌≤◌}
-use mathlib.Core.Path.{◌≡◌}
-use lib.ListN.{length, get_or}
-use Rattle.sparse.specs.Places.{bytes_size}
+use lib.ListN.{get_or}
 use Rattle.stored.specs.Parts.{Part}
 use Rattle.stored.proofs.parts.named_part.Given as goal
 
 abbrev pub invariant-loop-k : goal.invariant-loop-k
-invariant-loop-k l = Part 0 (λ x. get_or l.map x 0) l.a l.b l.k l.from l.initial.to l.to × (l.k ≤ l.n) × (length l.to ≡ bytes_size)
-
-abbrev pub decreases-loop-k : goal.decreases-loop-k
-decreases-loop-k l = l.n - l.k
+invariant-loop-k l = Part 0 (λ x. get_or l.map x 0) l.a l.b l.k l.from l.initial.to l.to

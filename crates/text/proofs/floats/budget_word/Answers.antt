@@ -1,15 +1,15 @@
-use Rattle.std.proofs.Common.{sym, ap, ◌∙◌, arith}
+use Rattle.std.proofs.Common.{sym, ◌∙◌, arith}
 use Rattle.text.specs.DigitLaws.{up-to-most}
-use Rattle.text.specs.Floats.{as_budget, budget_of}
+use Rattle.text.specs.Floats.{budget_of}
 use Rattle.text.proofs.floats.budget_word.Goals as goal
 
+pub returns-in_err-n : goal.returns-in_err-n
+unfolding budget_of
+returns-in_err-n c = c.from_residual.ensures ∙ sym c.in_err-n.was ∙ c.decimal.ensures
+
 pub overflow_cast-result : goal.overflow_cast-result
-overflow_cast-result c = record { fits = omega (arith, up-to-most 65535 _ c.in-Is.n (sym c.decimal.ensures ∙ c.in-Is.is)) }
+overflow_cast-result c = record { fits = omega (arith, up-to-most 65535 _ c.in_ok-n.n (sym c.decimal.ensures ∙ c.in_ok-n.was)) }
 
-pub returns-in-Is : goal.returns-in-Is
+pub returns : goal.returns
 unfolding budget_of
-returns-in-Is c = ap as_budget (sym c.in-Is.is ∙ c.decimal.ensures)
-
-pub returns-in-NoWhole : goal.returns-in-NoWhole
-unfolding budget_of
-returns-in-NoWhole c = ap as_budget (sym c.in-NoWhole.is ∙ c.decimal.ensures)
+returns c = sym c.in_ok-n.was ∙ c.decimal.ensures

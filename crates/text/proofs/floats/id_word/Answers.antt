@@ -1,15 +1,15 @@
-use Rattle.std.proofs.Common.{sym, ap, ◌∙◌, arith}
+use Rattle.std.proofs.Common.{sym, ◌∙◌, arith}
 use Rattle.text.specs.DigitLaws.{up-to-most}
-use Rattle.text.specs.Floats.{as_id, id_of}
+use Rattle.text.specs.Floats.{id_of}
 use Rattle.text.proofs.floats.id_word.Goals as goal
 
+pub returns-in_err-n : goal.returns-in_err-n
+unfolding id_of
+returns-in_err-n c = c.from_residual.ensures ∙ sym c.in_err-n.was ∙ c.decimal.ensures
+
 pub overflow_cast-result : goal.overflow_cast-result
-overflow_cast-result c = record { fits = omega (arith, up-to-most 4294967295 _ c.in-Is.n (sym c.decimal.ensures ∙ c.in-Is.is)) }
+overflow_cast-result c = record { fits = omega (arith, up-to-most 4294967295 _ c.in_ok-n.n (sym c.decimal.ensures ∙ c.in_ok-n.was)) }
 
-pub returns-in-Is : goal.returns-in-Is
+pub returns : goal.returns
 unfolding id_of
-returns-in-Is c = ap as_id (sym c.in-Is.is ∙ c.decimal.ensures)
-
-pub returns-in-NoWhole : goal.returns-in-NoWhole
-unfolding id_of
-returns-in-NoWhole c = ap as_id (sym c.in-NoWhole.is ∙ c.decimal.ensures)
+returns c = sym c.in_ok-n.was ∙ c.decimal.ensures

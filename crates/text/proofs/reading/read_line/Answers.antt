@@ -1,11 +1,10 @@
 use Rattle.std.proofs.Common.{sym, ◌∙◌, arith}
-use Rattle.text.specs.declared.calls.Call.{Call}
-use Rattle.text.specs.declared.calls.Line.{Line}
-use Rattle.changes.specs.declared.terms.Pack.{Pack}
-use Rattle.text.specs.Choices.{ap2}
 use Rattle.text.specs.Words.{words_of}
-use Rattle.text.specs.FormatLaws.{no-terms}
+use Rattle.text.specs.FormatLaws.{short-no-line, short-line}
 use Rattle.text.proofs.reading.read_line.Goals as goal
 
+pub returns-in_err-call : goal.returns-in_err-call
+returns-in_err-call c = c.from_residual.ensures ∙ short-no-line (words_of c.args.s.now) (omega arith) (sym c.read_short.ensures ∙ c.in_err-call.was)
+
 pub returns : goal.returns
-returns c = ap2 {C = Line} (λ (k : Call) (t : Pack). record { call = k; terms = t }) c.read_short-c.ensures (c.none-t.ensures ∙ sym (no-terms (words_of c.args.s.now) (omega arith)))
+returns c = short-line (words_of c.args.s.now) (omega arith) c.none-terms.ensures (sym c.read_short.ensures ∙ c.in_ok-call.was)

@@ -1,5 +1,4 @@
-use Rattle.std.proofs.Common.{ℕ, List, sym, ap, ◌∙◌, arith}
-use Rattle.text.specs.declared.floats.Budget.{Budget}
+use Rattle.std.proofs.Common.{ℕ, List, sym, ap, ◌∙◌, arith, Option}
 use Rattle.text.specs.Digits.{same_bytes}
 use Rattle.text.specs.Floats.{budget_of}
 use Rattle.text.specs.Words.{words_of}
@@ -16,16 +15,16 @@ returns-then-same c =
 pub returns-then-not-same : goal.returns-then-not-same
 returns-then-not-same c =
     let ws = words_of c.args.s.now in
-    c.no_line.ensures ∙ long-other ws (omega arith) (sym (ap (λ (w : List ℕ). same_bytes w add_name) c.word_at-name.ensures) ∙ sym c.same.ensures ∙ c.if-same.false) (sym (ap (λ (w : List ℕ). same_bytes w addg_name) c.word_at-name.ensures) ∙ sym c.same-2.ensures ∙ c.if-not-same.true)
+    long-other ws (omega arith) (sym (ap (λ (w : List ℕ). same_bytes w add_name) c.word_at-name.ensures) ∙ sym c.same.ensures ∙ c.if-same.false) (sym (ap (λ (w : List ℕ). same_bytes w addg_name) c.word_at-name.ensures) ∙ sym c.same-2.ensures ∙ c.if-not-same.true)
 
 pub returns-then-n-eq7 : goal.returns-then-n-eq7
 returns-then-n-eq7 c =
     let ws = words_of c.args.s.now in
-    c.no_line-then-n-eq7.ensures ∙ addg-short ws (omega arith) (sym (ap (λ (w : List ℕ). same_bytes w add_name) c.word_at-name.ensures) ∙ sym c.same.ensures ∙ c.if-same.false) (sym (ap (λ (w : List ℕ). same_bytes w addg_name) c.word_at-name.ensures) ∙ sym c.same-2.ensures ∙ c.if-not-same.false) (omega arith)
+    addg-short ws (omega arith) (sym (ap (λ (w : List ℕ). same_bytes w add_name) c.word_at-name.ensures) ∙ sym c.same.ensures ∙ c.if-same.false) (sym (ap (λ (w : List ℕ). same_bytes w addg_name) c.word_at-name.ensures) ∙ sym c.same-2.ensures ∙ c.if-not-same.false) (omega arith)
 
 pub returns : goal.returns
 returns c =
     let ws = words_of c.args.s.now in
     c.read_add-2.ensures
-    ∙ ap (λ (g : Budget). line_of (add_at g 2 ws)) (c.budget_word-g.ensures ∙ ap budget_of c.word_at.ensures)
+    ∙ ap (λ (g : Option ℕ). line_of (add_at g 2 ws)) (c.budget_word-g.ensures ∙ ap budget_of c.word_at.ensures)
     ∙ addg-long ws (omega arith) (sym (ap (λ (w : List ℕ). same_bytes w add_name) c.word_at-name.ensures) ∙ sym c.same.ensures ∙ c.if-same.false) (sym (ap (λ (w : List ℕ). same_bytes w addg_name) c.word_at-name.ensures) ∙ sym c.same-2.ensures ∙ c.if-not-same.false) (omega (arith, c.if-n-eq7.false))

@@ -4,7 +4,7 @@ use Rattle.text.proofs.replies.put_head.Goals as goal
 
 pub returns : goal.returns
 returns c = record {
-  put = put_then c.put_word-i.ensures.put
+  put = put_then c.put_text-i.ensures.put
       (put_then c.put_relation-j.ensures.put
       (put_then c.put_number-k.ensures.put
       (put_then c.put_byte-a.ensures.put

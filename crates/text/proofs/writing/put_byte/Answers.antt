@@ -1,6 +1,5 @@
 use Rattle.std.proofs.Common.{rules}
 use Rattle.text.specs.Answers.{wrote-byte}
-use Rattle.std.proofs.Common.{rules}
 use Rattle.text.proofs.writing.put_byte.Goals as goal
 
 pub returns : goal.returns

@@ -11,17 +11,17 @@ pub returns-in_default : goal.returns-in_default
 returns-in_default c = kept-none _ _ c.gone_spot-f.ensures c.in_default.is
 
 pub overflow_add-j : goal.overflow_add-j
-overflow_add-j c = let r = spot-room _ _ c.requires c.gone_spot-f.ensures c.in-At.is in search rules
+overflow_add-j c = let r = spot-room _ _ c.requires c.gone_spot-f.ensures c.in-Some.is in search rules
 
 pub overflow_add-e : goal.overflow_add-e
-overflow_add-e c = let r = spot-room _ _ c.requires c.gone_spot-f.ensures c.in-At.is in search rules
+overflow_add-e c = let r = spot-room _ _ c.requires c.gone_spot-f.ensures c.in-Some.is in search rules
 
-pub open_words-requires : goal.open_words-requires
-open_words-requires c = let r = spot-room _ _ c.requires c.gone_spot-f.ensures c.in-At.is in
-    record { i_le_e = omega (arith, r.0); e_lt_words_size = omega (arith, r.1) }
+pub open-requires : goal.open-requires
+open-requires c = let r = spot-room _ _ c.requires c.gone_spot-f.ensures c.in-Some.is in
+    record { i_le_e = omega (arith, r.0); e_bound = omega (arith, r.1) }
 
 pub overflow_add-words : goal.overflow_add-words
-overflow_add-words c = let r = spot-room _ _ c.requires c.gone_spot-f.ensures c.in-At.is in search rules
+overflow_add-words c = let r = spot-room _ _ c.requires c.gone_spot-f.ensures c.in-Some.is in search rules
 
 pub returns : goal.returns
-returns c = kept_at _ _ c.gone_spot-f.ensures c.in-At.is c.open_words.ensures
+returns c = kept_at _ _ c.gone_spot-f.ensures c.in-Some.is c.open.ensures

@@ -1,4 +1,4 @@
-use Prim.Native.Nat.{◌+◌, ◌-◌}
+use Prim.Native.Nat.{◌+◌}
 use mathlib.Core.Path.{◌≡◌}
 use lib.Dec.{ltb}
 use lib.ListN.{get_or}
@@ -9,6 +9,3 @@ use Rattle.variables.proofs.kept.variable_spot.Given as goal
 
 abbrev pub invariant-loop-v : goal.invariant-loop-v
 invariant-loop-v l = first (λ j. ltb l.n (get_or l.words (variable_numbers_at + j) 0)) (λ j. j) l.e l.v l.e ≡ spot_in l.n l.words
-
-abbrev pub decreases-loop-v : goal.decreases-loop-v
-decreases-loop-v l = l.e - l.v

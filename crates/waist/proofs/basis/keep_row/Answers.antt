@@ -17,12 +17,12 @@ replace_row-size-requires c =
     let k = keep-room _ 0 [] _ c.requires.sound _ c.row_spot-z.ensures.lower_bound c.row_spot-z.ensures.upper_bound c.open_row.ensures in
     record { k_bound = k.1; k_lt_row_room = omega (arith, c.requires.sound.named.few-symbols); i_lt_top_row = omega (arith, c.row_spot-z.ensures.upper_bound, c.requires.sound.few); ascending = k.0 }
 
-pub open_reals-requires : goal.open_reals-requires
-open_reals-requires c =
+pub open-requires-2 : goal.open-requires-2
+open-requires-2 c =
     let l = lines-by _ _ c.requires.sound c.lines_of-lines.ensures in
-    record { i_le_e = omega (arith, c.row_spot-z.ensures.upper_bound, l.3); e_lt_reals_size = omega (arith, l.0) }
+    record { i_le_e = omega (arith, c.row_spot-z.ensures.upper_bound, l.3); e_bound = omega (arith, l.0) }
 
-pub returns : goal.returns
-returns c =
+pub returns-clause-does : goal.returns-clause-does
+returns-clause-does c =
     let l = lines-by _ _ c.requires.sound c.lines_of-lines.ensures in
-    keep-calls _ _ _ _ c.requires.sound c.requires.le_p c.requires.p_bound c.requires.free c.requires.row_count_at_bound c.requires.settled_row _ _ _ _ _ _ _ _ _ c.row_spot-z.ensures.value l.2 c.open_row.ensures c.replace_row-size.ensures c.open_bytes.ensures c.open_reals.ensures refl
+    keep-calls _ _ _ _ c.requires.sound c.requires.le_p c.requires.p_bound c.requires.free c.requires.row_count_at_bound c.requires.settled_row _ _ _ _ _ _ _ _ _ c.row_spot-z.ensures.value l.2 c.open_row.ensures c.replace_row-size.ensures c.open.ensures c.open-2.ensures refl

@@ -1,4 +1,4 @@
-use Prim.Native.Nat.{◌+◌, ◌-◌, ◌≤◌}
+use Prim.Native.Nat.{◌+◌}
 use mathlib.Core.Path.{◌≡◌}
 use lib.Dec.{ltb}
 use lib.ListN.{get_or}
@@ -8,7 +8,4 @@ use Rattle.waist.specs.Spots.{spot_of}
 use Rattle.waist.proofs.basis.row_spot.Given as goal
 
 abbrev pub invariant-loop-i : goal.invariant-loop-i
-invariant-loop-i l = (first (λ j. ltb l.p (get_or l.bytes (row_places_at + j) 0)) (λ j. j) (1 + l.r) l.i (1 + l.r) ≡ spot_of l.p l.r l.bytes) × (1 ≤ l.i) × (l.i ≤ 1 + l.r)
-
-abbrev pub decreases-loop-i : goal.decreases-loop-i
-decreases-loop-i l = 1 + l.r - l.i
+invariant-loop-i l = first (λ j. ltb l.p (get_or l.bytes (row_places_at + j) 0)) (λ j. j) (1 + l.r) l.i (1 + l.r) ≡ spot_of l.p l.r l.bytes

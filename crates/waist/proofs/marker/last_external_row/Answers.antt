@@ -1,13 +1,15 @@
-use mathlib.Core.Path.{refl, sym, ◌∙◌}
+use Prim.Native.Nat.{◌+◌, ◌-◌}
+use mathlib.Core.Path.{◌≡◌, refl, sym, ◌∙◌}
+use lib.ListN.{get_or}
+use Rattle.sparse.specs.Places.{row_count_at}
 use native.Mathlib.Omega.{arith}
 use Rattle.rows.specs.choose.Back.{back-next, back-here, back_last}
 use Rattle.waist.specs.MarkerRow.{external_row_of, external-held}
-use Rattle.std.proofs.Common.{rules}
 use Rattle.waist.proofs.marker.last_external_row.Goals as goal
 
 pub loop-i-init : goal.loop-i-init
 unfolding external_row_of
-loop-i-init c = (refl, search rules)
+loop-i-init c = let q : get_or c.args.room.now.words.now row_count_at 0 + 1 - 1 ≡ get_or c.args.room.now.words.now row_count_at 0 = omega arith in (rw q refl, omega arith)
 
 pub column_at-x-requires : goal.column_at-x-requires
 column_at-x-requires c = record { sound = c.requires.sound; p_le_last_place = c.requires.p_le_last_place; i_le_most_rows = omega (arith, c.requires.sound.few); spots = c.spots_of-spots.ensures }

@@ -3,15 +3,14 @@ use native.Mathlib.Omega.{arith}
 use Rattle.laws.specs.Loops.{run-next, run-last}
 use Rattle.rows.specs.choose.Choose.{found_of}
 use Rattle.waist.specs.Ratios.{dual_entering_of, dual-turn}
-use Rattle.std.proofs.Common.{rules}
 use Rattle.waist.proofs.ratios.dual_along.Goals as goal
 
 pub loop-p-init : goal.loop-p-init
-loop-p-init c = (rw c.no_best-b.ensures, search rules, search rules)
+loop-p-init c = rw c.no_best-b.ensures
 
 pub loop-p-preserved : goal.loop-p-preserved
-loop-p-preserved c = (run-next _ _ _ _ (omega arith) (dual-turn _ _ _ _ _ c.dual_better-b.ensures) c.loop-p.invariant.0, omega arith, omega arith)
+loop-p-preserved c = run-next _ _ _ _ (omega arith) (dual-turn _ _ _ _ _ c.dual_better-b.ensures) c.loop-p.invariant
 
 pub returns : goal.returns
 unfolding dual_entering_of
-returns c = record { value = c.found_of.ensures.value ∙ ap (found_of _) (run-last _ _ _ _ (omega arith) c.loop-p.invariant.0); within = c.found_of.ensures.within }
+returns c = record { value = c.found_of.ensures.value ∙ ap (found_of _) (run-last _ _ _ _ (omega arith) c.loop-p.invariant); within = c.found_of.ensures.within }

@@ -1,4 +1,4 @@
-use Prim.Native.Nat.{◌+◌, ◌-◌, ◌≤◌}
+use Prim.Native.Nat.{◌+◌}
 use mathlib.Core.Path.{◌≡◌}
 use Rattle.laws.specs.Loops.{run}
 use Rattle.rows.specs.choose.Choose.{no_best}
@@ -6,7 +6,4 @@ use Rattle.waist.specs.Ratios.{dual_turn}
 use Rattle.waist.proofs.ratios.dual_along.Given as goal
 
 abbrev pub invariant-loop-p : goal.invariant-loop-p
-invariant-loop-p l = (run (dual_turn l.bytes l.reals l.row) l.p (1 + l.n) l.b ≡ run (dual_turn l.bytes l.reals l.row) 1 (1 + l.n) no_best) × (1 ≤ l.p) × (l.p ≤ 1 + l.n)
-
-abbrev pub decreases-loop-p : goal.decreases-loop-p
-decreases-loop-p l = 1 + l.n - l.p
+invariant-loop-p l = run (dual_turn l.bytes l.reals l.row) l.p (1 + l.n) l.b ≡ run (dual_turn l.bytes l.reals l.row) 1 (1 + l.n) no_best

@@ -5,11 +5,10 @@ use Rattle.rows.specs.choose.Choose.{found_of}
 use Rattle.waist.specs.substituting.Held.{held-room}
 use Rattle.waist.specs.Working.{lines-few}
 use Rattle.waist.specs.Ratios.{ratio_row_of, ratio-turn}
-use Rattle.std.proofs.Common.{rules}
 use Rattle.waist.proofs.ratios.ratio_row.Goals as goal
 
 pub loop-i-init : goal.loop-i-init
-loop-i-init c = (rw c.no_best-b.ensures, search rules, search rules)
+loop-i-init c = rw c.no_best-b.ensures
 
 pub spot_cell-x-requires : goal.spot_cell-x-requires
 spot_cell-x-requires c =
@@ -17,8 +16,8 @@ spot_cell-x-requires c =
     record { n_le_cell_room = omega (arith, f); i_lt_lines_room = omega (arith, c.requires.sound.few, c.loop-i-test.true); ascending = c.requires.sound.held.up; spots = c.spots_of-spots.ensures }
 
 pub loop-i-preserved : goal.loop-i-preserved
-loop-i-preserved c = (run-next _ _ _ _ (omega arith) (ratio-turn _ _ _ _ _ c.kind_at-kind.ensures c.spot_cell-x.ensures c.row_better-b.ensures) c.loop-i.invariant.0, omega arith, omega arith)
+loop-i-preserved c = run-next _ _ _ _ (omega arith) (ratio-turn _ _ _ _ _ c.kind_at-kind.ensures c.spot_cell-x.ensures c.row_better-b.ensures) c.loop-i.invariant
 
 pub returns : goal.returns
 unfolding ratio_row_of
-returns c = record { value = c.found_of.ensures.value ∙ ap (found_of _) (run-last _ _ _ _ (omega arith) c.loop-i.invariant.0); within = c.found_of.ensures.within }
+returns c = record { value = c.found_of.ensures.value ∙ ap (found_of _) (run-last _ _ _ _ (omega arith) c.loop-i.invariant); within = c.found_of.ensures.within }

@@ -1,3 +1,4 @@
+use Rattle.std.proofs.Common.{rules}
 use Rattle.waist.specs.PurgeCalls.{close-ready, purge-purged, purge-makes}
 use Rattle.waist.proofs.symbols.purge.Goals as goal
 
@@ -6,8 +7,8 @@ drop_own_row-requires c = record { sound = c.requires.sound; le_p = c.requires.l
 
 pub close_symbol-requires : goal.close_symbol-requires
 close_symbol-requires c =
-    let r = close-ready _ _ _ c.requires.sound c.requires.le_p c.requires.p_bound c.requires.unowned c.drop_own_row.ensures in
+    let r = close-ready _ _ _ c.requires.sound c.requires.le_p c.requires.p_bound c.requires.unowned c.drop_own_row.ensures.does in
     record { sound = r.0; le_p = r.1; p_bound = r.2; free = r.3; unowned = r.4 }
 
 pub returns : goal.returns
-returns c = record { purged = purge-purged _ _ _ c.requires.sound c.requires.le_p c.requires.p_bound c.requires.unowned c.drop_own_row.ensures c.close_symbol.ensures; makes = λ a s. purge-makes _ _ _ c.requires.sound c.requires.le_p c.requires.p_bound c.requires.unowned c.drop_own_row.ensures c.close_symbol.ensures a s }
+returns c = record { purged = purge-purged _ _ _ c.requires.sound c.requires.le_p c.requires.p_bound c.requires.unowned c.drop_own_row.ensures.does c.close_symbol.ensures.does; makes = λ a s. purge-makes _ _ _ c.requires.sound c.requires.le_p c.requires.p_bound c.requires.unowned c.drop_own_row.ensures.does c.close_symbol.ensures.does a s; same = search rules }

@@ -4,12 +4,12 @@ use Rattle.writing.proofs.said.terms_said.Goals as goal
 
 pub loop-i-init : goal.loop-i-init
 unfolding all_up_to
-loop-i-init c = (omega arith, refl)
+loop-i-init c = refl
 
 pub loop-i-preserved : goal.loop-i-preserved
-loop-i-preserved c = (omega (arith, c.loop-i-test.true), said-next c.args.p.vars c.args.p.coefs c.args.n c.loop-i.i c.loop-i.invariant.1 c.figure_of-f.ensures c.figure_said.ensures c.rises_at.ensures)
+loop-i-preserved c = said-next c.args.p.vars c.args.p.coefs c.args.n c.loop-i.i c.loop-i.invariant c.figure_of-f.ensures c.figure_said.ensures c.rises_at.ensures
 
 pub returns : goal.returns
 returns c =
-    let e : c.loop-i.i ≡ c.args.n = omega (arith, c.loop-i.invariant.0, c.loop-i-test.false) in
-    rw e at c.loop-i.invariant.1
+    let e : c.loop-i.i ≡ c.args.n = omega arith in
+    rw e at c.loop-i.invariant

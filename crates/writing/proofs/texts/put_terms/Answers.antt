@@ -5,12 +5,12 @@ use Rattle.writing.proofs.texts.put_terms.Goals as goal
 
 pub loop-i-init : goal.loop-i-init
 unfolding up_to
-loop-i-init c = (omega arith, adds-nothing _ _)
+loop-i-init c = adds-nothing _ _
 
 pub loop-i-preserved : goal.loop-i-preserved
-loop-i-preserved c = (omega (arith, c.loop-i-test.true), text-as (next_place _ _ c.loop-i.i c.figure_of-f.ensures) (then c.loop-i.invariant.1 c.put_term-next.ensures))
+loop-i-preserved c = text-as (next_place _ _ c.loop-i.i c.figure_of-f.ensures) (then c.loop-i.invariant c.put_term-next.ensures)
 
 pub returns : goal.returns
 returns c =
-    let e : c.loop-i.i ≡ c.args.n = omega (arith, c.loop-i.invariant.0, c.loop-i-test.false) in
-    rw e at c.loop-i.invariant.1
+    let e : c.loop-i.i ≡ c.args.n = omega arith in
+    rw e at c.loop-i.invariant

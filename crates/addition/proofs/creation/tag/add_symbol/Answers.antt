@@ -4,7 +4,7 @@ use Rattle.addition.specs.creation.Growth.{grows, symbol-calls}
 use Rattle.addition.proofs.creation.tag.add_symbol.Goals as goal
 
 pub append_symbol-requires : goal.append_symbol-requires
-append_symbol-requires c = record { sound = c.requires.standing.sound; values_bound = c.requires.values_bound; values_bound_2 = c.requires.values_bound_2; kind_bound = c.requires.kind_bound }
+append_symbol-requires c = record { sound = c.requires.standing.sound; values_bound = c.requires.values_bound; values_bound_2 = c.requires.values_bound_2 }
 
 pub bounds-row-p : goal.bounds-row-p
 bounds-row-p c = omega (arith, c.index-p.ensures, c.append_symbol.ensures.value, c.requires.values_bound)

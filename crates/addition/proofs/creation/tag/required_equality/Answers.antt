@@ -1,10 +1,9 @@
-use native.Mathlib.Omega.{arith}
 use Rattle.steps.specs.Number.{one64}
 use Rattle.addition.specs.creation.Tags.{dummy-tags}
 use Rattle.addition.proofs.creation.tag.required_equality.Goals as goal
 
 pub add_symbol-w-requires : goal.add_symbol-w-requires
-add_symbol-w-requires c = record { standing = c.requires.standing; values_bound = c.requires.values_bound; values_bound_2 = c.requires.values_bound_2; kind_bound = omega arith }
+add_symbol-w-requires c = record { standing = c.requires.standing; values_bound = c.requires.values_bound; values_bound_2 = c.requires.values_bound_2 }
 
 pub returns : goal.returns
 unfolding one64

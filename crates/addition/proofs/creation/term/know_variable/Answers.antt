@@ -14,4 +14,4 @@ pub returns-in_default : goal.returns-in_default
 returns-in_default c = λ a s. let h = c.new_variable.ensures a s in known-new _ a _ _ _ _ (sym c.find_variable-f.ensures.value ∙ c.in_default.is) h.0 h.1
 
 pub returns : goal.returns
-returns c = λ a s. known-here _ a _ _ _ (sym c.find_variable-f.ensures.value ∙ c.in-At.is) s
+returns c = λ a s. known-here _ a _ _ _ (sym c.find_variable-f.ensures.value ∙ c.in-Some.is) s

@@ -5,7 +5,7 @@ use Rattle.addition.specs.creation.Known.{new-calls}
 use Rattle.addition.proofs.creation.term.new_variable.Goals as goal
 
 pub append_symbol-p-requires : goal.append_symbol-p-requires
-append_symbol-p-requires c = record { sound = c.requires.sound; values_bound = c.requires.values_bound; values_bound_2 = c.requires.values_bound_2; kind_bound = omega arith }
+append_symbol-p-requires c = record { sound = c.requires.sound; values_bound = c.requires.values_bound; values_bound_2 = c.requires.values_bound_2 }
 
 pub bounds-row-index : goal.bounds-row-index
 bounds-row-index c = omega (arith, c.index.ensures, c.append_symbol-p.ensures.value, c.requires.values_bound)

@@ -1,4 +1,4 @@
-use Rattle.std.proofs.Common.{◌≡◌, ◌-◌, ◌≤◌}
+use Rattle.std.proofs.Common.{◌≡◌, ◌≤◌}
 use Rattle.laws.specs.Loops.{run}
 use Rattle.layout.specs.Layout.{term_room}
 use Rattle.changes.specs.terms.Terms.{pack_of}
@@ -7,6 +7,3 @@ use Rattle.entry.proofs.typed.pack.pack_of.Given as goal
 
 abbrev pub invariant-loop-i : goal.invariant-loop-i
 invariant-loop-i l = (run (packs l.r) l.i l.n l.p ≡ pack_of (terms_read l.r)) × (l.n ≤ term_room)
-
-abbrev pub decreases-loop-i : goal.decreases-loop-i
-decreases-loop-i l = l.n - l.i

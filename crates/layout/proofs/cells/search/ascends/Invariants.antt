@@ -1,4 +1,4 @@
-use Prim.Native.Nat.{◌-◌, ◌≤◌}
+use Prim.Native.Nat.{◌-◌}
 use mathlib.Core.Path.{◌≡◌}
 use lib.Dec.{ltb}
 use lib.ListN.{get_or}
@@ -7,7 +7,4 @@ use Rattle.layout.specs.cells.Cells.{ascends_of}
 use Rattle.layout.proofs.cells.search.ascends.Given as goal
 
 abbrev pub invariant-loop-j : goal.invariant-loop-j
-invariant-loop-j l = (all_on (λ i. ltb (get_or l.keys (i - 1) 0) (get_or l.keys i 0)) l.j l.n l.ok ≡ ascends_of l.keys l.n) × (1 ≤ l.j)
-
-abbrev pub decreases-loop-j : goal.decreases-loop-j
-decreases-loop-j l = l.n - l.j
+invariant-loop-j l = all_on (λ i. ltb (get_or l.keys (i - 1) 0) (get_or l.keys i 0)) l.j l.n l.ok ≡ ascends_of l.keys l.n

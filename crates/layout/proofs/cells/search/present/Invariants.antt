@@ -1,4 +1,3 @@
-use Prim.Native.Nat.{◌-◌}
 use mathlib.Core.Path.{◌≡◌}
 use lib.Ieee.{nan, ne}
 use lib.ListN.{get_or}
@@ -9,6 +8,3 @@ use Rattle.layout.proofs.cells.search.present.Given as goal
 
 abbrev pub invariant-loop-j : goal.invariant-loop-j
 invariant-loop-j l = all_on (λ i. ne (get_or l.vals i nan) zero64) l.j l.n l.ok ≡ present_of l.vals l.n
-
-abbrev pub decreases-loop-j : goal.decreases-loop-j
-decreases-loop-j l = l.n - l.j

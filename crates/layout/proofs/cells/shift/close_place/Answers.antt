@@ -1,13 +1,6 @@
-use mathlib.Core.Path.{refl}
-use native.Mathlib.Omega.{arith}
-use Rattle.laws.specs.Loops.{map_next, map_last}
+use Rattle.std.proofs.Common.{rules}
+use Rattle.layout.specs.cells.Cells.{nearer_of}
 use Rattle.layout.proofs.cells.shift.close_place.Goals as goal
 
-pub loop-j-init : goal.loop-j-init
-loop-j-init c = refl
-
-pub loop-j-preserved : goal.loop-j-preserved
-loop-j-preserved c = map_next _ _ _ _ 0 (omega arith) c.nearer.ensures c.loop-j.invariant
-
 pub returns : goal.returns
-returns c = map_last _ _ _ _ (omega arith) c.loop-j.invariant
+returns c = c.each_key.ensures (nearer_of c.args.p) (λ x y h. search (rules, h))

@@ -1,9 +1,6 @@
-use Prim.Native.Nat.{◌-◌, ◌≤◌}
-use Rattle.layout.specs.cells.Spots.{SpotsTo}
+use Prim.Native.Nat.{◌*◌}
+use Rattle.layout.specs.cells.Spots.{block_size, SpotsTo}
 use Rattle.layout.proofs.cells.spots.fill_spots.Given as goal
 
-abbrev pub invariant-loop-j : goal.invariant-loop-j
-invariant-loop-j l = SpotsTo l.keys l.n l.p l.j l.spots × (l.j ≤ l.n)
-
-abbrev pub decreases-loop-j : goal.decreases-loop-j
-decreases-loop-j l = l.n - l.j
+abbrev pub invariant-loop-b : goal.invariant-loop-b
+invariant-loop-b l = SpotsTo l.keys l.n l.p (l.b * block_size) l.spots

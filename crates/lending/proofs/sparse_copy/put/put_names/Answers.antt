@@ -10,4 +10,4 @@ unfolding names_over
 glue w k r v to e₁ e₂ e₃ e₄ = e₄ ∙ rw (e₃, e₂, e₁) refl
 
 pub returns : goal.returns
-returns c = glue _ _ _ _ _ c.bytes_part.ensures c.bytes_part-2.ensures c.bytes_part-3.ensures c.bytes_part-4.ensures
+returns c = glue _ _ _ _ _ (c.part.ensures 0) (c.part-2.ensures 0) (c.part-3.ensures 0) (c.part-4.ensures 0)

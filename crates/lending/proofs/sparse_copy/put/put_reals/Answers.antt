@@ -11,11 +11,11 @@ glue : (w : List Float) (k r v n e m : ℕ) (to : List Float) {x₁ x₂ x₃ x�
 unfolding reals_over
 glue w k r v n e m to e₁ e₂ e₃ e₄ e₅ e₆ e₇ e₈ e₉ = e₉ ∙ rw (e₈, e₇, e₆, e₅, e₄, e₃, e₂, e₁) refl
 
-pub reals_part-requires-8 : goal.reals_part-requires-8
-reals_part-requires-8 c = omega (arith, c.requires.m_le_most_terms)
+pub part-requires-8 : goal.part-requires-8
+part-requires-8 c = omega (arith, c.requires.m_le_most_terms)
 
-pub reals_part-requires-9 : goal.reals_part-requires-9
-reals_part-requires-9 c = omega (arith, c.requires.c_le_most_constraints)
+pub part-requires-9 : goal.part-requires-9
+part-requires-9 c = omega (arith, c.requires.c_le_most_constraints)
 
 pub returns : goal.returns
-returns c = glue _ _ _ _ _ _ _ _ c.reals_part.ensures c.reals_part-2.ensures c.reals_part-3.ensures c.reals_part-4.ensures c.reals_part-5.ensures c.reals_part-6.ensures c.reals_part-7.ensures c.reals_part-8.ensures c.reals_part-9.ensures
+returns c = glue _ _ _ _ _ _ _ _ (c.part.ensures nan) (c.part-2.ensures nan) (c.part-3.ensures nan) (c.part-4.ensures nan) (c.part-5.ensures nan) (c.part-6.ensures nan) (c.part-7.ensures nan) (c.part-8.ensures nan) (c.part-9.ensures nan)

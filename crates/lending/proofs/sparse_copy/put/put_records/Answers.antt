@@ -10,4 +10,4 @@ unfolding records_over
 glue w n e m to e₁ e₂ e₃ e₄ e₅ e₆ e₇ e₈ = e₈ ∙ rw (e₇, e₆, e₅, e₄, e₃, e₂, e₁) refl
 
 pub returns : goal.returns
-returns c = glue _ _ _ _ _ c.bytes_part.ensures c.bytes_part-2.ensures c.bytes_part-3.ensures c.bytes_part-4.ensures c.bytes_part-5.ensures c.bytes_part-6.ensures c.bytes_part-7.ensures c.bytes_part-8.ensures
+returns c = glue _ _ _ _ _ (c.part.ensures 0) (c.part-2.ensures 0) (c.part-3.ensures 0) (c.part-4.ensures 0) (c.part-5.ensures 0) (c.part-6.ensures 0) (c.part-7.ensures 0) (c.part-8.ensures 0)

@@ -11,4 +11,4 @@ unfolding words_over
 glue w k v n g to e₁ e₂ e₃ e₄ e₅ e₆ e₇ = e₇ ∙ rw (e₆, e₅, e₄, e₃, e₂, e₁) refl
 
 pub returns : goal.returns
-returns c = glue _ _ _ _ _ _ c.words_part.ensures c.words_part-2.ensures c.words_part-3.ensures c.words_part-4.ensures c.words_part-5.ensures c.words_part-6.ensures c.words_part-7.ensures
+returns c = glue _ _ _ _ _ _ (c.part.ensures 0) (c.part-2.ensures 0) (c.part-3.ensures 0) (c.part-4.ensures 0) (c.part-5.ensures 0) (c.part-6.ensures 0) (c.part-7.ensures 0)

@@ -1,18 +1,17 @@
 use mathlib.Core.Path.{◌≡◌, refl}
-use mathlib.Core.Bool.{Bool, true, false, ◌&&◌, cond}
-use mathlib.Core.Option.{none, some}
-use lib.Ieee.{Float, ne}
+use mathlib.Core.Bool.{Bool, true, false, ◌&&◌}
 use Rattle.steps.specs.Number.{zero64}
-use Rattle.optimising.specs.suggestion.Shifting.{gets, optional, changes_by}
+use Rattle.optimising.specs.suggestion.Shifting.{optional, changes_by}
 use Rattle.optimising.proofs.suggestion.shifting.is_noted.Goals as goal
 
-three : (a b : Bool) (x : Float) → a && b && ne x zero64 ≡ (a && changes_by (cond b (some x) none))
-unfolding changes_by
-three true true x = refl
-three true false x = refl
-three false true x = refl
-three false false x = refl
+never : (a : Bool) → false ≡ a && false
+never true = refl
+never false = refl
 
-pub returns : goal.returns
-unfolding optional gets zero64
-returns c = rw (← c.is_external.ensures) (three c.is_external.result c.args.s.on c.args.s.by)
+pub returns-in-Some : goal.returns-in-Some
+unfolding optional changes_by zero64
+returns-in-Some c = rw (c.in-Some.is, c.is_external.ensures) refl
+
+pub returns-in-None : goal.returns-in-None
+unfolding optional changes_by
+returns-in-None c = rw c.in-None.is (never _)

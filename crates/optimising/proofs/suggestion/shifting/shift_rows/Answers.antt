@@ -8,7 +8,7 @@ use Rattle.optimising.specs.suggestion.Shifting.{shift_rows_in, shift-turn}
 use Rattle.optimising.proofs.suggestion.shifting.shift_rows.Goals as goal
 
 pub loop-i-init : goal.loop-i-init
-loop-i-init c = (refl, refl, omega arith, omega arith)
+loop-i-init c = (refl, refl)
 
 pub shift_of-s-requires : goal.shift_of-s-requires
 shift_of-s-requires c = record { n_le_cell_room = omega (arith, c.requires.cell_count_at_bound); i_lt_most_rows = omega (arith, c.requires.row_count_at_bound); ascending = c.requires.ascending; spots = c.spots_for-spots.ensures }
@@ -17,8 +17,6 @@ pub loop-i-preserved : goal.loop-i-preserved
 loop-i-preserved c = (
   run-next _ _ _ _ (omega arith) (shift-turn _ _ _ _ _ _ _ _ _ c.shift_of-s.ensures c.kind_at.ensures c.is_noted-on.ensures c.var_changed_if.ensures c.shift_row-w.ensures.result_value c.shift_row-w.ensures.reals_after) c.loop-i.invariant.0,
   ap (λ (z : Noted). get_or z.words variable_count_at 0) c.var_changed_if.ensures ∙ noted-count _ _ _ ∙ c.loop-i.invariant.1,
-  omega arith,
-  omega arith,
 )
 
 pub returns : goal.returns

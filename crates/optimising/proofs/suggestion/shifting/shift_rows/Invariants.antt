@@ -1,4 +1,4 @@
-use Prim.Native.Nat.{◌+◌, ◌-◌, ◌≤◌}
+use Prim.Native.Nat.{◌+◌}
 use mathlib.Core.Path.{◌≡◌}
 use lib.ListN.{get_or}
 use Rattle.laws.specs.Loops.{run}
@@ -11,7 +11,4 @@ use Rattle.optimising.proofs.suggestion.shifting.shift_rows.Given as goal
 abbrev pub invariant-loop-i : goal.invariant-loop-i
 invariant-loop-i l =
     (run (shift_turn l.d l.n l.keys l.values) l.i (1 + l.count) (shifted (noted l.words l.bytes) l.reals (mark_of l.w)) ≡ run (shift_turn l.d l.n l.keys l.values) 1 (1 + l.count) (shifted (noted l.initial.words l.initial.bytes) l.initial.reals (mark_of l.initial.w)))
-    × (get_or l.words variable_count_at 0 ≡ get_or l.initial.words variable_count_at 0) × (1 ≤ l.i) × (l.i ≤ 1 + l.count)
-
-abbrev pub decreases-loop-i : goal.decreases-loop-i
-decreases-loop-i l = 1 + l.count - l.i
+    × (get_or l.words variable_count_at 0 ≡ get_or l.initial.words variable_count_at 0)

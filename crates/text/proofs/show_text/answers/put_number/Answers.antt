@@ -1,7 +1,6 @@
 use Rattle.std.proofs.Common.{arith}
-use Rattle.text.specs.show_text.Puts.{put_then, put-wrote}
-use Rattle.text.specs.show_text.Show.{number_short}
+use Rattle.text.specs.Put.{put_then}
 use Rattle.text.proofs.show_text.answers.put_number.Goals as goal
 
 pub returns : goal.returns
-returns c = record { puts = put_then c.put_byte-i.ensures.puts (put-wrote _ _ _ _ c.put_number.ensures); upper_bound = omega (arith, c.put_number.ensures.0, number_short c.args.n) }
+returns c = record { put = put_then c.put_byte-i.ensures.put c.put_number.ensures.put; upper_bound = omega arith }

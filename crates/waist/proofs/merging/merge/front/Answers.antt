@@ -5,8 +5,8 @@ use Rattle.waist.proofs.merging.merge.front.Goals as goal
 
 pub returns-then-j-e : goal.returns-then-j-e
 unfolding front_of
-returns-then-j-e c = record { value = rw (lt-ltb _ _ c.if-j-e.true); upper_bound = omega arith }
+returns-then-j-e g c = record { value = rw (lt-ltb _ _ c.if-j-e.true); upper_bound = omega arith }
 
 pub returns : goal.returns
 unfolding front_of
-returns c = record { value = rw (le-ltb _ _ c.if-j-e.false); upper_bound = omega arith }
+returns g c = record { value = rw (le-ltb _ _ c.if-j-e.false); upper_bound = omega arith }

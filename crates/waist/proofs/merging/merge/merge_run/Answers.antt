@@ -14,54 +14,54 @@ loop-s-init c = (rw (c.nothing-w.ensures, mark-clean) (merging_start _ _ _ _ _ _
 
 pub bounds-vals-s : goal.bounds-vals-s
 bounds-vals-s c =
-    let h = merging-first _ _ _ _ _ _ _ _ _ _ _ _ c.requires.run_of c.requires.run_of_2 _ _ _ _ (cells _ _ _) _ _ c.loop-s.invariant.0 c.front-p.ensures.value c.loose_front-q.ensures.value c.if-p-q.true in
+    let h = merging-first _ _ _ _ _ _ _ _ _ _ _ _ c.requires.run_of c.requires.run_of_2 _ _ _ _ (cells _ _ _) _ _ c.loop-s.invariant.0 c.front-p.ensures.value c.front-q.ensures.value c.if-p-q.true in
     omega (arith, h.0)
 
-pub put-n-requires : goal.put-n-requires
-put-n-requires c =
-    let h = merging-first _ _ _ _ _ _ _ _ _ _ _ _ c.requires.run_of c.requires.run_of_2 _ _ _ _ (cells _ _ _) _ _ c.loop-s.invariant.0 c.front-p.ensures.value c.loose_front-q.ensures.value c.if-p-q.true in
+pub put_if-n-requires : goal.put_if-n-requires
+put_if-n-requires c =
+    let h = merging-first _ _ _ _ _ _ _ _ _ _ _ _ c.requires.run_of c.requires.run_of_2 _ _ _ _ (cells _ _ _) _ _ c.loop-s.invariant.0 c.front-p.ensures.value c.front-q.ensures.value c.if-p-q.true in
     omega (arith, h.1)
 
 pub loop-s-preserved-then-p-q : goal.loop-s-preserved-then-p-q
 loop-s-preserved-then-p-q c =
-    let h = merging-first _ _ _ _ _ _ _ _ _ _ _ _ c.requires.run_of c.requires.run_of_2 _ _ _ _ (cells _ _ _) _ _ c.loop-s.invariant.0 c.front-p.ensures.value c.loose_front-q.ensures.value c.if-p-q.true in
-    (own_turn _ _ _ _ _ _ _ _ _ _ _ _ c.requires.run_of c.requires.run_of_2 _ _ _ _ _ _ _ _ _ _ _ _ _ c.loop-s.invariant.0 c.loop-s.invariant.1 c.front-p.ensures.value c.loose_front-q.ensures.value (omega arith) _ c.if-p-q.true c.own-x.ensures c.put-n.ensures.result_after, c.loop-s.invariant.1, omega (arith, h.0), omega arith)
+    let h = merging-first _ _ _ _ _ _ _ _ _ _ _ _ c.requires.run_of c.requires.run_of_2 _ _ _ _ (cells _ _ _) _ _ c.loop-s.invariant.0 c.front-p.ensures.value c.front-q.ensures.value c.if-p-q.true in
+    (own_turn _ _ _ _ _ _ _ _ _ _ _ _ c.requires.run_of c.requires.run_of_2 _ _ _ _ _ _ _ _ _ _ _ _ _ c.loop-s.invariant.0 c.loop-s.invariant.1 c.front-p.ensures.value c.front-q.ensures.value (omega arith) _ c.if-p-q.true c.own-x.ensures c.put_if-n.ensures.result_after, c.loop-s.invariant.1, omega (arith, h.0), omega arith)
 
 pub bounds-others-j : goal.bounds-others-j
 bounds-others-j c =
-    let h = merging-second _ _ _ _ _ _ _ _ _ _ _ _ c.requires.run_of c.requires.run_of_2 _ _ _ _ (cells _ _ _) _ _ c.loop-s.invariant.0 c.front-p.ensures.value c.loose_front-q.ensures.value c.if-q-p.true in
+    let h = merging-second _ _ _ _ _ _ _ _ _ _ _ _ c.requires.run_of c.requires.run_of_2 _ _ _ _ (cells _ _ _) _ _ c.loop-s.invariant.0 c.front-p.ensures.value c.front-q.ensures.value c.if-q-p.true in
     omega (arith, h.0)
 
 pub put_sum-r-requires : goal.put_sum-r-requires
 put_sum-r-requires c =
-    let h = merging-second _ _ _ _ _ _ _ _ _ _ _ _ c.requires.run_of c.requires.run_of_2 _ _ _ _ (cells _ _ _) _ _ c.loop-s.invariant.0 c.front-p.ensures.value c.loose_front-q.ensures.value c.if-q-p.true in
+    let h = merging-second _ _ _ _ _ _ _ _ _ _ _ _ c.requires.run_of c.requires.run_of_2 _ _ _ _ (cells _ _ _) _ _ c.loop-s.invariant.0 c.front-p.ensures.value c.front-q.ensures.value c.if-q-p.true in
     omega (arith, h.1)
 
 pub loop-s-preserved-then-q-p : goal.loop-s-preserved-then-q-p
 unfolding zero64
 loop-s-preserved-then-q-p c =
-    let h = merging-second _ _ _ _ _ _ _ _ _ _ _ _ c.requires.run_of c.requires.run_of_2 _ _ _ _ (cells _ _ _) _ _ c.loop-s.invariant.0 c.front-p.ensures.value c.loose_front-q.ensures.value c.if-q-p.true in
-    (other-turn _ _ _ _ _ _ _ _ _ _ _ _ c.requires.run_of c.requires.run_of_2 _ _ _ _ _ _ _ _ _ _ _ _ _ c.loop-s.invariant.0 c.loop-s.invariant.1 c.front-p.ensures.value c.loose_front-q.ensures.value (omega arith) _ c.if-q-p.true c.put_sum-r.ensures.size_after c.put_sum-r.ensures.wrote_value, c.loop-s.invariant.1, omega arith, omega (arith, h.0))
+    let h = merging-second _ _ _ _ _ _ _ _ _ _ _ _ c.requires.run_of c.requires.run_of_2 _ _ _ _ (cells _ _ _) _ _ c.loop-s.invariant.0 c.front-p.ensures.value c.front-q.ensures.value c.if-q-p.true in
+    (other-turn _ _ _ _ _ _ _ _ _ _ _ _ c.requires.run_of c.requires.run_of_2 _ _ _ _ _ _ _ _ _ _ _ _ _ c.loop-s.invariant.0 c.loop-s.invariant.1 c.front-p.ensures.value c.front-q.ensures.value (omega arith) _ c.if-q-p.true c.put_sum-r.ensures.size_after c.put_sum-r.ensures.wrote_value, c.loop-s.invariant.1, omega arith, omega (arith, h.0))
 
 pub bounds-vals-s-in-loop-s : goal.bounds-vals-s-in-loop-s
 bounds-vals-s-in-loop-s c =
-    let h = merging-third _ _ _ _ _ _ _ _ _ _ _ _ c.requires.run_of c.requires.run_of_2 _ _ _ _ (cells _ _ _) _ _ c.loop-s.invariant.0 c.front-p.ensures.value c.loose_front-q.ensures.value c.if-p-q.false c.if-q-p.false c.loop-s-test.true in
+    let h = merging-third _ _ _ _ _ _ _ _ _ _ _ _ c.requires.run_of c.requires.run_of_2 _ _ _ _ (cells _ _ _) _ _ c.loop-s.invariant.0 c.front-p.ensures.value c.front-q.ensures.value c.if-p-q.false c.if-q-p.false c.loop-s-test.true in
     omega (arith, h.0)
 
 pub bounds-others-j-in-loop-s : goal.bounds-others-j-in-loop-s
 bounds-others-j-in-loop-s c =
-    let h = merging-third _ _ _ _ _ _ _ _ _ _ _ _ c.requires.run_of c.requires.run_of_2 _ _ _ _ (cells _ _ _) _ _ c.loop-s.invariant.0 c.front-p.ensures.value c.loose_front-q.ensures.value c.if-p-q.false c.if-q-p.false c.loop-s-test.true in
+    let h = merging-third _ _ _ _ _ _ _ _ _ _ _ _ c.requires.run_of c.requires.run_of_2 _ _ _ _ (cells _ _ _) _ _ c.loop-s.invariant.0 c.front-p.ensures.value c.front-q.ensures.value c.if-p-q.false c.if-q-p.false c.loop-s-test.true in
     omega (arith, h.1)
 
 pub put_sum-r-requires-in-loop-s : goal.put_sum-r-requires-in-loop-s
 put_sum-r-requires-in-loop-s c =
-    let h = merging-third _ _ _ _ _ _ _ _ _ _ _ _ c.requires.run_of c.requires.run_of_2 _ _ _ _ (cells _ _ _) _ _ c.loop-s.invariant.0 c.front-p.ensures.value c.loose_front-q.ensures.value c.if-p-q.false c.if-q-p.false c.loop-s-test.true in
+    let h = merging-third _ _ _ _ _ _ _ _ _ _ _ _ c.requires.run_of c.requires.run_of_2 _ _ _ _ (cells _ _ _) _ _ c.loop-s.invariant.0 c.front-p.ensures.value c.front-q.ensures.value c.if-p-q.false c.if-q-p.false c.loop-s-test.true in
     omega (arith, h.2)
 
 pub loop-s-preserved : goal.loop-s-preserved
 loop-s-preserved c =
-    let h = merging-third _ _ _ _ _ _ _ _ _ _ _ _ c.requires.run_of c.requires.run_of_2 _ _ _ _ (cells _ _ _) _ _ c.loop-s.invariant.0 c.front-p.ensures.value c.loose_front-q.ensures.value c.if-p-q.false c.if-q-p.false c.loop-s-test.true in
-    (both-turn _ _ _ _ _ _ _ _ _ _ _ _ c.requires.run_of c.requires.run_of_2 _ _ _ _ _ _ _ _ _ _ _ _ _ c.loop-s.invariant.0 c.loop-s.invariant.1 c.front-p.ensures.value c.loose_front-q.ensures.value (omega arith) _ _ c.if-p-q.false c.if-q-p.false c.loop-s-test.true c.own-x-in-loop-s.ensures c.put_sum-r-in-loop-s.ensures.size_after c.put_sum-r-in-loop-s.ensures.wrote_value, c.loop-s.invariant.1, omega (arith, h.0), omega (arith, h.1))
+    let h = merging-third _ _ _ _ _ _ _ _ _ _ _ _ c.requires.run_of c.requires.run_of_2 _ _ _ _ (cells _ _ _) _ _ c.loop-s.invariant.0 c.front-p.ensures.value c.front-q.ensures.value c.if-p-q.false c.if-q-p.false c.loop-s-test.true in
+    (both-turn _ _ _ _ _ _ _ _ _ _ _ _ c.requires.run_of c.requires.run_of_2 _ _ _ _ _ _ _ _ _ _ _ _ _ c.loop-s.invariant.0 c.loop-s.invariant.1 c.front-p.ensures.value c.front-q.ensures.value (omega arith) _ _ c.if-p-q.false c.if-q-p.false c.loop-s-test.true c.own-x-in-loop-s.ensures c.put_sum-r-in-loop-s.ensures.size_after c.put_sum-r-in-loop-s.ensures.wrote_value, c.loop-s.invariant.1, omega (arith, h.0), omega (arith, h.1))
 
 pub returns : goal.returns
 returns c =

@@ -1,11 +1,8 @@
-use Prim.Native.Nat.{◌+◌, ◌-◌, ◌≤◌}
+use Prim.Native.Nat.{◌+◌, ◌≤◌}
 use mathlib.Core.Path.{◌≡◌}
 use Rattle.laws.specs.Loops.{run}
 use Rattle.layout.specs.cells.Cells.{cells, pack_turn, packed}
 use Rattle.waist.proofs.substituting.loose.loose_run.Given as goal
 
 abbrev pub invariant-loop-p : goal.invariant-loop-p
-invariant-loop-p l = (run (pack_turn 0 l.row) l.p (l.k + 1) (cells l.cols l.others l.n) ≡ packed l.k 0 l.row (cells l.initial.cols l.initial.others 0)) × (l.n + 1 ≤ l.p) × (1 ≤ l.p) × (l.p ≤ l.k + 1)
-
-abbrev pub decreases-loop-p : goal.decreases-loop-p
-decreases-loop-p l = l.k + 1 - l.p
+invariant-loop-p l = (run (pack_turn 0 l.row) l.p (l.k + 1) (cells l.cols l.others l.n) ≡ packed l.k 0 l.row (cells l.initial.cols l.initial.others 0)) × (l.n + 1 ≤ l.p)

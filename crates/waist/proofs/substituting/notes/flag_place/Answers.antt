@@ -6,13 +6,13 @@ use Rattle.waist.proofs.substituting.notes.flag_place.Goals as goal
 
 pub loop-v-init : goal.loop-v-init
 unfolding flagged_in
-loop-v-init c = (refl, omega arith)
+loop-v-init c = refl
 
 pub loop-v-preserved-then-bytes-v : goal.loop-v-preserved-then-bytes-v
-loop-v-preserved-then-bytes-v c = (run-next _ _ _ _ (omega arith) (flag-on _ _ _ c.if-bytes-v.true) c.loop-v.invariant.0, omega arith)
+loop-v-preserved-then-bytes-v c = run-next _ _ _ _ (omega arith) (flag_off _ _ _ c.if-bytes-v.true) c.loop-v.invariant
 
 pub loop-v-preserved : goal.loop-v-preserved
-loop-v-preserved c = (run-next _ _ _ _ (omega arith) (flag_off _ _ _ c.if-bytes-v.false) c.loop-v.invariant.0, omega arith)
+loop-v-preserved c = run-next _ _ _ _ (omega arith) (flag-on _ _ _ c.if-bytes-v.false) c.loop-v.invariant
 
 pub returns : goal.returns
-returns c = run-last _ _ _ _ (omega arith) c.loop-v.invariant.0
+returns c = run-last _ _ _ _ (omega arith) c.loop-v.invariant

@@ -9,7 +9,7 @@ use Rattle.waist.proofs.substituting.notes.note_rows.Goals as goal
 
 pub loop-i-init : goal.loop-i-init
 unfolding note_rows
-loop-i-init c = (refl, c.requires.variable_count_at_bound, omega arith, omega arith)
+loop-i-init c = (refl, c.requires.variable_count_at_bound)
 
 pub spot_cell-k-requires : goal.spot_cell-k-requires
 spot_cell-k-requires c =
@@ -22,7 +22,7 @@ var_changed_if-requires c = c.loop-i.invariant.1
 pub loop-i-preserved : goal.loop-i-preserved
 loop-i-preserved c =
     let e = ap (λ (s : Noted). get_or s.words variable_count_at 0) c.var_changed_if.ensures ∙ noted-count _ _ _ in
-    (run-next _ _ _ _ (omega (arith, c.loop-i-test.true)) (note-turn _ _ _ _ _ _ _ _ c.spot_cell-k.ensures c.kind_at.ensures c.is_noted-on.ensures c.var_changed_if.ensures) c.loop-i.invariant.0, omega (arith, e, c.loop-i.invariant.1), omega arith, omega (arith, c.loop-i-test.true))
+    (run-next _ _ _ _ (omega (arith, c.loop-i-test.true)) (note-turn _ _ _ _ _ _ _ _ c.spot_cell-k.ensures c.kind_at.ensures c.is_noted-on.ensures c.var_changed_if.ensures) c.loop-i.invariant.0, omega (arith, e, c.loop-i.invariant.1))
 
 pub returns : goal.returns
 returns c = run-last _ _ _ _ (omega (arith, c.loop-i-test.false)) c.loop-i.invariant.0

@@ -1,9 +1,6 @@
-use Prim.Native.Nat.{ℕ, ◌+◌, ◌-◌, ◌≤◌, ◌<◌}
+use Prim.Native.Nat.{ℕ, ◌≤◌, ◌<◌}
 use lib.ListN.{get_or}
 use Rattle.waist.proofs.substituting.onepass.first_line.Given as goal
 
 abbrev pub invariant-loop-i : goal.invariant-loop-i
-invariant-loop-i l = ((q : ℕ) → 1 ≤ q → q < l.i → l.n ≤ get_or l.spots q 0) × (1 ≤ l.i) × (l.i ≤ l.count + 1)
-
-abbrev pub decreases-loop-i : goal.decreases-loop-i
-decreases-loop-i l = l.count + 1 - l.i
+invariant-loop-i l = (q : ℕ) → 1 ≤ q → q < l.i → l.n ≤ get_or l.spots q 0

@@ -19,11 +19,8 @@ merge_run-r-requires c = record { a_le_e = omega (arith, c.run_start-a.ensures.t
 pub overflow_add-next : goal.overflow_add-next
 overflow_add-next c = omega (arith, c.requires.ready.room, c.requires.ready.to, c.run_start-a.ensures.to)
 
-pub overflow_sub-s : goal.overflow_sub-s
-overflow_sub-s c = omega (arith, c.requires.ready.room)
-
-pub slide_down-requires : goal.slide_down-requires
-slide_down-requires c = record { a_le_n = c.run_start-a.ensures.from; n_le_cell_room = omega (arith, c.requires.ready.to, c.run_start-a.ensures.to); d_le_a = omega arith }
+pub slide-requires : goal.slide-requires
+slide-requires c = record { a_le_n = c.run_start-a.ensures.from; n_le_cell_room = omega (arith, c.requires.ready.to, c.run_start-a.ensures.to); a_bound = omega (arith, c.requires.ready.room, c.requires.ready.to, c.run_start-a.ensures.to) }
 
 pub paste-requires : goal.paste-requires
 paste-requires c = record { m_le_row_room = omega (arith, c.merge_run-r.ensures.size_le_last_place); m_bound = omega (arith, c.requires.ready.room, c.requires.ready.to, c.run_start-a.ensures.from, c.run_start-a.ensures.to, c.merge_run-r.ensures.size_le_last_place) }
@@ -35,5 +32,5 @@ pub returns : goal.returns
 unfolding Carries cell_bound constant_bound
 returns c =
     λ count n keys₀ t few first last h p.
-    carried _ _ _ _ _ _ _ _ _ (lines _ _ _ _ _) c.requires.ready _ _ c.run_start-a.ensures c.run_end-e.ensures count n keys₀ t few first last h p _ _ _ _ _ _ _ _ _ c.loose_wide.ensures c.wide.ensures c.merge_run-r.ensures.size_after c.slide_down.ensures.keys_after c.slide_down.ensures.vals_after c.paste.ensures.keys_after c.paste.ensures.vals_after _ _ _ _ refl refl c.merge_run-r.ensures.wrote_value
+    carried _ _ _ _ _ _ _ _ _ (lines _ _ _ _ _) c.requires.ready _ _ c.run_start-a.ensures c.run_end-e.ensures count n keys₀ t few first last h p _ _ _ _ _ _ _ _ _ c.told-fresh c.told-sums c.merge_run-r.ensures.size_after c.slide.ensures.keys_after c.slide.ensures.vals_after c.paste.ensures.keys_after c.paste.ensures.vals_after _ _ _ _ refl refl c.merge_run-r.ensures.wrote_value
     (joined-mark _ _ c.joined-2.ensures refl (joined-mark _ _ c.joined.ensures c.mark_write-t.ensures refl))

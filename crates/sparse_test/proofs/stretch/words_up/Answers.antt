@@ -1,8 +1,0 @@
-use Rattle.sparse_test.specs.Stretch.{none-up, ends-up}
-use Rattle.sparse_test.proofs.stretch.words_up.Goals as goal
-
-pub returns-then-n-eq0 : goal.returns-then-n-eq0
-returns-then-n-eq0 c = none-up _ _ _ _ _ c.if-n-eq0.true
-
-pub returns : goal.returns
-returns c = ends-up _ _ _ _ _ c.if-n-eq0.false c.words_ascend.ensures

@@ -1,4 +1,0 @@
-use Rattle.text.proofs.calls.add_edit_call.Goals as goal
-
-pub returns-in-Is16 : goal.returns-in-Is16
-returns-in-Is16 c = simp (c.in-Is16.is, c.in-Number.is, c.in-Is32.is)

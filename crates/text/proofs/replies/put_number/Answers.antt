@@ -1,7 +1,0 @@
-use Rattle.std.proofs.Common.{arith}
-use Rattle.text.specs.Put.{put-wrote}
-use Rattle.text.specs.replies.Replies.{number_short}
-use Rattle.text.proofs.replies.put_number.Goals as goal
-
-pub returns : goal.returns
-returns c = record { put = put-wrote _ _ _ _ c.put_number.ensures; upper_bound = omega (arith, c.put_number.ensures.0, number_short c.args.n) }
