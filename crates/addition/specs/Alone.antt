@@ -13,8 +13,7 @@ use Rattle.rows.specs.Marks.{mark_of}
 use Rattle.sparse.specs.Sparse.{Sparse, symbol_count, symbol_at, symbols_of}
 use Rattle.waist.specs.Working.{work_of}
 use Rattle.waist.specs.Standing.{Makes}
-use Rattle.waist.specs.declared.ending.Ended.{Ended}
-use Rattle.waist.specs.Ending.{outcome_of, Goes, is-refused, refused-then, going-then, none_then}
+use Rattle.waist.specs.Ending.{Ended, outcome_of, Goes, is-refused, refused-then, going-then, none_then}
 use Rattle.waist.specs.Choosing.{goal_of}
 use Rattle.addition.specs.Adding.{row_in, created_by, Temporary}
 use Rattle.addition.specs.Symbols.{Alike, symbols-are, alike-by, temporary-alike, stood-temporary}

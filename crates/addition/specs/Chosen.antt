@@ -23,8 +23,7 @@ use Rattle.rows.specs.choose.Better.{within}
 use Rattle.rows.specs.choose.Choose.{Within, on_found}
 use Rattle.sparse.specs.Sparse.{Sparse, symbol_count, symbol_at, read}
 use Rattle.waist.specs.Working.{work_of, cutoff_of}
-use Rattle.waist.specs.declared.ending.Ended.{Ended}
-use Rattle.waist.specs.Ending.{outcome_of, Goes, ended, is-refused}
+use Rattle.waist.specs.Ending.{Ended, outcome_of, Goes, ended, is-refused}
 use Rattle.waist.specs.FreePlaces.{free-times}
 use Rattle.waist.specs.Tags.{tag_at}
 use Rattle.addition.specs.Adding.{created_by, Open, Made}

@@ -33,8 +33,7 @@ use Rattle.waist.specs.LivePlaces.{live-symbol, not-basic}
 use Rattle.waist.specs.Standing.{Standing, Makes}
 use Rattle.waist.specs.Holding.{standing-worse}
 use Rattle.waist.specs.Pivoting.{Fine, scale-fine, clear-fine}
-use Rattle.waist.specs.declared.ending.Ended.{Ended}
-use Rattle.waist.specs.Ending.{outcome_of, Goes, checked_of, checked-is}
+use Rattle.waist.specs.Ending.{Ended, outcome_of, Goes, checked_of, checked-is}
 use Rattle.addition.specs.Adding.{row_in, created_by, Fitting, Open}
 
 -- ---- no cell of a solved row is -0.0

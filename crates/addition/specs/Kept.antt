@@ -19,8 +19,7 @@ use Rattle.keeps.specs.Frame.{frame-trans, mark-frame, enter-frame, pivot-frame}
 use Rattle.keeps.specs.Passes.{Ends, ends-bind, ends-to, check-ends}
 use Rattle.rows.specs.Marks.{mark_of}
 use Rattle.sparse.specs.Sparse.{Sparse, symbols_of}
-use Rattle.waist.specs.declared.ending.Ended.{Ended}
-use Rattle.waist.specs.Ending.{outcome_of, is-going}
+use Rattle.waist.specs.Ending.{Ended, outcome_of, is-going}
 use Rattle.addition.specs.Symbols.{symbols-are, stood-symbols}
 
 abbrev pub Kept : Work → Work → Type 0

@@ -23,8 +23,7 @@ use Rattle.sparse.specs.Sparse.{Sparse, symbol_count, row_count, symbol_at, basi
 use Rattle.waist.specs.Working.{work_of, cutoff_of, artificial_of, Sound, basic-symbol}
 use Rattle.waist.specs.Standing.{Makes, row_symbol, Chooses}
 use Rattle.waist.specs.Rows.{row_for, row_at, row-found}
-use Rattle.waist.specs.declared.ending.Ended.{Ended}
-use Rattle.waist.specs.Ending.{outcome_of, Goes, ended, goes_on, checked_of, checked-is, is-refused, refused-then, going-then, none_then}
+use Rattle.waist.specs.Ending.{Ended, outcome_of, Goes, ended, goes_on, checked_of, checked-is, is-refused, refused-then, going-then, none_then}
 use Rattle.addition.specs.Adding.{Temporary}
 use Rattle.addition.specs.Symbols.{rows_are}
 

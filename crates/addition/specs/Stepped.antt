@@ -13,8 +13,7 @@ use Rattle.rows.specs.Marks.{mark_of}
 use Rattle.sparse.specs.Sparse.{Sparse}
 use Rattle.waist.specs.Working.{work_of}
 use Rattle.waist.specs.Choosing.{goal_of}
-use Rattle.waist.specs.declared.ending.Ended.{Ended}
-use Rattle.waist.specs.Ending.{outcome_of, Goes, checked_of, checked-is, is-refused, refused-then, going-then, none_then}
+use Rattle.waist.specs.Ending.{Ended, outcome_of, Goes, checked_of, checked-is, is-refused, refused-then, going-then, none_then}
 use Rattle.addition.specs.Adding.{created_by}
 
 abbrev pub added_row : ℕ → Created → Outcome Work

@@ -1,6 +1,6 @@
 -- The seven steps together: what was handed in, the row created, added, and the pass over the objective; how they end.
 -- Assumes nothing.
-use Rattle.std.specs.Prelude.{ℕ, ◌+◌, ◌≤◌, ◌<◌, ◌≡◌, Bool, true, cond, List, [], eqb, length, Float}
+use Rattle.std.specs.Prelude.{ℕ, ◌+◌, ◌≤◌, ◌<◌, ◌≡◌, Bool, true, cond, List, [], eqb, length, Float, Result, Ok, Err}
 use Rattle.std.proofs.Math.Path.{refl}
 use Rattle.std.proofs.Common.{sym, ap, ◌∙◌, subst, arith}
 use Rattle.std.proofs.Math.Bool.{false}
@@ -25,8 +25,9 @@ use Rattle.sparse.specs.Sparse.{Sparse, symbol_count, row_count, symbols_of}
 use Rattle.waist.specs.Working.{work_of, artificial_of}
 use Rattle.waist.specs.Holding.{standing-worse}
 use Rattle.waist.specs.Tags.{tag_at}
-use Rattle.waist.specs.declared.ending.Ended.{Ended}
-use Rattle.waist.specs.Ending.{outcome_of}
+use Rattle.sparse.specs.Refusals.{refusal_number}
+use Rattle.waist.specs.declared.ending.Refused.{Refused}
+use Rattle.waist.specs.Ending.{Ended, outcome_of, ended_of, refuses}
 use Rattle.addition.specs.declared.creation.tag.Tagged.{Tagged as Tags}
 use Rattle.addition.specs.creation.Tags.{created_of}
 use Rattle.addition.specs.creation.Created.{Opening, Creates}
@@ -37,11 +38,17 @@ use Rattle.addition.specs.Kept.{row_kept, kept_at}
 use Rattle.addition.specs.Stepped.{added_row}
 
 -- how Add's steps end, with the constraint's symbols
-unfoldable pub added_of : Added → Sparse → Outcome add.Added
-added_of r t =
-    cond (eqb r.ended.number 0)
-    (going (record { work = work_of false (mark_of r.ended.wrote) r.ended.pivots t; tag = tag_at t r.marker r.other }))
-    (refused r.ended.number r.ended.pivots (mark_of r.ended.wrote))
+unfoldable pub added_of : Result Added Refused → Sparse → Outcome add.Added
+added_of (Ok a) t = going (record { work = work_of false (mark_of a.went.wrote) a.went.pivots t; tag = tag_at t a.marker a.other })
+added_of (Err e) t = refused (refusal_number e.why) e.pivots (mark_of e.wrote)
+
+-- by the number
+abbrev pub added_by : Ended → ℕ → ℕ → Sparse → Outcome add.Added
+added_by x marker other t = cond (eqb x.number 0) (going (record { work = work_of false (mark_of x.wrote) x.pivots t; tag = tag_at t marker other })) (refused x.number x.pivots (mark_of x.wrote))
+
+pub added-refusal : (e : Refused) (marker other : ℕ) (t : Sparse) → added_of (Err e) t ≡ added_by (ended_of (Err e)) marker other t
+unfolding added_of
+added-refusal e marker other t = rw (refuses e.why) refl
 
 -- ---- what was handed in
 
@@ -112,8 +119,8 @@ ending budget c = added_row budget c >>= (λ v. going (record { work = v; tag = 
 
 -- the tag at the end, where the steps go on, is the one that was created
 added-outcome : (x : Ended) (marker other : ℕ) (z : Sparse) (tag : Tag) → (eqb x.number 0 ≡ true → tag_at z marker other ≡ tag)
-    → added_of (record { ended = x; marker = marker; other = other }) z ≡ (outcome_of false x z >>= (λ v. going (record { work = v; tag = tag })))
-unfolding added_of outcome_of ◌>>=◌
+    → added_by x marker other z ≡ (outcome_of false x z >>= (λ v. going (record { work = v; tag = tag })))
+unfolding outcome_of ◌>>=◌
 added-outcome x marker other z tag same = by (eqb x.number 0) same
   where
     work : Work
@@ -148,7 +155,7 @@ pub steps-are : (past first : Wrote) (budget : ℕ) (terms : List Term) (constan
     → mark_of first ≡ worse (mark_of past) (whole_if (whole_inputs terms constant relation))
     → created_of r t₁ row ≡ create_row terms constant relation (work_of false (mark_of first) 0 t) → Made (mark_of r.wrote) r.marker r.other t₁ row
     → outcome_of false x z ≡ added_row budget (created_by (mark_of r.wrote) r.marker r.other t₁ row)
-    → added_of (record { ended = x; marker = r.marker; other = r.other }) z ≡ add_steps budget terms constant relation (work_of false (mark_of past) 0 t)
+    → added_by x r.marker r.other z ≡ add_steps budget terms constant relation (work_of false (mark_of past) 0 t)
 unfolding add_steps
 steps-are past first budget terms constant relation t r t₁ row x z i e m q =
     added-outcome x r.marker r.other z (tag_at t₁ r.marker r.other) (tag_stays (mark_of r.wrote) r.marker r.other t₁ row m budget x z q)

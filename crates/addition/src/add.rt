@@ -1,13 +1,12 @@
 // Add's steps, one to seven.
-ghost use Rattle.std.specs.Prelude.{◌≡◌, false, ◌≤◌, eqb, replicate};
-ghost use Rattle.laws.specs.Given.{Then};
+ghost use Rattle.std.specs.Prelude.{◌≡◌, false, ◌≤◌, IfOk, replicate};
 ghost use Rattle.steps.specs.Number.{zero64};
 ghost use Rattle.steps.specs.Add.{add_steps};
 ghost use Rattle.rows.specs.Marks.{mark_of};
 ghost use Rattle.layout.specs.cells.Names.{row_room};
 ghost use Rattle.sparse.specs.Sparse.{symbol_count};
 ghost use Rattle.waist.specs.Working.{work_of};
-ghost use Rattle.waist.specs.Ending.{Goes};
+ghost use Rattle.waist.specs.Standing.{Standing};
 ghost use Rattle.changes.specs.tags.Tags.{relation_of};
 ghost use Rattle.changes.specs.terms.Terms.{terms_of};
 ghost use Rattle.addition.specs.creation.Created.{Opening, Spare};
@@ -22,12 +21,12 @@ use changes::terms::Pack;
 use layout::cells::ROW_ROOM;
 use rows::number::Wrote;
 use sparse::tables::TablesMut;
-use waist::ending::Ended;
+use waist::ending::{Refused, Went};
 
-// How the steps end, and the places of the constraint's symbols, other 0 if there is none.
+// What was made, and the places of the constraint's symbols, other 0 if there is none.
 #[derive(Clone, Copy)]
 pub struct Added {
-    pub ended: Ended,
+    pub went: Went,
     pub marker: u8,
     pub other: u8,
 }
@@ -47,12 +46,12 @@ pub fn add_steps(
     relation: Relation,
     budget: u32,
     before: Wrote,
-) -> Added
+) -> Result<Added, Refused>
     requires opening { Opening (mark_of before) (terms_of p) constant (held room.old) }
     requires spare { Spare (held room.old) }
     ensures values_value { added_of result (held room.new) ≡ add_steps budget (terms_of p) constant (relation_of relation) (work_of false (mark_of before) 0 (held room.old)) }
-    ensures goes { Goes false result.ended (held room.new) }
-    ensures then { Then (eqb result.ended.number 0) ((1 ≤ result.marker) × (result.marker ≤ symbol_count (held room.new)) × (result.other ≤ symbol_count (held room.new))) }
+    ensures goes { IfOk result (λ a. Standing false (mark_of a.went.wrote) (held room.new)) }
+    ensures then { IfOk result (λ a. (1 ≤ a.marker) × (a.marker ≤ symbol_count (held room.new)) × (a.other ≤ symbol_count (held room.new))) }
     ensures same { Same room.old room.new }
 {
     let first = mark_inputs(p, constant, relation, before);
@@ -71,10 +70,10 @@ pub fn add_steps(
     );
     let marker = made.marker;
     let other = made.other;
-    let ended = add_row(room, &mut row, marker, other, budget, made.wrote);
-    Added {
-        ended,
+    let went = add_row(room, &mut row, marker, other, budget, made.wrote)?;
+    Ok(Added {
+        went,
         marker,
         other,
-    }
+    })
 }

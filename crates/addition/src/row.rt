@@ -3,7 +3,7 @@ ghost use Rattle.std.specs.Prelude.{◌≡◌, false};
 ghost use Rattle.steps.specs.Add.{add_created};
 ghost use Rattle.rows.specs.Marks.{mark_of};
 ghost use Rattle.sparse.specs.Sparse.{symbol_at};
-ghost use Rattle.waist.specs.Ending.{outcome_of, Goes};
+ghost use Rattle.waist.specs.Ending.{outcome_of, Goes, ended_of};
 ghost use Rattle.addition.specs.Adding.{created_by, Fitting, Open, Made};
 ghost use Rattle.addition.specs.Chosen.{dummies_of, unchosen_of};
 ghost use Rattle.addition.specs.Stepped.{added_row};
@@ -15,8 +15,9 @@ use layout::cells::ROW_ROOM;
 use optimising::optimise;
 use rows::number::{Wrote, near_zero};
 use sparse::CUTOFF;
+use sparse::refusal::Refusal;
 use sparse::tables::TablesMut;
-use waist::ending::{Ended, check_finite};
+use waist::ending::{Refused, Went, check_finite};
 use waist::subject::{all_dummies, choose_subject};
 
 // "refuse 12 unless the constant is near zero, else the subject is the marker"
@@ -26,21 +27,21 @@ fn add_dummies(
     marker: u8,
     other: u8,
     before: Wrote,
-) -> Ended
+) -> Result<Went, Refused>
     requires fitting { Fitting (mark_of before) (held room.old) row.old }
     requires fact { Open marker (held room.old) }
-    ensures values_value { outcome_of false result (held room.new) ≡ dummies_of (symbol_at (held room.old) marker) (created_by (mark_of before) marker other (held room.old) row.old) }
-    ensures goes { Goes false result (held room.new) }
+    ensures values_value { outcome_of false (ended_of result) (held room.new) ≡ dummies_of (symbol_at (held room.old) marker) (created_by (mark_of before) marker other (held room.old) row.old) }
+    ensures goes { Goes false (ended_of result) (held room.new) }
     ensures same { Same room.old room.new }
 {
     if near_zero(room.reals[CUTOFF], row[0]) {
         return add_with_subject(room, row, marker, before);
     }
-    Ended {
-        number: 12,
+    Err(Refused {
+        why: Refusal::CannotBeMet,
         pivots: 0,
         wrote: before,
-    }
+    })
 }
 
 fn add_without_subject(
@@ -50,11 +51,11 @@ fn add_without_subject(
     other: u8,
     budget: u32,
     before: Wrote,
-) -> Ended
+) -> Result<Went, Refused>
     requires fitting { Fitting (mark_of before) (held room.old) row.old }
     requires fact { Open marker (held room.old) }
-    ensures values_value { outcome_of false result (held room.new) ≡ unchosen_of budget (created_by (mark_of before) marker other (held room.old) row.old) }
-    ensures goes { Goes false result (held room.new) }
+    ensures values_value { outcome_of false (ended_of result) (held room.new) ≡ unchosen_of budget (created_by (mark_of before) marker other (held room.old) row.old) }
+    ensures goes { Goes false (ended_of result) (held room.new) }
     ensures same { Same room.old room.new }
 {
     if all_dummies(room.words, room.bytes, row) {
@@ -71,10 +72,10 @@ fn add_created(
     other: u8,
     budget: u32,
     before: Wrote,
-) -> Ended
+) -> Result<Went, Refused>
     requires { Made (mark_of before) marker other (held room.old) row.old }
-    ensures values_value { outcome_of false result (held room.new) ≡ add_created budget (created_by (mark_of before) marker other (held room.old) row.old) }
-    ensures goes { Goes false result (held room.new) }
+    ensures values_value { outcome_of false (ended_of result) (held room.new) ≡ add_created budget (created_by (mark_of before) marker other (held room.old) row.old) }
+    ensures goes { Goes false (ended_of result) (held room.new) }
     ensures same { Same room.old room.new }
 {
     let f = choose_subject(room.words, room.bytes, row, marker, other);
@@ -92,19 +93,13 @@ pub fn add_row(
     other: u8,
     budget: u32,
     before: Wrote,
-) -> Ended
+) -> Result<Went, Refused>
     requires { Made (mark_of before) marker other (held room.old) row.old }
-    ensures values_value { outcome_of false result (held room.new) ≡ added_row budget (created_by (mark_of before) marker other (held room.old) row.old) }
-    ensures goes { Goes false result (held room.new) }
+    ensures values_value { outcome_of false (ended_of result) (held room.new) ≡ added_row budget (created_by (mark_of before) marker other (held room.old) row.old) }
+    ensures goes { Goes false (ended_of result) (held room.new) }
     ensures same { Same room.old room.new }
 {
-    let c = check_finite(0, before);
-    if c.number != 0 {
-        return c;
-    }
-    let e = add_created(room, row, marker, other, budget, before);
-    if e.number != 0 {
-        return e;
-    }
-    optimise(false, room, budget, e.pivots, e.wrote)
+    check_finite(0, before)?;
+    let added = add_created(room, row, marker, other, budget, before)?;
+    optimise(false, room, budget, added.pivots, added.wrote)
 }

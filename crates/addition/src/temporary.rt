@@ -8,7 +8,7 @@ ghost use Rattle.std.specs.Prelude.{Some};
 ghost use Rattle.sparse.specs.Sparse.{row_count, symbol_at};
 ghost use Rattle.waist.specs.Working.{work_of};
 ghost use Rattle.waist.specs.Standing.{Standing};
-ghost use Rattle.waist.specs.Ending.{outcome_of, Goes};
+ghost use Rattle.waist.specs.Ending.{outcome_of, Goes, ended_of};
 ghost use Rattle.addition.specs.Adding.{created_by, Fitting, Temporary};
 ghost use Rattle.addition.specs.Removed.{Looked, out_of, closing_of};
 ghost use Rattle.sparse.specs.Tables.{held, Same};
@@ -17,62 +17,70 @@ use layout::cells::ROW_ROOM;
 use optimising::optimise;
 use rows::number::{Wrote, near_zero};
 use sparse::CUTOFF;
+use sparse::refusal::Refusal;
 use sparse::tables::TablesMut;
 use waist::artificial::{artificial_constant, close_artificial, stand_temporary};
 use waist::choices::{any_pivotable_symbol, is_empty_row, row_of};
-use waist::ending::{Ended, check_finite};
+use waist::ending::{Refused, Went, check_finite};
 use waist::holding::pivot_on;
 use waist::symbols::purge;
 
 // "Remove the temporary everywhere."
-fn purge_temporary(room: &mut TablesMut, p: u8, pivots: u32, before: Wrote) -> Ended
+fn purge_temporary(room: &mut TablesMut, p: u8, pivots: u32, before: Wrote) -> Result<Went, Refused>
     requires standing { Standing false (mark_of before) (held room.old) }
     requires temporary { Temporary p (held room.old) }
-    ensures values_value { outcome_of false result (held room.new) ≡ going (steps.purge (symbol_at (held room.old) p).id (work_of false (mark_of before) pivots (held room.old))) }
-    ensures goes { Goes false result (held room.new) }
+    ensures values_value { outcome_of false (ended_of result) (held room.new) ≡ going (steps.purge (symbol_at (held room.old) p).id (work_of false (mark_of before) pivots (held room.old))) }
+    ensures goes { Goes false (ended_of result) (held room.new) }
     ensures same { Same room.old room.new }
 {
     purge(room, p);
-    Ended {
-        number: 0,
+    Ok(Went {
         pivots,
         wrote: before,
-    }
+    })
 }
 
 // "pivot on the row's first slack or Error (none: refuse 12)"
-fn pivot_temporary(room: &mut TablesMut, p: u8, i: u8, pivots: u32, before: Wrote) -> Ended
+fn pivot_temporary(
+    room: &mut TablesMut,
+    p: u8,
+    i: u8,
+    pivots: u32,
+    before: Wrote,
+) -> Result<Went, Refused>
     requires standing { Standing false (mark_of before) (held room.old) }
     requires temporary { Temporary p (held room.old) }
     requires looked { Looked p (held room.old) (Some i) }
     requires le_i { 1 ≤ i }
     requires i_bound { i ≤ row_count (held room.old) }
-    ensures values_value { outcome_of false result (held room.new) ≡ out_of before pivots (held room.old) (symbol_at (held room.old) p).id i }
-    ensures goes { Goes false result (held room.new) }
+    ensures values_value { outcome_of false (ended_of result) (held room.new) ≡ out_of before pivots (held room.old) (symbol_at (held room.old) p).id i }
+    ensures goes { Goes false (ended_of result) (held room.new) }
     ensures same { Same room.old room.new }
 {
     let f = any_pivotable_symbol(room, i);
     let Some(q) = f else {
-        return Ended {
-            number: 12,
+        return Err(Refused {
+            why: Refusal::CannotBeMet,
             pivots,
             wrote: before,
-        };
+        });
     };
     let w = pivot_on(false, room, i, q as u8, before);
-    let e = check_finite(pivots, w);
-    if e.number != 0 {
-        return e;
-    }
+    check_finite(pivots, w)?;
     purge_temporary(room, p, pivots, w)
 }
 
 // "If the temporary is still basic: drop an empty row, else pivot"
-fn remove_temporary(room: &mut TablesMut, p: u8, pivots: u32, before: Wrote) -> Ended
+fn remove_temporary(
+    room: &mut TablesMut,
+    p: u8,
+    pivots: u32,
+    before: Wrote,
+) -> Result<Went, Refused>
     requires standing { Standing false (mark_of before) (held room.old) }
     requires temporary { Temporary p (held room.old) }
-    ensures values_value { outcome_of false result (held room.new) ≡ remove_temporary (symbol_at (held room.old) p) (work_of false (mark_of before) pivots (held room.old)) }
-    ensures goes { Goes false result (held room.new) }
+    ensures values_value { outcome_of false (ended_of result) (held room.new) ≡ remove_temporary (symbol_at (held room.old) p) (work_of false (mark_of before) pivots (held room.old)) }
+    ensures goes { Goes false (ended_of result) (held room.new) }
     ensures same { Same room.old room.new }
 {
     let f = row_of(room.words, room.bytes, p);
@@ -87,11 +95,11 @@ fn remove_temporary(room: &mut TablesMut, p: u8, pivots: u32, before: Wrote) -> 
 }
 
 // "Its constant not near zero: refuse 12." "The copy goes."
-fn close_temporary(room: &mut TablesMut, p: u8, pivots: u32, before: Wrote) -> Ended
+fn close_temporary(room: &mut TablesMut, p: u8, pivots: u32, before: Wrote) -> Result<Went, Refused>
     requires standing { Standing true (mark_of before) (held room.old) }
     requires temporary { Temporary p (held room.old) }
-    ensures values_value { outcome_of false result (held room.new) ≡ closing_of (symbol_at (held room.old) p) (work_of true (mark_of before) pivots (held room.old)) }
-    ensures goes { Goes false result (held room.new) }
+    ensures values_value { outcome_of false (ended_of result) (held room.new) ≡ closing_of (symbol_at (held room.old) p) (work_of true (mark_of before) pivots (held room.old)) }
+    ensures goes { Goes false (ended_of result) (held room.new) }
     ensures same { Same room.old room.new }
 {
     let x = artificial_constant(room.words, room.reals);
@@ -99,11 +107,11 @@ fn close_temporary(room: &mut TablesMut, p: u8, pivots: u32, before: Wrote) -> E
         close_artificial(room.words, room.keys, room.bytes, room.reals, room.values);
         return remove_temporary(room, p, pivots, before);
     }
-    Ended {
-        number: 12,
+    Err(Refused {
+        why: Refusal::CannotBeMet,
         pivots,
         wrote: before,
-    }
+    })
 }
 
 // "Without: a temporary slack is basic with this row, a copy is the artificial objective; optimise it." The tag plays no part.
@@ -112,16 +120,13 @@ pub fn add_with_artificial(
     row: &mut [f64; ROW_ROOM],
     budget: u32,
     before: Wrote,
-) -> Ended
+) -> Result<Went, Refused>
     requires { Fitting (mark_of before) (held room.old) row.old }
-    ensures by_index { (marker other : ℕ) → outcome_of false result (held room.new) ≡ add_with_artificial_variable budget (created_by (mark_of before) marker other (held room.old) row.old) }
-    ensures goes { Goes false result (held room.new) }
+    ensures by_index { (marker other : ℕ) → outcome_of false (ended_of result) (held room.new) ≡ add_with_artificial_variable budget (created_by (mark_of before) marker other (held room.old) row.old) }
+    ensures goes { Goes false (ended_of result) (held room.new) }
     ensures same { Same room.old room.new }
 {
     let p = stand_temporary(room, row, before);
-    let e = optimise(true, room, budget, 0, before);
-    if e.number != 0 {
-        return e;
-    }
-    close_temporary(room, p, e.pivots, e.wrote)
+    let passed = optimise(true, room, budget, 0, before)?;
+    close_temporary(room, p, passed.pivots, passed.wrote)
 }

@@ -2,16 +2,18 @@
 // The lines are those of the service cable.
 #![tactic(auto)]
 
-mod stream;
+mod served;
 
+use crate::served::Cable;
 use std::io;
 use text::duplex::Duplex;
+use text::serving;
 
 // An error is the first read or write that failed.
 fn main(rt: HostRuntime) -> io::Result<()> {
-    let mut state = [0u8; 201];
+    let mut cable = Cable { state: [0; 201] };
     let mut out = [0u8; 8192];
     let mut duplex = Duplex::new(rt.stdin(), rt.stdout());
-    stream::serve(&mut duplex, &mut state, &mut out);
+    serving::serve(&mut duplex, &mut cable, &mut out);
     duplex.outcome
 }

@@ -1,13 +1,27 @@
 -- What the code gives, by the definition's step.
-use Rattle.std.specs.Prelude.{ℕ, suc, ◌≤◌, ◌<◌, ◌≡◌, refl, Bool, true, false, cond, List, [], ◌∷◌, eqb, length, Some, None}
+use Rattle.std.specs.Prelude.{ℕ, suc, ◌≤◌, ◌<◌, ◌≡◌, refl, Bool, true, false, cond, List, [], ◌∷◌, eqb, length, Option as Optional, Some, None, Result}
 use Rattle.std.proofs.Common.{ap, ◌∙◌, arith}
 use Rattle.std.proofs.Math.Option.{Option, none, some}
 use Rattle.laws.specs.streams.Lines.{grown}
 use Rattle.grammar.specs.edition.Endings.{Reply as Answer}
-use Rattle.reader.specs.second.Replies.{as_reply}
-use Rattle.cable_lines.specs.declared.Taken.{Taken}
+use Rattle.reader.specs.second.Replies.{Reply, answered, as_reply}
+use Rattle.reader.specs.declared.second.Weighted.{Weighted}
+use Rattle.reader.specs.declared.fault.Refusal.{Refusal}
+use Rattle.cable_lines.specs.declared.Taken as code
 use Rattle.cable_lines.specs.Cable.{limit, new, answer_of, Step, further, takes}
 use Rattle.cable_lines.specs.Bytes.{bytes_of}
+
+-- what the code answers and takes, with the answer by its number
+pub record Taken : Type 0 where
+  pub answer : Optional Reply
+  pub taken : ℕ
+
+abbrev pub told_answer : Optional (Result Weighted Refusal) → Optional Reply
+told_answer None = None
+told_answer (Some x) = Some (answered x)
+
+abbrev pub told : code.Taken → Taken
+told t = record { answer = told_answer t.answer; taken = t.taken }
 
 abbrev pub as_taken : Option Answer → ℕ → Taken
 as_taken none n = record { answer = None; taken = n }

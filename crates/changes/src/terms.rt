@@ -16,7 +16,8 @@ pub struct Term {
 }
 
 // The first sixteen terms of a list; how many there are, 17 for more than 16; and whether every coefficient is finite, those past the sixteenth too.
-// (Memory is fixed, so the count stands beside room for sixteen; a caller may fill one by hand, so the fields stay.)
+// (Memory is fixed, so the count stands beside room for sixteen. A caller may fill one by hand, which docs/CLAIMS.md names, so the fields stay, and
+// no invariant says that the count fits: whoever stores a pack requires it.)
 #[derive(Clone, Copy)]
 pub struct Pack {
     pub count: usize,

@@ -1,16 +1,20 @@
 // The service line's readers, of a line by itself and over the cable, for a caller that lends a place for each thing they give: no struct crosses.
-ghost use Rattle.std.specs.Prelude.{◌≡◌, true, [], map};
+ghost use Rattle.std.specs.Prelude.{◌≡◌, true, [], map, Ok};
 ghost use Rattle.reader.specs.Sides.{relation_of};
 ghost use Rattle.cable_lines.specs.Cable.{takes, closes};
 ghost use Rattle.cable_lines.specs.State.{held_by};
-ghost use Rattle.knobharbor.specs.handed.Handed.{kind_of, handed, handed_by, read_by, reply_in, reads_in, kind_in, words_in, reals_in, whole_at};
+ghost use Rattle.knobharbor.specs.handed.Handed.{kind_of, handed, handed_by, read_by, unrefused, reply_in, words_in, reals_in, whole_at};
+ghost use Rattle.cable_lines.specs.Given.{told};
+ghost use Rattle.reader.specs.second.Replies.{answered};
 
 use cable_lines::Taken;
 use cable_lines::state::State;
 use entry::typed::pack::whole;
 use layout::TERM_ROOM;
-use reader::second::{Reply, nothing, read_second};
+use reader::answers::Constraint;
+use reader::second::{Weighted, read_second};
 use reader::sides::Mark;
+use reader::sums::ZERO;
 
 // How many bytes were taken, 0 or the refusal's number, the offset of 20, the kind, how many terms, the group.
 pub type Words = [u64; 6];
@@ -33,57 +37,49 @@ fn kind_of(m: Mark) -> u64
     }
 }
 
-// Whether there is a constraint to hand over.
-fn reads(t: Taken) -> bool
-    ensures { result ≡ reads_in t }
+// The constraint to hand over, zeros where there is none.
+fn weighted_in(t: Taken) -> Weighted
+    ensures { answered (Ok result) ≡ unrefused (reply_in (told t).answer) }
 {
     match t.answer {
-        Some(x) => x.reading.number == 0,
-        None => false,
+        Some(Ok(x)) => x,
+        _ => Weighted {
+            constraint: Constraint {
+                relation: Mark::Equal,
+                constant: ZERO,
+                count: 0,
+                variables: [0; TERM_ROOM],
+                coefficients: [ZERO; TERM_ROOM],
+            },
+            strength: 0,
+            group: 0,
+        },
     }
-}
-
-fn reply_in(t: Taken) -> Reply
-    ensures { result ≡ reply_in t.answer }
-{
-    match t.answer {
-        Some(x) => x,
-        None => nothing(),
-    }
-}
-
-fn kind_in(t: Taken) -> u64
-    ensures { result ≡ kind_in t }
-{
-    if reads(t) {
-        let r = reply_in(t).reading;
-        return kind_of(r.relation);
-    }
-    0
 }
 
 fn words_in(t: Taken) -> Words
-    ensures { result ≡ words_in t }
+    ensures { result ≡ words_in (told t) }
 {
-    let x = reply_in(t);
-    let r = x.reading;
-    let kind = kind_in(t);
-    [
-        t.taken as u64,
-        r.number as u64,
-        r.offset as u64,
-        kind,
-        r.count as u64,
-        x.group as u64,
-    ]
+    let taken = t.taken as u64;
+    match t.answer {
+        Some(Ok(x)) => [
+            taken,
+            0,
+            0,
+            kind_of(x.constraint.relation),
+            x.constraint.count as u64,
+            x.group as u64,
+        ],
+        Some(Err(r)) => [taken, r.number() as u64, r.offset() as u64, 0, 0, 0],
+        None => [taken, 0, 0, 0, 0, 0],
+    }
 }
 
 fn reals_in(t: Taken) -> Reals
-    ensures { result ≡ reals_in t }
+    ensures { result ≡ reals_in (told t) }
 {
-    let x = reply_in(t);
-    let r = x.reading;
-    let constant = whole(r.constant);
+    let x = weighted_in(t);
+    let constant = whole(x.constraint.constant);
     let strength = std::num::nearest_u64_to_f64(x.strength as u64);
     [constant, strength]
 }
@@ -101,14 +97,14 @@ fn hand_over(
     variables: &mut Variables,
     coefficients: &mut Coefficients,
 )
-    ensures words_after { words.new ≡ words_in t }
-    ensures reals_after { reals.new ≡ reals_in t }
-    ensures variables_after { variables.new ≡ (reply_in t.answer).reading.variables }
-    ensures coefficients_after { coefficients.new ≡ map whole_at (reply_in t.answer).reading.coefficients }
+    ensures words_after { words.new ≡ words_in (told t) }
+    ensures reals_after { reals.new ≡ reals_in (told t) }
+    ensures variables_after { variables.new ≡ (reply_in (told t).answer).reading.variables }
+    ensures coefficients_after { coefficients.new ≡ map whole_at (reply_in (told t).answer).reading.coefficients }
 {
-    let r = reply_in(t).reading;
-    let v = r.variables;
-    let c = r.coefficients;
+    let x = weighted_in(t).constraint;
+    let v = x.variables;
+    let c = x.coefficients;
     *words = words_in(t);
     *reals = reals_in(t);
     *variables = v;

@@ -85,5 +85,3 @@ pub const SUGGESTION: usize = 1;
 pub const OBJECTIVE: usize = 0;
 
 pub const ARTIFICIAL: usize = 50;
-
-pub fn nothing() {}

@@ -19,6 +19,7 @@ pub mod room;
 pub mod sparse_copy;
 
 use sparse::Words;
+use sparse::refusal::Refusal;
 use sparse::tables::{Tables, TablesMut};
 
 // "Each changing call answers: accepted or a number below, pivots made, whole mark." 0 is accepted.
@@ -34,7 +35,7 @@ pub fn refuse18() -> Answer
     ensures { answer_of result ≡ refused18 }
 {
     Answer {
-        number: 18,
+        number: Refusal::NoState.number(),
         pivots: 0,
         whole: false,
     }
@@ -112,7 +113,7 @@ fn refuse24(tables: &Tables) -> Answer
 {
     let reads = sparse_test::reads_as_state(tables);
     Answer {
-        number: 24,
+        number: Refusal::CutoffOutside.number(),
         pivots: 0,
         whole: reads & (tables.words[sparse::WHOLE] == 1),
     }

@@ -22,8 +22,7 @@ use Rattle.waist.specs.Working.{work_of}
 use Rattle.waist.specs.Standing.{Standing, Makes, row_symbol, Chooses}
 use Rattle.waist.specs.Ending.{goes_on, none_then}
 use Rattle.waist.specs.Choosing.{goal_of, dual_leaving_of, dual-leaving-reads}
-use Rattle.optimising.specs.declared.turn.Turn.{Turn}
-use Rattle.optimising.specs.Turn.{Pass, stopped_of, counted_of, Turned, stop-turned, counted-turned, refused-is}
+use Rattle.optimising.specs.Turn.{Turn, Pass, stopped_of, counted_of, Turned, stop-turned, counted-turned, refused-is}
 
 -- ---- a pass, by what there is to do: where it is stuck it refuses with n
 

@@ -1,9 +1,9 @@
 -- A turn of a pass over tables: the pass that is left after it, on what the tables then read as, is the pass that was left before. So a loop of turns makes the pass.
 -- Assumes nothing.
-use Prim.Native.Nat.{ℕ, suc, ◌+◌, ◌-◌, ◌≤◌, ◌<◌}
-use Rattle.std.specs.Prelude.{◌≡◌, Bool, eqb}
+use Prim.Native.Nat.{ℕ, ◌+◌, ◌-◌, ◌≤◌, ◌<◌}
+use Rattle.std.specs.Prelude.{◌≡◌, Bool, eqb, Result, Ok, Err, Option, Some, None}
 use Rattle.std.proofs.Math.Path.{refl}
-use Rattle.std.proofs.Common.{◌∙◌, eq-eqb}
+use Rattle.std.proofs.Common.{◌∙◌}
 use Rattle.std.proofs.Math.Bool.{true, false, cond}
 use Rattle.std.proofs.Math.Numerals.{add-one}
 use native.Mathlib.Omega.{arith}
@@ -15,8 +15,9 @@ use Rattle.rows.specs.Marks.{mark_of}
 use Rattle.sparse.specs.Sparse.{Sparse}
 use Rattle.waist.specs.Working.{work_of}
 use Rattle.waist.specs.Standing.{Standing}
-use Rattle.waist.specs.Ending.{outcome_of, Goes, ended}
-use Rattle.optimising.specs.declared.turn.Turn.{Turn}
+use Rattle.waist.specs.declared.ending.Went.{Went}
+use Rattle.waist.specs.declared.ending.Refused.{Refused}
+use Rattle.waist.specs.Ending.{Ended, outcome_of, Goes, ended, ended_of}
 
 -- a pass by what is left of the budget
 abbrev pub Pass : Type 0
@@ -24,16 +25,28 @@ Pass = ℕ → Work → Outcome Work
 
 -- ---- how a turn ends
 
+-- `more` says that the pass goes on, after the pivots and with the marks of `ended`
+pub record Turn : Type 0 where
+  pub more : Bool
+  pub ended : Ended
+
+-- of what the code returns for a pivot: it goes on after one
+abbrev pub went_of : Result Went Refused → Turn
+went_of (Ok m) = record { more = true; ended = ended_of (Ok m) }
+went_of (Err e) = record { more = false; ended = ended_of (Err e) }
+
+-- of what the code returns for a turn: with no pivot made the pass ends as it stood
+abbrev pub turn_of : ℕ → Wrote → Result (Option Went) Refused → Turn
+turn_of p w (Ok (Some m)) = went_of (Ok m)
+turn_of p w (Ok None) = record { more = false; ended = ended 0 p w }
+turn_of p w (Err e) = went_of (Err e)
+
 abbrev pub stopped_of : ℕ → ℕ → Wrote → Turn
 stopped_of n p w = record { more = false; ended = ended n p w }
 
 -- a pivot counts once it is made: 13 counts none
 unfoldable pub counted_of : ℕ → Wrote → Turn
 counted_of p w = record { more = w.finite; ended = ended (cond w.finite 0 13) (cond w.finite (p + 1) p) w }
-
-pub counted-not : (p : ℕ) (w : Wrote) {r : Turn} → w.finite ≡ false → r ≡ stopped_of 13 p w → r ≡ counted_of p w
-unfolding counted_of
-counted-not p w f e = e ∙ (rw f refl)
 
 -- what is left to do after a turn
 unfoldable pub rest_of : Bool → Pass → ℕ → Turn → Sparse → Outcome Work
@@ -84,10 +97,6 @@ pub record Passing (art : Bool) (run : Pass) (budget : ℕ) (z : Outcome Work) (
   pub goes : Goes art turn.ended t
   pub on : Then turn.more (turn.ended.number ≡ 0)
 
--- the turns that may still be made
-unfoldable pub turns_left : ℕ → Turn → ℕ
-turns_left budget turn = cond turn.more (suc (budget - turn.ended.pivots)) 0
-
 module _ (art : Bool) (run : Pass) (budget : ℕ) where
   pub pass-starts : (pivots : ℕ) (before : Wrote) (t : Sparse) → Standing art (mark_of before) t
       → Passing art run budget (run (budget - pivots) (work_of art (mark_of before) pivots t)) (record { more = true; ended = ended 0 pivots before }) t
@@ -95,21 +104,21 @@ module _ (art : Bool) (run : Pass) (budget : ℕ) where
   pass-starts pivots before t s = record { rest = refl; goes = s; on = refl }
 
   module _ {z : Outcome Work} {t : Sparse} {turn : Turn} (p : Passing art run budget z turn t) where
-    pub pass-stands : turn.more ≡ true → Standing art (mark_of turn.ended.wrote) t
-    pass-stands m = then-given _ (eq-eqb _ _ (then-given _ m p.on)) p.goes
-
-    pub pass-turns : turn.more ≡ true → {r : Turn} {u : Sparse} → Turned art run budget turn.ended.pivots turn.ended.wrote t r u → Passing art run budget z r u
+    pass-turns : turn.more ≡ true → {r : Turn} {u : Sparse} → Turned art run budget turn.ended.pivots turn.ended.wrote t r u → Passing art run budget z r u
     unfolding rest_of
     pass-turns m {r} {u} q = record { rest = q.rest ∙ (rw m at p.rest); goes = q.goes; on = then-of _ r.more (λ e. (then-given _ e q.on).0) }
 
-    pub pass-ends : turn.more ≡ false → (outcome_of art turn.ended t ≡ z) × (Goes art turn.ended t)
+    pass-ends : turn.more ≡ false → (outcome_of art turn.ended t ≡ z) × (Goes art turn.ended t)
     unfolding rest_of
     pass-ends m = (rw m at p.rest, p.goes)
 
-  pub pass-less : (turn : Turn) {r : Turn} {t u : Sparse} → turn.more ≡ true → Turned art run budget turn.ended.pivots turn.ended.wrote t r u → turns_left budget r < turns_left budget turn
-  unfolding turns_left
-  pass-less turn {r} m q = rw m (by r.more q.on)
-    where
-      by : (b : Bool) → Then b ((r.ended.number ≡ 0) × (turn.ended.pivots < r.ended.pivots) × (r.ended.pivots ≤ budget)) → cond b (suc (budget - r.ended.pivots)) 0 < suc (budget - turn.ended.pivots)
-      by true o = omega (arith, o.1)
-      by false o = omega arith
+  -- a loop goes on from what was made by its last turn
+  module _ {z : Outcome Work} {t : Sparse} {m : Went} (p : Passing art run budget z (went_of (Ok m)) t) {u : Sparse} where
+    pub pass-next : {o : Option Went} {n : Went} → o ≡ Some n → Turned art run budget m.pivots m.wrote t (turn_of m.pivots m.wrote (Ok o)) u → Passing art run budget z (went_of (Ok n)) u
+    pass-next e q = pass-turns p refl (rw e at q)
+
+    pub pass-over : {o : Option Went} → o ≡ None → Turned art run budget m.pivots m.wrote t (turn_of m.pivots m.wrote (Ok o)) u → (outcome_of art (ended_of (Ok m)) u ≡ z) × Goes art (ended_of (Ok m)) u
+    pass-over e q = pass-ends (pass-turns p refl (rw e at q)) refl
+
+    pub pass-refused : (e : Refused) → Turned art run budget m.pivots m.wrote t (turn_of m.pivots m.wrote (Err e)) u → (outcome_of art (ended_of (Err e)) u ≡ z) × Goes art (ended_of (Err e)) u
+    pass-refused e q = pass-ends (pass-turns p refl q) refl

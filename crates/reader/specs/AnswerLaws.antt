@@ -9,13 +9,13 @@ use Rattle.grammar.specs.Sums.{nothing}
 use Rattle.grammar.specs.Reader.{first, left, run_from, read_line, answered, refuses}
 use Rattle.reader.specs.Sides.{relation_of}
 use Rattle.reader.specs.Ends.{line_of}
-use Rattle.reader.specs.Faults.{number_of, place_of}
+use Rattle.reader.specs.Faults.{number_of, place_of, refused_by}
 use Rattle.reader.specs.declared.fault.Fault.{Fault}
+use Rattle.reader.specs.declared.fault.Refusal.{Refusal}
 use Rattle.reader.specs.Parts.{sums_of}
-use Rattle.reader.specs.Answers.{refusal, as_read, big_at, with_term, kept_with, kept_from, kept_of, none_kept, stands, mark-is, big-stands, big-from, count-from, variables-from, coefficients-from}
+use Rattle.reader.specs.Answers.{Reading, refusal, shown, as_read, faults, big_at, with_term, kept_with, kept_from, kept_of, none_kept, stands, mark-is, big-stands, big-from, count-from, variables-from, coefficients-from}
 use Rattle.reader.specs.declared.parts.Place.{Place}
 use Rattle.reader.specs.declared.sides.Mark.{Mark}
-use Rattle.reader.specs.declared.answers.Reading.{Reading}
 use Rattle.reader.specs.declared.answers.Kept.{Kept}
 
 -- ---- the loop
@@ -118,8 +118,8 @@ module _ (w numbers sums : List ℕ) (h : length w ≤ 4096) where
       → r ≡ as_read (judged (summed (relation_of m) (sums_of numbers sums p))) → r ≡ as_read (read_line w)
   read_whole m p o q = q ∙ ap as_read (sym (line-answer (Ok (m, p)) o))
 
-  pub read-refused : (x : Fault) {r : Reading} → run_from w 0 first left nothing ≡ line_of numbers sums (Err x) → r ≡ as_read (refuses (number_of x) (place_of x)) → r ≡ as_read (read_line w)
-  read-refused x o q = q ∙ ap as_read (sym (line-answer (Err x) o))
+  pub read-refused : (x : Fault) {r : Refusal} → run_from w 0 first left nothing ≡ line_of numbers sums (Err x) → r ≡ refused_by x → shown (Err r) ≡ as_read (read_line w)
+  read-refused x o q = rw q (faults x ∙ ap as_read (sym (line-answer (Err x) o)))
 
 pub too_long : (w : List ℕ) → 4096 < length w → refusal 19 0 ≡ as_read (read_line w)
 unfolding read_line

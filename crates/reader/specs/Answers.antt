@@ -1,6 +1,6 @@
 -- The code's answer to a line, by the grammar's.
 use Prim.Native.Nat.{ℕ, zero, suc, ◌+◌, ◌-◌, ◌≤◌, ◌<◌}
-use Rattle.std.specs.Prelude.{◌≡◌, Bool, cond, ◌&&◌, ◌||◌, leb, ltb, eqb, set, replicate, ℤ, pos, negsuc, nat_abs}
+use Rattle.std.specs.Prelude.{◌≡◌, Bool, cond, ◌&&◌, ◌||◌, leb, ltb, eqb, set, replicate, ℤ, pos, negsuc, nat_abs, Result, Ok, Err}
 use Rattle.std.proofs.Math.Path.{refl, ap}
 use Rattle.std.proofs.Common.{sym, ◌∙◌, not-suc-le-zero, le_of_suc-le-suc, add-one, leb-true, leb-false, lt-ltb, le-ltb, ne_eqb}
 use Rattle.std.proofs.Math.Bool.{true, false, not}
@@ -13,7 +13,12 @@ use Rattle.grammar.specs.Sums.{Relation, at_most, equal, at_least, Term, Answer,
 use Rattle.reader.specs.Sides.{relation_of}
 use Rattle.reader.specs.declared.sides.Mark.{Mark}
 use Rattle.reader.specs.declared.sides.Mark.TheVariants.{AtMost, Equal, AtLeast}
-use Rattle.reader.specs.declared.answers.Reading.{Reading}
+use Rattle.reader.specs.Faults.{number_of, place_of, refusal_number, offset_of, refused_by}
+use Rattle.reader.specs.declared.fault.Fault.{Fault}
+use Rattle.reader.specs.declared.fault.Fault.TheVariants.{Astray, TooDeep, TooLarge}
+use Rattle.grammar.specs.Reader.{refuses}
+use Rattle.reader.specs.declared.fault.Refusal.{Refusal}
+use Rattle.reader.specs.declared.answers.Constraint.{Constraint}
 use Rattle.reader.specs.declared.answers.Kept.{Kept}
 
 -- a whole number as it stands above 2 to the power of 53
@@ -36,8 +41,23 @@ mark_of at_most = AtMost
 mark_of equal = Equal
 mark_of at_least = AtLeast
 
+-- number is 0 for a line that reads, else the refusal's, with the offset of 20
+pub record Reading : Type 0 where
+  pub number : ℕ
+  pub offset : ℕ
+  pub relation : Mark
+  pub constant : ℕ
+  pub count : ℕ
+  pub variables : List ℕ
+  pub coefficients : List ℕ
+
 abbrev pub refusal : ℕ → ℕ → Reading
 refusal n at = record { number = n; offset = at; relation = Equal; constant = zero_at; count = 0; variables = no_variables; coefficients = no_coefficients }
+
+-- the code's answer, by its number; what a refusal has no word of is as in an empty constraint
+abbrev pub shown : Result Constraint Refusal → Reading
+shown (Ok c) = record { number = 0; offset = 0; relation = c.relation; constant = c.constant; count = c.count; variables = c.variables; coefficients = c.coefficients }
+shown (Err r) = refusal (refusal_number r) (offset_of r)
 
 -- the terms of the constraint in their places, nothing past them
 abbrev pub as_read : Answer → Reading
@@ -53,6 +73,12 @@ as_read (reads r) =
     }
 as_read (outside at) = refusal 20 at
 as_read (refused n) = refusal n 0
+
+-- a fault of the code is the grammar's
+pub faults : (f : Fault) → shown (Err (refused_by f)) ≡ as_read (refuses (number_of f) (place_of f))
+faults (Astray b) = refl
+faults (TooDeep b) = refl
+faults (TooLarge b) = refl
 
 -- ---- the terms that the code keeps
 

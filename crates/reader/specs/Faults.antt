@@ -1,5 +1,5 @@
 -- Why the code refuses a line, as the grammar's reader numbers it, and where that is met.
-use Rattle.std.specs.Prelude.{ℕ}
+use Rattle.std.specs.Prelude.{◌≡◌, ℕ, ◌==◌, false, refl}
 use Rattle.reader.specs.declared.fault.Fault.{Fault}
 use Rattle.reader.specs.declared.fault.Fault.TheVariants.{Astray, TooDeep, TooLarge}
 use Rattle.reader.specs.declared.fault.Refusal.{Refusal}
@@ -41,3 +41,15 @@ abbrev pub refused_by : Fault → Refusal
 refused_by (Astray b) = refusal.Astray b
 refused_by (TooDeep b) = refusal.TooDeep
 refused_by (TooLarge b) = refusal.TooLarge
+
+-- 0 is no refusal's number
+pub some-number : (r : Refusal) → (refusal_number r == 0) ≡ false
+some-number refusal.TooLong = refl
+some-number (refusal.Astray b) = refl
+some-number refusal.TooDeep = refl
+some-number refusal.TooLarge = refl
+some-number refusal.TooManyVariables = refl
+some-number refusal.CableLineTooLong = refl
+some-number refusal.Unended = refl
+some-number refusal.StrengthOutOfRange = refl
+some-number refusal.GroupOutOfRange = refl

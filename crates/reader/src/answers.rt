@@ -5,23 +5,20 @@
 ghost use Rattle.std.specs.Prelude.{◌≡◌, ◌≤◌, ◌<◌};
 ghost use Rattle.reader.specs.sums.Held.{held};
 ghost use Rattle.grammar.specs.Sums.{judged, summed};
-ghost use Rattle.grammar.specs.Reader.{read_line, refuses};
-ghost use Rattle.reader.specs.Faults.{number_of, place_of, refusal_number, offset_of};
+ghost use Rattle.grammar.specs.Reader.{read_line};
 ghost use Rattle.reader.specs.Sides.{relation_of};
 ghost use Rattle.reader.specs.Parts.{sums_of};
-ghost use Rattle.reader.specs.Answers.{big_at, kept_with, kept_of, refusal, as_read};
+ghost use Rattle.reader.specs.Answers.{big_at, kept_with, kept_of, shown, as_read};
 
-use crate::fault::{Fault, Refusal};
+use crate::fault::Refusal;
 use crate::parts::Place;
 use crate::sides::{Mark, whole_line};
 use crate::sums::{Numbers, Sums, ZERO};
 
-// number is 0 for a line that reads, else the refusal's, with the offset of 20. The constant and the coefficients stand as what they
-// are above ZERO, as in the tables; past the count the variables are 0 and the coefficients 0, that is ZERO.
+// The constant and the coefficients stand as what they are above ZERO, as in the tables; past the count the variables are 0 and the
+// coefficients 0, that is ZERO.
 #[derive(Clone, Copy)]
-pub struct Reading {
-    pub number: u32,
-    pub offset: usize,
+pub struct Constraint {
     pub relation: Mark,
     pub constant: u64,
     pub count: usize,
@@ -37,39 +34,6 @@ pub struct Kept {
     pub count: usize,
     pub variables: [u32; 16],
     pub coefficients: [u64; 16],
-}
-
-fn unread(number: u32, offset: usize) -> Reading
-    ensures { result ≡ refusal number offset }
-{
-    Reading {
-        number,
-        offset,
-        relation: Mark::Equal,
-        constant: ZERO,
-        count: 0,
-        variables: [0u32; 16],
-        coefficients: [ZERO; 16],
-    }
-}
-
-pub fn refuse(r: Refusal) -> Reading
-    ensures { result ≡ refusal (refusal_number r) (offset_of r) }
-{
-    unread(r.number(), r.offset())
-}
-
-// What stands where no line was answered.
-pub fn nothing() -> Reading
-    ensures { result ≡ refusal 0 0 }
-{
-    unread(0, 0)
-}
-
-pub fn refuse_at(f: Fault) -> Reading
-    ensures { result ≡ as_read (refuses (number_of f) (place_of f)) }
-{
-    refuse(Refusal::from(f))
 }
 
 // "above 1,048,576 in size"
@@ -120,42 +84,40 @@ fn keep_all(numbers: &Numbers, sums: &Sums, count: usize) -> Kept
 }
 
 // "once the whole line reads, 22 a summed coefficient or constant above 1,048,576 in size, then 23 more than 16 variables"
-pub fn finish(numbers: &Numbers, sums: &Sums, m: Mark, p: Place) -> Reading
+pub fn finish(numbers: &Numbers, sums: &Sums, m: Mark, p: Place) -> Result<Constraint, Refusal>
     requires { p.count ≤ 1366 }
-    ensures { result ≡ as_read (judged (summed (relation_of m) (sums_of numbers.now sums.now p))) }
+    ensures { shown result ≡ as_read (judged (summed (relation_of m) (sums_of numbers.now sums.now p))) }
 {
     let k = keep_all(numbers, sums, p.count);
     if is_big(p.constant) || k.big {
-        return refuse(Refusal::TooLarge);
+        return Err(Refusal::TooLarge);
     }
     if 16 < k.count {
-        return refuse(Refusal::TooManyVariables);
+        return Err(Refusal::TooManyVariables);
     }
     let variables = k.variables;
     let coefficients = k.coefficients;
-    Reading {
-        number: 0,
-        offset: 0,
+    Ok(Constraint {
         relation: m,
         constant: p.constant,
         count: k.count,
         variables,
         coefficients,
-    }
+    })
 }
 
 // "Read one line of at most 4,096 bytes: a sum, one of `<=`, `=`, `>=`, a sum."
 // "19 a longer line"
-pub fn read_line(s: &[u8]) -> Reading
-    ensures { result ≡ as_read (read_line s.now) }
+pub fn read_line(s: &[u8]) -> Result<Constraint, Refusal>
+    ensures { shown result ≡ as_read (read_line s.now) }
 {
     if 4096 < s.len() {
-        return refuse(Refusal::TooLong);
+        return Err(Refusal::TooLong);
     }
     let mut numbers = [0u32; 1366];
     let mut sums = [0u64; 1366];
     match whole_line(s, &mut numbers, &mut sums) {
         Ok((m, p)) => finish(&numbers, &sums, m, p),
-        Err(f) => refuse_at(f),
+        Err(f) => Err(Refusal::from(f)),
     }
 }

@@ -38,7 +38,7 @@ fn open<T: Copy>(table: &mut [T; 1366], i: usize, e: usize, x: T)
     table[i] = x;
 }
 
-// What is summed so far with the size more, or less under a minus.
+// What is summed so far with the size more, or less under a minus. (No `Factor`: one caller's size is a product times a number.)
 pub fn with(sum: u64, minus: bool, size: u64) -> u64
     requires { (size ≤ sum) × (sum + size ≤ 18446744073709551615) }
     ensures { result ≡ moved minus size sum }

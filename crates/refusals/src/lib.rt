@@ -1,24 +1,19 @@
-// The tests before the steps, over the lent sparse tables' words, bytes and reals: 18 is the reading test's. A test gives the number of the first refusal, 0 if there is none.
+// The tests before the steps, over the lent sparse tables' words, bytes and reals: 18 is the reading test's. A test gives the first refusal, in the document's order.
 #![tactic(auto)]
 
 pub mod gone;
 
-ghost use Rattle.std.specs.Prelude.{◌≡◌, cond, ◌+◌, ◌<◌, ◌≤◌};
+ghost use Rattle.std.specs.Prelude.{◌≡◌, ℕ, ◌+◌, ◌<◌, ◌≤◌};
 ghost use Rattle.layout.specs.Layout.{term_room};
 ghost use Rattle.sparse.specs.Places.{most_variables, most_constraints, variable_numbers_at, constraint_numbers_at, words_size};
 ghost use Rattle.sparse.specs.Lookup.{Ascends};
+ghost use Rattle.sparse.specs.Refusals.{number_of, number_or};
 ghost use Rattle.refusals.specs.Refusals.{variables_in, constraints_in, edits_in, live_in, edited_in, Tabled, group_place, group_in, is_first_of, new_at, new_in, constraints_full_in, variables_full_in, ids_used_in, room_refusal, input_refusal, add_refusal, edit_pack, add_edit_refusal, suggest_refusal, remove_refusal, remove_edit_refusal, drop_refusal};
 
 use gone::{Taken, gone_full};
 use sparse::lookup::look_up;
+use sparse::refusal::Refusal;
 use sparse::{Bytes, MOST_CONSTRAINTS, Reals, Words};
-
-// A test that fails gives its number, one that passes what the tests after it give.
-fn refusal(fails: bool, number: u64, rest: u64) -> u64
-    ensures { result ≡ cond fails number rest }
-{
-    if fails { number } else { rest }
-}
 
 fn is_live(words: &Words, a: usize, c: usize, x: u64) -> bool
     requires c_bound { a + c ≤ words_size }
@@ -124,28 +119,42 @@ fn ids_used(words: &Words) -> bool
 }
 
 // "10, 9, 11"
-fn room_tests(words: &Words, cutoff: f64, p: changes::terms::Pack) -> u64
+fn room_tests(words: &Words, cutoff: f64, p: changes::terms::Pack) -> Result<(), Refusal>
     requires words_bound { variables_in words.now ≤ most_variables }
     requires words_bound_2 { constraints_in words.now ≤ most_constraints }
     requires words_bound_3 { edits_in words.now ≤ most_constraints }
     requires ascends { Ascends words.now variable_numbers_at (variables_in words.now) }
-    ensures { result ≡ room_refusal cutoff words.now p }
+    ensures { number_of result ≡ room_refusal cutoff words.now p }
 {
-    let ids = refusal(ids_used(words), 11, 0);
-    let variables = refusal(variables_full(words, cutoff, p), 9, ids);
-    refusal(constraints_full(words), 10, variables)
+    if constraints_full(words) {
+        return Err(Refusal::ConstraintsFull);
+    }
+    if variables_full(words, cutoff, p) {
+        return Err(Refusal::VariablesFull);
+    }
+    if ids_used(words) {
+        return Err(Refusal::IdsFull);
+    }
+    Ok(())
 }
 
 // ---- the tests of a call
 
 // "1, 2, 3": what a caller hands in, before the tables are looked at.
-fn input_tests(p: changes::terms::Pack, constant: f64, strength: f64, rest: u64) -> u64
-    ensures { result ≡ input_refusal p constant strength rest }
+fn input_tests(p: changes::terms::Pack, constant: f64, strength: f64) -> Result<(), Refusal>
+    ensures { (rest : ℕ) → number_or rest result ≡ input_refusal p constant strength rest }
 {
     let finite = p.finite & rows::number::is_finite(constant) & rows::number::is_finite(strength);
-    let many = refusal(p.count == 17, 3, rest);
-    let below = refusal(strength < 0.0, 2, many);
-    refusal(!finite, 1, below)
+    if !finite {
+        return Err(Refusal::NotFinite);
+    }
+    if strength < 0.0 {
+        return Err(Refusal::NegativeStrength);
+    }
+    if p.count == 17 {
+        return Err(Refusal::TooManyTerms);
+    }
+    Ok(())
 }
 
 // "Add: 18, 26, 1, 2, 3, 4, 10, 9, 11." The cutoff is the one that the tables hold.
@@ -157,23 +166,23 @@ pub fn add_tests(
     p: changes::terms::Pack,
     constant: f64,
     strength: f64,
-) -> u64
+) -> Result<(), Refusal>
     requires words_bound { variables_in words.now ≤ most_variables }
     requires words_bound_2 { constraints_in words.now ≤ most_constraints }
     requires words_bound_3 { edits_in words.now ≤ most_constraints }
     requires ascends { Ascends words.now variable_numbers_at (variables_in words.now) }
     requires ascends_2 { Ascends words.now constraint_numbers_at (constraints_in words.now) }
-    ensures { result ≡ add_refusal cutoff g n p constant strength words.now }
+    ensures { number_of result ≡ add_refusal cutoff g n p constant strength words.now }
 {
-    let room = room_tests(words, cutoff, p);
+    if g == 0 {
+        return Err(Refusal::GroupZero);
+    }
+    input_tests(p, constant, strength)?;
     let c = words[sparse::CONSTRAINT_COUNT] as usize;
-    let live = refusal(
-        is_live(words, sparse::CONSTRAINT_NUMBERS, c, n as u64),
-        4,
-        room,
-    );
-    let inputs = input_tests(p, constant, strength, live);
-    refusal(g == 0, 26, inputs)
+    if is_live(words, sparse::CONSTRAINT_NUMBERS, c, n as u64) {
+        return Err(Refusal::ConstraintLive);
+    }
+    room_tests(words, cutoff, p)
 }
 
 // The variable times 1, as a pack.
@@ -190,61 +199,89 @@ pub fn edit_pack(n: u32) -> changes::terms::Pack
 }
 
 // "Add edit: 18, 6, 7, 10, 9, 11." The strength comes clipped.
-pub fn add_edit_tests(words: &Words, bytes: &Bytes, cutoff: f64, n: u32, strength: f64) -> u64
+pub fn add_edit_tests(
+    words: &Words,
+    bytes: &Bytes,
+    cutoff: f64,
+    n: u32,
+    strength: f64,
+) -> Result<(), Refusal>
     requires words_bound { variables_in words.now ≤ most_variables }
     requires words_bound_2 { constraints_in words.now ≤ most_constraints }
     requires words_bound_3 { edits_in words.now ≤ most_constraints }
     requires ascends { Ascends words.now variable_numbers_at (variables_in words.now) }
-    ensures { result ≡ add_edit_refusal cutoff n strength words.now bytes.now }
+    ensures { number_of result ≡ add_edit_refusal cutoff n strength words.now bytes.now }
 {
-    let room = room_tests(words, cutoff, edit_pack(n));
-    let required = refusal(strength == rows::strength::REQUIRED, 7, room);
-    refusal(is_edited(words, bytes, n as u64), 6, required)
+    if is_edited(words, bytes, n as u64) {
+        return Err(Refusal::EditLive);
+    }
+    if strength == rows::strength::REQUIRED {
+        return Err(Refusal::RequiredEdit);
+    }
+    room_tests(words, cutoff, edit_pack(n))
 }
 
 // "Suggest: 18, 1, 8."
-pub fn suggest_tests(words: &Words, bytes: &Bytes, n: u32, new: f64) -> u64
+pub fn suggest_tests(words: &Words, bytes: &Bytes, n: u32, new: f64) -> Result<(), Refusal>
     requires words_bound { variables_in words.now ≤ most_variables }
     requires words_bound_2 { edits_in words.now ≤ most_constraints }
     requires ascends { Ascends words.now variable_numbers_at (variables_in words.now) }
-    ensures { result ≡ suggest_refusal n new words.now bytes.now }
+    ensures { number_of result ≡ suggest_refusal n new words.now bytes.now }
 {
-    let known = refusal(!is_edited(words, bytes, n as u64), 8, 0);
-    refusal(!rows::number::is_finite(new), 1, known)
+    if !rows::number::is_finite(new) {
+        return Err(Refusal::NotFinite);
+    }
+    if !is_edited(words, bytes, n as u64) {
+        return Err(Refusal::NoEdit);
+    }
+    Ok(())
 }
 
 // "Remove: 18, 5, 25."
-pub fn remove_tests(words: &Words, bytes: &Bytes, reals: &Reals, n: u32) -> u64
+pub fn remove_tests(words: &Words, bytes: &Bytes, reals: &Reals, n: u32) -> Result<(), Refusal>
     requires tabled { Tabled words.now bytes.now }
     requires ascends { Ascends words.now constraint_numbers_at (constraints_in words.now) }
-    ensures { result ≡ remove_refusal n words.now bytes.now reals.now }
+    ensures { number_of result ≡ remove_refusal n words.now bytes.now reals.now }
 {
     let c = words[sparse::CONSTRAINT_COUNT] as usize;
-    let full = refusal(gone_full(words, bytes, reals, Taken::Constraint(n)), 25, 0);
-    refusal(
-        !is_live(words, sparse::CONSTRAINT_NUMBERS, c, n as u64),
-        5,
-        full,
-    )
+    if !is_live(words, sparse::CONSTRAINT_NUMBERS, c, n as u64) {
+        return Err(Refusal::NoConstraint);
+    }
+    if gone_full(words, bytes, reals, Taken::Constraint(n)) {
+        return Err(Refusal::GoneFull);
+    }
+    Ok(())
 }
 
 // "Remove edit: 18, 8, 25."
-pub fn remove_edit_tests(words: &Words, bytes: &Bytes, reals: &Reals, n: u32) -> u64
+pub fn remove_edit_tests(words: &Words, bytes: &Bytes, reals: &Reals, n: u32) -> Result<(), Refusal>
     requires tabled { Tabled words.now bytes.now }
     requires words_bound { edits_in words.now ≤ most_constraints }
     requires ascends { Ascends words.now variable_numbers_at (variables_in words.now) }
-    ensures { result ≡ remove_edit_refusal n words.now bytes.now reals.now }
+    ensures { number_of result ≡ remove_edit_refusal n words.now bytes.now reals.now }
 {
-    let full = refusal(gone_full(words, bytes, reals, Taken::Edit(n)), 25, 0);
-    refusal(!is_edited(words, bytes, n as u64), 8, full)
+    if !is_edited(words, bytes, n as u64) {
+        return Err(Refusal::NoEdit);
+    }
+    if gone_full(words, bytes, reals, Taken::Edit(n)) {
+        return Err(Refusal::GoneFull);
+    }
+    Ok(())
 }
 
 // "Drop: 18, 26, 27, 25." 25 once for the whole drop.
-pub fn drop_tests(words: &Words, bytes: &Bytes, reals: &Reals, g: u16) -> u64
+pub fn drop_tests(words: &Words, bytes: &Bytes, reals: &Reals, g: u16) -> Result<(), Refusal>
     requires { Tabled words.now bytes.now }
-    ensures { result ≡ drop_refusal g words.now bytes.now reals.now }
+    ensures { number_of result ≡ drop_refusal g words.now bytes.now reals.now }
 {
-    let full = refusal(gone_full(words, bytes, reals, Taken::Group(g)), 25, 0);
-    let none = refusal(!group_lives(words, g), 27, full);
-    refusal(g == 0, 26, none)
+    if g == 0 {
+        return Err(Refusal::GroupZero);
+    }
+    if !group_lives(words, g) {
+        return Err(Refusal::NoGroup);
+    }
+    if gone_full(words, bytes, reals, Taken::Group(g)) {
+        return Err(Refusal::GoneFull);
+    }
+    Ok(())
 }

@@ -8,10 +8,9 @@ use Rattle.steps.specs.Work.{Work, Outcome, going, ◌>>=◌, check_finite}
 use Rattle.rows.specs.declared.number.Wrote.{Wrote}
 use Rattle.rows.specs.Marks.{mark_of}
 use Rattle.sparse.specs.Sparse.{Sparse}
-use Rattle.waist.specs.declared.ending.Ended.{Ended}
 use Rattle.waist.specs.Working.{work_of}
 use Rattle.waist.specs.Standing.{Standing, Makes}
-use Rattle.waist.specs.Ending.{outcome_of, Goes, checked_of, checked-is, is-refused, is-going, refused-then, going-then, none_then}
+use Rattle.waist.specs.Ending.{Ended, outcome_of, Goes, checked_of, checked-is, is-refused, is-going, refused-then, going-then, none_then}
 
 -- the outcome at the tables u is x, and where it goes on the tables stand
 abbrev pub Reached : Outcome Work → Ended → Sparse → Type 0

@@ -18,6 +18,10 @@ use Rattle.std.specs.Prelude.{Some, None}
 use Rattle.rows.specs.choose.Choose.{on_found}
 use Rattle.sparse.specs.Places.{kinds_at}
 use Rattle.sparse.specs.Sparse.{Sparse, symbol_at, other_at, basic_of, basics_of}
+use Rattle.waist.specs.declared.kinds.Kind.{Kind}
+use Rattle.waist.specs.Kinds.{kind_byte, KindOf}
+use Rattle.waist.specs.KindsRead.{symbol-read}
+use Rattle.waist.specs.Looks.{of_kind}
 use Rattle.waist.specs.Working.{work_of}
 use Rattle.waist.specs.Standing.{Standing, Makes}
 use Rattle.waist.specs.Tags.{tag_at}
@@ -32,6 +36,10 @@ error-at t p = go (eqb (get_or t.bytes (kinds_at + p) 0) 2) (eqb (get_or t.bytes
     go false true d = refl
     go false false true = refl
     go false false false = refl
+
+pub error-read : (t : Sparse) (p : ℕ) (k : Kind) {b : Bool} → KindOf (get_or t.bytes (kinds_at + p) 0) k → b ≡ is_error (of_kind (kind_byte k)) → eqb (get_or t.bytes (kinds_at + p) 0) 2 ≡ b
+unfolding symbol_at is_error
+error-read t p k e q = sym (q ∙ ap is_error (symbol-read _ k e) ∙ error-at t p)
 
 -- ---- one symbol's
 

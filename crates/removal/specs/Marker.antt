@@ -34,14 +34,13 @@ use Rattle.rows.specs.Marks.{mark_of}
 use Rattle.sparse.specs.Places.{kinds_at, row_places_at, constants_at}
 use Rattle.sparse.specs.Sparse.{Sparse, symbol_count, row_count, symbol_at, basic_of, symbols_of, basics_of}
 use Rattle.waist.specs.substituting.Notes.{is_external_kind}
-use Rattle.waist.specs.declared.ending.Ended.{Ended}
 use Rattle.waist.specs.Working.{work_of, Sound, basic-symbol}
 use Rattle.waist.specs.Dropping.{Free}
 use Rattle.waist.specs.LivePlaces.{not-basic}
 use Rattle.waist.specs.FreePlaces.{free-times}
 use Rattle.waist.specs.Entering.{external-at}
 use Rattle.waist.specs.Standing.{Standing, Makes, row_symbol}
-use Rattle.waist.specs.Ending.{outcome_of, ended, checked_of, is-going}
+use Rattle.waist.specs.Ending.{Ended, outcome_of, ended, checked_of, is-going}
 use Rattle.waist.specs.Rows.{row_for, row-found}
 use Rattle.removal.specs.Reading.{work-symbols, work-rows, symbol-same, row_same, makes-to, makes-then, makes-same}
 use Rattle.removal.specs.Bound.{Reached, reached-is, after-refused, after-going, reached-made, reached-checked}

@@ -16,10 +16,9 @@ use Rattle.rows.specs.Marks.{mark_of}
 use Rattle.sparse.specs.Sparse.{Sparse, symbol_at, symbols_of, read}
 use Rattle.changes.specs.declared.terms.Pack.{Pack}
 use Rattle.changes.specs.terms.Terms.{term_of, term_in, terms_of}
-use Rattle.waist.specs.declared.ending.Ended.{Ended}
 use Rattle.waist.specs.Working.{work_of}
 use Rattle.waist.specs.Standing.{Standing, Makes}
-use Rattle.waist.specs.Ending.{outcome_of, Goes}
+use Rattle.waist.specs.Ending.{Ended, outcome_of, Goes}
 use Rattle.waist.specs.Tags.{tag_at}
 use Rattle.removal.specs.Reading.{symbol-same}
 use Rattle.removal.specs.Bound.{Reached, reached-is, goes_given, after-refused, after-going, reached-made}

@@ -30,8 +30,7 @@ fn remove_marker_effects(
     requires p_bound { p ≤ get_or words.now symbol_count_at 0 }
     ensures { Makes false false (mark_of before) (mark_of result) (remove_marker_effects (symbol_at (sparse words.now keys.now bytes.now reals.old values.now) p) strength) (sparse words.now keys.now bytes.now reals.old values.now) (sparse words.now keys.now bytes.now reals.new values.now) }
 {
-    let kind = kind_at(bytes, p);
-    if kind != 2 {
+    if !kind_at(bytes, p).is_error() {
         return before;
     }
     let f = row_of(words, bytes, p);

@@ -15,7 +15,7 @@ ghost use Rattle.sparse.specs.Sparse.{read};
 ghost use Rattle.changes.specs.terms.Terms.{terms_of};
 ghost use Rattle.waist.specs.Working.{work_of, sparse};
 ghost use Rattle.waist.specs.Standing.{Standing, Makes};
-ghost use Rattle.waist.specs.Ending.{outcome_of, Goes};
+ghost use Rattle.waist.specs.Ending.{outcome_of, Goes, ended_of};
 ghost use Rattle.waist.specs.Tags.{tag_at};
 ghost use Rattle.waist.specs.Lowering.{near_place};
 ghost use Rattle.removal.specs.Tag.{Stands, TagLives};
@@ -33,7 +33,7 @@ use optimising::optimise;
 use rows::number::Wrote;
 use sparse::tables::TablesMut;
 use sparse::{Bytes, Keys, Reals, Values, Words};
-use waist::ending::{Ended, check_finite};
+use waist::ending::{Refused, Went, check_finite};
 use waist::symbols::purge;
 
 // "take each error symbol's strength out of the objective"
@@ -47,11 +47,11 @@ fn take_effects(
     other: u8,
     strength: f64,
     before: Wrote,
-) -> Ended
+) -> Result<Went, Refused>
     requires standing { Standing false (mark_of before) (sparse words.now keys.now bytes.now reals.old values.now) }
     requires tag_lives { TagLives marker other (sparse words.now keys.now bytes.now reals.old values.now) }
-    ensures values_value { outcome_of false result (sparse words.now keys.now bytes.now reals.new values.now) ≡ check_finite (remove_constraint_effects (tag_at (sparse words.now keys.now bytes.now reals.old values.now) marker other) strength (work_of false (mark_of before) 0 (sparse words.now keys.now bytes.now reals.old values.now))) }
-    ensures goes { Goes false result (sparse words.now keys.now bytes.now reals.new values.now) }
+    ensures values_value { outcome_of false (ended_of result) (sparse words.now keys.now bytes.now reals.new values.now) ≡ check_finite (remove_constraint_effects (tag_at (sparse words.now keys.now bytes.now reals.old values.now) marker other) strength (work_of false (mark_of before) 0 (sparse words.now keys.now bytes.now reals.old values.now))) }
+    ensures goes { Goes false (ended_of result) (sparse words.now keys.now bytes.now reals.new values.now) }
 {
     let w = remove_constraint_effects(
         words, keys, bytes, reals, values, marker, other, strength, before,
@@ -92,12 +92,12 @@ fn remove_by(
     count: usize,
     budget: u32,
     before: Wrote,
-) -> Ended
+) -> Result<Went, Refused>
     requires standing { Standing false (mark_of before) (held room.old) }
     requires tag_lives { TagLives marker other (held room.old) }
     requires count_le_term_room { count ≤ term_room }
     requires room { Room (uses_from numbers.now count 0) (read (held room.old)).changes }
-    ensures does { Removes budget (tag_at (held room.old) marker other) strength numbers.now count (work_of false (mark_of before) 0 (held room.old)) result (held room.new) }
+    ensures does { Removes budget (tag_at (held room.old) marker other) strength numbers.now count (work_of false (mark_of before) 0 (held room.old)) (ended_of result) (held room.new) }
     ensures same { Same room.old room.new }
 {
     let taken = take_effects(
@@ -110,21 +110,12 @@ fn remove_by(
         other,
         strength,
         before,
-    );
-    if taken.number != 0 {
-        return taken;
-    }
-    let dropped = drop_marker(room, marker, taken.pivots, taken.wrote);
-    if dropped.number != 0 {
-        return dropped;
-    }
+    )?;
+    let dropped = drop_marker(room, marker, taken.pivots, taken.wrote)?;
     purge_tag(room, marker, other);
-    let passed = optimise(false, room, budget, dropped.pivots, dropped.wrote);
-    if passed.number != 0 {
-        return passed;
-    }
+    let passed = optimise(false, room, budget, dropped.pivots, dropped.wrote)?;
     drop_uses(room, numbers, count);
-    passed
+    Ok(passed)
 }
 
 // Remove's steps on a stored constraint, or on an edit as one of one term, by the places of its tag; 0 is no other symbol. 25 "stands before the steps of removal": there is room for the entries that they make.
@@ -136,12 +127,12 @@ pub fn remove_steps(
     p: Pack,
     budget: u32,
     before: Wrote,
-) -> Ended
+) -> Result<Went, Refused>
     requires standing { Standing false (mark_of before) (held room.old) }
     requires tag_lives { TagLives marker other (held room.old) }
     requires room { Room (terms_of p) (read (held room.old)).changes }
-    ensures values_value { outcome_of false result (held room.new) ≡ remove_steps budget (tag_at (held room.old) marker other) strength (terms_of p) (work_of false (mark_of before) 0 (held room.old)) }
-    ensures goes { Goes false result (held room.new) }
+    ensures values_value { outcome_of false (ended_of result) (held room.new) ≡ remove_steps budget (tag_at (held room.old) marker other) strength (terms_of p) (work_of false (mark_of before) 0 (held room.old)) }
+    ensures goes { Goes false (ended_of result) (held room.new) }
     ensures same { Same room.old room.new }
 {
     let count = shown(p);

@@ -9,27 +9,30 @@ ghost use Rattle.std.specs.Prelude.{None};
 ghost use Rattle.rows.specs.Marks.{mark_of};
 ghost use Rattle.sparse.specs.Places.{symbol_count_at, row_count_at};
 ghost use Rattle.sparse.specs.Sparse.{symbol_at};
+ghost use Rattle.waist.specs.Kinds.{kind_byte};
 ghost use Rattle.waist.specs.substituting.Notes.{is_external_kind};
 ghost use Rattle.waist.specs.Working.{work_of, Sound, sparse};
 ghost use Rattle.waist.specs.Dropping.{Free};
 ghost use Rattle.waist.specs.Standing.{Standing, Makes, row_symbol};
-ghost use Rattle.waist.specs.Ending.{outcome_of, Goes, ended};
+ghost use Rattle.waist.specs.Ending.{outcome_of, Goes, ended_of};
 ghost use Rattle.waist.specs.Rows.{row_for};
 ghost use Rattle.removal.specs.Marker.{without};
 ghost use Rattle.sparse.specs.Tables.{held, Same};
 
 use rows::number::Wrote;
+use sparse::refusal::Refusal;
 use sparse::tables::TablesMut;
 use sparse::{Bytes, CONSTANTS, Keys, ROW_PLACES, Reals, Values, Words};
 use waist::choices::{get_marker_leaving_row, row_of};
-use waist::ending::{Ended, check_finite};
+use waist::ending::{Refused, Went, check_finite};
 use waist::holding::{drop_on, note_on, pivot_on};
-use waist::substituting::notes::{is_external, kind_at};
+use waist::kinds::Kind;
+use waist::substituting::notes::kind_at;
 
-fn leaves_noted(kind: u8, constant: f64) -> bool
-    ensures { result ≡ (is_external_kind kind && ne constant zero64) }
+fn leaves_noted(kind: Kind, constant: f64) -> bool
+    ensures { result ≡ (is_external_kind (kind_byte kind) && ne constant zero64) }
 {
-    is_external(kind) & (constant != 0.0)
+    kind.is_external() & (constant != 0.0)
 }
 
 // "the last External row holding it, noted if its constant isn't zero": of the leaving row i.
@@ -53,15 +56,21 @@ fn note_leaving(
 }
 
 // The leaving row i is noted; then it leaves, and the marker at place p enters.
-fn pivot_marker(room: &mut TablesMut, i: u8, p: u8, pivots: u32, before: Wrote) -> Ended
+fn pivot_marker(
+    room: &mut TablesMut,
+    i: u8,
+    p: u8,
+    pivots: u32,
+    before: Wrote,
+) -> Result<Went, Refused>
     requires standing { Standing false (mark_of before) (held room.old) }
     requires le_i { 1 ≤ i }
     requires i_bound { i ≤ get_or room.old.words.now row_count_at 0 }
     requires le_p { 1 ≤ p }
     requires p_bound { p ≤ get_or room.old.words.now symbol_count_at 0 }
     requires free { Free p (held room.old) }
-    ensures values_value { outcome_of false result (held room.new) ≡ check_finite (pivot (row_symbol (held room.old) i).id (symbol_at (held room.old) p) (note_leaving (row_symbol (held room.old) i) (work_of false (mark_of before) pivots (held room.old)))) }
-    ensures goes { Goes false result (held room.new) }
+    ensures values_value { outcome_of false (ended_of result) (held room.new) ≡ check_finite (pivot (row_symbol (held room.old) i).id (symbol_at (held room.old) p) (note_leaving (row_symbol (held room.old) i) (work_of false (mark_of before) pivots (held room.old)))) }
+    ensures goes { Goes false (ended_of result) (held room.new) }
     ensures same { Same room.old room.new }
 {
     note_leaving(
@@ -91,45 +100,36 @@ fn drop_row_of(room: &mut TablesMut, p: u8)
     drop_on(false, room, i as u8);
 }
 
-fn no_leaving_row(pivots: u32, before: Wrote) -> Ended
-    ensures { result ≡ ended 17 pivots before }
-{
-    Ended {
-        number: 17,
-        pivots,
-        wrote: before,
-    }
-}
-
 // The marker, at place p, is not basic. 17: "a removal finds no leaving row"
-fn enter_and_drop(room: &mut TablesMut, p: u8, pivots: u32, before: Wrote) -> Ended
+fn enter_and_drop(room: &mut TablesMut, p: u8, pivots: u32, before: Wrote) -> Result<Went, Refused>
     requires standing { Standing false (mark_of before) (held room.old) }
     requires le_p { 1 ≤ p }
     requires p_bound { p ≤ get_or room.old.words.now symbol_count_at 0 }
     requires bytes_value { row_for p room.old.words.now room.old.bytes.now ≡ None }
-    ensures values_value { outcome_of false result (held room.new) ≡ drop_marker (symbol_at (held room.old) p) (work_of false (mark_of before) pivots (held room.old)) }
-    ensures goes { Goes false result (held room.new) }
+    ensures values_value { outcome_of false (ended_of result) (held room.new) ≡ drop_marker (symbol_at (held room.old) p) (work_of false (mark_of before) pivots (held room.old)) }
+    ensures goes { Goes false (ended_of result) (held room.new) }
     ensures same { Same room.old room.new }
 {
     let f = get_marker_leaving_row(room, p);
     let Some(i) = f else {
-        return no_leaving_row(pivots, before);
+        return Err(Refused {
+            why: Refusal::NoRemovalRow,
+            pivots,
+            wrote: before,
+        });
     };
-    let e = pivot_marker(room, i as u8, p, pivots, before);
-    if e.number != 0 {
-        return e;
-    }
+    let went = pivot_marker(room, i as u8, p, pivots, before)?;
     drop_row_of(room, p);
-    e
+    Ok(went)
 }
 
 // The marker, at place p.
-pub fn drop_marker(room: &mut TablesMut, p: u8, pivots: u32, before: Wrote) -> Ended
+pub fn drop_marker(room: &mut TablesMut, p: u8, pivots: u32, before: Wrote) -> Result<Went, Refused>
     requires standing { Standing false (mark_of before) (held room.old) }
     requires le_p { 1 ≤ p }
     requires p_bound { p ≤ get_or room.old.words.now symbol_count_at 0 }
-    ensures values_value { outcome_of false result (held room.new) ≡ drop_marker (symbol_at (held room.old) p) (work_of false (mark_of before) pivots (held room.old)) }
-    ensures goes { Goes false result (held room.new) }
+    ensures values_value { outcome_of false (ended_of result) (held room.new) ≡ drop_marker (symbol_at (held room.old) p) (work_of false (mark_of before) pivots (held room.old)) }
+    ensures goes { Goes false (ended_of result) (held room.new) }
     ensures same { Same room.old room.new }
 {
     let f = row_of(room.words, room.bytes, p);
@@ -137,9 +137,8 @@ pub fn drop_marker(room: &mut TablesMut, p: u8, pivots: u32, before: Wrote) -> E
         return enter_and_drop(room, p, pivots, before);
     };
     drop_on(false, room, i as u8);
-    Ended {
-        number: 0,
+    Ok(Went {
         pivots,
         wrote: before,
-    }
+    })
 }

@@ -31,12 +31,6 @@ fn drop_use(room: &mut TablesMut, n: u64)
     purge(room, lost.place);
 }
 
-fn number_of(n: u32) -> u64
-    ensures { result ≡ n }
-{
-    n as u64
-}
-
 // "Use counts fall; a variable at zero goes with its row and cells": the variables of the first `count` numbers.
 pub fn drop_uses(room: &mut TablesMut, numbers: &[u32; TERM_ROOM], count: usize)
     requires stands { Stands (held room.old) }
@@ -46,7 +40,6 @@ pub fn drop_uses(room: &mut TablesMut, numbers: &[u32; TERM_ROOM], count: usize)
     ensures same { Same room.old room.new }
 {
     for j in 0..count {
-        let n = number_of(numbers[j]);
-        drop_use(room, n);
+        drop_use(room, u64::from(numbers[j]));
     }
 }

@@ -15,5 +15,3 @@ pub struct Best {
     pub at: usize,
     pub ratio: f64,
 }
-
-pub fn nothing() {}

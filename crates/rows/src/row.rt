@@ -11,11 +11,6 @@ use crate::cell::{cell_mark, cell_value, factor_mark, insert_cell, mark_cell, sc
 use crate::number::{CELL_BOUND, CONSTANT_BOUND, Wrote, joined, mark_write, nothing};
 use layout::cells::ROW_ROOM;
 
-// A row has room for `row_room` numbers, which its type says.
-pub fn wide(row: &[f64; ROW_ROOM])
-    ensures { length row.now ≡ row_room }
-{}
-
 // What an insertion wrote, and whether it changed the constant: two facts that both always hold, no value that may be missing.
 #[derive(Clone, Copy)]
 pub struct Inserted {

@@ -1,6 +1,7 @@
 // Standard input cut into lines, and the answers written to standard output.
 // A newline ends a line; what stands after the last newline is a line too unless it is empty. Answers are written at the
 // end of each piece that was read, so that nobody who waits for one has to send more, and where the buffer fills up.
+// (A run of its own beside `text::serving`: after a write that failed nothing more is written, as `flush` says.)
 ghost use Rattle.std.specs.Prelude.{◌≡◌, ◌≤◌, length, take as front, IsTrue, IsFalse, IsErr};
 ghost use Rattle.std.specs.Io.KnownBytes.{Appends};
 
@@ -14,13 +15,13 @@ use text::writing::put_byte;
 
 pub type Line = [u8; 4096];
 
-// The bytes from `next` to `end` of the piece that was read last are still to be taken; `held` bytes of a line are kept, and
-// it has ended if `whole`; `at` bytes of answers wait to be written. good: every write went through; more: nothing ended the input.
+// The bytes from `next` to `end` of the piece that was read last are still to be taken; `held` bytes of a line are kept, none
+// of one that is too long, and it has ended if `whole`; `at` bytes of answers wait to be written. good: every write went through; more: nothing ended the input.
 #[derive(Clone, Copy)]
 pub struct Place {
     pub next: usize,
     pub end: usize,
-    pub held: usize,
+    pub held: Option<usize>,
     pub whole: bool,
     pub at: usize,
     pub good: bool,
@@ -34,7 +35,7 @@ pub fn begin() -> Place
     Place {
         next: 0,
         end: 0,
-        held: 0,
+        held: Some(0),
         whole: false,
         at: 0,
         good: true,
@@ -109,7 +110,7 @@ fn read<R: Read, W>(duplex: &mut Duplex<R, W>, piece: &mut Line, p: Place) -> Pl
     q.next = 0;
     q.end = k;
     q.more = k > 0;
-    q.whole = (k == 0) & (p.held > 0);
+    q.whole = (k == 0) & (p.held != Some(0));
     q
 }
 
@@ -154,9 +155,11 @@ pub fn say<R, W: Write>(
         return p;
     }
     let mut q = with_room(duplex, out, p);
-    let next = answer_held(line, q.held, tables, out, q.at);
+    // More than the buffer's bytes stand for a line that is too long, as in the clauses of `answer_held`.
+    let held = q.held.unwrap_or(4097);
+    let next = answer_held(line, held, tables, out, q.at);
     q.at = put_byte(out, next, 10);
-    q.held = 0;
+    q.held = Some(0);
     q.whole = false;
     q
 }

@@ -24,10 +24,9 @@ use Rattle.sparse_test.specs.Reads.{reads}
 use Rattle.sparse_test.specs.Meaning.{reads-form}
 use Rattle.sparse_test.specs.narrow.Holds.{made-written}
 use Rattle.rows.specs.Marks.{mark_of}
-use Rattle.waist.specs.declared.ending.Ended.{Ended}
 use Rattle.waist.specs.Working.{work_of}
 use Rattle.waist.specs.Standing.{Standing}
-use Rattle.waist.specs.Ending.{outcome_of, Goes, is-going}
+use Rattle.waist.specs.Ending.{Ended, outcome_of, Goes, is-going}
 use Rattle.stored.specs.Ended.{Kept}
 use Rattle.stored.specs.Suggested.{with_real, suggestion-kept}
 use Rattle.lending.specs.declared.Answer as code

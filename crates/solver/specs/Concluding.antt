@@ -16,10 +16,11 @@ use Rattle.sparse.specs.Places.{whole_at}
 use Rattle.sparse.specs.Sparse.{Sparse, symbol_count, read}
 use Rattle.sparse.specs.Form.{Form}
 use Rattle.rows.specs.Marks.{mark_of}
-use Rattle.waist.specs.declared.ending.Ended.{Ended}
 use Rattle.waist.specs.Working.{sparse, work_of}
 use Rattle.waist.specs.Standing.{Standing}
-use Rattle.waist.specs.Ending.{outcome_of, Goes}
+use Rattle.sparse.specs.declared.refusal.Refusal.{Refusal}
+use Rattle.sparse.specs.Refusals.{refusal_number}
+use Rattle.waist.specs.Ending.{Ended, outcome_of, Goes, refuses}
 use Rattle.lending.specs.declared.Answer as code
 use Rattle.lending.specs.Lending.{answer_of, refused18, Left}
 use Rattle.lending.specs.Entered.{Entered}
@@ -161,6 +162,10 @@ module _ (f : State → Result) (t : Sparse) (e : Ended) (u : Sparse) (again : r
       let r : f (read t) ≡ conclude_add (read t) (cond (eqb e.number 0) (going (record { work = work_of false (mark_of e.wrote) e.pivots u; tag = tag })) (refused e.number e.pivots (mark_of e.wrote))) next = q ∙ ap (λ (y : Outcome Added). conclude_add (read t) y next) (sym p) in
       let z : (f (read t)).state ≡ finish (work_of false (mark_of e.wrote) e.pivots u) (cs tag) (es tag) = ap (λ (y : Result). y.state) r ∙ x.1 (eq-eqb e.number 0 on) in
       rw (closed-finish e.wrote u st e.pivots (cs tag) (es tag), ← z) again
+
+-- no refusal's number is 0
+pub never-zero : (k : Refusal) → refusal_number k ≡ 0 → ⊥
+never-zero k z = false≢true (sym (refuses k) ∙ eq-eqb (refusal_number k) 0 z)
 
 -- where the steps go on, the room stands
 pub went : (e : Ended) (u : Sparse) → Goes false e u → e.number ≡ 0 → Standing false (mark_of e.wrote) u

@@ -20,10 +20,9 @@ use Rattle.sparse.specs.Sparse.{Sparse, constraint_count, edit_count, read}
 use Rattle.sparse_test.specs.Meaning.{reads-readable}
 use Rattle.rows.specs.declared.number.Wrote.{Wrote}
 use Rattle.rows.specs.Marks.{mark_of}
-use Rattle.waist.specs.declared.ending.Ended.{Ended}
 use Rattle.waist.specs.Working.{work_of}
 use Rattle.waist.specs.Standing.{Standing}
-use Rattle.waist.specs.Ending.{Goes}
+use Rattle.waist.specs.Ending.{Ended, Goes}
 use Rattle.lending.specs.declared.Answer as code
 use Rattle.lending.specs.Lending.{answer_of}
 use Rattle.lending.specs.Entered.{Entered}

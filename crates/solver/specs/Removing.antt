@@ -30,9 +30,8 @@ use Rattle.sparse.specs.Form.{Form}
 use Rattle.sparse_test.specs.Meaning.{reads-form, reads-readable}
 use Rattle.rows.specs.declared.number.Wrote.{Wrote}
 use Rattle.rows.specs.Marks.{mark_of}
-use Rattle.waist.specs.declared.ending.Ended.{Ended}
 use Rattle.waist.specs.Working.{work_of}
-use Rattle.waist.specs.Ending.{outcome_of, Goes}
+use Rattle.waist.specs.Ending.{Ended, outcome_of, Goes}
 use Rattle.lending.specs.declared.Answer as code
 use Rattle.lending.specs.Lending.{answer_of}
 use Rattle.lending.specs.Entered.{Entered}

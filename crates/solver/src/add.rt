@@ -10,7 +10,7 @@ ghost use Rattle.solver.specs.Concluding.{Done};
 ghost use Rattle.lending.specs.Entered.{Entered};
 ghost use Rattle.sparse.specs.Tables.{held, lent, Same};
 
-use crate::begin::{answer_of, by_test, close, stored_mark};
+use crate::begin::{accepted, by_test, close, refused, stored_mark};
 use addition::add::add_steps;
 use addition::inputs::strength_of;
 use changes::tags::Relation;
@@ -37,19 +37,17 @@ fn add_known(
     ensures same { Same room.old room.new }
 {
     let before = stored_mark(tables.words);
-    let a = add_steps(room, p, constant, relation, budget, before);
-    let e = a.ended;
-    if e.number != 0 {
-        return answer_of(e);
-    }
-    let wrote = e.wrote;
+    let a = match add_steps(room, p, constant, relation, budget, before) {
+        Ok(a) => a,
+        Err(e) => return refused(e),
+    };
     let strength = strength_of(relation);
     let kept = changes::terms::kept(tables.reals[CUTOFF], p);
-    close(room.words, wrote);
+    close(room.words, a.went.wrote);
     crate::bringing::with_constraint(
         tables, room, n, g, relation, strength, constant, a.marker, a.other, kept,
     );
-    answer_of(e)
+    accepted(a.went)
 }
 
 // "Add: 18, 26, 1, 2, 3, 4, 10, 9, 11." The terms come as any pack: the call is that of the list that it stands for.
@@ -69,7 +67,7 @@ pub fn add(
 {
     let q = changes::terms::proper(p);
     let strength = strength_of(relation);
-    let number = refusals::add_tests(
+    if let Err(why) = refusals::add_tests(
         tables.words,
         tables.reals[CUTOFF],
         g,
@@ -77,9 +75,8 @@ pub fn add(
         q,
         constant,
         strength,
-    );
-    if number != 0 {
-        return by_test(tables.words, number);
+    ) {
+        return by_test(tables.words, why);
     }
     add_known(tables, room, g, n, q, constant, relation, budget)
 }

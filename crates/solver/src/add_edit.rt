@@ -7,7 +7,7 @@ ghost use Rattle.solver.specs.Concluding.{Done};
 ghost use Rattle.lending.specs.Entered.{Entered};
 ghost use Rattle.sparse.specs.Tables.{held, lent, Same};
 
-use crate::begin::{answer_of, by_test, close, stored_mark};
+use crate::begin::{accepted, by_test, close, refused, stored_mark};
 use addition::add::add_steps;
 use changes::tags::Relation;
 use lending::Answer;
@@ -31,15 +31,13 @@ fn add_edit_known(
     let held = rows::strength::clip(strength);
     let p = refusals::edit_pack(n);
     let relation = Relation::Equal(held);
-    let a = add_steps(room, p, 0.0, relation, budget, before);
-    let e = a.ended;
-    if e.number != 0 {
-        return answer_of(e);
-    }
-    let wrote = e.wrote;
-    close(room.words, wrote);
+    let a = match add_steps(room, p, 0.0, relation, budget, before) {
+        Ok(a) => a,
+        Err(e) => return refused(e),
+    };
+    close(room.words, a.went.wrote);
     crate::bringing::with_edit(tables, room, n as u64, held, a.marker, a.other);
-    answer_of(e)
+    accepted(a.went)
 }
 
 // "Add edit: 18, 6, 7, 10, 9, 11."
@@ -49,15 +47,14 @@ pub fn add_edit(tables: &Tables, room: &mut TablesMut, n: u32, strength: f64, bu
     ensures same { Same room.old room.new }
 {
     let held = rows::strength::clip(strength);
-    let number = refusals::add_edit_tests(
+    if let Err(why) = refusals::add_edit_tests(
         tables.words,
         tables.bytes,
         tables.reals[CUTOFF],
         n,
         held,
-    );
-    if number != 0 {
-        return by_test(tables.words, number);
+    ) {
+        return by_test(tables.words, why);
     }
     add_edit_known(tables, room, n, strength, budget)
 }

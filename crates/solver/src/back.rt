@@ -16,7 +16,7 @@ ghost use Rattle.lending.specs.Entered.{Entered};
 ghost use Rattle.solver.specs.Backed.{back_words, back_bytes, back_reals, back_over};
 ghost use Rattle.sparse.specs.Tables.{held, lent, Same};
 
-use crate::begin::{answer_of, by_test, mark_bit};
+use crate::begin::{accepted, by_test, mark_bit, refused};
 use crate::suggest::drag;
 use lending::Answer;
 use lending::sparse_copy::put;
@@ -89,13 +89,12 @@ fn suggest_known(
 {
     tables.long();
     let j = crate::looks::edit_place(tables.words, tables.bytes, n as u64);
-    let e = drag(&tables.lend(), room, j, new, budget);
-    if e.number != 0 {
-        return answer_of(e);
-    }
-    let wrote = e.wrote;
-    put_back(tables, room, wrote, j, new);
-    answer_of(e)
+    let went = match drag(&tables.lend(), room, j, new, budget) {
+        Ok(went) => went,
+        Err(e) => return refused(e),
+    };
+    put_back(tables, room, went.wrote, j, new);
+    accepted(went)
 }
 
 // "Suggest: 18, 1, 8." The stored suggestion changes only if the call is accepted.
@@ -111,9 +110,8 @@ pub fn suggest_back(
     ensures same_tables { Same tables.old tables.new }
     ensures same_room { Same room.old room.new }
 {
-    let number = refusals::suggest_tests(tables.words, tables.bytes, n, new);
-    if number != 0 {
-        return by_test(tables.words, number);
+    if let Err(why) = refusals::suggest_tests(tables.words, tables.bytes, n, new) {
+        return by_test(tables.words, why);
     }
     suggest_known(tables, room, n, new, budget)
 }

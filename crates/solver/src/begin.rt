@@ -1,7 +1,9 @@
 // What every call begins and ends with: the stored mark, the answer, and the room closed before the records come over.
-ghost use Rattle.std.specs.Prelude.{◌≡◌, ◌≤◌};
+ghost use Rattle.std.specs.Prelude.{◌≡◌, Ok, Err};
 ghost use Rattle.layout.specs.Layout.{bit_of};
 ghost use Rattle.rows.specs.Marks.{mark_of};
+ghost use Rattle.sparse.specs.Refusals.{refusal_number};
+ghost use Rattle.waist.specs.Ending.{ended_of};
 ghost use Rattle.lending.specs.Lending.{answer_of};
 ghost use Rattle.solver.specs.Begin.{stored_mark};
 ghost use Rattle.solver.specs.Closing.{says_yes, closed_words};
@@ -10,7 +12,8 @@ ghost use Rattle.solver.specs.Concluding.{by_test, answered};
 use lending::Answer;
 use rows::number::Wrote;
 use sparse::Words;
-use waist::ending::Ended;
+use sparse::refusal::Refusal;
+use waist::ending::{Refused, Went};
 
 pub fn stored_mark(words: &Words) -> Wrote
     ensures { mark_of result ≡ stored_mark words.now }
@@ -22,12 +25,11 @@ pub fn stored_mark(words: &Words) -> Wrote
 }
 
 // "A refusal answers the stored mark"
-pub fn by_test(words: &Words, number: u64) -> Answer
-    requires { number ≤ 27 }
-    ensures { answer_of result ≡ by_test number words.now }
+pub fn by_test(words: &Words, why: Refusal) -> Answer
+    ensures { answer_of result ≡ by_test (refusal_number why) words.now }
 {
     Answer {
-        number: number as u32,
+        number: why.number(),
         pivots: 0,
         whole: words[sparse::WHOLE] == 1,
     }
@@ -45,14 +47,25 @@ fn bit(b: bool) -> u64
     if b { 1 } else { 0 }
 }
 
-// The answer of the steps.
-pub fn answer_of(e: Ended) -> Answer
-    ensures { answer_of result ≡ answered e }
+// The answer of steps that went on.
+pub fn accepted(w: Went) -> Answer
+    ensures { answer_of result ≡ answered (ended_of (Ok w)) }
 {
-    let wrote = e.wrote;
-    let whole = says_yes(wrote);
+    let whole = says_yes(w.wrote);
     Answer {
-        number: e.number,
+        number: 0,
+        pivots: w.pivots,
+        whole,
+    }
+}
+
+// The answer of steps that refused.
+pub fn refused(e: Refused) -> Answer
+    ensures { answer_of result ≡ answered (ended_of (Err e)) }
+{
+    let whole = says_yes(e.wrote);
+    Answer {
+        number: e.why.number(),
         pivots: e.pivots,
         whole,
     }

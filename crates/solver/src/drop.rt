@@ -47,6 +47,7 @@ fn drop_all(room: &mut TablesMut, g: u16, budget: u32) -> Answer
     let mut pivots = 0;
     while refusals::group_lives(room.words, g) {
         let a = drop_first(room, g, pivots, budget);
+        // An `Answer` is what C reads: a number, 0 where it is accepted.
         if a.number != 0 {
             return a;
         }
@@ -65,9 +66,8 @@ pub fn drop(tables: &Tables, room: &mut TablesMut, g: u16, budget: u32) -> Answe
     ensures does { Done (drop_group g budget) result (lent tables.now) (held room.new) }
     ensures same { Same room.old room.new }
 {
-    let number = refusals::drop_tests(tables.words, tables.bytes, tables.reals, g);
-    if number != 0 {
-        return by_test(tables.words, number);
+    if let Err(why) = refusals::drop_tests(tables.words, tables.bytes, tables.reals, g) {
+        return by_test(tables.words, why);
     }
     bring_all(tables, room);
     drop_all(room, g, budget)

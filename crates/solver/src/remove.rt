@@ -6,7 +6,7 @@ ghost use Rattle.solver.specs.Concluding.{Done, EnteredFrom, DoneFrom};
 ghost use Rattle.lending.specs.Entered.{Entered};
 ghost use Rattle.sparse.specs.Tables.{held, lent, Same};
 
-use crate::begin::{answer_of, by_test, close, stored_mark};
+use crate::begin::{accepted, by_test, close, refused, stored_mark};
 use lending::Answer;
 use removal::remove_steps;
 use sparse::lookup::look_up;
@@ -35,14 +35,13 @@ pub fn remove_known(
     let other = bytes[sparse::CONSTRAINT_OTHERS + j];
     let strength = reals[sparse::CONSTRAINT_STRENGTHS + j];
     let p = crate::looks::constraint_terms(words, bytes, reals, j);
-    let e = remove_steps(room, marker, other, strength, p, budget, before);
-    if e.number != 0 {
-        return answer_of(e);
-    }
-    let wrote = e.wrote;
-    close(room.words, wrote);
+    let went = match remove_steps(room, marker, other, strength, p, budget, before) {
+        Ok(went) => went,
+        Err(e) => return refused(e),
+    };
+    close(room.words, went.wrote);
     drop_constraint(room.words, room.bytes, room.reals, words, bytes, reals, j);
-    answer_of(e)
+    accepted(went)
 }
 
 // "Remove: 18, 5, 25."
@@ -51,9 +50,8 @@ pub fn remove(tables: &Tables, room: &mut TablesMut, n: u32, budget: u32) -> Ans
     ensures does { Done (remove n budget) result (lent tables.now) (held room.new) }
     ensures same { Same room.old room.new }
 {
-    let number = refusals::remove_tests(tables.words, tables.bytes, tables.reals, n);
-    if number != 0 {
-        return by_test(tables.words, number);
+    if let Err(why) = refusals::remove_tests(tables.words, tables.bytes, tables.reals, n) {
+        return by_test(tables.words, why);
     }
     remove_known(tables.words, tables.bytes, tables.reals, room, n, budget)
 }

@@ -6,7 +6,7 @@ ghost use Rattle.solver.specs.Concluding.{Done};
 ghost use Rattle.lending.specs.Entered.{Entered};
 ghost use Rattle.sparse.specs.Tables.{held, lent, Same};
 
-use crate::begin::{answer_of, by_test, close, stored_mark};
+use crate::begin::{accepted, by_test, close, refused, stored_mark};
 use lending::Answer;
 use removal::remove_steps;
 use sparse::tables::{Tables, TablesMut};
@@ -24,14 +24,13 @@ fn remove_edit_known(tables: &Tables, room: &mut TablesMut, n: u32, budget: u32)
     let other = tables.bytes[sparse::EDIT_OTHERS + j];
     let strength = tables.reals[sparse::EDIT_STRENGTHS + j];
     let p = refusals::edit_pack(n);
-    let e = remove_steps(room, marker, other, strength, p, budget, before);
-    if e.number != 0 {
-        return answer_of(e);
-    }
-    let wrote = e.wrote;
-    close(room.words, wrote);
+    let went = match remove_steps(room, marker, other, strength, p, budget, before) {
+        Ok(went) => went,
+        Err(e) => return refused(e),
+    };
+    close(room.words, went.wrote);
     crate::bringing::without_edit(tables, room, j);
-    answer_of(e)
+    accepted(went)
 }
 
 // "Remove edit: 18, 8, 25."
@@ -40,9 +39,8 @@ pub fn remove_edit(tables: &Tables, room: &mut TablesMut, n: u32, budget: u32) -
     ensures does { Done (remove_edit n budget) result (lent tables.now) (held room.new) }
     ensures same { Same room.old room.new }
 {
-    let number = refusals::remove_edit_tests(tables.words, tables.bytes, tables.reals, n);
-    if number != 0 {
-        return by_test(tables.words, number);
+    if let Err(why) = refusals::remove_edit_tests(tables.words, tables.bytes, tables.reals, n) {
+        return by_test(tables.words, why);
     }
     remove_edit_known(tables, room, n, budget)
 }

@@ -6,22 +6,28 @@ ghost use Rattle.steps.specs.Calls.{begin, suggest};
 ghost use Rattle.sparse.specs.Sparse.{edit_count, edit_of, read};
 ghost use Rattle.refusals.specs.Refusals.{edited_in};
 ghost use Rattle.solver.specs.Concluding.{Done};
-ghost use Rattle.waist.specs.Ending.{outcome_of, Goes};
+ghost use Rattle.waist.specs.Ending.{outcome_of, Goes, ended_of};
 ghost use Rattle.lending.specs.Entered.{Entered};
 ghost use Rattle.sparse.specs.Tables.{held, lent, Same};
 
-use crate::begin::{answer_of, by_test, close, stored_mark};
+use crate::begin::{accepted, by_test, close, refused, stored_mark};
 use lending::Answer;
 use optimising::suggestion::suggest::suggest_steps;
 use sparse::tables::{Tables, TablesMut};
-use waist::ending::Ended;
+use waist::ending::{Refused, Went};
 
 // The steps, with the j-th edit.
-pub fn drag(tables: &Tables, room: &mut TablesMut, j: usize, new: f64, budget: u32) -> Ended
+pub fn drag(
+    tables: &Tables,
+    room: &mut TablesMut,
+    j: usize,
+    new: f64,
+    budget: u32,
+) -> Result<Went, Refused>
     requires entered { Entered (lent tables.now) (held room.old) }
     requires j_bound { j < edit_count (lent tables.now) }
-    ensures wvalues_value { outcome_of false result (held room.new) ≡ suggest_steps budget (edit_of (lent tables.now) j) new (begin (read (lent tables.now))) }
-    ensures goes { Goes false result (held room.new) }
+    ensures wvalues_value { outcome_of false (ended_of result) (held room.new) ≡ suggest_steps budget (edit_of (lent tables.now) j) new (begin (read (lent tables.now))) }
+    ensures goes { Goes false (ended_of result) (held room.new) }
     ensures same { Same room.old room.new }
 {
     let before = stored_mark(tables.words);
@@ -40,14 +46,13 @@ fn suggest_known(tables: &Tables, room: &mut TablesMut, n: u32, new: f64, budget
     ensures same { Same room.old room.new }
 {
     let j = crate::looks::edit_place(tables.words, tables.bytes, n as u64);
-    let e = drag(tables, room, j, new, budget);
-    if e.number != 0 {
-        return answer_of(e);
-    }
-    let wrote = e.wrote;
-    close(room.words, wrote);
+    let went = match drag(tables, room, j, new, budget) {
+        Ok(went) => went,
+        Err(e) => return refused(e),
+    };
+    close(room.words, went.wrote);
     crate::bringing::with_suggestion(tables, room, j, new);
-    answer_of(e)
+    accepted(went)
 }
 
 // "Suggest: 18, 1, 8." The stored suggestion changes only if the call is accepted.
@@ -56,9 +61,8 @@ pub fn suggest(tables: &Tables, room: &mut TablesMut, n: u32, new: f64, budget: 
     ensures does { Done (suggest n new budget) result (lent tables.now) (held room.new) }
     ensures same { Same room.old room.new }
 {
-    let number = refusals::suggest_tests(tables.words, tables.bytes, n, new);
-    if number != 0 {
-        return by_test(tables.words, number);
+    if let Err(why) = refusals::suggest_tests(tables.words, tables.bytes, n, new) {
+        return by_test(tables.words, why);
     }
     suggest_known(tables, room, n, new, budget)
 }

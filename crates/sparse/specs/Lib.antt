@@ -2,6 +2,7 @@ pub mod Places
 pub mod Lookup
 pub mod Sparse
 pub mod Tables
+pub mod Refusals
 pub mod Widths
 pub mod Stretches
 pub mod Concat

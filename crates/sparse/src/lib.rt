@@ -4,6 +4,7 @@
 
 pub mod lengths;
 pub mod lookup;
+pub mod refusal;
 pub mod tables;
 
 use layout::cells::CELL_ROOM;

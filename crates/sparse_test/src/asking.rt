@@ -22,12 +22,7 @@ pub fn byte_from(bytes: &Bytes, a: usize, n: usize, x: u8) -> usize
     ensures value { result ≡ place_from bytes.now a n x }
     ensures upper_bound { result ≤ n }
 {
-    for i in 0..n {
-        if x == bytes[a + i] {
-            return i;
-        }
-    }
-    n
+    (0..n).find(|i| x == bytes[a + *i]).unwrap_or(n)
 }
 
 // The constant of the row whose symbol stands at place p, or 0.0.

@@ -107,6 +107,7 @@ pub fn term_count(bytes: &Bytes, c: usize) -> usize
     m
 }
 
+// The counts are no struct: `reals_fit`, `owned_fit`, `uses_fit` and `returned_fit` each ask for the bounds of those that they take, and one struct would ask for all.
 fn content_fits(tables: &Tables) -> bool
     requires symbol_count_at_bound { get_or tables.now.words.now symbol_count_at 0 ≤ last_place }
     requires row_count_at_bound { get_or tables.now.words.now row_count_at 0 ≤ most_rows }

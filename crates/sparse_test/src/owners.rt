@@ -1,5 +1,5 @@
 // The owners' part of the test: a table has a code for each place, and each variable and each tag claims its symbols' places there.
-ghost use Rattle.std.specs.Prelude.{◌≡◌, true, ◌&&◌, ◌+◌, ◌≤◌, eqb, get_or, replicate};
+ghost use Rattle.std.specs.Prelude.{◌≡◌, Bool, true, ◌&&◌, ◌+◌, ◌≤◌, eqb, get_or, replicate};
 ghost use Rattle.laws.specs.Lists.{all_in};
 ghost use Rattle.layout.specs.cells.Names.{last_place, place_room};
 ghost use Rattle.sparse.specs.Places.{most_variables, most_constraints, changed_at};
@@ -7,7 +7,7 @@ ghost use Rattle.rows.specs.places.Shares.{shares};
 ghost use Rattle.sparse_test.specs.Stretch.{most_in};
 ghost use Rattle.sparse_test.specs.Tested.{code_of, codes, claim, claim_other, marker_code, softly, claim_variables, claim_constraints, claim_edits, constraint_fits, edit_fits, claimed, owned_fit};
 
-use crate::stretch::{every, wide};
+use crate::stretch::every;
 use layout::cells::PLACE_ROOM;
 use sparse::{Bytes, Reals};
 
@@ -40,30 +40,31 @@ pub fn fill_codes(table: &mut [u8; PLACE_ROOM], bytes: &Bytes, k: usize)
     }
 }
 
-fn claim(table: &mut [u8; PLACE_ROOM], p: u8, x: u8, ok: bool) -> bool
-    ensures { shares table.new result ≡ claim p x (shares table.old ok) }
+// Whether the place p has the code x; it is claimed then.
+fn claim(table: &mut [u8; PLACE_ROOM], p: u8, x: u8) -> bool
+    ensures { (ok : Bool) → shares table.new (ok && result) ≡ claim p x (shares table.old ok) }
 {
-    let i = wide(p);
+    let i = usize::from(p);
     let y = table[i];
     table[i] = 0;
-    ok & (y == x)
+    y == x
 }
 
 // A tag's other symbol is an Error.
-fn claim_other(table: &mut [u8; PLACE_ROOM], p: u8, ok: bool) -> bool
-    ensures { shares table.new result ≡ claim_other p (shares table.old ok) }
+fn claim_other(table: &mut [u8; PLACE_ROOM], p: u8) -> bool
+    ensures { (ok : Bool) → shares table.new (ok && result) ≡ claim_other p (shares table.old ok) }
 {
     if p == 0 {
-        return ok;
+        return true;
     }
-    claim(table, p, 3, ok)
+    claim(table, p, 3)
 }
 
-fn claim_tag(table: &mut [u8; PLACE_ROOM], m: u8, x: u8, o: u8, ok: bool) -> bool
-    ensures { shares table.new result ≡ claim_other o (claim m x (shares table.old ok)) }
+fn claim_tag(table: &mut [u8; PLACE_ROOM], m: u8, x: u8, o: u8) -> bool
+    ensures { (ok : Bool) → shares table.new (ok && result) ≡ claim_other o (claim m x (shares table.old ok)) }
 {
-    let marker = claim(table, m, x, ok);
-    claim_other(table, o, marker)
+    let marker = claim(table, m, x);
+    marker & claim_other(table, o)
 }
 
 // External symbols; "changed" is a flag.
@@ -73,12 +74,10 @@ fn claim_variables(table: &mut [u8; PLACE_ROOM], bytes: &Bytes, v: usize) -> boo
     ensures value { result ≡ ((claim_variables bytes.now v (shares table.old true)).ok && most_in bytes.now changed_at v 1) }
 {
     let mut ok = true;
-    let mut fits = true;
     for i in 0..v {
-        ok = claim(table, bytes[sparse::VARIABLE_PLACES + i], 1, ok);
-        fits = fits & (bytes[sparse::CHANGED + i] <= 1);
+        ok &= claim(table, bytes[sparse::VARIABLE_PLACES + i], 1);
     }
-    ok & fits
+    ok & every(0, v, |i| bytes[sparse::CHANGED + i] <= 1)
 }
 
 // An inequality's marker is its slack; an equality's is an Error, or a Dummy where there is no other symbol.
@@ -109,16 +108,16 @@ fn claim_constraints(table: &mut [u8; PLACE_ROOM], bytes: &Bytes, reals: &Reals,
     ensures value { result ≡ ((claim_constraints bytes.now c (shares table.old true)).ok && constraint_fits bytes.now reals.now c) }
 {
     let mut ok = true;
-    let mut fits = true;
     for i in 0..c {
         let o = bytes[sparse::CONSTRAINT_OTHERS + i];
-        let relation = bytes[sparse::RELATIONS + i];
-        let x = marker_code(relation, o);
-        ok = claim_tag(table, bytes[sparse::CONSTRAINT_MARKERS + i], x, o, ok);
-        let soft = strength_fits(reals[sparse::CONSTRAINT_STRENGTHS + i], o);
-        fits = fits & (soft & (relation <= 2));
+        let x = marker_code(bytes[sparse::RELATIONS + i], o);
+        ok &= claim_tag(table, bytes[sparse::CONSTRAINT_MARKERS + i], x, o);
     }
-    ok & fits
+    ok & every(0, c, |i| {
+        let o = bytes[sparse::CONSTRAINT_OTHERS + i];
+        strength_fits(reals[sparse::CONSTRAINT_STRENGTHS + i], o)
+            & (bytes[sparse::RELATIONS + i] <= 2)
+    })
 }
 
 // Two Errors each.
@@ -128,13 +127,13 @@ fn claim_edits(table: &mut [u8; PLACE_ROOM], bytes: &Bytes, reals: &Reals, e: us
     ensures value { result ≡ ((claim_edits bytes.now e (shares table.old true)).ok && edit_fits bytes.now reals.now e) }
 {
     let mut ok = true;
-    let mut fits = true;
     for i in 0..e {
         let o = bytes[sparse::EDIT_OTHERS + i];
-        ok = claim_tag(table, bytes[sparse::EDIT_MARKERS + i], 3, o, ok);
-        fits = fits & ((reals[sparse::EDIT_STRENGTHS + i] < REQUIRED) & !(o == 0));
+        ok &= claim_tag(table, bytes[sparse::EDIT_MARKERS + i], 3, o);
     }
-    ok & fits
+    ok & every(0, e, |i| {
+        (reals[sparse::EDIT_STRENGTHS + i] < REQUIRED) & (bytes[sparse::EDIT_OTHERS + i] != 0)
+    })
 }
 
 fn all_claimed(table: &[u8; PLACE_ROOM], k: usize) -> bool

@@ -8,7 +8,7 @@ ghost use Rattle.sparse_test.specs.Stretch.{up_in};
 use rows::places::is_finite;
 use sparse::Reals;
 
-// A byte as a place of a table: it is below 256.
+// A byte as a place of a table: it is below 256. Only the crate of fetches calls it; here it is `usize::from`.
 pub fn wide(x: u8) -> usize
     ensures value { result ≡ x }
     ensures upper_bound { result ≤ 255 }

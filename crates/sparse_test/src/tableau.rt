@@ -6,7 +6,7 @@ ghost use Rattle.sparse.specs.Places.{most_rows};
 ghost use Rattle.sparse_test.specs.Tested.{costs_fit, rows_in, keys_fit, values_fit};
 ghost use Rattle.sparse_test.specs.Open.{Opened, open_by};
 
-use crate::stretch::{every, wide};
+use crate::stretch::every;
 use layout::cells::PLACE_ROOM;
 use rows::places::is_finite;
 use sparse::{Bytes, Keys, Reals, Values};
@@ -24,13 +24,12 @@ pub fn shut_basics(
     ensures opened_2 { Opened table.new bytes.now k r }
     ensures value { result ≡ costs_fit reals.now bytes.now r }
 {
-    let mut ok = true;
     for i in 0..r {
-        let p = wide(bytes[sparse::ROW_PLACES + 1 + i]);
-        table[p] = 9;
-        ok = ok & (reals[sparse::OBJECTIVE + p] == 0.0);
+        table[usize::from(bytes[sparse::ROW_PLACES + 1 + i])] = 9;
     }
-    ok
+    every(0, r, |i| {
+        reals[sparse::OBJECTIVE + usize::from(bytes[sparse::ROW_PLACES + 1 + i])] == 0.0
+    })
 }
 
 // The codes at the cells' places come to 0 exactly if each is open.
@@ -41,7 +40,7 @@ fn open_in(keys: &Keys, table: &[u8; PLACE_ROOM], n: usize) -> bool
     let mut sum = 0;
     for j in 0..n {
         let p = keys[j] % layout::cells::ROW_SPAN;
-        sum += wide(table[p as usize]);
+        sum += usize::from(table[p as usize]);
     }
     sum == 0
 }

@@ -6,7 +6,7 @@ ghost use Rattle.sparse_test.specs.Tally.{Most};
 ghost use Rattle.sparse_test.specs.Tested.{index_in, number_in, edits_up, count_uses, no_uses, uses_are, uses_fit};
 ghost use Rattle.sparse_test.specs.Index.{near, Indexed};
 
-use crate::stretch::{every, wide};
+use crate::stretch::every;
 use layout::cells::PLACE_ROOM;
 use sparse::{Bytes, Words};
 
@@ -24,7 +24,7 @@ pub fn fill_index(index: &mut [u8; PLACE_ROOM], bytes: &Bytes, v: usize)
     ensures { Indexed index.new bytes.now v }
 {
     for i in (0..v).rev() {
-        index[wide(bytes[sparse::VARIABLE_PLACES + i])] = i as u8;
+        index[usize::from(bytes[sparse::VARIABLE_PLACES + i])] = i as u8;
     }
 }
 
@@ -42,7 +42,7 @@ fn index_at(index: &[u8; PLACE_ROOM], bytes: &Bytes, v: usize, j: usize) -> usiz
     ensures value { result ≡ index_in bytes.now v (get_or bytes.now j 0) }
     ensures upper_bound { result ≤ v }
 {
-    nearest(v, wide(index[wide(bytes[j])]))
+    nearest(v, usize::from(index[usize::from(bytes[j])]))
 }
 
 fn number_at(words: &Words, index: &[u8; PLACE_ROOM], bytes: &Bytes, v: usize, j: usize) -> u64

@@ -11,7 +11,8 @@ use crate::parts::Plan;
 use crate::plans::Plans;
 use sparse::{Bytes, Reals, Words};
 
-// How many terms the constraints from i on, before e, have.
+// How many terms the constraints from i on, before e, have. (`sparse_test::term_count` is this sum from the first on: neither crate stands on the other, and
+// each states the sum by a definition of its own.)
 pub fn terms_in(bytes: &Bytes, i: usize, e: usize) -> usize
     requires i_le_e { i ≤ e }
     requires e_le_most_constraints { e ≤ most_constraints }

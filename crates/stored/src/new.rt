@@ -122,7 +122,7 @@ pub fn keep_constraint(
 
 // ---- an edit
 
-// The number of the variable whose symbol stands at place p.
+// The number of the variable whose symbol stands at place p. (A loop: after a `find` of the place the same two cases would follow, a number or 0.)
 fn number_of(words: &Words, bytes: &Bytes, p: u8) -> u64
     requires { Names words.now bytes.now }
     ensures { result ≡ number_of words.now bytes.now p }
@@ -142,13 +142,9 @@ fn seek_edit(words: &Words, bytes: &Bytes, n: u64) -> usize
     ensures { EditSought words.now bytes.now n result }
 {
     let e = words[sparse::EDIT_COUNT] as usize;
-    for j in 0..e {
-        let x = number_of(words, bytes, bytes[sparse::EDIT_VARIABLES + j]);
-        if n < x {
-            return j;
-        }
-    }
-    e
+    (0..e)
+        .find(|j| n < number_of(words, bytes, bytes[sparse::EDIT_VARIABLES + *j]))
+        .unwrap_or(e)
 }
 
 // As the i-th: "stored suggestion 0.0".

@@ -91,6 +91,7 @@ pub fn split<T: Copy, const N: usize>(to: &mut [T; N], from: &[T; N], at: usize,
     part(to, from, at + (p.at + p.drop), at + (p.at + p.free), p.rest);
 }
 
+// The same, each place by its name in a map: `named_part` looks every byte up, so that it is a loop where `part` is a copy.
 pub fn split_named(
     to: &mut Bytes,
     from: &Bytes,

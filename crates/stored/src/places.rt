@@ -14,12 +14,7 @@ pub fn seek(words: &Words, base: usize, start: usize, e: usize, x: u64) -> usize
     requires start_le_e { start ≤ e }
     ensures { Sought words.now base start e x result }
 {
-    for q in start..e {
-        if x <= words[base + q] {
-            return q;
-        }
-    }
-    e
+    (start..e).find(|q| x <= words[base + *q]).unwrap_or(e)
 }
 
 // The place q, if it has this id; 0 is none.

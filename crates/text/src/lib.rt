@@ -9,6 +9,7 @@ pub mod floats;
 pub mod packing;
 pub mod reading;
 pub mod replies;
+pub mod serving;
 pub mod show_text;
 pub mod stream;
 pub mod words;

@@ -1,12 +1,15 @@
 // The answer to a line as text, written into a buffer from a place on; each function answers the next place.
-ghost use Rattle.std.specs.Prelude.{◌≡◌, ◌+◌, ◌<◌, ◌≤◌, [], ◌∷◌, ◌++◌};
+ghost use Rattle.std.specs.Prelude.{◌≡◌, ◌+◌, ◌<◌, ◌≤◌, [], ◌∷◌, ◌++◌, Ok};
+ghost use Rattle.reader.specs.Answers.{shown};
+ghost use Rattle.reader.specs.second.Replies.{answered};
 ghost use Rattle.text.specs.Put.{Put};
 ghost use Rattle.text.specs.replies.Replies.{few_of, signed_text, term_text, terms_text, relation_text, refusal_text, head_text, reading_text, reply_text, usual};
 
 pub use crate::buffer::Out;
 use crate::buffer::{put_byte, put_number, put_text};
-use reader::answers::Reading;
-use reader::second::Reply;
+use reader::answers::Constraint;
+use reader::fault::Refusal;
+use reader::second::Weighted;
 use reader::second::endings::REQUIRED;
 use reader::sides::Mark;
 
@@ -112,36 +115,35 @@ fn few(count: usize) -> usize
     count.min(16)
 }
 
-fn put_reading(out: &mut Out, at: usize, x: Reply) -> usize
+fn put_reading(out: &mut Out, at: usize, x: Weighted) -> usize
     requires { at + 778 ≤ 8192 }
-    ensures put { Put out.old out.new at result (reading_text x) }
+    ensures put { Put out.old out.new at result (reading_text (answered (Ok x))) }
     ensures upper_bound { result ≤ at + 778 }
 {
-    let r = x.reading;
-    let m = r.relation;
-    let variables = r.variables;
-    let coefficients = r.coefficients;
-    let n = few(r.count);
-    let i = put_head(out, at, m, x.strength, x.group, r.constant, n);
+    let c = x.constraint;
+    let m = c.relation;
+    let variables = c.variables;
+    let coefficients = c.coefficients;
+    let n = few(c.count);
+    let i = put_head(out, at, m, x.strength, x.group, c.constant, n);
     put_terms(out, i, variables, coefficients, n)
 }
 
-fn put_reply(out: &mut Out, at: usize, x: Reply) -> usize
+fn put_reply(out: &mut Out, at: usize, x: Result<Weighted, Refusal>) -> usize
     requires { at + 778 ≤ 8192 }
-    ensures put { Put out.old out.new at result (reply_text x) }
+    ensures put { Put out.old out.new at result (reply_text (answered x)) }
     ensures upper_bound { result ≤ at + 778 }
 {
-    let r = x.reading;
-    if r.number == 0 {
-        return put_reading(out, at, x);
+    match x {
+        Ok(x) => put_reading(out, at, x),
+        Err(r) => put_refusal(out, at, r.number(), r.offset()),
     }
-    put_refusal(out, at, r.number, r.offset)
 }
 
 // An answer of the second edition and its newline.
-pub fn put_second(out: &mut Out, at: usize, x: Reply) -> usize
+pub fn put_second(out: &mut Out, at: usize, x: Result<Weighted, Refusal>) -> usize
     requires { at ≤ 7000 }
-    ensures put { Put out.old out.new at result (reply_text x ++ (10 ∷ [])) }
+    ensures put { Put out.old out.new at result (reply_text (answered x) ++ (10 ∷ [])) }
     ensures upper_bound { result ≤ 8192 }
 {
     let i = put_reply(out, at, x);
@@ -149,15 +151,20 @@ pub fn put_second(out: &mut Out, at: usize, x: Reply) -> usize
 }
 
 // An answer of the first edition, which says neither strength nor group, and its newline.
-pub fn put_line(out: &mut Out, at: usize, r: Reading) -> usize
+pub fn put_line(out: &mut Out, at: usize, r: Result<Constraint, Refusal>) -> usize
     requires { at ≤ 7000 }
-    ensures put { Put out.old out.new at result (reply_text (usual r) ++ (10 ∷ [])) }
+    ensures put { Put out.old out.new at result (reply_text (usual (shown r)) ++ (10 ∷ [])) }
     ensures upper_bound { result ≤ 8192 }
 {
-    let x = Reply {
-        reading: r,
-        strength: REQUIRED as u32,
-        group: 1,
-    };
-    put_second(out, at, x)
+    match r {
+        Ok(constraint) => {
+            let x = Weighted {
+                constraint,
+                strength: REQUIRED as u32,
+                group: 1,
+            };
+            put_second(out, at, Ok(x))
+        }
+        Err(e) => put_second(out, at, Err(e)),
+    }
 }

@@ -18,7 +18,7 @@ fn spot_at(n: u64, x: u64, j: usize) -> Option<usize>
     Some(j)
 }
 
-// Where a number comes among the gone ones by ascending number; nowhere if it is one of them.
+// Where a number comes among the gone ones by ascending number; nowhere if it is one of them. (A loop: what is answered depends on what stands at the place.)
 fn gone_spot(words: &Words, n: u64) -> Option<usize>
     requires { get_or words.now gone_count_at 0 ≤ most_gone }
     ensures { result ≡ gone_spot n words.now }

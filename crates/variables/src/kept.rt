@@ -16,12 +16,9 @@ fn variable_spot(words: &Words, n: u64) -> usize
     ensures upper_bound { result ≤ get_or words.now variable_count_at 0 }
 {
     let e = words[VARIABLE_COUNT] as usize;
-    for v in 0..e {
-        if n < words[VARIABLE_NUMBERS + v] {
-            return v;
-        }
-    }
-    e
+    (0..e)
+        .find(|v| n < words[VARIABLE_NUMBERS + *v])
+        .unwrap_or(e)
 }
 
 // A new variable, of no use yet, whose symbol stands at place p. Its old value is NaN.

@@ -1,1 +1,3 @@
 mod Copied
+mod Options
+mod Firsts

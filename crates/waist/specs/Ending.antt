@@ -1,6 +1,6 @@
 -- How a step over tables ends: as the steps' Outcome of what the tables read as.
 -- Assumes nothing.
-use Rattle.std.specs.Prelude.{ℕ, ◌≡◌, refl, Bool, true, false, cond, eqb}
+use Rattle.std.specs.Prelude.{ℕ, ◌≡◌, refl, Bool, true, false, cond, eqb, Result, Ok, Err}
 use Rattle.std.proofs.Common.{sym, ◌∙◌}
 use Rattle.std.proofs.Math.Path.{ap}
 use Rattle.std.proofs.lemmas.Bool.{false≢true}
@@ -10,9 +10,52 @@ use Rattle.steps.specs.Work.{Work, Outcome, refused, going, ◌>>=◌, refuse, c
 use Rattle.rows.specs.declared.number.Wrote.{Wrote}
 use Rattle.rows.specs.Marks.{mark_of}
 use Rattle.sparse.specs.Sparse.{Sparse}
-use Rattle.waist.specs.declared.ending.Ended.{Ended}
+use Rattle.sparse.specs.declared.refusal.Refusal.{Refusal}
+use Rattle.sparse.specs.declared.refusal.Refusal.TheVariants.{NotFinite, NegativeStrength, TooManyTerms, ConstraintLive, NoConstraint, EditLive, RequiredEdit, NoEdit, VariablesFull, ConstraintsFull, IdsFull, CannotBeMet, StepNotFinite, BudgetUsed, NoLeavingRow, NoEnteringSymbol, NoRemovalRow, NoState, CutoffOutside, GoneFull, GroupZero, NoGroup}
+use Rattle.sparse.specs.Refusals.{refusal_number}
+use Rattle.waist.specs.declared.ending.Went.{Went}
+use Rattle.waist.specs.declared.ending.Refused.{Refused}
 use Rattle.waist.specs.Working.{work_of}
 use Rattle.waist.specs.Standing.{Standing}
+
+-- how a step ends, by its number
+pub record Ended : Type 0 where
+  pub number : ℕ
+  pub pivots : ℕ
+  pub wrote : Wrote
+
+abbrev pub ended : ℕ → ℕ → Wrote → Ended
+ended n p w = record { number = n; pivots = p; wrote = w }
+
+-- of what the code returns: 0 goes on, a refusal has its own
+abbrev pub ended_of : Result Went Refused → Ended
+ended_of (Ok m) = ended 0 m.pivots m.wrote
+ended_of (Err e) = ended (refusal_number e.why) e.pivots e.wrote
+
+-- no refusal has the number 0
+pub refuses : (k : Refusal) → eqb (refusal_number k) 0 ≡ false
+refuses NotFinite = refl
+refuses NegativeStrength = refl
+refuses TooManyTerms = refl
+refuses ConstraintLive = refl
+refuses NoConstraint = refl
+refuses EditLive = refl
+refuses RequiredEdit = refl
+refuses NoEdit = refl
+refuses VariablesFull = refl
+refuses ConstraintsFull = refl
+refuses IdsFull = refl
+refuses CannotBeMet = refl
+refuses StepNotFinite = refl
+refuses BudgetUsed = refl
+refuses NoLeavingRow = refl
+refuses NoEnteringSymbol = refl
+refuses NoRemovalRow = refl
+refuses NoState = refl
+refuses CutoffOutside = refl
+refuses GoneFull = refl
+refuses GroupZero = refl
+refuses NoGroup = refl
 
 -- number 0 goes on with what the tables read as; any other number is a refusal
 unfoldable pub outcome_of : Bool → Ended → Sparse → Outcome Work
@@ -21,9 +64,6 @@ outcome_of art r t = cond (eqb r.number 0) (going (work_of art (mark_of r.wrote)
 -- where the step goes on, the tables stand; a refusal promises nothing of them: they are the working room
 abbrev pub Goes : Bool → Ended → Sparse → Type 0
 Goes art r u = Then (eqb r.number 0) (Standing art (mark_of r.wrote) u)
-
-abbrev pub ended : ℕ → ℕ → Wrote → Ended
-ended n p w = record { number = n; pivots = p; wrote = w }
 
 -- 13: "a step writes a cell, a row constant or a factor not finite"
 unfoldable pub checked_of : ℕ → Wrote → Ended

@@ -24,6 +24,7 @@ pub mod Goals
 pub mod Ending
 pub mod Choosing
 pub mod Looks
+pub mod KindsRead
 pub mod Ratios
 pub mod Choices
 pub mod FreePlaces

@@ -45,14 +45,10 @@ negative-within p n bytes row a b = go (is_pivotable (of_kind (get_or bytes (kin
 
 -- ---- the code's branches, over variables
 
-module _ (p : ℕ) (bytes : List ℕ) (row : List Float) {k : ℕ} {b : Bool} (e : k ≡ get_or bytes (kinds_at + p) 0) (q : b ≡ (is_pivotable (of_kind k) && below_zero (get_or row p nan))) where
-  pub tag-taken : b ≡ true → Some p ≡ negative_of p bytes row
+module _ (p : ℕ) (bytes : List ℕ) (row : List Float) {b : Bool} (q : b ≡ (is_pivotable (of_kind (get_or bytes (kinds_at + p) 0)) && below_zero (get_or row p nan))) where
+  pub tag-is : cond b (Some p) None ≡ negative_of p bytes row
   unfolding negative_of
-  tag-taken t = rw (← e, ← q, t)
-
-  pub tag-left : b ≡ false → None ≡ negative_of p bytes row
-  unfolding negative_of
-  tag-left t = rw (← e, ← q, t)
+  tag-is = rw (← q) refl
 
 module _ (marker other : ℕ) (words bytes : List ℕ) (row : List Float) {f : Found} (qf : f ≡ look_of want.External false words bytes row) where
   pub subject-external : {i : ℕ} → f ≡ Some i → f ≡ subject_of marker other words bytes row

@@ -7,7 +7,6 @@ use Rattle.std.proofs.Common.{◌∙◌, arith, ltb-true, ltb-false, eq-eqb, ne_
 use Rattle.std.proofs.Math.Option.{Option, none, some}
 use Rattle.std.specs.Float.{nan}
 use Rattle.std.proofs.Math.ListN.{get_or}
-use Rattle.std.specs.Borrow.{Bor}
 use Rattle.laws.specs.Lists.{tab, list_of, get_or-tab}
 use Rattle.steps.specs.Number.{Mark}
 use Rattle.steps.specs.Symbol.{Symbol, is_symbol}
@@ -25,10 +24,6 @@ use Rattle.waist.specs.substituting.Named.{Named}
 
 abbrev pub sparse : List ℕ → List ℕ → List ℕ → List Float → List Float → Sparse
 sparse w k b r v = record { words = w; keys = k; bytes = b; reals = r; values = v }
-
--- what five references lend: at entry, at exit or now, by which the references are
-abbrev pub lent : Bor (List ℕ) → Bor (List ℕ) → Bor (List ℕ) → Bor (List Float) → Bor (List Float) → Sparse
-lent w k b r v = sparse w.now k.now b.now r.now v.now
 
 unfoldable pub artificial_of : Bool → Sparse → Option Row
 artificial_of art t = cond art (some (basic_of t (1 + row_count t)).row) none

@@ -20,7 +20,8 @@ ghost use Rattle.waist.specs.ArtificialStands.{Holds};
 ghost use Rattle.sparse.specs.Tables.{held, Same};
 
 use crate::basis::keep_row;
-use crate::symbols::{Kind, append_symbol};
+use crate::kinds::Kind;
+use crate::symbols::append_symbol;
 use layout::cells::row::replace_row;
 use layout::cells::search::find;
 use layout::cells::{ROW_ROOM, ROW_SPAN};

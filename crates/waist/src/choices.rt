@@ -8,6 +8,7 @@ ghost use Rattle.rows.specs.choose.Choose.{Within};
 ghost use Rattle.sparse.specs.Places.{most_rows, symbol_count_at, row_count_at};
 ghost use Rattle.sparse.specs.Sparse.{symbol_count, row_count, symbol_at, basic_of};
 ghost use Rattle.layout.specs.cells.Names.{last_place};
+ghost use Rattle.waist.specs.Kinds.{kind_byte};
 ghost use Rattle.waist.specs.substituting.Notes.{is_external_kind};
 ghost use Rattle.waist.specs.Working.{work_of, Sound};
 ghost use Rattle.waist.specs.Standing.{row_symbol, Chooses};
@@ -15,10 +16,11 @@ ghost use Rattle.waist.specs.Choosing.{goal_of, is_dummy_kind, dual_leaving_of, 
 ghost use Rattle.waist.specs.Rows.{row_for};
 ghost use Rattle.sparse.specs.Tables.{held};
 
-use crate::looks::{first_along, is_nothing, load_line};
+use crate::kinds::Kind;
+use crate::looks::{first_along, load_line};
 use crate::marker::{first_dummy_row, last_external_row};
 use crate::ratios::{dual_along, ratio_row};
-use crate::substituting::notes::{is_external, kind_at};
+use crate::substituting::notes::kind_at;
 use layout::cells::ROW_ROOM;
 use rows::choose::Want;
 use sparse::tables::TablesMut;
@@ -26,10 +28,10 @@ use sparse::{
     Bytes, CONSTANTS, KINDS, OBJECTIVE, ROW_COUNT, ROW_PLACES, Reals, SYMBOL_COUNT, Words,
 };
 
-fn is_below(kind: u8, constant: f64) -> bool
-    ensures { result ≡ (not (is_external_kind kind) && below_zero constant) }
+fn is_below(kind: Kind, constant: f64) -> bool
+    ensures { result ≡ (not (is_external_kind (kind_byte kind)) && below_zero constant) }
 {
-    !is_external(kind) & (constant < 0.0)
+    !kind.is_external() & (constant < 0.0)
 }
 
 // "the restricted row below 0 with the lowest id": rows stand by ascending id.
@@ -48,10 +50,10 @@ pub fn get_dual_leaving_row(words: &Words, bytes: &Bytes, reals: &Reals) -> Opti
     None
 }
 
-fn can_enter(kind: u8, cell: f64) -> bool
-    ensures { result ≡ (not (is_dummy_kind kind) && below_zero cell) }
+fn can_enter(kind: Kind, cell: f64) -> bool
+    ensures { result ≡ (not (is_dummy_kind (kind_byte kind)) && below_zero cell) }
 {
-    (kind != 3) & (cell < 0.0)
+    !kind.is_dummy() & (cell < 0.0)
 }
 
 // "entering is the first non-dummy with a cell below 0", in the objective.
@@ -62,7 +64,7 @@ pub fn get_entering_symbol(words: &Words, bytes: &Bytes, reals: &Reals) -> Optio
 {
     let n = words[SYMBOL_COUNT] as usize;
     for p in 1..n + 1 {
-        if can_enter(bytes[KINDS + p], reals[OBJECTIVE + p]) {
+        if can_enter(Kind::from(bytes[KINDS + p]), reals[OBJECTIVE + p]) {
             return Some(p);
         }
     }
@@ -112,12 +114,7 @@ pub fn row_of(words: &Words, bytes: &Bytes, p: u8) -> Option<usize>
     ensures within { Within (get_or words.now row_count_at 0) result }
 {
     let n = words[ROW_COUNT] as usize;
-    for i in 1..n + 1 {
-        if p == bytes[ROW_PLACES + i] {
-            return Some(i);
-        }
-    }
-    None
+    (1..n + 1).find(|i| p == bytes[ROW_PLACES + *i])
 }
 
 // "the row's first slack or Error", of row i.
@@ -139,7 +136,7 @@ pub fn is_empty_row(room: &TablesMut, i: u8) -> bool
 {
     let mut row: [f64; ROW_ROOM] = [0.0; ROW_ROOM];
     load_line(room, i, &mut row);
-    is_nothing(first_along(Want::Any, false, room.words, room.bytes, &row))
+    first_along(Want::Any, false, room.words, room.bytes, &row).is_none()
 }
 
 // "the leaving row is, in rank: .."
@@ -149,6 +146,7 @@ pub fn get_marker_leaving_row(room: &TablesMut, p: u8) -> Option<usize>
     requires p_bound { p ≤ get_or room.now.words.now symbol_count_at 0 }
     ensures { Chooses false (get_marker_leaving_row (symbol_at (held room.now) p).id) (row_symbol (held room.now)) (get_or room.now.words.now row_count_at 0) (held room.now) result }
 {
+    // `or_else` tells the proof nothing of what its closure gave, unless each of the three has clauses of its own.
     let f = first_dummy_row(room, p);
     let None = f else {
         return f;

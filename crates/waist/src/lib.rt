@@ -7,6 +7,7 @@ pub mod choices;
 pub mod columns;
 pub mod ending;
 pub mod holding;
+pub mod kinds;
 pub mod looks;
 pub mod marker;
 pub mod merging;

@@ -1,26 +1,27 @@
 // Looks along a dense row, by the kind of each symbol and its cell.
 ghost use Rattle.std.specs.Prelude.{◌≡◌, ◌&&◌, ◌≤◌, get_or};
-ghost use Rattle.rows.specs.choose.Choose.{Within, wants, is_nothing};
+ghost use Rattle.rows.specs.choose.Choose.{Within, wants};
 ghost use Rattle.sparse.specs.Places.{most_rows, symbol_count_at};
 ghost use Rattle.sparse.specs.Sparse.{Sparse};
 ghost use Rattle.layout.specs.cells.Names.{last_place};
+ghost use Rattle.waist.specs.Kinds.{kind_byte};
 ghost use Rattle.waist.specs.Looks.{of_kind, seen, look_of, Loadable, Loads};
 ghost use Rattle.sparse.specs.Tables.{held};
 
-use crate::substituting::notes::is_external;
+use crate::kinds::Kind;
 use layout::cells::ROW_ROOM;
 use layout::cells::row::load_row;
 use rows::choose::Want;
 use sparse::tables::TablesMut;
 use sparse::{Bytes, CELL_COUNT, KINDS, SYMBOL_COUNT, Words};
 
-fn wanted(want: Want, kind: u8) -> bool
-    ensures { result ≡ wants want (of_kind kind) }
+fn wanted(want: Want, kind: Kind) -> bool
+    ensures { result ≡ wants want (of_kind (kind_byte kind)) }
 {
     match want {
-        Want::External => is_external(kind),
-        Want::Pivotable => (kind == 1) | (kind == 2),
-        Want::NonDummy => kind != 3,
+        Want::External => kind.is_external(),
+        Want::Pivotable => kind.is_pivotable(),
+        Want::NonDummy => !kind.is_dummy(),
         Want::Any => true,
     }
 }
@@ -34,8 +35,8 @@ fn is_seen(below: bool, x: f64) -> bool
     x != 0.0
 }
 
-fn passes(want: Want, below: bool, kind: u8, x: f64) -> bool
-    ensures { result ≡ (wants want (of_kind kind) && seen below x) }
+fn passes(want: Want, below: bool, kind: Kind, x: f64) -> bool
+    ensures { result ≡ (wants want (of_kind (kind_byte kind)) && seen below x) }
 {
     wanted(want, kind) & is_seen(below, x)
 }
@@ -54,20 +55,11 @@ pub fn first_along(
 {
     let n = words[SYMBOL_COUNT] as usize;
     for p in 1..n + 1 {
-        if passes(want, below, bytes[KINDS + p], row[p]) {
+        if passes(want, below, Kind::from(bytes[KINDS + p]), row[p]) {
             return Some(p);
         }
     }
     None
-}
-
-pub fn is_nothing(f: Option<usize>) -> bool
-    ensures { result ≡ is_nothing f }
-{
-    match f {
-        Some(_) => false,
-        None => true,
-    }
 }
 
 // Line i as a dense row.

@@ -5,6 +5,7 @@ ghost use Rattle.rows.specs.choose.Choose.{Within};
 ghost use Rattle.sparse.specs.Places.{most_rows, row_count_at, cell_count_at};
 ghost use Rattle.layout.specs.cells.Names.{last_place};
 ghost use Rattle.layout.specs.cells.Spots.{Spots};
+ghost use Rattle.waist.specs.Kinds.{kind_byte};
 ghost use Rattle.waist.specs.substituting.Notes.{is_external_kind};
 ghost use Rattle.waist.specs.Working.{Sound};
 ghost use Rattle.waist.specs.Choosing.{is_dummy_kind};
@@ -12,8 +13,9 @@ ghost use Rattle.waist.specs.Ratios.{column_at};
 ghost use Rattle.waist.specs.MarkerRow.{dummy_row_of, external_row_of};
 ghost use Rattle.sparse.specs.Tables.{held};
 
+use crate::kinds::Kind;
 use crate::spots::spots_of;
-use crate::substituting::notes::{is_external, kind_at};
+use crate::substituting::notes::kind_at;
 use layout::cells::LINES_ROOM;
 use layout::cells::spots::spot_cell;
 use sparse::tables::TablesMut;
@@ -32,10 +34,10 @@ fn column_at(room: &TablesMut, p: u8, spots: &[u16; LINES_ROOM], i: usize) -> f6
     spot_cell(room.keys, room.values, m, p, spots, i)
 }
 
-fn holds_as_dummy(kind: u8, x: f64) -> bool
-    ensures { result ≡ (is_dummy_kind kind && holds x) }
+fn holds_as_dummy(kind: Kind, x: f64) -> bool
+    ensures { result ≡ (is_dummy_kind (kind_byte kind) && holds x) }
 {
-    (kind == 3) & (x != 0.0)
+    kind.is_dummy() & (x != 0.0)
 }
 
 // "the first Dummy row holding the marker"
@@ -59,10 +61,10 @@ pub fn first_dummy_row(room: &TablesMut, p: u8) -> Option<usize>
     None
 }
 
-fn holds_as_external(kind: u8, x: f64) -> bool
-    ensures { result ≡ (is_external_kind kind && holds x) }
+fn holds_as_external(kind: Kind, x: f64) -> bool
+    ensures { result ≡ (is_external_kind (kind_byte kind) && holds x) }
 {
-    is_external(kind) & (x != 0.0)
+    kind.is_external() & (x != 0.0)
 }
 
 // "the last External row holding it"

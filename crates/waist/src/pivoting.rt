@@ -5,6 +5,7 @@ ghost use Rattle.steps.specs.Number.{zero64};
 ghost use Rattle.rows.specs.Marks.{mark_of};
 ghost use Rattle.sparse.specs.Places.{most_rows, symbol_count_at, row_count_at};
 ghost use Rattle.waist.specs.substituting.Loose.{SettledRow};
+ghost use Rattle.waist.specs.Kinds.{kind_byte};
 ghost use Rattle.waist.specs.substituting.Notes.{is_external_kind};
 ghost use Rattle.waist.specs.Working.{Sound};
 ghost use Rattle.waist.specs.Dropping.{Free};
@@ -13,7 +14,8 @@ ghost use Rattle.waist.specs.Pivoting.{Pivots};
 ghost use Rattle.sparse.specs.Tables.{held, Same};
 
 use crate::basis::{drop_row, keep_row};
-use crate::substituting::notes::{is_external, kind_at, var_changed_if};
+use crate::kinds::Kind;
+use crate::substituting::notes::{kind_at, var_changed_if};
 use crate::substitution::substitute;
 use layout::cells::ROW_ROOM;
 use layout::cells::row::load_row;
@@ -22,10 +24,10 @@ use rows::row::solve_for_symbols;
 use sparse::tables::TablesMut;
 use sparse::{CELL_COUNT, CONSTANTS, CUTOFF, ROW_PLACES, SYMBOL_COUNT};
 
-fn enters_noted(kind: u8, y: f64) -> bool
-    ensures { result ≡ (is_external_kind kind && ne y zero64) }
+fn enters_noted(kind: Kind, y: f64) -> bool
+    ensures { result ≡ (is_external_kind (kind_byte kind) && ne y zero64) }
 {
-    is_external(kind) & (y != 0.0)
+    kind.is_external() & (y != 0.0)
 }
 
 // The row, dense, is solved for the symbol at place `at`.

@@ -2,17 +2,19 @@
 ghost use Rattle.std.specs.Prelude.{◌≡◌, true, not, ◌&&◌, ◌≤◌, ◌<◌, get_or};
 ghost use Rattle.std.specs.Float.Ieee.{lt};
 ghost use Rattle.steps.specs.Number.{zero64, ◌/₆₄◌};
-ghost use Rattle.rows.specs.choose.Choose.{Within, no_best, ratio_of, better_of, found_of};
+ghost use Rattle.rows.specs.choose.Choose.{Within, ratio_of, better_of, found_of};
 ghost use Rattle.sparse.specs.Places.{symbol_count_at, row_count_at};
 ghost use Rattle.layout.specs.cells.Names.{last_place};
+ghost use Rattle.waist.specs.Kinds.{kind_byte};
 ghost use Rattle.waist.specs.substituting.Notes.{is_external_kind};
 ghost use Rattle.waist.specs.Working.{Sound};
 ghost use Rattle.waist.specs.Choosing.{is_dummy_kind};
 ghost use Rattle.waist.specs.Ratios.{signed, over, ratio_row_of, dual_entering_of};
 ghost use Rattle.sparse.specs.Tables.{held};
 
+use crate::kinds::Kind;
 use crate::spots::spots_of;
-use crate::substituting::notes::{is_external, kind_at};
+use crate::substituting::notes::kind_at;
 use layout::cells::ROW_ROOM;
 use layout::cells::spots::spot_cell;
 use rows::choose::Best;
@@ -21,12 +23,6 @@ use sparse::{
     Bytes, CELL_COUNT, CONSTANTS, KINDS, OBJECTIVE, ROW_COUNT, ROW_PLACES, Reals, SYMBOL_COUNT,
     Words,
 };
-
-fn no_best() -> Option<Best>
-    ensures { result ≡ no_best }
-{
-    None
-}
 
 // What a ratio has to be below: where there is none so far, every finite one is.
 fn ratio_of(b: Option<Best>) -> f64
@@ -57,14 +53,7 @@ fn found_of(b: Option<Best>, n: usize) -> Option<usize>
     let Some(best) = b else {
         return None;
     };
-    let at = best.at;
-    if 1 > at {
-        return None;
-    }
-    if at > n {
-        return None;
-    }
-    Some(at)
+    ((1 <= best.at) & (best.at <= n)).then_some(best.at)
 }
 
 // ---- down a column
@@ -90,14 +79,14 @@ fn numerator(down: bool, x: f64) -> f64
 fn row_better(
     down: bool,
     i: usize,
-    kind: u8,
+    kind: Kind,
     cell: f64,
     constant: f64,
     b: Option<Best>,
 ) -> Option<Best>
-    ensures { result ≡ better_of i (not (is_external_kind kind) && signed down cell) (over down constant /₆₄ cell) b }
+    ensures { result ≡ better_of i (not (is_external_kind (kind_byte kind)) && signed down cell) (over down constant /₆₄ cell) b }
 {
-    if !is_external(kind) & is_signed(down, cell) {
+    if !kind.is_external() & is_signed(down, cell) {
         better(i, numerator(down, constant) / cell, b)
     } else {
         b
@@ -117,7 +106,7 @@ pub fn ratio_row(down: bool, art: bool, room: &TablesMut, p: u8) -> Option<usize
     let n = words[ROW_COUNT] as usize;
     let m = words[CELL_COUNT] as usize;
     let spots = spots_of(art, room, p);
-    let mut b = no_best();
+    let mut b: Option<Best> = None;
     for i in 1..n + 1 {
         let kind = kind_at(bytes, bytes[ROW_PLACES + i]);
         let x = spot_cell(room.keys, room.values, m, p, &spots, i);
@@ -128,10 +117,10 @@ pub fn ratio_row(down: bool, art: bool, room: &TablesMut, p: u8) -> Option<usize
 
 // ---- along a dense row
 
-fn dual_better(p: usize, kind: u8, cell: f64, objective: f64, b: Option<Best>) -> Option<Best>
-    ensures { result ≡ better_of p (not (is_dummy_kind kind) && lt zero64 cell) (objective /₆₄ cell) b }
+fn dual_better(p: usize, kind: Kind, cell: f64, objective: f64, b: Option<Best>) -> Option<Best>
+    ensures { result ≡ better_of p (not (is_dummy_kind (kind_byte kind)) && lt zero64 cell) (objective /₆₄ cell) b }
 {
-    if (kind != 3) & (0.0 < cell) {
+    if !kind.is_dummy() & (0.0 < cell) {
         better(p, objective / cell, b)
     } else {
         b
@@ -150,9 +139,15 @@ pub fn dual_along(
     ensures within { Within (get_or words.now symbol_count_at 0) result }
 {
     let n = words[SYMBOL_COUNT] as usize;
-    let mut b = no_best();
+    let mut b: Option<Best> = None;
     for p in 1..n + 1 {
-        b = dual_better(p, bytes[KINDS + p], row[p], reals[OBJECTIVE + p], b);
+        b = dual_better(
+            p,
+            Kind::from(bytes[KINDS + p]),
+            row[p],
+            reals[OBJECTIVE + p],
+            b,
+        );
     }
     found_of(b, n)
 }

@@ -10,31 +10,30 @@ ghost use Rattle.sparse.specs.Sparse.{symbol_at};
 ghost use Rattle.layout.specs.cells.Names.{last_place};
 ghost use Rattle.waist.specs.substituting.Named.{Named};
 ghost use Rattle.waist.specs.Working.{sparse, work_of};
+ghost use Rattle.waist.specs.Kinds.{kind_byte};
 ghost use Rattle.waist.specs.Looks.{of_kind};
 ghost use Rattle.waist.specs.Choices.{named};
 ghost use Rattle.waist.specs.Tags.{tag_at};
 ghost use Rattle.waist.specs.Subject.{negative_of, subject_of};
 
-use crate::looks::{first_along, is_nothing};
+use crate::kinds::Kind;
+use crate::looks::first_along;
 use crate::substituting::notes::kind_at;
 use layout::cells::ROW_ROOM;
 use rows::choose::Want;
 use sparse::{Bytes, Words};
 
-fn negative_pivotable(kind: u8, x: f64) -> bool
-    ensures { result ≡ (is_pivotable (of_kind kind) && below_zero x) }
+fn negative_pivotable(kind: Kind, x: f64) -> bool
+    ensures { result ≡ (is_pivotable (of_kind (kind_byte kind)) && below_zero x) }
 {
-    ((kind == 1) | (kind == 2)) & (x < 0.0)
+    kind.is_pivotable() & (x < 0.0)
 }
 
 fn negative_tag(bytes: &Bytes, row: &[f64; ROW_ROOM], p: u8) -> Option<usize>
     requires { p ≤ last_place }
     ensures { result ≡ negative_of p bytes.now row.now }
 {
-    if negative_pivotable(kind_at(bytes, p), row[p as usize]) {
-        return Some(p as usize);
-    }
-    None
+    negative_pivotable(kind_at(bytes, p), row[p as usize]).then_some(p as usize)
 }
 
 // "first External; else marker if slack or Error with negative cell; else other likewise"; 0 is no other.
@@ -52,6 +51,7 @@ fn subject_of(
     ensures value { result ≡ subject_of marker other words.now bytes.now row.now }
     ensures within { Within (get_or words.now symbol_count_at 0) result }
 {
+    // With `or_else` each closure needs clauses of its own.
     let f = first_along(Want::External, false, words, bytes, row);
     let None = f else {
         return f;
@@ -89,5 +89,5 @@ pub fn all_dummies(words: &Words, bytes: &Bytes, row: &[f64; ROW_ROOM]) -> bool
     requires { Named words.now bytes.now }
     ensures { (k : List ℕ) (x y : List Float) (a : Mark) (v m o : ℕ) → result ≡ all_dummies (record { work = work_of false a v (sparse words.now k bytes.now x y); row = dense.row_of (get_or words.now symbol_count_at 0) row.now; tag = tag_at (sparse words.now k bytes.now x y) m o }) }
 {
-    is_nothing(first_along(Want::NonDummy, false, words, bytes, row))
+    first_along(Want::NonDummy, false, words, bytes, row).is_none()
 }

@@ -8,6 +8,7 @@ ghost use Rattle.waist.specs.Working.{Sound};
 ghost use Rattle.waist.specs.Substitutes.{Substitutes};
 ghost use Rattle.sparse.specs.Tables.{held, Same};
 
+use crate::merging::run::Run;
 use crate::substituting::loose::loose_run;
 use crate::substituting::notes::note_rows;
 use crate::substituting::objective::substitute_objective;
@@ -35,10 +36,8 @@ fn substitute_with(
     room: &mut TablesMut,
     at: u8,
     row: &[f64; ROW_ROOM],
-    cols: &mut [u16; ROW_ROOM],
-    others: &mut [f64; ROW_ROOM],
-    fresh: &mut [u16; ROW_ROOM],
-    sums: &mut [f64; ROW_ROOM],
+    loose: &mut Run,
+    fresh: &mut Run,
     spots: &mut [u16; LINES_ROOM],
 ) -> Wrote
     requires sound { Sound art (held room.old) }
@@ -68,7 +67,7 @@ fn substitute_with(
         spots,
         y,
     );
-    let m = loose_run(row, width, cols, others);
+    loose_run(row, width, loose);
     let r = substitute_lines(
         cutoff,
         room.keys,
@@ -78,12 +77,9 @@ fn substitute_with(
         lines,
         at,
         spots,
-        cols,
-        others,
-        m,
+        loose,
         y,
         fresh,
-        sums,
     );
     let w = r.wrote;
     room.words[CELL_COUNT] = r.size as u64;
@@ -100,20 +96,8 @@ pub fn substitute(art: bool, room: &mut TablesMut, at: u8, row: &[f64; ROW_ROOM]
     ensures does { Substitutes art at row.now (held room.old) (held room.new) (mark_of result) }
     ensures same { Same room.old room.new }
 {
-    let mut cols: [u16; ROW_ROOM] = [0; ROW_ROOM];
-    let mut others: [f64; ROW_ROOM] = [0.0; ROW_ROOM];
-    let mut fresh: [u16; ROW_ROOM] = [0; ROW_ROOM];
-    let mut sums: [f64; ROW_ROOM] = [0.0; ROW_ROOM];
+    let mut loose = Run::new();
+    let mut fresh = Run::new();
     let mut spots = no_spots();
-    substitute_with(
-        art,
-        room,
-        at,
-        row,
-        &mut cols,
-        &mut others,
-        &mut fresh,
-        &mut sums,
-        &mut spots,
-    )
+    substitute_with(art, room, at, row, &mut loose, &mut fresh, &mut spots)
 }

@@ -18,28 +18,13 @@ ghost use Rattle.sparse.specs.Tables.{held, Same};
 use crate::basis::drop_row;
 use crate::choices::row_of;
 use crate::columns::{drop_place, lower_places};
+use crate::kinds::Kind;
 use crate::moves::close;
 use sparse::tables::TablesMut;
 use sparse::{
     Bytes, CELL_COUNT, IDS, KINDS, Keys, NEXT_ID, OBJECTIVE, ROW_COUNT, ROW_PLACES, Reals,
     SYMBOL_COUNT, VARIABLE_COUNT, VARIABLE_PLACES, Values, Words,
 };
-
-// What a symbol is for.
-#[derive(Clone, Copy)]
-pub enum Kind {
-    External,
-    Slack,
-    Error,
-    Dummy,
-}
-
-// As the tables hold it.
-fn kind_byte(kind: Kind) -> u8
-    ensures { result ≡ kind_byte kind }
-{
-    kind as u8
-}
 
 // A new symbol of this kind takes the next id, and the place after the last: no row holds it yet.
 pub fn append_symbol(
@@ -63,7 +48,7 @@ pub fn append_symbol(
     words[IDS + at as usize] = id;
     words[SYMBOL_COUNT] = at;
     words[NEXT_ID] = 1 + id;
-    bytes[KINDS + at as usize] = kind_byte(kind);
+    bytes[KINDS + at as usize] = kind.byte();
     reals[OBJECTIVE + at as usize] = 0.0;
     at as u8
 }
@@ -76,11 +61,9 @@ fn drop_own_row(room: &mut TablesMut, p: u8)
     ensures does { Bares p (held room.old) (held room.new) }
     ensures same { Same room.old room.new }
 {
-    let f = row_of(room.words, room.bytes, p);
-    let Some(i) = f else {
-        return;
-    };
-    drop_row(false, room, i as u8);
+    if let Some(i) = row_of(room.words, room.bytes, p) {
+        drop_row(false, room, i as u8);
+    }
 }
 
 // The symbol at place p, which is not basic, goes with its cells: the places past it come one place down.

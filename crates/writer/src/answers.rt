@@ -2,6 +2,8 @@
 ghost use Rattle.std.specs.Prelude.{◌+◌, ◌≤◌, length};
 
 use crate::given::{Given, read_given};
+use text::buffer::Out;
+use text::stream::Answers;
 use text::writing::{put_byte, put_number, put_unread};
 use writing::write_line;
 
@@ -40,9 +42,21 @@ fn put_given(out: &mut [u8], at: usize, g: Option<Given>) -> usize
     put_refused(out, at, number)
 }
 
-pub fn put_written(out: &mut [u8], at: usize, line: &[u8]) -> usize
+fn put_written(out: &mut [u8], at: usize, line: &[u8]) -> usize
     requires { at + 200 ≤ length out.old }
     ensures { result ≤ at + 200 }
 {
     put_given(out, at, read_given(line))
+}
+
+pub struct PlainLines;
+
+impl Answers for PlainLines {
+    fn answer(line: Option<&[u8]>, out: &mut Out, at: usize) -> usize {
+        let next = match line {
+            Some(line) => put_written(out, at, line),
+            None => put_unread(out, at),
+        };
+        put_byte(out, next, b'\n')
+    }
 }

@@ -3,16 +3,18 @@
 
 mod answers;
 mod given;
-mod stream;
 
+use crate::answers::PlainLines;
 use std::io;
 use text::duplex::Duplex;
+use text::serving;
+use text::stream::Cut;
 
 // An error is the first read or write that failed.
 fn main(rt: HostRuntime) -> io::Result<()> {
-    let mut line = [0u8; 4096];
+    let mut lines: Cut<PlainLines> = Cut::new();
     let mut out = [0u8; 8192];
     let mut duplex = Duplex::new(rt.stdin(), rt.stdout());
-    stream::serve(&mut duplex, &mut line, &mut out);
+    serving::serve(&mut duplex, &mut lines, &mut out);
     duplex.outcome
 }

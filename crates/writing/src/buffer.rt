@@ -25,7 +25,7 @@ pub fn put(out: &mut [u8], at: usize, b: u8) -> usize
     PAST
 }
 
-// A number of at most k digits in decimal.
+// A number of at most k digits in decimal. (No twin of the one in `text`: this stops where the line is full, and that one has room.)
 fn put_digits(out: &mut [u8], at: usize, n: u64, k: usize) -> usize
     ensures { Adds out.old out.new at result (decimal_in k n) }
 {

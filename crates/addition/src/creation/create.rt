@@ -19,7 +19,7 @@ use changes::terms::Pack;
 use layout::cells::ROW_ROOM;
 use layout::cells::row::zero_cells;
 use rows::number::Wrote;
-use rows::row::{reverse_sign, wide};
+use rows::row::reverse_sign;
 use sparse::{Bytes, Keys, Reals, SYMBOL_COUNT, Values, Words};
 
 // The row constant is the constraint's, and no cell is present yet.
@@ -58,7 +58,6 @@ fn close_row(
     ensures { Tags (λ b. reversed_by (add_tag (relation_of relation) b)) (mark_of past) (sparse words.old keys.now bytes.old reals.old values.now) (sparse words.new keys.now bytes.new reals.new values.now) row.old row.new result }
 {
     let t = add_tag(words, keys, bytes, reals, values, row, relation, past);
-    wide(row);
     reverse_below(row, words[SYMBOL_COUNT] as usize);
     t
 }
@@ -80,7 +79,6 @@ pub fn create_row(
     requires spare { Spare (sparse words.old keys.now bytes.old reals.old values.now) }
     ensures { Creates (terms_of p) constant (relation_of relation) (mark_of before) (sparse words.old keys.now bytes.old reals.old values.now) (sparse words.new keys.now bytes.new reals.new values.now) row.new result }
 {
-    wide(row);
     start_row(row, constant, words[SYMBOL_COUNT] as usize);
     let w = insert_terms(words, keys, bytes, reals, values, row, p, before);
     close_row(words, keys, bytes, reals, values, row, relation, w)

@@ -19,11 +19,12 @@ ghost use Rattle.addition.specs.creation.Tags.{Tags};
 use changes::tags::Relation;
 use layout::cells::ROW_ROOM;
 use rows::number::{CELL_BOUND, Wrote, joined};
-use rows::row::{insert_symbol, wide};
+use rows::row::insert_symbol;
 use rows::strength::REQUIRED;
 use sparse::{Bytes, CUTOFF, Keys, Reals, SYMBOL_COUNT, Values, Words};
+use waist::kinds::Kind;
 use waist::objective::insert_in_objective;
-use waist::symbols::{Kind, append_symbol};
+use waist::symbols::append_symbol;
 
 // The places of a constraint's symbols, other 0 if there is none, and what was written so far.
 #[derive(Clone, Copy)]
@@ -31,13 +32,6 @@ pub struct Tagged {
     pub marker: u8,
     pub other: u8,
     pub wrote: Wrote,
-}
-
-// A place as an index.
-pub fn index(p: u8) -> usize
-    ensures { result ≡ p }
-{
-    p as usize
 }
 
 // A new symbol of this kind, in the row with k.
@@ -58,8 +52,7 @@ fn add_symbol(
     ensures grows { Grows (kind_byte kind) (sparse words.old keys.now bytes.old reals.old values.now) (sparse words.new keys.now bytes.new reals.new values.now) }
     ensures builds { Builds (mark_of past) (mark_of result) (λ b. add_symbol (new_symbol (kind_of (kind_byte kind)) b.work) k b) (sparse words.old keys.now bytes.old reals.old values.now) (sparse words.new keys.now bytes.new reals.new values.now) row.old row.new }
 {
-    wide(row);
-    let p = index(append_symbol(words, keys, bytes, reals, values, kind));
+    let p = usize::from(append_symbol(words, keys, bytes, reals, values, kind));
     row[p] = 0.0;
     let w = insert_symbol(reals[CUTOFF], row, p, k, CELL_BOUND);
     joined(past, w)

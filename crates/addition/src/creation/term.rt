@@ -10,7 +10,7 @@ ghost use Rattle.sparse.specs.Places.{most_variables, symbol_count_at, row_count
 ghost use Rattle.sparse.specs.Sparse.{symbol_count, row_count, variable_count, symbol_at, basic_of};
 ghost use Rattle.changes.specs.terms.Terms.{terms_of};
 ghost use Rattle.variables.specs.Variables.{found_in};
-ghost use Rattle.waist.specs.Working.{lent, cutoff_of, Sound, sparse};
+ghost use Rattle.waist.specs.Working.{cutoff_of, Sound, sparse};
 ghost use Rattle.waist.specs.Standing.{Owners, Standing};
 ghost use Rattle.waist.specs.Growing.{next_id};
 ghost use Rattle.addition.specs.creation.Building.{Builds};
@@ -19,19 +19,19 @@ ghost use Rattle.addition.specs.creation.Known.{Knows};
 ghost use Rattle.addition.specs.creation.Terms.{used_by, term_of, kept_by};
 ghost use Rattle.addition.specs.creation.Going.{Ready};
 
-use crate::creation::tag::index;
 use changes::terms::{Pack, shown};
 use layout::cells::ROW_ROOM;
 use layout::cells::row::load_row;
 use rows::number::{CELL_BOUND, Wrote, joined, near_zero};
-use rows::row::{insert_row, insert_symbol, wide};
+use rows::row::{insert_row, insert_symbol};
 use sparse::{
     Bytes, CELL_COUNT, CONSTANTS, CUTOFF, Keys, Reals, SYMBOL_COUNT, VARIABLE_PLACES, Values, Words,
 };
 use variables::found::{count_use, find_variable};
 use variables::kept::keep_variable;
 use waist::choices::row_of;
-use waist::symbols::{Kind, append_symbol};
+use waist::kinds::Kind;
+use waist::symbols::append_symbol;
 
 // A new variable with a new symbol.
 fn new_variable(
@@ -50,9 +50,8 @@ fn new_variable(
     requires words_value { found_in n words.old ≡ None }
     ensures { (a : Mark) → Standing false a (sparse words.old keys.now bytes.old reals.old values.now) → (Builds a a (add_variable n) (sparse words.old keys.now bytes.old reals.old values.now) (sparse words.new keys.now bytes.new reals.new values.now) row.old row.new) × Steps 1 0 (sparse words.old keys.now bytes.old reals.old values.now) (sparse words.new keys.now bytes.new reals.new values.now) }
 {
-    wide(row);
     let p = append_symbol(words, keys, bytes, reals, values, Kind::External);
-    row[index(p)] = 0.0;
+    row[usize::from(p)] = 0.0;
     keep_variable(words, bytes, reals, n, p);
 }
 
@@ -91,17 +90,14 @@ fn insert_loaded(
     past: Wrote,
     other: &mut [f64; ROW_ROOM],
 ) -> Wrote
-    requires standing { Standing false (mark_of past) (lent words keys bytes reals values) }
+    requires standing { Standing false (mark_of past) (sparse words.now keys.now bytes.now reals.now values.now) }
     requires le_i { 1 ≤ i }
     requires i_bound { i ≤ get_or words.now row_count_at 0 }
-    ensures { Builds (mark_of past) (mark_of result) (λ b. written (insert_row b.work.tableau.cutoff (basic_of (lent words.entry keys.entry bytes.entry reals.entry values.entry) i).row k b.row) b.work) (lent words.entry keys.entry bytes.entry reals.entry values.entry) (lent words.entry keys.entry bytes.entry reals.entry values.entry) row.old row.new }
+    ensures { Builds (mark_of past) (mark_of result) (λ b. written (insert_row b.work.tableau.cutoff (basic_of (sparse words.now keys.now bytes.now reals.now values.now) i).row k b.row) b.work) (sparse words.now keys.now bytes.now reals.now values.now) (sparse words.now keys.now bytes.now reals.now values.now) row.old row.new }
 {
-    wide(row);
-    wide(other);
     let width = words[SYMBOL_COUNT] as usize;
     load_row(keys, values, words[CELL_COUNT] as usize, i, width, other);
-    other[0] = reals[CONSTANTS + index(i)];
-    wide(other);
+    other[0] = reals[CONSTANTS + usize::from(i)];
     let w = insert_row(reals[CUTOFF], row, other, k, width);
     joined(past, w.wrote)
 }
@@ -118,10 +114,10 @@ fn insert_basic(
     k: f64,
     past: Wrote,
 ) -> Wrote
-    requires standing { Standing false (mark_of past) (lent words keys bytes reals values) }
+    requires standing { Standing false (mark_of past) (sparse words.now keys.now bytes.now reals.now values.now) }
     requires le_i { 1 ≤ i }
     requires i_bound { i ≤ get_or words.now row_count_at 0 }
-    ensures { Builds (mark_of past) (mark_of result) (λ b. written (insert_row b.work.tableau.cutoff (basic_of (lent words.entry keys.entry bytes.entry reals.entry values.entry) i).row k b.row) b.work) (lent words.entry keys.entry bytes.entry reals.entry values.entry) (lent words.entry keys.entry bytes.entry reals.entry values.entry) row.old row.new }
+    ensures { Builds (mark_of past) (mark_of result) (λ b. written (insert_row b.work.tableau.cutoff (basic_of (sparse words.now keys.now bytes.now reals.now values.now) i).row k b.row) b.work) (sparse words.now keys.now bytes.now reals.now values.now) (sparse words.now keys.now bytes.now reals.now values.now) row.old row.new }
 {
     let mut other: [f64; ROW_ROOM] = [0.0; ROW_ROOM];
     insert_loaded(
@@ -141,15 +137,14 @@ fn insert_variable(
     k: f64,
     past: Wrote,
 ) -> Wrote
-    requires standing { Standing false (mark_of past) (lent words keys bytes reals values) }
+    requires standing { Standing false (mark_of past) (sparse words.now keys.now bytes.now reals.now values.now) }
     requires le_p { 1 ≤ p }
     requires p_bound { p ≤ get_or words.now symbol_count_at 0 }
-    ensures { Builds (mark_of past) (mark_of result) (insert_variable (symbol_at (lent words.entry keys.entry bytes.entry reals.entry values.entry) p) k) (lent words.entry keys.entry bytes.entry reals.entry values.entry) (lent words.entry keys.entry bytes.entry reals.entry values.entry) row.old row.new }
+    ensures { Builds (mark_of past) (mark_of result) (insert_variable (symbol_at (sparse words.now keys.now bytes.now reals.now values.now) p) k) (sparse words.now keys.now bytes.now reals.now values.now) (sparse words.now keys.now bytes.now reals.now values.now) row.old row.new }
 {
-    wide(row);
     let f = row_of(words, bytes, p);
     let Some(i) = f else {
-        let w = insert_symbol(reals[CUTOFF], row, index(p), k, CELL_BOUND);
+        let w = insert_symbol(reals[CUTOFF], row, usize::from(p), k, CELL_BOUND);
         return joined(past, w);
     };
     insert_basic(words, keys, bytes, reals, values, row, i as u8, k, past)
@@ -237,13 +232,6 @@ fn insert_kept(
     insert_term(words, keys, bytes, reals, values, row, n, k, past)
 }
 
-// A variable's number as the tables have it.
-fn number(x: u32) -> u64
-    ensures { result ≡ x }
-{
-    x as u64
-}
-
 // Each term in order.
 pub fn insert_terms(
     words: &mut Words,
@@ -273,7 +261,7 @@ pub fn insert_terms(
             reals,
             values,
             row,
-            number(vars[j]),
+            u64::from(vars[j]),
             coefs[j],
             w,
         );

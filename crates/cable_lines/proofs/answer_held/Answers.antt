@@ -7,4 +7,4 @@ pub returns-then-n-le200 : goal.returns-then-n-le200
 returns-then-n-le200 c = c.read_front.ensures ∙ ap as_reply (sym (answer-within c.args.s.now c.if-n-le200.true))
 
 pub returns : goal.returns
-returns c = c.refuse.ensures ∙ ap as_reply (sym (answer-over c.args.s.now c.if-n-le200.false))
+returns c = ap as_reply (sym (answer-over c.args.s.now c.if-n-le200.false))

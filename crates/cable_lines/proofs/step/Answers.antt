@@ -1,6 +1,6 @@
 use Rattle.std.proofs.Common.{◌<◌, ◌+◌, sym, ap, ◌∙◌, arith, length}
 use Rattle.std.specs.Prelude.{Some}
-use Rattle.reader.specs.declared.second.Reply.{Reply}
+use Rattle.reader.specs.second.Replies.{Reply}
 use Rattle.cable_lines.specs.Given.{as_begun, same-begun}
 use Rattle.cable_lines.specs.State.{kept-all, kept-ends}
 use Rattle.cable_lines.proofs.step.Goals as goal

@@ -1,6 +1,7 @@
 -- "A constraint as text" added to lent tables: the line's own refusals first, the solver's then. Assumes nothing.
-use Rattle.std.specs.Prelude.{◌≡◌, ℕ, ◌<◌, ◌≤◌, Bool, true, false, cond, ◌&&◌, List, [], length, ◌==◌, ◌≢◌, nat_le, slice_index, unsigned_abs, Float}
+use Rattle.std.specs.Prelude.{◌≡◌, ℕ, ◌<◌, ◌≤◌, Bool, true, false, cond, ◌&&◌, List, [], length, ◌==◌, ◌≢◌, nat_le, slice_index, unsigned_abs, Float, Result, Ok, Err}
 use Rattle.std.proofs.Math.Path.{refl, ap}
+use Rattle.std.proofs.lemmas.Bool.{eqb-false}
 use Rattle.std.proofs.Common.{sym, ◌∙◌, inl, inr, arith, leb-true, ltb→lt}
 use Rattle.grammar.specs.Sums as grammar
 use Rattle.grammar.specs.Sums.{Answer, reads, outside, refused, most, small_terms, judged, summed, nothing}
@@ -10,8 +11,10 @@ use Rattle.grammar.specs.Complete.{Tells}
 use Rattle.grammar.proofs.Complete.{tells}
 use Rattle.reader.specs.sums.Held.{value_of}
 use Rattle.reader.specs.Sides as sides
-use Rattle.reader.specs.Answers.{mark_of, as_read}
-use Rattle.reader.specs.declared.answers.Reading.{Reading}
+use Rattle.reader.specs.Answers.{Reading, mark_of, shown, as_read}
+use Rattle.reader.specs.declared.answers.Constraint.{Constraint}
+use Rattle.reader.specs.declared.fault.Refusal.{Refusal}
+use Rattle.reader.specs.Faults.{refusal_number, offset_of, some-number}
 use Rattle.steps.specs.State.{State}
 use Rattle.steps.specs.State as steps
 use Rattle.steps.specs.Calls as calls
@@ -116,7 +119,7 @@ mark-back grammar.equal = refl
 mark-back grammar.at_least = refl
 
 module _ (n : ℕ) (line : List ℕ) (budget : ℕ) (work t : Sparse) {r : Reading} (e : r ≡ as_read (read_line line)) where
-  pub text-refused : {m : Bool} {u : Sparse} → (r.number ≢ 0) → m ≡ mark_in t → u ≡ t → text r.offset (called (record { number = r.number; pivots = 0; whole = m }) u) ≡ text_of n line budget work t
+  text-refused : {m : Bool} {u : Sparse} → (r.number ≢ 0) → m ≡ mark_in t → u ≡ t → text r.offset (called (record { number = r.number; pivots = 0; whole = m }) u) ≡ text_of n line budget work t
   unfolding text_of add_read
   text-refused {m} {u} h f g = go (read_line line) e
     where
@@ -125,7 +128,7 @@ module _ (n : ℕ) (line : List ℕ) (budget : ℕ) (work t : Sparse) {r : Readi
       go (outside at) d = rw (d, f, g) refl
       go (refused k) d = rw (d, f, g) refl
 
-  pub text-added : (p : Pack) (k : Float) (x : Relation) (c : Called) → r.number ≡ 0 → p ≡ pack_of (terms_read r) → k ≡ whole_of (value_of r.constant) → relation_of x ≡ required_by (sides.relation_of r.relation)
+  text-added : (p : Pack) (k : Float) (x : Relation) (c : Called) → r.number ≡ 0 → p ≡ pack_of (terms_read r) → k ≡ whole_of (value_of r.constant) → relation_of x ≡ required_by (sides.relation_of r.relation)
       → c ≡ call_of (add 1 n (terms_in (listed p)) k (relation_of x) budget) work t → text 0 c ≡ text_of n line budget work t
   unfolding text_of add_read
   text-added p k x c z g h i j = go (read_line line) (line-fit line) e
@@ -139,3 +142,13 @@ module _ (n : ℕ) (line : List ℕ) (budget : ℕ) (work t : Sparse) {r : Readi
           ap (text 0) (j ∙ listed-call 1 n budget k (relation_of x) work t ts g' ∙ ap (λ (y : Float). call_of (add 1 n (terms_in ts) y (relation_of x) budget) work t) h' ∙ ap (λ (y : steps.Relation). call_of (add 1 n (terms_in ts) (whole_of q.constant) y budget) work t) i')
       go (outside at) f d = let y : r.number ≡ 20 = ap (λ (v : Reading). v.number) d in absurd (omega (arith, z))
       go (refused m) f d = absurd (f (sym (ap (λ (v : Reading). v.number) d) ∙ z))
+
+-- by the code's answer
+module _ (n : ℕ) (line : List ℕ) (budget : ℕ) (work t : Sparse) {a : Result Constraint Refusal} (e : shown a ≡ as_read (read_line line)) where
+  pub refusal-text : (r : Refusal) → a ≡ Err r → {k o : ℕ} {m : Bool} {u : Sparse} → k ≡ refusal_number r → o ≡ offset_of r → m ≡ mark_in t → u ≡ t → text o (called (record { number = k; pivots = 0; whole = m }) u) ≡ text_of n line budget work t
+  refusal-text r f p q x y =
+      rw (p, q) (text-refused n line budget work t (rw f at e) (λ z. eqb-false (refusal_number r) 0 (some-number r) z) x y)
+
+  pub added-text : (b : Constraint) → a ≡ Ok b → (p : Pack) (k : Float) (x : Relation) (c : Called) → p ≡ pack_of (terms_read (shown (Ok b))) → k ≡ whole_of (value_of b.constant) → relation_of x ≡ required_by (sides.relation_of b.relation)
+      → c ≡ call_of (add 1 n (terms_in (listed p)) k (relation_of x) budget) work t → text 0 c ≡ text_of n line budget work t
+  added-text b f p k x c g h i j = text-added n line budget work t (rw f at e) p k x c refl g h i j

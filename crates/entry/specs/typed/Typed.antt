@@ -14,8 +14,7 @@ use Rattle.laws.specs.Lists.{list_of, list_of-is}
 use Rattle.grammar.specs.Sums as grammar
 use Rattle.grammar.specs.Sums.{most, small_terms}
 use Rattle.reader.specs.sums.Held.{zero_at, value_of}
-use Rattle.reader.specs.Answers.{stands_as, laid, no_variables, no_coefficients, as_read}
-use Rattle.reader.specs.declared.answers.Reading.{Reading}
+use Rattle.reader.specs.Answers.{stands_as, laid, no_variables, no_coefficients, Reading, as_read}
 use Rattle.laws.specs.exact.Whole.{IsZ, of_int-z, neg-z}
 use Rattle.steps.specs.State as steps
 use Rattle.steps.specs.Strength.{required}

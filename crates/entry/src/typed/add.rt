@@ -43,27 +43,27 @@ pub fn add_text(
     ensures same_tables { Same tables.old tables.new }
     ensures same_room { Same room.old room.new }
 {
-    let r = read_line(line);
-    if r.number != 0 {
-        let mark = mark_of(&tables.lend());
-        lending::clearing::clear_room(room);
-        return TextAnswer {
-            number: r.number,
-            pivots: 0,
-            whole: mark,
-            offset: r.offset,
-        };
-    }
-    let p = pack_of(r);
-    let constant = whole(r.constant);
-    let m = r.relation;
-    let relation = required_by(m);
-    let c = Change::Add(1, number, constant, relation);
-    let a = solver::change(tables, room, c, p, budget);
-    TextAnswer {
-        number: a.number,
-        pivots: a.pivots,
-        whole: a.whole,
-        offset: 0,
+    match read_line(line) {
+        Err(r) => {
+            let whole = mark_of(&tables.lend());
+            lending::clearing::clear_room(room);
+            TextAnswer {
+                number: r.number(),
+                pivots: 0,
+                whole,
+                offset: r.offset(),
+            }
+        }
+        Ok(x) => {
+            let p = pack_of(&x);
+            let c = Change::Add(1, number, whole(x.constant), required_by(x.relation));
+            let a = solver::change(tables, room, c, p, budget);
+            TextAnswer {
+                number: a.number,
+                pivots: a.pivots,
+                whole: a.whole,
+                offset: 0,
+            }
+        }
     }
 }

@@ -1,5 +1,6 @@
 // What a line reads as, as an add takes it: whole numbers as f64, the terms as a pack, the relation with the required strength.
-ghost use Rattle.std.specs.Prelude.{◌≡◌, ◌<◌, ◌≤◌};
+ghost use Rattle.std.specs.Prelude.{◌≡◌, ◌<◌, ◌≤◌, Ok};
+ghost use Rattle.reader.specs.Answers.{shown};
 ghost use Rattle.layout.specs.Copy.{most16};
 ghost use Rattle.reader.specs.sums.Held.{value_of};
 ghost use Rattle.reader.specs.Sides as sides;
@@ -11,7 +12,7 @@ ghost use Rattle.entry.specs.typed.Typed.{whole_of, term_read, terms_read, requi
 use changes::tags::Relation;
 use changes::terms::{Pack, Term};
 use layout::TERM_ROOM;
-use reader::answers::Reading;
+use reader::answers::Constraint;
 use reader::sides::Mark;
 use reader::sums::ZERO;
 
@@ -43,21 +44,18 @@ fn shown(count: usize) -> usize
     if count <= TERM_ROOM { count } else { TERM_ROOM }
 }
 
-fn term_of(r: Reading, i: usize) -> Term
+fn term_of(r: &Constraint, i: usize) -> Term
     requires { i < term_room }
-    ensures { result ≡ term_read r i }
+    ensures { result ≡ term_read (shown (Ok r.now)) i }
 {
-    let variables = r.variables;
-    let coefficients = r.coefficients;
-    let coefficient = whole(coefficients[i]);
     Term {
-        variable: variables[i],
-        coefficient: coefficient,
+        variable: r.variables[i],
+        coefficient: whole(r.coefficients[i]),
     }
 }
 
-pub fn pack_of(r: Reading) -> Pack
-    ensures { result ≡ pack_of (terms_read r) }
+pub fn pack_of(r: &Constraint) -> Pack
+    ensures { result ≡ pack_of (terms_read (shown (Ok r.now))) }
 {
     let n = shown(r.count);
     let mut p = changes::terms::none();

@@ -1,5 +1,5 @@
 -- What the service line's readers hand to a caller, in places that the caller lends. Assumes nothing.
-use Rattle.std.specs.Prelude.{◌≡◌, ℕ, zero, suc, ◌+◌, ◌-◌, ◌≤◌, Bool, true, false, cond, ◌&&◌, List, [], ◌∷◌, ◌++◌, map, length, replicate, ℤ, pos, ◌==◌, nat_le, slice_set, unsigned_abs, Float, Option as Optional, Some, None, is_some}
+use Rattle.std.specs.Prelude.{◌≡◌, ℕ, zero, suc, ◌+◌, ◌-◌, ◌≤◌, Bool, true, false, cond, ◌&&◌, List, [], ◌∷◌, ◌++◌, map, length, replicate, ℤ, pos, ◌==◌, nat_le, slice_set, unsigned_abs, Float, Option as Optional, Some, None, is_some, Result}
 use Rattle.std.proofs.Math.Path.{refl, ap}
 use Rattle.std.proofs.Common.{sym, ◌∙◌, arith, ne_eqb, leb-true}
 use Rattle.std.proofs.Math.Option.{Option, none, some}
@@ -12,12 +12,14 @@ use Rattle.reader.specs.Sides.{relation_of}
 use Rattle.reader.specs.Answers.{stands_as, mark_of, laid, no_coefficients, refusal}
 use Rattle.grammar.specs.edition.Endings.{Constraint, Reply, taken, astray, denied}
 use Rattle.grammar.specs.edition.Steps.{read_second}
-use Rattle.reader.specs.second.Replies.{unread, as_reply}
-use Rattle.reader.specs.declared.second.Reply as code
+use Rattle.reader.specs.second.Replies.{unread, answered, as_reply}
+use Rattle.reader.specs.second.Replies as code
+use Rattle.reader.specs.declared.second.Weighted.{Weighted}
+use Rattle.reader.specs.declared.fault.Refusal.{Refusal}
 use Rattle.cable_lines.specs.Cable.{limit, new, answer_of, Step, further, takes, closes}
 use Rattle.cable_lines.specs.Bytes.{bytes_of}
-use Rattle.cable_lines.specs.Given.{as_taken, Given, given, as_given}
-use Rattle.cable_lines.specs.declared.Taken.{Taken}
+use Rattle.cable_lines.specs.Given.{Taken, told_answer, told, as_taken, Given, given, as_given}
+use Rattle.cable_lines.specs.declared.Taken as declared
 use Rattle.layout.specs.Rooms.{and_left, and_right}
 use Rattle.steps.specs.Number.{zero64}
 use Rattle.layout.specs.Layout.{term_room}
@@ -79,6 +81,23 @@ whole_at x = whole_of (value_of x)
 abbrev pub reply_in : Optional code.Reply → code.Reply
 reply_in None = unread (refusal 0 0)
 reply_in (Some x) = x
+
+-- the same with no refusal
+abbrev pub unrefused : code.Reply → code.Reply
+unrefused x =
+    record {
+      reading = record {
+        number = 0;
+        offset = 0;
+        relation = x.reading.relation;
+        constant = x.reading.constant;
+        count = x.reading.count;
+        variables = x.reading.variables;
+        coefficients = x.reading.coefficients;
+      };
+      strength = x.strength;
+      group = x.group;
+    }
 
 abbrev pub reads_in : Taken → Bool
 reads_in t = is_some t.answer && (reply_in t.answer).reading.number == 0
@@ -189,10 +208,14 @@ over-is (some (taken x)) n c (small, all, few) =
 over-is (some (astray at)) n c f = rw (zero-at, no-strength) refl
 over-is (some (denied k)) n c f = rw (ne_eqb k 0 f, zero-at, no-strength) refl
 
-pub hands-over : {t : Taken} {c : List ℕ} {w : List ℕ} {x : List Float} {v : List ℕ} {k : List Float} (s : Step) → FitOf s.answer → given t c ≡ as_given s → w ≡ words_in t → x ≡ reals_in t → v ≡ (reply_in t.answer).reading.variables → k ≡ map whole_at (reply_in t.answer).reading.coefficients
-    → handed (is_some t.answer) w x v k c ≡ handed_by s
-hands-over s f e p q r z = rw (p, q, r, z) (ap (λ (g : Given). over g.back g.left) e ∙ over-is s.answer s.taken (bytes_of s.left) f)
+some-told : (a : Optional (Result Weighted Refusal)) → is_some (told_answer a) ≡ is_some a
+some-told None = refl
+some-told (Some x) = refl
 
-pub reads_over : {x : code.Reply} {w : List ℕ} {y : List Float} {v : List ℕ} {k : List Float} (line : List ℕ) → x ≡ as_reply (read_second line) → w ≡ words_in (record { answer = Some x; taken = length line })
-    → y ≡ reals_in (record { answer = Some x; taken = length line }) → v ≡ x.reading.variables → k ≡ map whole_at x.reading.coefficients → handed true w y v k [] ≡ read_by line
-reads_over line e p q r z = rw (p, q, r, z) (ap (λ (g : code.Reply). over (record { answer = Some g; taken = length line }) []) e ∙ over-is (some (read_second line)) (length line) [] (line-fits line))
+pub hands-over : (t : declared.Taken) {c : List ℕ} {w : List ℕ} {x : List Float} {v : List ℕ} {k : List Float} (s : Step) → FitOf s.answer → given (told t) c ≡ as_given s → w ≡ words_in (told t) → x ≡ reals_in (told t) → v ≡ (reply_in (told t).answer).reading.variables → k ≡ map whole_at (reply_in (told t).answer).reading.coefficients
+    → handed (is_some t.answer) w x v k c ≡ handed_by s
+hands-over t s f e p q r z = rw (p, q, r, z, sym (some-told t.answer)) (ap (λ (g : Given). over g.back g.left) e ∙ over-is s.answer s.taken (bytes_of s.left) f)
+
+pub reads_over : (a : Result Weighted Refusal) {w : List ℕ} {y : List Float} {v : List ℕ} {k : List Float} (line : List ℕ) → answered a ≡ as_reply (read_second line) → w ≡ words_in (record { answer = Some (answered a); taken = length line })
+    → y ≡ reals_in (record { answer = Some (answered a); taken = length line }) → v ≡ (answered a).reading.variables → k ≡ map whole_at (answered a).reading.coefficients → handed true w y v k [] ≡ read_by line
+reads_over a line e p q r z = rw (p, q, r, z) (ap (λ (g : code.Reply). over (record { answer = Some g; taken = length line }) []) e ∙ over-is (some (read_second line)) (length line) [] (line-fits line))

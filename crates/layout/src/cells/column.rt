@@ -1,4 +1,4 @@
-// The walk along a column: which rows hold a place.
+// The walk along a column: which rows hold a place. No crate calls it today: public, with promises of its own.
 ghost use Rattle.std.specs.Prelude.{◌≡◌, ◌≤◌};
 ghost use Rattle.layout.specs.cells.Names.{cell_room};
 ghost use Rattle.layout.specs.cells.Cells.{next_in, last_before};

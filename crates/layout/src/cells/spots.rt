@@ -69,12 +69,6 @@ pub fn fill_spots(keys: &[u16; CELL_ROOM], n: usize, p: u8, spots: &mut [u16; LI
     fill_part(keys, n, p, blocks * BLOCK, n, spots);
 }
 
-fn wide(x: u16) -> usize
-    ensures { result ≡ x }
-{
-    x as usize
-}
-
 // The value of row i at place p, or 0.0.
 pub fn spot_cell(
     keys: &[u16; CELL_ROOM],
@@ -90,7 +84,7 @@ pub fn spot_cell(
     requires spots { Spots keys.now n p spots.now }
     ensures { result ≡ cell_at keys.now vals.now n (i * row_span + p) }
 {
-    let j = wide(spots[i]);
+    let j = usize::from(spots[i]);
     if j < n {
         return vals[j];
     }

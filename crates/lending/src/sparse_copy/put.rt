@@ -1,4 +1,5 @@
 // The live part of each table over another's: k symbols, r rows, v variables, c constraints, e edits, m terms, n cells, g gone.
+// They are no struct: each function asks for the bounds of those that it takes, and one struct would ask for all.
 ghost use Rattle.std.specs.Prelude.{◌≡◌, ◌+◌, ◌≤◌, length};
 ghost use Rattle.layout.specs.cells.Names.{last_place};
 ghost use Rattle.sparse.specs.Places.{most_rows, most_variables, most_constraints, most_terms, most_gone};

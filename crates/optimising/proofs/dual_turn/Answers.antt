@@ -1,3 +1,5 @@
+use mathlib.Core.Path.{refl}
+use Rattle.std.proofs.lemmas.Result.{err_from_is_err_and}
 use native.Mathlib.Omega.{arith}
 use Rattle.rows.specs.choose.Better.{within}
 use Rattle.waist.specs.FreePlaces.{dual-free}
@@ -5,7 +7,7 @@ use Rattle.optimising.specs.Chosen.{turn-ends, turn-stuck, dual-turns, dual-ende
 use Rattle.optimising.proofs.dual_turn.Goals as goal
 
 pub returns-in_default-clause-does : goal.returns-in_default-clause-does
-returns-in_default-clause-does c = turn-ends dual-turns _ _ _ _ _ c.requires (dual-ended _ _ _ c.get_dual_leaving_row-f.ensures.value c.in_default.is) c.stopped.ensures
+returns-in_default-clause-does c = turn-ends dual-turns _ _ _ _ _ c.requires (dual-ended _ _ _ c.get_dual_leaving_row-f.ensures.value c.in_default.is) refl
 
 pub overflow_cast-i : goal.overflow_cast-i
 overflow_cast-i c =
@@ -17,7 +19,7 @@ get_dual_entering_symbol-g-requires c = let i = within c.get_dual_leaving_row-f.
     record { sound = c.requires.sound; i_bound = i.1 }
 
 pub returns-in_default-g-clause-does : goal.returns-in_default-g-clause-does
-returns-in_default-g-clause-does c = turn-stuck dual-turns _ _ _ _ _ (dual-stuck _ _ _ c.get_dual_leaving_row-f.ensures.value c.in-Some.is c.get_dual_entering_symbol-g.ensures c.in_default-g.is) c.stopped-in_default-g.ensures
+returns-in_default-g-clause-does c = turn-stuck dual-turns _ _ _ _ _ (dual-stuck _ _ _ c.get_dual_leaving_row-f.ensures.value c.in-Some.is c.get_dual_entering_symbol-g.ensures c.in_default-g.is) refl
 
 pub overflow_cast-i-2 : goal.overflow_cast-i-2
 overflow_cast-i-2 c =
@@ -36,4 +38,7 @@ pivot_within-requires c =
     record { standing = c.requires; le_i = i.0; i_bound = i.1; le_p = p.0; p_bound = p.1; free = dual-free _ _ _ c.requires c.in-Some-g.is _ i.0 i.1 c.get_dual_entering_symbol-g.ensures }
 
 pub returns-clause-does : goal.returns-clause-does
-returns-clause-does c = c.pivot_within.ensures.does _ _ _ dual-turns (dual-pivots _ _ _ c.get_dual_leaving_row-f.ensures.value c.in-Some.is c.get_dual_entering_symbol-g.ensures c.in-Some-g.is)
+returns-clause-does c = c.in_ok-went.ensures.does _ _ _ dual-turns (dual-pivots _ _ _ c.get_dual_leaving_row-f.ensures.value c.in-Some.is c.get_dual_entering_symbol-g.ensures c.in-Some-g.is)
+
+pub returns-in_err-went-clause-does : goal.returns-in_err-went-clause-does
+returns-in_err-went-clause-does c = let p = err_from_is_err_and c.from_residual.result c.from_residual.ensures.1 in rw (p.1, p.2) (c.in_err-went.ensures.does _ _ _ dual-turns (dual-pivots _ _ _ c.get_dual_leaving_row-f.ensures.value c.in-Some.is c.get_dual_entering_symbol-g.ensures c.in-Some-g.is))

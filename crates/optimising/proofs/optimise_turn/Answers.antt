@@ -1,3 +1,5 @@
+use mathlib.Core.Path.{refl}
+use Rattle.std.proofs.lemmas.Result.{err_from_is_err_and}
 use native.Mathlib.Omega.{arith}
 use Rattle.rows.specs.choose.Better.{within}
 use Rattle.waist.specs.FreePlaces.{goal-free}
@@ -5,7 +7,7 @@ use Rattle.optimising.specs.Chosen.{turn-ends, turn-stuck, optimise-turns, optim
 use Rattle.optimising.proofs.optimise_turn.Goals as goal
 
 pub returns-in_default-clause-does : goal.returns-in_default-clause-does
-returns-in_default-clause-does c = turn-ends (optimise-turns c.args.art) _ _ _ _ _ c.requires (optimise-ended _ _ _ _ c.get_goal_entering_symbol-f.ensures c.in_default.is) c.stopped.ensures
+returns-in_default-clause-does c = turn-ends (optimise-turns c.args.art) _ _ _ _ _ c.requires (optimise-ended _ _ _ _ c.get_goal_entering_symbol-f.ensures c.in_default.is) refl
 
 pub overflow_cast-p : goal.overflow_cast-p
 overflow_cast-p c =
@@ -17,7 +19,7 @@ get_leaving_row-g-requires c = let p = within c.get_goal_entering_symbol-f.ensur
     let rest = p in record { sound = c.requires.sound; le_p = rest.0; p_bound = rest.1 }
 
 pub returns-in_default-g-clause-does : goal.returns-in_default-g-clause-does
-returns-in_default-g-clause-does c = turn-stuck (optimise-turns c.args.art) _ _ _ _ _ (optimise-stuck _ _ _ _ c.get_goal_entering_symbol-f.ensures c.in-Some.is c.get_leaving_row-g.ensures c.in_default-g.is) c.stopped-in_default-g.ensures
+returns-in_default-g-clause-does c = turn-stuck (optimise-turns c.args.art) _ _ _ _ _ (optimise-stuck _ _ _ _ c.get_goal_entering_symbol-f.ensures c.in-Some.is c.get_leaving_row-g.ensures c.in_default-g.is) refl
 
 pub overflow_cast-i : goal.overflow_cast-i
 overflow_cast-i c =
@@ -36,4 +38,7 @@ pivot_within-requires c =
     record { standing = c.requires; le_i = i.0; i_bound = i.1; le_p = p.0; p_bound = p.1; free = goal-free _ _ _ c.requires c.in-Some.is c.get_goal_entering_symbol-f.ensures }
 
 pub returns-clause-does : goal.returns-clause-does
-returns-clause-does c = c.pivot_within.ensures.does _ _ _ (optimise-turns c.args.art) (optimise-pivots _ _ _ _ c.get_goal_entering_symbol-f.ensures c.in-Some.is c.get_leaving_row-g.ensures c.in-Some-g.is)
+returns-clause-does c = c.in_ok-went.ensures.does _ _ _ (optimise-turns c.args.art) (optimise-pivots _ _ _ _ c.get_goal_entering_symbol-f.ensures c.in-Some.is c.get_leaving_row-g.ensures c.in-Some-g.is)
+
+pub returns-in_err-went-clause-does : goal.returns-in_err-went-clause-does
+returns-in_err-went-clause-does c = let p = err_from_is_err_and c.from_residual.result c.from_residual.ensures.1 in rw (p.1, p.2) (c.in_err-went.ensures.does _ _ _ (optimise-turns c.args.art) (optimise-pivots _ _ _ _ c.get_goal_entering_symbol-f.ensures c.in-Some.is c.get_leaving_row-g.ensures c.in-Some-g.is))

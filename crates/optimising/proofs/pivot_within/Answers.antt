@@ -1,9 +1,10 @@
+use mathlib.Core.Path.{refl}
 use native.Mathlib.Omega.{arith}
 use Rattle.optimising.specs.Chosen.{turn-limit, turn-pivots}
 use Rattle.optimising.proofs.pivot_within.Goals as goal
 
 pub returns-then-budget-pivots-clause-does : goal.returns-then-budget-pivots-clause-does
-returns-then-budget-pivots-clause-does c = λ run choose n turns q. turn-limit turns _ _ _ _ _ q (omega (arith, c.if-budget-pivots.true)) c.stopped.ensures
+returns-then-budget-pivots-clause-does c = λ run choose n turns q. turn-limit turns _ _ _ _ _ q (omega (arith, c.if-budget-pivots.true)) refl
 
 pub pivot_on-w-requires : goal.pivot_on-w-requires
 pivot_on-w-requires c = record { standing = c.requires.standing; le_i = c.requires.le_i; i_bound = c.requires.i_bound; le_p = c.requires.le_p; p_bound = c.requires.p_bound; free = c.requires.free }

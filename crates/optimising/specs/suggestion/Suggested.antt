@@ -14,11 +14,10 @@ use Rattle.steps.specs.Edit.{shift_constants, suggest_steps}
 use Rattle.rows.specs.declared.number.Wrote.{Wrote}
 use Rattle.rows.specs.Marks.{mark_of}
 use Rattle.sparse.specs.Sparse.{Sparse}
-use Rattle.waist.specs.declared.ending.Ended.{Ended}
 use Rattle.waist.specs.Working.{work_of}
 use Rattle.waist.specs.Standing.{Standing, Makes}
 use Rattle.waist.specs.Holding.{standing-worse}
-use Rattle.waist.specs.Ending.{outcome_of, Goes, checked_of, checked-is, refused-then, going-then, is-refused, none_then}
+use Rattle.waist.specs.Ending.{Ended, outcome_of, Goes, checked_of, checked-is, refused-then, going-then, is-refused, none_then}
 
 -- an edit with this tag and last suggestion: a suggestion uses no other part of it
 abbrev pub edit_by : Tag → Float → Edit
@@ -66,10 +65,14 @@ module _ (t u : Sparse) (tag : Tag) (stored new : Float) (before given wrote : W
     pub suggest-ends : eqb checked.number 0 ≡ false → (outcome_of false checked u ≡ steps) × Goes false checked u
     suggest-ends e = (is-refused false checked u e ∙ refused-then false checked u first (dual_optimise budget) e checked-reads ∙ steps-are, none_then (Standing false (mark_of checked.wrote) u) (eqb checked.number 0) e)
 
+    pub suggest-stands : Standing false (mark_of checked.wrote) u
+    unfolding checked_of
+    suggest-stands = rw is moved.stands
+
     -- the dual pass leaves the tables `z`
-    pub suggest-goes : (r : Ended) (z : Sparse) → eqb checked.number 0 ≡ true → outcome_of false r z ≡ dual_optimise (budget - 0) (work_of false (mark_of wrote) 0 u) → outcome_of false r z ≡ steps
+    pub suggest-goes : (r : Ended) (z : Sparse) → eqb checked.number 0 ≡ true → outcome_of false r z ≡ dual_optimise (budget - checked.pivots) (work_of false (mark_of checked.wrote) checked.pivots u) → outcome_of false r z ≡ steps
     unfolding checked_of
     suggest-goes r z e q =
         let on : dual_optimise budget (work_of false (mark_of checked.wrote) checked.pivots u) ≡ (first >>= dual_optimise budget) = going-then false checked u first (dual_optimise budget) e checked-reads in
-        let same : dual_optimise budget (work_of false (mark_of wrote) 0 u) ≡ dual_optimise budget (work_of false (mark_of checked.wrote) checked.pivots u) = rw is refl in
-        (rw (sub-zero budget) at q) ∙ same ∙ on ∙ steps-are
+        let none : budget - checked.pivots ≡ budget = rw is (sub-zero budget) in
+        (rw none at q) ∙ on ∙ steps-are

@@ -7,6 +7,7 @@ ghost use Rattle.sparse.specs.Places.{most_rows, symbol_count_at, row_count_at, 
 ghost use Rattle.layout.specs.cells.Names.{cell_room, last_place};
 ghost use Rattle.layout.specs.cells.Cells.{Ascending};
 ghost use Rattle.layout.specs.cells.Spots.{Lined, Spots};
+ghost use Rattle.waist.specs.Kinds.{kind_byte};
 ghost use Rattle.waist.specs.substituting.Notes.{noted, is_external_kind};
 ghost use Rattle.waist.specs.Working.{sparse};
 ghost use Rattle.waist.specs.Rows.{row_for};
@@ -20,7 +21,8 @@ use layout::cells::spots::{fill_spots, no_spots, spot_cell};
 use rows::number::{CONSTANT_BOUND, Wrote, joined, mark_write};
 use sparse::{Bytes, CELL_COUNT, CONSTANTS, Keys, ROW_COUNT, ROW_PLACES, Reals, Values, Words};
 use waist::choices::row_of;
-use waist::substituting::notes::{is_external, kind_at, var_changed_if};
+use waist::kinds::Kind;
+use waist::substituting::notes::{kind_at, var_changed_if};
 
 // The row of the symbol at place `own` gets `by`; or else, where that is 0, each row gets `by` times its cell at place `at`.
 #[derive(Clone, Copy)]
@@ -118,11 +120,11 @@ fn shift_of(
 }
 
 // "A product that isn't zero notes an External."
-fn is_noted(kind: u8, s: Option<f64>) -> bool
-    ensures { result ≡ (is_external_kind kind && changes_by (optional s)) }
+fn is_noted(kind: Kind, s: Option<f64>) -> bool
+    ensures { result ≡ (is_external_kind (kind_byte kind) && changes_by (optional s)) }
 {
     match s {
-        Some(by) => is_external(kind) & (by != 0.0),
+        Some(by) => kind.is_external() & (by != 0.0),
         None => false,
     }
 }

@@ -1,5 +1,5 @@
 -- The code's answer to a line of the second edition, by the grammar's.
-use Rattle.std.specs.Prelude.{ℕ, ◌≤◌, ◌<◌, ◌≡◌, Bool, cond, ◌&&◌, ◌||◌, List, leb, ltb, eqb, length, nat_abs, Ok, Err}
+use Rattle.std.specs.Prelude.{ℕ, ◌≤◌, ◌<◌, ◌≡◌, Bool, cond, ◌&&◌, ◌||◌, List, leb, ltb, eqb, length, nat_abs, Result, Ok, Err}
 use Rattle.std.proofs.Math.Path.{refl}
 use Rattle.std.proofs.Common.{sym, ap, ap₂, ◌∙◌, arith}
 use Rattle.std.proofs.Math.Bool.{true, false}
@@ -13,18 +13,29 @@ use Rattle.grammar.specs.edition.Steps.{met, replied, start, read_second}
 use Rattle.grammar.specs.edition.Descent.{pass_from}
 use Rattle.reader.specs.Sides.{relation_of}
 use Rattle.reader.specs.Parts.{sums_of}
-use Rattle.reader.specs.Answers.{refusal, as_read}
-use Rattle.reader.specs.declared.answers.Reading.{Reading}
+use Rattle.reader.specs.Answers.{Reading, refusal, shown, as_read, faults}
 use Rattle.reader.specs.second.Numbers.{capped, capped-in, capped-range, capped-group}
 use Rattle.reader.specs.second.Ends.{Agrees}
-use Rattle.reader.specs.declared.second.Reply.{Reply}
+use Rattle.reader.specs.declared.second.Weighted.{Weighted}
+use Rattle.reader.specs.declared.fault.Refusal.{Refusal}
 use Rattle.reader.specs.declared.second.ends.Second.{Second}
-use Rattle.reader.specs.Faults.{number_of, place_of}
+use Rattle.reader.specs.Faults.{number_of, place_of, refused_by, some-number}
 use Rattle.reader.specs.declared.fault.Fault.{Fault}
+
+-- the reading, with the strength and the group; both are 0 where the line is refused
+pub record Reply : Type 0 where
+  pub reading : Reading
+  pub strength : ℕ
+  pub group : ℕ
 
 -- a refusal, or what has none yet
 abbrev pub unread : Reading → Reply
 unread r = record { reading = r; strength = 0; group = 0 }
+
+-- the code's answer, by its number
+abbrev pub answered : Result Weighted Refusal → Reply
+answered (Ok x) = record { reading = shown (Ok x.constraint); strength = x.strength; group = x.group }
+answered (Err r) = unread (shown (Err r))
 
 abbrev pub as_reply : edition.Reply → Reply
 as_reply (taken c) = record { reading = as_read (reads c.reading); strength = c.strength; group = c.group }
@@ -52,11 +63,11 @@ is-group g e = by (ltb g 1) (ltb most_group g) (ltb-false g 1) (ltb-false most_g
     by false true f h e = absurd (false≢true (sym e))
     by false false f h e = (rw (le-leb 1 g (f refl), le-leb g most_group (h refl)), h refl)
 
-module _ (r : Reading) (n g : ℕ) where
-  pub refused-first : (r.number ≡ 0 → ⊥) → unread r ≡ ranged_by r n g
-  unfolding ranged_by
-  refused-first h = rw (ne_eqb r.number 0 h)
+pub refused-first : (r : Refusal) (n g : ℕ) → unread (shown (Err r)) ≡ ranged_by (shown (Err r)) n g
+unfolding ranged_by
+refused-first r n g = rw (some-number r) refl
 
+module _ (r : Reading) (n g : ℕ) where
   module _ (z : r.number ≡ 0) where
     pub too-strong : required < n → unread (refusal 34 0) ≡ ranged_by r n g
     unfolding ranged_by
@@ -120,5 +131,5 @@ module _ (w : List ℕ) where
         let a = summed (relation_of z.relation) (sums_of numbers sums z.place) in
         y ∙ (ap (λ (v : Reading). ranged_by v z.ending.strength z.ending.group) q ∙ (ap₂ (ranged_by (as_read (judged a))) f g ∙ (ranged-is a j k ∙ sym (ap as_reply (short h ∙ ap replied e)))))
 
-    pub read-refused : (e : Fault) {r : Reading} {x : Reply} → Agrees numbers sums (Err e) (pass_from w 0 start) → r ≡ as_read (refuses (number_of e) (place_of e)) → x ≡ unread r → x ≡ as_reply (read_second w)
-    read-refused e z q y = y ∙ (ap unread q ∙ (refused-is (number_of e) (place_of e) ∙ sym (ap as_reply (short h ∙ ap replied z))))
+    pub read-refused : (e : Fault) {r : Refusal} → Agrees numbers sums (Err e) (pass_from w 0 start) → r ≡ refused_by e → answered (Err r) ≡ as_reply (read_second w)
+    read-refused e z q = rw q (ap unread (faults e) ∙ (refused-is (number_of e) (place_of e) ∙ sym (ap as_reply (short h ∙ ap replied z))))

@@ -1,9 +1,9 @@
-use Prim.Native.Nat.{◌+◌, ◌≤◌}
+use Prim.Native.Nat.{◌+◌}
 use mathlib.Core.Path.{◌≡◌}
 use lib.Dec.{eqb}
 use lib.ListN.{get_or}
 use Rattle.laws.specs.Loops.{first}
-use Rattle.sparse.specs.Places.{most_constraints, constraint_groups_at}
+use Rattle.sparse.specs.Places.{constraint_groups_at}
 use Rattle.sparse.specs.Lookup.{place_from}
 use Rattle.refusals.proofs.group_place.Given as goal
 

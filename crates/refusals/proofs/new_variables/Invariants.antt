@@ -1,7 +1,6 @@
 use Prim.Native.Nat.{◌≤◌}
 use mathlib.Core.Path.{◌≡◌}
 use Rattle.laws.specs.Lists.{sum_on}
-use Rattle.layout.specs.Layout.{term_room}
 use Rattle.refusals.specs.Refusals.{new_at, new_in}
 use Rattle.refusals.proofs.new_variables.Given as goal
 

@@ -1,15 +1,15 @@
-use Prim.Native.Nat.{ℕ}
-use mathlib.Core.Path.{◌≡◌, refl}
-use mathlib.Core.Bool.{Bool, not, cond}
-use mathlib.Core.List.{List}
-use lib.Ieee.{Float}
-use Rattle.refusals.specs.declared.gone.Taken.TheVariants.{Edit}
-use Rattle.refusals.specs.Refusals.{edited_in, gone_full_in, remove_edit_refusal}
+use mathlib.Core.Path.{refl, sym}
+use Rattle.refusals.specs.Refusals.{remove_edit_refusal}
 use Rattle.refusals.proofs.remove_edit_tests.Goals as goal
 
-says : (w b : List ℕ) (r : List Float) (u : ℕ) {f l : Bool} {y z : ℕ} → f ≡ gone_full_in w b r (Edit u) → y ≡ cond f 25 0 → l ≡ edited_in w b u → z ≡ cond (not l) 8 y → z ≡ remove_edit_refusal u w b r
+pub returns-then-not-is_edited : goal.returns-then-not-is_edited
 unfolding remove_edit_refusal
-says w b r u h₁ h₂ h₃ h₄ = rw (h₄, h₃, h₂, h₁) refl
+returns-then-not-is_edited c = rw (sym c.is_edited.ensures, c.if-not-is_edited.true) refl
+
+pub returns-then-gone_full : goal.returns-then-gone_full
+unfolding remove_edit_refusal
+returns-then-gone_full c = rw (sym c.is_edited.ensures, c.if-not-is_edited.false, sym c.gone_full.ensures, c.if-gone_full.true) refl
 
 pub returns : goal.returns
-returns c = says c.args.words.now c.args.bytes.now c.args.reals.now c.args.n c.gone_full.ensures c.refusal-full.ensures c.is_edited.ensures c.refusal.ensures
+unfolding remove_edit_refusal
+returns c = rw (sym c.is_edited.ensures, c.if-not-is_edited.false, sym c.gone_full.ensures, c.if-gone_full.false) refl

@@ -1,15 +1,15 @@
-use Prim.Native.Nat.{ℕ}
-use mathlib.Core.Path.{◌≡◌, refl}
-use mathlib.Core.Bool.{Bool, not, cond}
-use mathlib.Core.List.{List}
-use lib.Ieee.{Float}
-use Rattle.steps.specs.Number.{is_finite}
-use Rattle.refusals.specs.Refusals.{edited_in, suggest_refusal}
+use mathlib.Core.Path.{refl, sym}
+use Rattle.refusals.specs.Refusals.{suggest_refusal}
 use Rattle.refusals.proofs.suggest_tests.Goals as goal
 
-says : (w b : List ℕ) (u : ℕ) (new : Float) {l f : Bool} {y z : ℕ} → l ≡ edited_in w b u → y ≡ cond (not l) 8 0 → f ≡ is_finite new → z ≡ cond (not f) 1 y → z ≡ suggest_refusal u new w b
+pub returns-then-not-is_finite : goal.returns-then-not-is_finite
 unfolding suggest_refusal
-says w b u new h₁ h₂ h₃ h₄ = rw (h₄, h₃, h₂, h₁) refl
+returns-then-not-is_finite c = rw (sym c.is_finite.ensures, c.if-not-is_finite.true) refl
+
+pub returns-then-not-is_edited : goal.returns-then-not-is_edited
+unfolding suggest_refusal
+returns-then-not-is_edited c = rw (sym c.is_finite.ensures, c.if-not-is_finite.false, sym c.is_edited.ensures, c.if-not-is_edited.true) refl
 
 pub returns : goal.returns
-returns c = says c.args.words.now c.args.bytes.now c.args.n c.args.new c.is_edited.ensures c.refusal-known.ensures c.is_finite.ensures c.refusal.ensures
+unfolding suggest_refusal
+returns c = rw (sym c.is_finite.ensures, c.if-not-is_finite.false, sym c.is_edited.ensures, c.if-not-is_edited.false) refl

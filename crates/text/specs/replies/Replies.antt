@@ -1,11 +1,13 @@
 -- The answer to a line as text: `ok RELATION STRENGTH GROUP CONSTANT N V1 K1 ..`, `no 20 OFFSET`, or `no NUMBER`.
-use Rattle.std.specs.Prelude.{◌≡◌, ℕ, zero, suc, ◌+◌, ◌-◌, cond, List, [], ◌∷◌, ◌++◌, ◌==◌, nat_le, nat_lt, slice_index}
-use Rattle.std.proofs.Common.{add-one}
+use Rattle.std.specs.Prelude.{◌≡◌, ℕ, zero, suc, ◌+◌, ◌-◌, cond, List, [], ◌∷◌, ◌++◌, ◌==◌, nat_le, nat_lt, slice_index, Err}
+use Rattle.std.proofs.Common.{add-one, refl, sym, ◌∙◌}
 use Rattle.text.specs.Answers.{number_text}
 use Rattle.reader.specs.declared.sides.Mark.{Mark}
 use Rattle.reader.specs.declared.sides.Mark.TheVariants.{AtMost, Equal, AtLeast}
-use Rattle.reader.specs.declared.answers.Reading.{Reading}
-use Rattle.reader.specs.declared.second.Reply.{Reply}
+use Rattle.reader.specs.declared.fault.Refusal.{Refusal}
+use Rattle.reader.specs.Faults.{refusal_number, offset_of, some-number}
+use Rattle.reader.specs.Answers.{Reading, shown}
+use Rattle.reader.specs.second.Replies.{Reply, answered}
 
 -- a whole number that stands as what it is above 2 to the power of 53
 abbrev pub signed_text : ℕ → List ℕ
@@ -51,3 +53,12 @@ reply_text x = cond (x.reading.number == 0) (reading_text x) (refusal_text x.rea
 pub terms-next : (n : ℕ) (vs ks : List ℕ) → terms_text (n + 1) vs ks ≡ terms_text n vs ks ++ term_text (slice_index vs n) (slice_index ks n)
 unfolding terms_text
 terms-next n vs ks = rw add-one
+
+-- a refusal is said whatever stands beside it
+pub refused-text : (r : Refusal) (s g : ℕ) → reply_text (record { reading = shown (Err r); strength = s; group = g }) ≡ refusal_text (refusal_number r) (offset_of r)
+unfolding reply_text
+refused-text r s g = rw (some-number r) refl
+
+-- in either edition
+pub refused-line : (r : Refusal) → reply_text (answered (Err r)) ≡ reply_text (usual (shown (Err r)))
+refused-line r = refused-text r 0 0 ∙ sym (refused-text r 1001001000 1)

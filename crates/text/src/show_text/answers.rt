@@ -63,6 +63,7 @@ fn put_term(out: &mut Out, at: usize, v: u32, k: f64) -> usize
     put_float(out, i, k)
 }
 
+// (No twin of the one in `replies`: the numbers have other types, and each term another text.)
 fn put_terms(
     out: &mut Out,
     at: usize,

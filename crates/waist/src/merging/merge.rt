@@ -7,6 +7,7 @@ ghost use Rattle.layout.specs.cells.Names.{cell_room, row_room, row_span, top_ro
 ghost use Rattle.layout.specs.cells.Cells.{cells, put_if, packed};
 ghost use Rattle.waist.specs.merging.Merge.{RunOf, front_of, own_value, own_cell, other_cell, merged_row, merged_mark};
 
+use crate::merging::run::Run;
 use layout::cells::row::put_if;
 use layout::cells::{CELL_ROOM, ROW_ROOM, ROW_SPAN};
 use rows::cell::{Left, cell_value, insert_cell, mark_cell};
@@ -77,7 +78,7 @@ fn put_sum(
     }
 }
 
-// "Substitute s: s's cell k goes, then insert row times k.": row i's cells from place a up to e, without that of place `at`, and k times the loose row.
+// "Substitute s: s's cell k goes, then insert row times k.": row i's cells from place a up to e, without that of place `at`, and k times the loose run.
 pub fn merge_run(
     cutoff: f64,
     keys: &[u16; CELL_ROOM],
@@ -86,24 +87,22 @@ pub fn merge_run(
     e: usize,
     i: u8,
     at: u8,
-    cols: &[u16; ROW_ROOM],
-    others: &[f64; ROW_ROOM],
-    m: usize,
+    other: &Run,
     k: f64,
     bound: f64,
-    fresh: &mut [u16; ROW_ROOM],
-    sums: &mut [f64; ROW_ROOM],
-) -> Merged
+    fresh: &mut Run,
+) -> Wrote
     requires a_le_e { a ≤ e }
     requires e_le_cell_room { e ≤ cell_room }
-    requires m_le_row_room { m ≤ row_room }
+    requires size_le_row_room { other.now.size ≤ row_room }
     requires i_lt_top_row { i < top_row }
     requires run_of { RunOf keys.now i a e }
-    requires run_of_2 { RunOf cols.now 0 0 m }
-    ensures size_after { cells fresh.new sums.new result.size ≡ packed last_place i (merged_row cutoff k (own_cell keys.now vals.now a e i at) (other_cell cols.now others.now m)) (cells fresh.old sums.old 0) }
-    ensures wrote_value { mark_of result.wrote ≡ merged_mark cutoff bound k (own_cell keys.now vals.now a e i at) (other_cell cols.now others.now m) }
-    ensures size_le_last_place { result.size ≤ last_place }
+    requires run_of_2 { RunOf other.now.keys 0 0 other.now.size }
+    ensures run_after { cells fresh.new.keys fresh.new.vals fresh.new.size ≡ packed last_place i (merged_row cutoff k (own_cell keys.now vals.now a e i at) (other_cell other.now.keys other.now.vals other.now.size)) (cells fresh.old.keys fresh.old.vals 0) }
+    ensures wrote_value { mark_of result ≡ merged_mark cutoff bound k (own_cell keys.now vals.now a e i at) (other_cell other.now.keys other.now.vals other.now.size) }
+    ensures size_le_last_place { fresh.new.size ≤ last_place }
 {
+    let m = other.size;
     let base = i as u16 * ROW_SPAN;
     let mut s = a;
     let mut j = 0;
@@ -112,22 +111,22 @@ pub fn merge_run(
     // Two walks, each at its own pace: no range counts both.
     while s + j < e + m {
         let p = front(keys, s, e);
-        let q = front(cols, j, m);
+        let q = front(&other.keys, j, m);
         if p < q {
             let x = own(vals[s], p, at);
-            n = put_if(fresh, sums, n, base + p, x);
+            n = put_if(&mut fresh.keys, &mut fresh.vals, n, base + p, x);
             s += 1;
             continue;
         }
         if q < p {
             let r = put_sum(
                 cutoff,
-                fresh,
-                sums,
+                &mut fresh.keys,
+                &mut fresh.vals,
                 n,
                 base + q,
                 k,
-                others[j],
+                other.vals[j],
                 0.0,
                 bound,
                 w,
@@ -138,11 +137,23 @@ pub fn merge_run(
             continue;
         }
         let x = own(vals[s], p, at);
-        let r = put_sum(cutoff, fresh, sums, n, base + q, k, others[j], x, bound, w);
+        let r = put_sum(
+            cutoff,
+            &mut fresh.keys,
+            &mut fresh.vals,
+            n,
+            base + q,
+            k,
+            other.vals[j],
+            x,
+            bound,
+            w,
+        );
         n = r.size;
         w = r.wrote;
         s += 1;
         j += 1;
     }
-    Merged { size: n, wrote: w }
+    fresh.size = n;
+    w
 }

@@ -3,18 +3,14 @@ ghost use Rattle.std.specs.Prelude.{◌≡◌, ◌≤◌, ◌<◌};
 ghost use Rattle.layout.specs.cells.Names.{row_room};
 ghost use Rattle.layout.specs.cells.Cells.{cells, packed};
 
+use crate::merging::run::Run;
 use layout::cells::ROW_ROOM;
 
-// The present cells of the places 1 to k, as row 0; how many there are.
-pub fn loose_run(
-    row: &[f64; ROW_ROOM],
-    k: usize,
-    cols: &mut [u16; ROW_ROOM],
-    others: &mut [f64; ROW_ROOM],
-) -> usize
+// The present cells of the places 1 to k, as row 0.
+pub fn loose_run(row: &[f64; ROW_ROOM], k: usize, run: &mut Run)
     requires { k < row_room }
-    ensures result_after { cells cols.new others.new result ≡ packed k 0 row.now (cells cols.old others.old 0) }
-    ensures upper_bound { result ≤ k }
+    ensures run_after { cells run.new.keys run.new.vals run.new.size ≡ packed k 0 row.now (cells run.old.keys run.old.vals 0) }
+    ensures upper_bound { run.new.size ≤ k }
 {
     let mut n = 0;
     for p in 1..k + 1 {
@@ -22,9 +18,9 @@ pub fn loose_run(
         if x == 0.0 {
             continue;
         }
-        cols[n] = p as u16;
-        others[n] = x;
+        run.keys[n] = p as u16;
+        run.vals[n] = x;
         n += 1;
     }
-    n
+    run.size = n;
 }

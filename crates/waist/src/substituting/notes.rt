@@ -4,9 +4,11 @@ ghost use Rattle.laws.specs.Loops.{map_in};
 ghost use Rattle.sparse.specs.Places.{most_rows, most_variables, variable_count_at, kinds_at, changed_at};
 ghost use Rattle.layout.specs.cells.Names.{last_place};
 ghost use Rattle.layout.specs.cells.Spots.{Spots};
+ghost use Rattle.waist.specs.Kinds.{kind_byte, KindOf};
 ghost use Rattle.waist.specs.substituting.Held.{Held};
 ghost use Rattle.waist.specs.substituting.Notes.{noted, flagged_in, var_changed_at, var_changed_if, is_external_kind, changes, note_rows};
 
+use crate::kinds::Kind;
 use layout::cells::LINES_ROOM;
 use layout::cells::spots::spot_cell;
 use sparse::{
@@ -64,23 +66,17 @@ pub fn var_changed_if(on: bool, words: &mut Words, bytes: &mut Bytes, p: u8)
 }
 
 // The kind of the symbol at place p.
-pub fn kind_at(bytes: &Bytes, p: u8) -> u8
-    ensures { result ≡ get_or bytes.now (kinds_at + p) 0 }
+pub fn kind_at(bytes: &Bytes, p: u8) -> Kind
+    ensures { KindOf (get_or bytes.now (kinds_at + p) 0) result }
 {
-    bytes[KINDS + p as usize]
-}
-
-pub fn is_external(kind: u8) -> bool
-    ensures { result ≡ is_external_kind kind }
-{
-    (kind != 1) & (kind != 2) & (kind != 3)
+    Kind::from(bytes[KINDS + p as usize])
 }
 
 // What the substitution will say of the constant: k is the row's cell, y the constant of the row that is inserted.
-fn is_noted(kind: u8, k: f64, y: f64) -> bool
-    ensures { result ≡ (is_external_kind kind && changes k y) }
+fn is_noted(kind: Kind, k: f64, y: f64) -> bool
+    ensures { result ≡ (is_external_kind (kind_byte kind) && changes k y) }
 {
-    is_external(kind) & (k != 0.0) & (y * k != 0.0)
+    kind.is_external() & (k != 0.0) & (y * k != 0.0)
 }
 
 // Before the lines are changed: an External row whose constant will change is noted.

@@ -14,9 +14,10 @@ ghost use Rattle.waist.specs.substituting.Passed.{FirstSpot, Alike};
 
 use crate::merging::merge::{Merged, merge_run};
 use crate::merging::row::paste;
+use crate::merging::run::Run;
 use layout::cells::edges::{run_end, run_start};
 use layout::cells::slide::slide;
-use layout::cells::{CELL_ROOM, LINES_ROOM, ROW_ROOM, ROW_SPAN};
+use layout::cells::{CELL_ROOM, LINES_ROOM, ROW_SPAN};
 use rows::number::{CELL_BOUND, CONSTANT_BOUND, Wrote, joined, mark_write, nothing};
 use sparse::{CONSTANTS, Keys, Reals, Values};
 
@@ -36,42 +37,36 @@ fn merge_line(
     reals: &mut Reals,
     i: u8,
     at: u8,
-    b: usize,
-    s: usize,
     c: usize,
-    cols: &[u16; ROW_ROOM],
-    others: &[f64; ROW_ROOM],
-    m: usize,
+    other: &Run,
     y: f64,
-    fresh: &mut [u16; ROW_ROOM],
-    sums: &mut [f64; ROW_ROOM],
-    before: Wrote,
+    fresh: &mut Run,
+    before: Passed,
 ) -> Passed
     requires i_le_most_rows { i ≤ most_rows }
-    requires ready { Ready i at b s c keys.old }
-    requires m_le_row_room { m ≤ row_room }
-    requires run_of { RunOf cols.now 0 0 m }
-    ensures { Carries cutoff at m y cols.now others.now i s (lines keys.old values.old b reals.old (mark_of before)) result.back (lines keys.new values.new result.front reals.new (mark_of result.wrote)) }
+    requires ready { Ready i at before.front before.back c keys.old }
+    requires size_le_row_room { other.now.size ≤ row_room }
+    requires run_of { RunOf other.now.keys 0 0 other.now.size }
+    ensures { Carries cutoff at other.now.size y other.now.keys other.now.vals i before.back (lines keys.old values.old before.front reals.old (mark_of before.wrote)) result.back (lines keys.new values.new result.front reals.new (mark_of result.wrote)) }
 {
     let low = i as u16 * ROW_SPAN;
-    let a = run_start(keys, s, c, low);
+    let a = run_start(keys, before.back, c, low);
     let e = run_end(keys, c, CELL_ROOM, low + ROW_SPAN);
     let k = values[c];
     let place = CONSTANTS + i as usize;
     let total = reals[place] + y * k;
     reals[place] = total;
-    let r = merge_run(
-        cutoff, keys, values, a, e, i, at, cols, others, m, k, CELL_BOUND, fresh, sums,
+    let w = merge_run(
+        cutoff, keys, values, a, e, i, at, other, k, CELL_BOUND, fresh,
     );
-    let w = r.wrote;
-    let next = b + (a - s);
-    slide(keys, values, s, a, b);
-    paste(fresh, sums, r.size, keys, values, next);
+    let next = before.front + (a - before.back);
+    slide(keys, values, before.back, a, before.front);
+    paste(fresh, keys, values, next);
     let t = mark_write(CONSTANT_BOUND, total);
     Passed {
-        front: next + r.size,
+        front: next + fresh.size,
         back: e,
-        wrote: joined(before, joined(t, w)),
+        wrote: joined(before.wrote, joined(t, w)),
     }
 }
 
@@ -98,61 +93,55 @@ pub fn substitute_lines(
     count: u8,
     at: u8,
     spots: &[u16; LINES_ROOM],
-    cols: &[u16; ROW_ROOM],
-    others: &[f64; ROW_ROOM],
-    m: usize,
+    other: &Run,
     y: f64,
-    fresh: &mut [u16; ROW_ROOM],
-    sums: &mut [f64; ROW_ROOM],
+    fresh: &mut Run,
 ) -> Merged
     requires count_le_most_rows { count ≤ most_rows }
     requires at_le_last_place { at ≤ last_place }
-    requires m_le_row_room { m ≤ row_room }
+    requires size_le_row_room { other.now.size ≤ row_room }
     requires held { Held count n keys.old values.old }
     requires spots { Spots keys.old n at spots.now }
-    requires run_of { RunOf cols.now 0 0 m }
-    ensures { Alike (lines keys.new values.new result.size reals.new (mark_of result.wrote)) (lines_in cutoff at m y cols.now others.now count (lines keys.old values.old n reals.old all_whole)) }
+    requires run_of { RunOf other.now.keys 0 0 other.now.size }
+    ensures { Alike (lines keys.new values.new result.size reals.new (mark_of result.wrote)) (lines_in cutoff at other.now.size y other.now.keys other.now.vals count (lines keys.old values.old n reals.old all_whole)) }
 {
-    let mut w = nothing();
+    let w = nothing();
     let first = first_line(spots, n, count);
     if count < first {
         return Merged { size: n, wrote: w };
     }
     let d = CELL_ROOM - n;
     let low = first as u16 * ROW_SPAN;
-    let mut b = run_start(keys, 0, spots[first as usize] as usize, low);
-    let mut s = b + d;
+    let b = run_start(keys, 0, spots[first as usize] as usize, low);
+    let s = b + d;
     slide(keys, values, b, n, s);
+    let mut p = Passed {
+        front: b,
+        back: s,
+        wrote: w,
+    };
     for i in first..count + 1 {
         let c = spots[i as usize] as usize;
         if c >= n {
             continue;
         }
-        let r = merge_line(
+        p = merge_line(
             cutoff,
             keys,
             values,
             reals,
             i,
             at,
-            b,
-            s,
             c + d,
-            cols,
-            others,
-            m,
+            other,
             y,
             fresh,
-            sums,
-            w,
+            p,
         );
-        b = r.front;
-        s = r.back;
-        w = r.wrote;
     }
-    slide(keys, values, s, CELL_ROOM, b);
+    slide(keys, values, p.back, CELL_ROOM, p.front);
     Merged {
-        size: b + (CELL_ROOM - s),
-        wrote: w,
+        size: p.front + (CELL_ROOM - p.back),
+        wrote: p.wrote,
     }
 }

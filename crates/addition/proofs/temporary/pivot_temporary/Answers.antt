@@ -1,11 +1,12 @@
 use Rattle.std.proofs.Common.{rules}
 use mathlib.Core.Path.{refl}
 use native.Mathlib.Omega.{arith}
-use borrow.Author.Tests.{eq-eqb, ne_eqb}
 use Rattle.rows.specs.choose.Better.{within}
 use Rattle.waist.specs.FreePlaces.{pivotable-free}
 use Rattle.addition.specs.Symbols.{alike-later, temporary-alike}
 use Rattle.addition.specs.Removed.{pivotable-none, pivot-refused, pivot-gone}
+use Rattle.std.proofs.lemmas.Result.{err_from_is_err_and}
+use Rattle.waist.specs.Ending.{refuses}
 use Rattle.addition.proofs.temporary.pivot_temporary.Goals as goal
 
 pub returns-in_default : goal.returns-in_default
@@ -18,12 +19,12 @@ pub pivot_on-w-requires : goal.pivot_on-w-requires
 pivot_on-w-requires c = let b = within c.any_pivotable_symbol-f.ensures.within c.in-Some.is in
     record { standing = c.requires.standing; le_i = c.requires.le_i; i_bound = c.requires.i_bound; le_p = b.0; p_bound = b.1; free = pivotable-free _ _ _ c.requires.standing c.in-Some.is _ c.requires.le_i c.requires.i_bound c.any_pivotable_symbol-f.ensures }
 
-pub returns-then-e-ne0 : goal.returns-then-e-ne0
-returns-then-e-ne0 c = let all = pivot-refused _ _ _ _ _ c.requires.looked refl c.any_pivotable_symbol-f.ensures _ c.in-Some.is _ _ c.pivot_on-w.ensures.makes c.check_finite-e.ensures (ne_eqb _ _ c.if-e-ne0.true) in record { values_value = all.0; goes = all.1; same = search rules }
+pub returns-in_err-check_finite : goal.returns-in_err-check_finite
+returns-in_err-check_finite c = let p = err_from_is_err_and c.from_residual.result c.from_residual.ensures.1 in rw (p.1, p.2) (let all = pivot-refused _ _ _ _ _ c.requires.looked refl c.any_pivotable_symbol-f.ensures _ c.in-Some.is _ _ c.pivot_on-w.ensures.makes c.in_err-check_finite.ensures (refuses _) in record { values_value = all.0; goes = all.1; same = search rules })
 
 pub purge_temporary-requires : goal.purge_temporary-requires
 purge_temporary-requires c = record { standing = c.pivot_on-w.ensures.makes.stands; temporary = temporary-alike _ _ _ (alike-later _ _ c.pivot_on-w.ensures.later c.requires.standing.sound.named.few-symbols) c.requires.temporary }
 
 pub returns : goal.returns
 returns c = let a = alike-later _ _ c.pivot_on-w.ensures.later c.requires.standing.sound.named.few-symbols in
-    let all = pivot-gone _ _ _ _ _ c.requires.looked refl c.any_pivotable_symbol-f.ensures _ c.in-Some.is _ _ c.pivot_on-w.ensures.makes c.check_finite-e.ensures (eq-eqb _ _ c.if-e-ne0.false) (a.at _ c.requires.temporary.low c.requires.temporary.high) _ _ c.purge_temporary.ensures.values_value c.purge_temporary.ensures.goes in record { values_value = all.0; goes = all.1; same = search rules }
+    let all = pivot-gone _ _ _ _ _ c.requires.looked refl c.any_pivotable_symbol-f.ensures _ c.in-Some.is _ _ c.pivot_on-w.ensures.makes c.in_ok-check_finite.ensures refl (a.at _ c.requires.temporary.low c.requires.temporary.high) _ _ c.purge_temporary.ensures.values_value c.purge_temporary.ensures.goes in record { values_value = all.0; goes = all.1; same = search rules }

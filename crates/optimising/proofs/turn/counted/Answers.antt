@@ -1,5 +1,5 @@
 use mathlib.Core.Path.{refl}
-use Rattle.optimising.specs.Turn.{counted_of, counted-not}
+use Rattle.optimising.specs.Turn.{counted_of}
 use Rattle.optimising.proofs.turn.counted.Goals as goal
 
 pub returns-then-wrote : goal.returns-then-wrote
@@ -7,4 +7,5 @@ unfolding counted_of
 returns-then-wrote c = rw c.if-wrote.true refl
 
 pub returns : goal.returns
-returns c = counted-not _ _ c.if-wrote.false c.stopped.ensures
+unfolding counted_of
+returns c = rw c.if-wrote.false refl

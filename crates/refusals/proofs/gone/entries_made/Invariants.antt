@@ -2,7 +2,6 @@ use Prim.Native.Nat.{◌≤◌}
 use mathlib.Core.Path.{◌≡◌}
 use Rattle.laws.specs.Lists.{sum_on}
 use Rattle.layout.specs.Layout.{bit_of}
-use Rattle.sparse.specs.Places.{most_variables}
 use Rattle.refusals.specs.Refusals.{entry_at, entries_in}
 use Rattle.refusals.proofs.gone.entries_made.Given as goal
 

@@ -4,7 +4,7 @@ use lib.Dec.{eqb}
 use lib.ListN.{get_or}
 use Rattle.laws.specs.Lists.{sum_on}
 use Rattle.layout.specs.Layout.{bit_of}
-use Rattle.sparse.specs.Places.{most_terms, terms_at}
+use Rattle.sparse.specs.Places.{terms_at}
 use Rattle.refusals.specs.Refusals.{uses_at}
 use Rattle.refusals.proofs.gone.uses_at.Given as goal
 

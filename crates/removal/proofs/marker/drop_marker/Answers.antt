@@ -1,6 +1,5 @@
 use Rattle.sparse.specs.Tables.{held}
 use Rattle.std.proofs.Common.{rules}
-use Rattle.waist.specs.Working.{sparse}
 use mathlib.Core.Path.{sym, ◌∙◌}
 use native.Mathlib.Omega.{arith}
 use Rattle.rows.specs.Marks.{mark_of}

@@ -1,5 +1,4 @@
 use Rattle.sparse.specs.Tables.{held}
-use Rattle.waist.specs.Working.{sparse}
 use mathlib.Core.Path.{sym, ◌∙◌}
 use native.Mathlib.Omega.{arith}
 use Rattle.rows.specs.choose.Better.{within}

@@ -1,5 +1,4 @@
 use Rattle.sparse.specs.Tables.{held}
-use Rattle.waist.specs.Working.{sparse}
 use Rattle.variables.specs.Falls.{less-calls}
 use Rattle.removal.specs.Uses.{use-stays, told-room, told-stands, told-lives, use-goes}
 use Rattle.removal.proofs.uses.drop_use.Goals as goal

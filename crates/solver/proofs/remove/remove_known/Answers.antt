@@ -4,6 +4,10 @@ use Rattle.lending.specs.sparse_copy.Over.{tables}
 use Rattle.solver.specs.Begin.{counts-at-start, constraints-at-start, standing-at-start}
 use Rattle.solver.specs.StoredTerms.{stored-terms, pack-is}
 use Rattle.solver.specs.Removing.{in-range, removal-tag, removal-room, removal-stores, removal-refused, removal-accepted}
+use Rattle.std.specs.Prelude.{Ok, Err}
+use mathlib.Core.Path.{refl}
+use Rattle.waist.specs.Ending.{ended_of}
+use Rattle.solver.specs.Concluding.{never-zero}
 use Rattle.solver.proofs.remove.remove_known.Goals as goal
 
 pub look_up-j-requires : goal.look_up-j-requires
@@ -42,31 +46,31 @@ constraint_terms-p-requires c =
     let k = (counts-at-start t w c.requires.entered_from.2).constraints in
     record { j_lt_most_constraints = omega (arith, l, k); terms = stored-terms t c.requires.entered_from.2.reads c.look_up-j.result l }
 
-pub remove_steps-e-requires : goal.remove_steps-e-requires
-remove_steps-e-requires c =
+pub remove_steps-requires : goal.remove_steps-requires
+remove_steps-requires c =
     let t = tables c.args.words.now c.requires.entered_from.0 c.args.bytes.now c.args.reals.now c.requires.entered_from.1 in
     let w = held c.args.room.now in
     let l = in-range c.args.n c.args.budget t w c.requires.entered_from.2 c.look_up-j.result c.requires.reals_value c.look_up-j.ensures.value in
     record { standing = rw c.stored_mark-before.ensures (standing-at-start t w c.requires.entered_from.2); tag_lives = removal-tag c.args.n c.args.budget t w c.requires.entered_from.2 c.look_up-j.result c.requires.reals_value c.look_up-j.ensures.value; room = removal-room c.args.n c.args.budget t w c.requires.entered_from.2 c.look_up-j.result c.requires.reals_value c.look_up-j.ensures.value c.stored_mark-before.result c.stored_mark-before.ensures c.constraint_terms-p.result (pack-is t c.requires.entered_from.2.reads c.look_up-j.result l c.constraint_terms-p.ensures) }
 
-pub returns-then-e-ne0-clause-does : goal.returns-then-e-ne0-clause-does
-returns-then-e-ne0-clause-does c =
+pub returns-in-Err-clause-does : goal.returns-in-Err-clause-does
+returns-in-Err-clause-does c =
     λ k v en.
     let t = tables c.args.words.now k c.args.bytes.now c.args.reals.now v in
     let w = held c.args.room.now in
     let l = in-range c.args.n c.args.budget t w en c.look_up-j.result c.requires.reals_value c.look_up-j.ensures.value in
-    let u = tables c.remove_steps-e.new.room.words.now c.remove_steps-e.new.room.keys.now c.remove_steps-e.new.room.bytes.now c.remove_steps-e.new.room.reals.now c.remove_steps-e.new.room.values.now in
+    let u = tables c.remove_steps.new.room.words.now c.remove_steps.new.room.keys.now c.remove_steps.new.room.bytes.now c.remove_steps.new.room.reals.now c.remove_steps.new.room.values.now in
     removal-refused c.args.n c.args.budget t w en c.look_up-j.result c.requires.reals_value c.look_up-j.ensures.value c.stored_mark-before.result c.stored_mark-before.ensures
-    c.constraint_terms-p.result (pack-is t en.reads c.look_up-j.result l c.constraint_terms-p.ensures) c.remove_steps-e.result u c.remove_steps-e.ensures.values_value c.answer_of.result c.answer_of.ensures c.if-e-ne0.true u
+    c.constraint_terms-p.result (pack-is t en.reads c.look_up-j.result l c.constraint_terms-p.ensures) (ended_of (Err c.in-Err.e)) u c.in-Err.ensures.values_value c.refused.result c.refused.ensures (never-zero c.in-Err.e.why) u
 
 pub drop_constraint-requires : goal.drop_constraint-requires
 drop_constraint-requires c =
     let t = tables c.args.words.now c.requires.entered_from.0 c.args.bytes.now c.args.reals.now c.requires.entered_from.1 in
     let w = held c.args.room.now in
     let l = in-range c.args.n c.args.budget t w c.requires.entered_from.2 c.look_up-j.result c.requires.reals_value c.look_up-j.ensures.value in
-    let u = tables c.remove_steps-e.new.room.words.now c.remove_steps-e.new.room.keys.now c.remove_steps-e.new.room.bytes.now c.remove_steps-e.new.room.reals.now c.remove_steps-e.new.room.values.now in
+    let u = tables c.remove_steps.new.room.words.now c.remove_steps.new.room.keys.now c.remove_steps.new.room.bytes.now c.remove_steps.new.room.reals.now c.remove_steps.new.room.values.now in
     let s = removal-stores c.args.n c.args.budget t w c.requires.entered_from.2 c.look_up-j.result c.requires.reals_value c.look_up-j.ensures.value c.stored_mark-before.result c.stored_mark-before.ensures
-    c.constraint_terms-p.result (pack-is t c.requires.entered_from.2.reads c.look_up-j.result l c.constraint_terms-p.ensures) c.remove_steps-e.result u c.remove_steps-e.ensures.values_value c.remove_steps-e.ensures.goes c.if-e-ne0.false in
+    c.constraint_terms-p.result (pack-is t c.requires.entered_from.2.reads c.look_up-j.result l c.constraint_terms-p.ensures) (ended_of (Ok c.in-Ok.went)) u c.in-Ok.ensures.values_value c.in-Ok.ensures.goes refl in
     rw c.close.ensures (record { stores = s.0; stores_2 = s.1; j_bound = l })
 
 pub returns-clause-does : goal.returns-clause-does
@@ -75,8 +79,8 @@ returns-clause-does c =
     let t = tables c.args.words.now k c.args.bytes.now c.args.reals.now v in
     let w = held c.args.room.now in
     let l = in-range c.args.n c.args.budget t w en c.look_up-j.result c.requires.reals_value c.look_up-j.ensures.value in
-    let u = tables c.remove_steps-e.new.room.words.now c.remove_steps-e.new.room.keys.now c.remove_steps-e.new.room.bytes.now c.remove_steps-e.new.room.reals.now c.remove_steps-e.new.room.values.now in
+    let u = tables c.remove_steps.new.room.words.now c.remove_steps.new.room.keys.now c.remove_steps.new.room.bytes.now c.remove_steps.new.room.reals.now c.remove_steps.new.room.values.now in
     removal-accepted c.args.n c.args.budget t w en c.look_up-j.result c.requires.reals_value c.look_up-j.ensures.value c.stored_mark-before.result c.stored_mark-before.ensures
-    c.constraint_terms-p.result (pack-is t en.reads c.look_up-j.result l c.constraint_terms-p.ensures) c.remove_steps-e.result u c.remove_steps-e.ensures.values_value c.answer_of-2.result c.answer_of-2.ensures
-    c.remove_steps-e.ensures.goes c.if-e-ne0.false c.drop_constraint.new.words c.drop_constraint.new.bytes c.drop_constraint.new.reals c.drop_constraint.result
+    c.constraint_terms-p.result (pack-is t en.reads c.look_up-j.result l c.constraint_terms-p.ensures) (ended_of (Ok c.in-Ok.went)) u c.in-Ok.ensures.values_value c.accepted.result c.accepted.ensures
+    c.in-Ok.ensures.goes refl c.drop_constraint.new.words c.drop_constraint.new.bytes c.drop_constraint.new.reals c.drop_constraint.result
     (rw c.close.ensures at c.drop_constraint.ensures)

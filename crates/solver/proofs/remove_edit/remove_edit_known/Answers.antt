@@ -1,10 +1,13 @@
 use Rattle.sparse.specs.Tables.{held, lent}
 use native.Mathlib.Omega.{arith}
-use Rattle.lending.specs.sparse_copy.Over.{tables}
 use Rattle.refusals.specs.Known.{remove-edit-passed}
 use Rattle.solver.specs.Begin.{counts-at-start, numbers-at-start, standing-at-start}
 use Rattle.solver.specs.Placed.{variable-known}
 use Rattle.solver.specs.EditRemoving.{in-range, removal-tag, removal-room, removal-comes, edit-refused, edit-accepted}
+use Rattle.std.specs.Prelude.{Ok, Err}
+use mathlib.Core.Path.{refl}
+use Rattle.waist.specs.Ending.{ended_of}
+use Rattle.solver.specs.Concluding.{never-zero}
 use Rattle.solver.proofs.remove_edit.remove_edit_known.Goals as goal
 
 pub edit_place-j-requires : goal.edit_place-j-requires
@@ -35,18 +38,18 @@ offset_bounds-tables-j c = let k = (counts-at-start (lent c.args.tables.now) (he
 pub bounds-tables-j-3 : goal.bounds-tables-j-3
 bounds-tables-j-3 c = let k = (counts-at-start (lent c.args.tables.now) (held c.args.room.now) c.requires.entered).edits in let l = in-range c.args.n c.args.budget (lent c.args.tables.now) (held c.args.room.now) c.requires.entered c.edit_place-j.result c.requires.reals_value c.edit_place-j.ensures in omega (arith, k, l)
 
-pub remove_steps-e-requires : goal.remove_steps-e-requires
-remove_steps-e-requires c =
+pub remove_steps-requires : goal.remove_steps-requires
+remove_steps-requires c =
     let t = lent c.args.tables.now in
     let w = held c.args.room.now in
     record { standing = rw c.stored_mark-before.ensures (standing-at-start t w c.requires.entered); tag_lives = removal-tag c.args.n c.args.budget t w c.requires.entered c.edit_place-j.result c.requires.reals_value c.edit_place-j.ensures; room = removal-room c.args.n c.args.budget t w c.requires.entered c.edit_place-j.result c.requires.reals_value c.edit_place-j.ensures c.stored_mark-before.result c.stored_mark-before.ensures c.edit_pack-p.result c.edit_pack-p.ensures }
 
-pub returns-then-e-ne0-clause-does : goal.returns-then-e-ne0-clause-does
-returns-then-e-ne0-clause-does c = edit-refused c.args.n c.args.budget (lent c.args.tables.now) (held c.args.room.now) c.requires.entered c.edit_place-j.result c.requires.reals_value c.edit_place-j.ensures c.stored_mark-before.result c.stored_mark-before.ensures c.edit_pack-p.result c.edit_pack-p.ensures c.remove_steps-e.result (held c.remove_steps-e.new.room) c.remove_steps-e.ensures.values_value c.answer_of.result c.answer_of.ensures c.if-e-ne0.true (held c.remove_steps-e.new.room)
+pub returns-in-Err-clause-does : goal.returns-in-Err-clause-does
+returns-in-Err-clause-does c = edit-refused c.args.n c.args.budget (lent c.args.tables.now) (held c.args.room.now) c.requires.entered c.edit_place-j.result c.requires.reals_value c.edit_place-j.ensures c.stored_mark-before.result c.stored_mark-before.ensures c.edit_pack-p.result c.edit_pack-p.ensures (ended_of (Err c.in-Err.e)) (held c.remove_steps.new.room) c.in-Err.ensures.values_value c.refused.result c.refused.ensures (never-zero c.in-Err.e.why) (held c.remove_steps.new.room)
 
 pub without_edit-requires : goal.without_edit-requires
-without_edit-requires c = let m = removal-comes c.args.n c.args.budget (lent c.args.tables.now) (held c.args.room.now) c.requires.entered c.edit_place-j.result c.requires.reals_value c.edit_place-j.ensures c.stored_mark-before.result c.stored_mark-before.ensures c.edit_pack-p.result c.edit_pack-p.ensures c.remove_steps-e.result (held c.remove_steps-e.new.room) c.remove_steps-e.ensures.values_value c.remove_steps-e.ensures.goes c.if-e-ne0.false in
+without_edit-requires c = let m = removal-comes c.args.n c.args.budget (lent c.args.tables.now) (held c.args.room.now) c.requires.entered c.edit_place-j.result c.requires.reals_value c.edit_place-j.ensures c.stored_mark-before.result c.stored_mark-before.ensures c.edit_pack-p.result c.edit_pack-p.ensures (ended_of (Ok c.in-Ok.went)) (held c.remove_steps.new.room) c.in-Ok.ensures.values_value c.in-Ok.ensures.goes refl in
     rw c.close.ensures (record { comes = m.0; j_bound = in-range c.args.n c.args.budget (lent c.args.tables.now) (held c.args.room.now) c.requires.entered c.edit_place-j.result c.requires.reals_value c.edit_place-j.ensures; wvalues_value = m.1 })
 
 pub returns-clause-does : goal.returns-clause-does
-returns-clause-does c = edit-accepted c.args.n c.args.budget (lent c.args.tables.now) (held c.args.room.now) c.requires.entered c.edit_place-j.result c.requires.reals_value c.edit_place-j.ensures c.stored_mark-before.result c.stored_mark-before.ensures c.edit_pack-p.result c.edit_pack-p.ensures c.remove_steps-e.result (held c.remove_steps-e.new.room) c.remove_steps-e.ensures.values_value c.answer_of-2.result c.answer_of-2.ensures c.remove_steps-e.ensures.goes c.if-e-ne0.false (held c.without_edit.new.room) (rw c.close.ensures at c.without_edit.ensures.does)
+returns-clause-does c = edit-accepted c.args.n c.args.budget (lent c.args.tables.now) (held c.args.room.now) c.requires.entered c.edit_place-j.result c.requires.reals_value c.edit_place-j.ensures c.stored_mark-before.result c.stored_mark-before.ensures c.edit_pack-p.result c.edit_pack-p.ensures (ended_of (Ok c.in-Ok.went)) (held c.remove_steps.new.room) c.in-Ok.ensures.values_value c.accepted.result c.accepted.ensures c.in-Ok.ensures.goes refl (held c.without_edit.new.room) (rw c.close.ensures at c.without_edit.ensures.does)

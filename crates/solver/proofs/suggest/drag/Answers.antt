@@ -1,7 +1,7 @@
 use Rattle.sparse.specs.Tables.{held, lent}
 use Rattle.std.proofs.Common.{rules}
 use native.Mathlib.Omega.{arith}
-use Rattle.lending.specs.sparse_copy.Over.{tables}
+use Rattle.waist.specs.Ending.{ended_of}
 use Rattle.solver.specs.Begin.{counts-at-start, standing-at-start}
 use Rattle.solver.specs.Suggesting.{drag-live, drag-ends}
 use Rattle.solver.proofs.suggest.drag.Goals as goal
@@ -32,4 +32,4 @@ suggest_steps-requires c = let l = drag-live (lent c.args.tables.now) (held c.ar
     record { standing = rw c.stored_mark-before.ensures (standing-at-start (lent c.args.tables.now) (held c.args.room.now) c.requires.entered); le_marker = l.0; marker_bound = l.1; other_bound = l.2 }
 
 pub returns : goal.returns
-returns c = record { wvalues_value = drag-ends (lent c.args.tables.now) (held c.args.room.now) c.requires.entered c.args.j c.requires.j_bound c.args.budget c.args.new c.stored_mark-before.result c.stored_mark-before.ensures c.suggest_steps.result (held c.suggest_steps.new.room) c.suggest_steps.ensures.values_value; goes = c.suggest_steps.ensures.goes; same = search rules }
+returns c = record { wvalues_value = drag-ends (lent c.args.tables.now) (held c.args.room.now) c.requires.entered c.args.j c.requires.j_bound c.args.budget c.args.new c.stored_mark-before.result c.stored_mark-before.ensures (ended_of c.suggest_steps.result) (held c.suggest_steps.new.room) c.suggest_steps.ensures.values_value; goes = c.suggest_steps.ensures.goes; same = search rules }

@@ -1,20 +1,13 @@
-use mathlib.Core.Path.{refl}
-use native.Mathlib.Omega.{arith}
-use borrow.Author.Tests.{eq-eqb, ne_eqb}
-use Rattle.laws.specs.Loops.{first_next, first-here, first-last}
+use Rattle.std.proofs.Common.{rules, ℕ, Bool, true, false, ◌≡◌, ◌+◌, ◌∙◌, eqb, get_or, arith}
+use Rattle.std.proofs.lemmas.Iterator.{first_from_Range}
+use Rattle.laws.specs.Loops.{first-found, found-within}
 use Rattle.rows.specs.places.Finding.{place_in}
 use Rattle.sparse.specs.Lookup.{place_from}
 use Rattle.sparse_test.proofs.asking.byte_from.Goals as goal
 
-pub loop-i-init : goal.loop-i-init
-unfolding place_from place_in
-loop-i-init c = refl
-
-pub returns-then-x-bytes : goal.returns-then-x-bytes
-returns-then-x-bytes c = record { value = first-here _ _ _ _ _ (omega arith) (eq-eqb _ _ c.if-x-bytes.true) c.loop-i.invariant; upper_bound = omega arith }
-
-pub loop-i-preserved : goal.loop-i-preserved
-loop-i-preserved c = first_next _ _ _ _ _ (omega arith) (ne_eqb _ _ c.if-x-bytes.false) c.loop-i.invariant
-
 pub returns : goal.returns
-returns c = record { value = first-last _ _ _ _ _ (omega arith) c.loop-i.invariant; upper_bound = omega arith }
+unfolding place_from place_in
+returns c =
+    let p : ℕ → Bool = λ i. eqb c.args.x (get_or c.args.bytes.now (c.args.a + i) 0) in
+    let m = first_from_Range _ _ _ c.find.result (λ i. p i ≡ true) (λ i. p i ≡ false) c.find.ensures.ran (λ i q k. search rules) (λ i q k. search rules) in
+    record { value = c.unwrap_or.ensures ∙ first-found p c.args.n 0 c.args.n c.find.result (omega arith) m; upper_bound = rw c.unwrap_or.ensures (found-within p 0 c.args.n c.find.result m) }

@@ -1,9 +1,4 @@
-use Prim.Native.Nat.{ℕ}
-use mathlib.Core.Path.{◌≡◌, refl}
-use mathlib.Core.Bool.{Bool, ◌&&◌}
-use mathlib.Core.List.{List}
-use lib.Dec.{eqb}
-use lib.ListN.{get_or, set}
+use Rattle.std.proofs.Common.{ℕ, ◌≡◌, refl, Bool, ◌&&◌, List, eqb, get_or, set}
 use Rattle.rows.specs.places.Shares.{shares}
 use Rattle.sparse_test.specs.Tested.{claim}
 use Rattle.sparse_test.proofs.owners.claim.Goals as goal
@@ -13,4 +8,4 @@ unfolding claim
 glue l p x ok e = rw e refl
 
 pub returns : goal.returns
-returns c = glue _ _ _ _ c.wide-i.ensures.value
+returns c = λ ok. glue _ _ _ ok c.from-i.ensures

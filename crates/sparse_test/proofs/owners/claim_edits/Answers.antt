@@ -1,25 +1,21 @@
-use Prim.Native.Nat.{ℕ}
-use mathlib.Core.Path.{◌≡◌, refl, ap}
-use mathlib.Core.List.{List}
-use mathlib.Core.Bool.{Bool, ◌&&◌}
+use Rattle.std.proofs.Common.{rules, ◌≡◌, refl}
 use native.Mathlib.Omega.{arith}
 use Rattle.steps.specs.Strength.{required}
 use Rattle.laws.specs.Loops.{run-next, run-last}
-use Rattle.laws.specs.Lists.{all_on, all-next, all-last}
-use Rattle.rows.specs.places.Shares.{Shares, shares}
 use Rattle.sparse_test.specs.Tested.{claim_edits, edit_fits}
+use Rattle.sparse_test.proofs.Claims.{ends}
 use Rattle.sparse_test.proofs.owners.claim_edits.Goals as goal
 
-ends : {l : List ℕ} {a b d : Bool} {s : Shares} → shares l a ≡ s → b ≡ d → (l ≡ s.left) × ((a && b) ≡ (s.ok && d))
-ends e q = (ap (λ (s : Shares). s.left) e, rw (← e, q) refl)
-
 pub loop-i-init : goal.loop-i-init
-unfolding all_on claim_edits edit_fits
-loop-i-init c = (refl, refl)
+unfolding claim_edits
+loop-i-init c = refl
 
 pub loop-i-preserved : goal.loop-i-preserved
-unfolding required
-loop-i-preserved c = (run-next _ _ _ _ (omega arith) c.claim_tag-ok.ensures c.loop-i.invariant.0, all-next _ _ _ _ (omega arith) refl c.loop-i.invariant.1)
+loop-i-preserved c = run-next _ _ _ _ (omega arith) (c.claim_tag-ok.ensures _) c.loop-i.invariant
 
 pub returns : goal.returns
-returns c = let all = ends (run-last _ _ _ _ (omega arith) c.loop-i.invariant.0) (all-last _ _ _ _ (omega arith) c.loop-i.invariant.1) in record { table_after = all.0; value = all.1 }
+unfolding edit_fits required
+returns c =
+    let fits : c.every.result ≡ edit_fits c.args.bytes.now c.args.reals.now c.args.e = c.every.ensures _ (λ i b h k q. search rules) in
+    let all = ends (run-last _ _ _ _ (omega arith) c.loop-i.invariant) fits in
+    record { table_after = all.0; value = all.1 }

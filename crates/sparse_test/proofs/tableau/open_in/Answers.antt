@@ -10,7 +10,7 @@ pub loop-j-init : goal.loop-j-init
 loop-j-init c = (sum-start _ _ _, omega arith)
 
 pub loop-j-preserved : goal.loop-j-preserved
-loop-j-preserved c = (sum-next _ _ _ _ (omega arith) (ap (λ (x : ℕ). c.loop-j.sum + x) c.wide-sum.ensures.value) c.loop-j.invariant.0, omega (arith, c.wide-sum.ensures.upper_bound))
+loop-j-preserved c = (sum-next _ _ _ _ (omega arith) (ap (λ (x : ℕ). c.loop-j.sum + x) c.from-sum.ensures) c.loop-j.invariant.0, omega (arith, c.from-sum.ensures))
 
 pub returns : goal.returns
 unfolding open_by

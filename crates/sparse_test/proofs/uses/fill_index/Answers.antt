@@ -21,7 +21,7 @@ pub loop-i-init : goal.loop-i-init
 loop-i-init c = index-none _ _ c.requires.v_le_most_variables c.requires.index_value
 
 pub loop-i-preserved : goal.loop-i-preserved
-loop-i-preserved c = before _ _ _ (omega arith) (omega arith) c.loop-i.invariant c.wide.ensures.value c.wide.ensures.upper_bound
+loop-i-preserved c = before _ _ _ (omega arith) (omega arith) c.loop-i.invariant c.from.ensures (omega arith)
 
 pub returns : goal.returns
 returns c = done _ _ _ (omega arith) c.loop-i.invariant

@@ -1,6 +1,7 @@
 use Prim.Native.Nat.{ℕ, ◌≤◌}
 use mathlib.Core.Path.{◌≡◌, ap, ◌∙◌}
 use mathlib.Core.List.{List}
+use native.Mathlib.Omega.{arith}
 use lib.ListN.{get_or}
 use Rattle.sparse_test.specs.Tested.{index_in}
 use Rattle.sparse_test.specs.Index.{near, Indexed, index-tells}
@@ -10,4 +11,4 @@ glue : (index b : List ℕ) (v j : ℕ) {w x r : ℕ} → Indexed index b v → 
 glue index b v j {w} f e h g q = q ∙ ap (near v) g ∙ index-tells index b v f w h ∙ ap (index_in b v) e
 
 pub returns : goal.returns
-returns c = record { value = glue _ _ _ _ c.requires.indexed c.wide.ensures.value c.wide.ensures.upper_bound c.wide-2.ensures.value c.nearest.ensures.value; upper_bound = c.nearest.ensures.upper_bound }
+returns c = record { value = glue _ _ _ _ c.requires.indexed c.from.ensures (omega arith) c.from-2.ensures c.nearest.ensures.value; upper_bound = c.nearest.ensures.upper_bound }

@@ -1,18 +1,16 @@
-use native.Mathlib.Omega.{arith}
-use Rattle.stored.specs.Put.{edit_number, below_next}
+use Rattle.std.proofs.Common.{rules, ℕ, ◌≡◌, ◌+◌, ◌≤◌, ◌<◌, List, get_or, Option, None, Some, arith}
+use Rattle.std.specs.Prelude.{MatchOption}
+use Rattle.std.specs.Option.{unwrap_or}
+use Rattle.std.proofs.lemmas.Iterator.{first_from_Range}
+use Rattle.sparse.specs.Places.{edit_count_at}
+use Rattle.stored.specs.Put.{edit_number, EditSought}
 use Rattle.stored.proofs.new.seek_edit.Goals as goal
 
-pub loop-j-init : goal.loop-j-init
-loop-j-init c = λ i h. absurd (omega (arith, h))
-
-pub number_of-x-requires : goal.number_of-x-requires
-number_of-x-requires c = c.requires.names
-
-pub returns-then-n-x : goal.returns-then-n-x
-returns-then-n-x c = record { high = omega arith; below = c.loop-j.invariant; reached = λ h. rw c.number_of-x.ensures at c.if-n-x.true }
-
-pub loop-j-preserved : goal.loop-j-preserved
-loop-j-preserved c = below_next (edit_number c.args.words.now c.args.bytes.now) c.args.n c.loop-j.j c.loop-j.invariant c.number_of-x.ensures (omega arith)
+sought-by : (w b : List ℕ) (n : ℕ) (f : Option ℕ) {r : ℕ}
+    → MatchOption f ((k : ℕ) → 0 ≤ k → k < get_or w edit_count_at 0 → edit_number w b k ≤ n) (λ i. (0 ≤ i) × (i < get_or w edit_count_at 0) × (n < edit_number w b i) × ((k : ℕ) → 0 ≤ k → k < i → edit_number w b k ≤ n))
+    → r ≡ unwrap_or f (get_or w edit_count_at 0) → EditSought w b n r
+sought-by w b n None m q = rw q (record { high = omega arith; below = λ k. m k (omega arith); reached = λ k. absurd (omega (arith, k)) })
+sought-by w b n (Some i) m q = rw q (record { high = omega (arith, m.1); below = λ k. m.3 k (omega arith); reached = λ k. m.2 })
 
 pub returns : goal.returns
-returns c = record { high = omega arith; below = λ i h. c.loop-j.invariant i (omega (arith, h)); reached = λ h. absurd (omega (arith, h)) }
+returns c = sought-by _ _ _ c.find.result (first_from_Range _ _ _ c.find.result (λ i. c.args.n < edit_number c.args.words.now c.args.bytes.now i) (λ i. edit_number c.args.words.now c.args.bytes.now i ≤ c.args.n) c.find.ensures.ran (λ i q k. search rules) (λ i q k. search rules)) c.unwrap_or.ensures

@@ -5,7 +5,7 @@ use Rattle.text.proofs.replies.put_reading.Goals as goal
 
 pub returns : goal.returns
 returns c = record {
-  put = put_as (ap (λ (n : ℕ). head_text c.args.x.reading.relation c.args.x.strength c.args.x.group c.args.x.reading.constant n ++ terms_text n c.args.x.reading.variables c.args.x.reading.coefficients) c.few-n.ensures.0)
+  put = put_as (ap (λ (n : ℕ). head_text c.args.x.constraint.relation c.args.x.strength c.args.x.group c.args.x.constraint.constant n ++ terms_text n c.args.x.constraint.variables c.args.x.constraint.coefficients) c.few-n.ensures.0)
       (put_then c.put_head-i.ensures.put c.put_terms.ensures.put);
   upper_bound = omega arith;
 }

@@ -1,19 +1,14 @@
-use mathlib.Core.Path.{refl}
-use native.Mathlib.Omega.{arith}
-use borrow.Author.Tests.{le-ltb, lt-ltb}
-use Rattle.laws.specs.Loops.{first_next, first-here, first-last}
+use Rattle.std.proofs.Common.{rules, ℕ, Bool, true, false, ◌≡◌, ◌+◌, ◌∙◌, ltb, get_or, arith}
+use Rattle.std.proofs.lemmas.Iterator.{first_from_Range}
+use Rattle.laws.specs.Loops.{first-found, found-within}
+use Rattle.sparse.specs.Places.{variable_count_at, variable_numbers_at}
 use Rattle.variables.specs.Variables.{spot_in}
 use Rattle.variables.proofs.kept.variable_spot.Goals as goal
 
-pub loop-v-init : goal.loop-v-init
-unfolding spot_in
-loop-v-init c = refl
-
-pub returns-then-n-words : goal.returns-then-n-words
-returns-then-n-words c = record { value = first-here _ _ _ _ _ (omega arith) (lt-ltb _ _ c.if-n-words.true) c.loop-v.invariant; upper_bound = omega arith }
-
-pub loop-v-preserved : goal.loop-v-preserved
-loop-v-preserved c = first_next _ _ _ _ _ (omega arith) (le-ltb _ _ c.if-n-words.false) c.loop-v.invariant
-
 pub returns : goal.returns
-returns c = record { value = first-last _ _ _ _ _ (omega arith) c.loop-v.invariant; upper_bound = omega arith }
+unfolding spot_in
+returns c =
+    let p : ℕ → Bool = λ i. ltb c.args.n (get_or c.args.words.now (variable_numbers_at + i) 0) in
+    let e : ℕ = get_or c.args.words.now variable_count_at 0 in
+    let m = first_from_Range _ _ _ c.find.result (λ i. p i ≡ true) (λ i. p i ≡ false) c.find.ensures.ran (λ i q k. search rules) (λ i q k. search rules) in
+    record { value = c.unwrap_or.ensures ∙ first-found p e 0 e c.find.result (omega arith) m; upper_bound = rw c.unwrap_or.ensures (found-within p 0 e c.find.result m) }

@@ -1,19 +1,22 @@
-use mathlib.Core.Path.{refl}
+use Prim.Native.Nat.{◌+◌}
+use mathlib.Core.Path.{◌≡◌}
+use mathlib.Core.Bool.{true, false}
 use native.Mathlib.Omega.{arith}
-use borrow.Author.Tests.{eq-eqb, ne_eqb}
-use Rattle.laws.specs.Loops.{first_next, first-here, first-last}
+use lib.Dec.{eqb}
+use lib.ListN.{get_or}
+use Rattle.std.proofs.Common.{rules, tests}
+use Rattle.std.proofs.lemmas.Iterator.{first_from_Range}
+use Rattle.sparse.specs.Places.{row_places_at, row_count_at}
 use Rattle.waist.specs.Rows.{row_for}
+use Rattle.waist.proofs.Firsts.{found-first}
 use Rattle.waist.proofs.choices.row_of.Goals as goal
 
-pub loop-i-init : goal.loop-i-init
+pub returns-clause-value : goal.returns-clause-value
 unfolding row_for
-loop-i-init c = refl
-
-pub returns-then-p-bytes : goal.returns-then-p-bytes
-returns-then-p-bytes c = record { value = first-here _ _ _ _ _ (omega arith) (eq-eqb _ _ c.if-p-bytes.true) c.loop-i.invariant; within = (omega arith, omega arith) }
-
-pub loop-i-preserved : goal.loop-i-preserved
-loop-i-preserved c = first_next _ _ _ _ _ (omega arith) (ne_eqb _ _ c.if-p-bytes.false) c.loop-i.invariant
-
-pub returns : goal.returns
-returns c = record { value = first-last _ _ _ _ _ (omega arith) c.loop-i.invariant; within = tt }
+returns-clause-value c =
+    let z : get_or c.args.words.now row_count_at 0 + 1 ≡ 1 + get_or c.args.words.now row_count_at 0 = omega arith in
+    rw (← z)
+    (found-first (λ j. eqb c.args.p (get_or c.args.bytes.now (row_places_at + j) 0)) _ _ _ (omega arith)
+    (first_from_Range _ _ _ _ (λ j. eqb c.args.p (get_or c.args.bytes.now (row_places_at + j) 0) ≡ true) (λ j. eqb c.args.p (get_or c.args.bytes.now (row_places_at + j) 0) ≡ false) c.find.ensures.ran
+    (λ x q k. grind (arith, tests))
+    (λ x q k. (search rules, grind (arith, tests)))))

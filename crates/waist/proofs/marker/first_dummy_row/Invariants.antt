@@ -2,7 +2,6 @@ use Rattle.sparse.specs.Tables.{held}
 use Prim.Native.Nat.{◌+◌}
 use mathlib.Core.Path.{◌≡◌}
 use Rattle.std.specs.Prelude.{Some, None}
-use Rattle.waist.specs.Working.{sparse}
 use Rattle.laws.specs.Loops.{first}
 use Rattle.waist.specs.MarkerRow.{dummy_held, dummy_row_of}
 use Rattle.waist.proofs.marker.first_dummy_row.Given as goal

@@ -2,7 +2,6 @@ use Rattle.sparse.specs.Tables.{held}
 use Prim.Native.Nat.{◌-◌, ◌≤◌}
 use mathlib.Core.Path.{◌≡◌}
 use Rattle.std.specs.Prelude.{Some, None}
-use Rattle.waist.specs.Working.{sparse}
 use Rattle.rows.specs.choose.Back.{back}
 use Rattle.waist.specs.MarkerRow.{external_held, external_row_of}
 use Rattle.waist.proofs.marker.last_external_row.Given as goal

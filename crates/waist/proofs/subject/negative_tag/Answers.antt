@@ -1,8 +1,8 @@
-use Rattle.waist.specs.Subject.{tag-taken, tag-left}
+use mathlib.Core.Path.{◌∙◌}
+use Rattle.waist.specs.Subject.{tag-is}
+use Rattle.waist.specs.KindsRead.{symbol-read}
+use Rattle.waist.proofs.Options.{some-if}
 use Rattle.waist.proofs.subject.negative_tag.Goals as goal
 
-pub returns-then-negative_pivotable : goal.returns-then-negative_pivotable
-returns-then-negative_pivotable c = tag-taken _ _ _ c.kind_at.ensures c.negative_pivotable.ensures c.if-negative_pivotable.true
-
 pub returns : goal.returns
-returns c = tag-left _ _ _ c.kind_at.ensures c.negative_pivotable.ensures c.if-negative_pivotable.false
+returns c = c.then_some.ensures ∙ some-if _ _ ∙ tag-is _ _ _ (rw (← symbol-read _ _ c.kind_at.ensures) c.negative_pivotable.ensures)

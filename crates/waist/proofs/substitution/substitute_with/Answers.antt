@@ -21,7 +21,7 @@ note_rows-requires c =
 pub substitute_lines-r-requires : goal.substitute_lines-r-requires
 substitute_lines-r-requires c =
     let l = lines-by _ _ c.requires.sound c.lines_of-lines.ensures in
-    record { count_le_most_rows = l.0; at_le_last_place = omega (arith, c.requires.at_bound, c.requires.sound.named.few-symbols); m_le_row_room = omega (arith, c.loose_run-m.ensures.upper_bound, c.requires.sound.named.few-symbols); held = l.1; spots = c.fill_spots.ensures; run_of = loose-run _ _ _ _ _ _ _ c.requires.sound.named.few-symbols c.told-cols c.told-others c.loose_run-m.ensures.result_after }
+    record { count_le_most_rows = l.0; at_le_last_place = omega (arith, c.requires.at_bound, c.requires.sound.named.few-symbols); size_le_row_room = omega (arith, c.loose_run.ensures.upper_bound, c.requires.sound.named.few-symbols); held = l.1; spots = c.fill_spots.ensures; run_of = loose-run _ _ _ _ _ _ _ c.requires.sound.named.few-symbols (omega arith) (omega arith) c.loose_run.ensures.run_after }
 
 pub substitute_objective-v-requires : goal.substitute_objective-v-requires
 substitute_objective-v-requires c = record { at_le_last_place = omega (arith, c.requires.at_bound, c.requires.sound.named.few-symbols); width_le_last_place = c.requires.sound.named.few-symbols }
@@ -29,5 +29,5 @@ substitute_objective-v-requires c = record { at_le_last_place = omega (arith, c.
 pub returns-clause-does : goal.returns-clause-does
 returns-clause-does c =
     let l = lines-by _ _ c.requires.sound c.lines_of-lines.ensures in
-    substitute-calls _ _ _ _ c.requires.sound c.requires.le_at c.requires.at_bound c.requires.settled_row _ _ _ _ _ c.told-cols c.told-others c.loose_run-m.ensures.result_after _ _ _ _ _ _ _ _ _ _ _ l.2 c.note_rows.ensures c.substitute_lines-r.ensures c.substitute_objective-v.ensures refl
+    substitute-calls _ _ _ _ c.requires.sound c.requires.le_at c.requires.at_bound c.requires.settled_row _ _ _ _ _ (omega arith) (omega arith) c.loose_run.ensures.run_after _ _ _ _ _ _ _ _ _ _ _ l.2 c.note_rows.ensures c.substitute_lines-r.ensures c.substitute_objective-v.ensures refl
     (joined-mark _ _ c.joined.ensures refl refl)

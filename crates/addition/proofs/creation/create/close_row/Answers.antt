@@ -9,4 +9,4 @@ pub reverse_below-requires : goal.reverse_below-requires
 reverse_below-requires c = omega (arith, c.add_tag-t.ensures.stands.sound.named.few-symbols)
 
 pub returns : goal.returns
-returns c = closed-tags _ _ _ _ _ _ _ c.add_tag-t.ensures c.wide.ensures c.reverse_below.ensures
+returns c = closed-tags _ _ _ _ _ _ _ c.add_tag-t.ensures (omega arith) c.reverse_below.ensures

@@ -12,4 +12,4 @@ pub close_row-requires : goal.close_row-requires
 close_row-requires c = record { standing = c.insert_terms-w.ensures.builds.stands; values_bound = omega (arith, c.insert_terms-w.ensures.values_bound); values_bound_2 = omega (arith, c.insert_terms-w.ensures.values_bound) }
 
 pub returns : goal.returns
-returns c = creates _ _ _ _ _ _ _ _ _ _ _ _ _ c.requires.opening c.wide.ensures c.start_row.ensures c.insert_terms-w.ensures.builds c.insert_terms-w.ensures.values_bound c.close_row.ensures
+returns c = creates _ _ _ _ _ _ _ _ _ _ _ _ _ c.requires.opening c.told-row c.start_row.ensures c.insert_terms-w.ensures.builds c.insert_terms-w.ensures.values_bound c.close_row.ensures

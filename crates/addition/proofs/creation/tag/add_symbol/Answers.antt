@@ -7,11 +7,11 @@ pub append_symbol-requires : goal.append_symbol-requires
 append_symbol-requires c = record { sound = c.requires.standing.sound; values_bound = c.requires.values_bound; values_bound_2 = c.requires.values_bound_2 }
 
 pub bounds-row-p : goal.bounds-row-p
-bounds-row-p c = omega (arith, c.index-p.ensures, c.append_symbol.ensures.value, c.requires.values_bound)
+bounds-row-p c = omega (arith, c.from-p.ensures, c.append_symbol.ensures.value, c.requires.values_bound)
 
 pub insert_symbol-w-requires : goal.insert_symbol-w-requires
-insert_symbol-w-requires c = omega (arith, c.index-p.ensures, c.append_symbol.ensures.value, c.requires.values_bound)
+insert_symbol-w-requires c = omega (arith, c.from-p.ensures, c.append_symbol.ensures.value, c.requires.values_bound)
 
 pub returns : goal.returns
 unfolding cell_bound zero64
-returns c = record { grows = grows c.append_symbol.ensures.grown; builds = symbol-calls _ _ _ _ _ _ c.args.row.now _ _ c.index-p.ensures c.append_symbol.ensures.value c.requires.standing c.requires.values_bound c.append_symbol.ensures.grown c.append_symbol.ensures.makes c.wide.ensures c.insert_symbol-w.ensures.result_value c.insert_symbol-w.ensures.row_after c.joined.ensures }
+returns c = record { grows = grows c.append_symbol.ensures.grown; builds = symbol-calls _ _ _ _ _ _ c.args.row.now _ _ c.from-p.ensures c.append_symbol.ensures.value c.requires.standing c.requires.values_bound c.append_symbol.ensures.grown c.append_symbol.ensures.makes c.told-row c.insert_symbol-w.ensures.result_value c.insert_symbol-w.ensures.row_after c.joined.ensures }

@@ -1,4 +1,5 @@
 use native.Mathlib.Omega.{arith}
+use Rattle.std.proofs.Common.{◌∙◌, length-set}
 use mathlib.Core.Bool.{false}
 use Rattle.waist.specs.substituting.Held.{held-room}
 use Rattle.waist.specs.Working.{lines-few}
@@ -12,13 +13,13 @@ load_row-requires c = let f = held-room _ _ _ _ c.requires.standing.sound.held (
     record { n_le_cell_room = omega (arith, f); k_lt_row_room = omega (arith, c.requires.standing.sound.named.few-symbols); i_lt_top_row = omega (arith, c.requires.i_bound, c.requires.standing.sound.few); ascending = c.requires.standing.sound.held.up; narrow = narrow-held _ _ c.requires.standing.sound }
 
 pub overflow_add-other : goal.overflow_add-other
-overflow_add-other c = omega (arith, c.index.ensures, c.requires.standing.sound.few, c.requires.i_bound)
+overflow_add-other c = omega (arith, c.from.ensures, c.requires.standing.sound.few, c.requires.i_bound)
 
-pub bounds-reals-index : goal.bounds-reals-index
-bounds-reals-index c = omega (arith, c.index.ensures, c.requires.standing.sound.few, c.requires.i_bound)
+pub bounds-reals-from : goal.bounds-reals-from
+bounds-reals-from c = omega (arith, c.from.ensures, c.requires.standing.sound.few, c.requires.i_bound)
 
 pub insert_row-w-requires : goal.insert_row-w-requires
 insert_row-w-requires c = omega (arith, c.requires.standing.sound.named.few-symbols)
 
 pub returns : goal.returns
-returns c = row-inserted _ _ _ c.args.row.now _ _ _ c.requires.standing c.wide.ensures c.wide-3.ensures (loaded-row false _ _ c.requires.standing.sound c.args.other.now _ c.wide-2.ensures c.wide-3.ensures (loaded-set c.args.reals.now _ _ c.load_row.ensures c.index.ensures)) c.insert_row-w.ensures.wrote_value c.insert_row-w.ensures.row_after c.joined.ensures
+returns c = row-inserted _ _ _ c.args.row.now _ _ _ c.requires.standing c.told-row (length-set _ _ _ ∙ omega arith) (loaded-row false _ _ c.requires.standing.sound c.args.other.now _ c.told-other (length-set _ _ _ ∙ omega arith) (loaded-set c.args.reals.now _ _ c.load_row.ensures c.from.ensures)) c.insert_row-w.ensures.wrote_value c.insert_row-w.ensures.row_after c.joined.ensures

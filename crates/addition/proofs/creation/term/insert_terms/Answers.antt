@@ -14,10 +14,10 @@ bounds-coefs-j c = omega (arith, c.shown-e.ensures.upper_bound, c.loop-j-test.tr
 
 pub insert_kept-w-requires : goal.insert_kept-w-requires
 insert_kept-w-requires c = let r = (ready_by _ (terms-of _ _ c.shown-e.ensures.value) c.requires) in
-    record { standing = c.loop-j.invariant.1.stands; room = going-room-by _ _ _ _ _ _ _ _ _ _ c.loop-j.invariant.1 c.loop-j-test.true c.shown-e.ensures.upper_bound r c.number.ensures c.loop-j.invariant.0; used = going-spare _ _ _ _ _ _ _ _ _ _ c.loop-j.invariant.1 c.loop-j-test.true c.shown-e.ensures.upper_bound r }
+    record { standing = c.loop-j.invariant.1.stands; room = going-room-by _ _ _ _ _ _ _ _ _ _ c.loop-j.invariant.1 c.loop-j-test.true c.shown-e.ensures.upper_bound r c.from.ensures c.loop-j.invariant.0; used = going-spare _ _ _ _ _ _ _ _ _ _ c.loop-j.invariant.1 c.loop-j-test.true c.shown-e.ensures.upper_bound r }
 
 pub loop-j-preserved : goal.loop-j-preserved
-loop-j-preserved c = (c.loop-j.invariant.0, going-turn _ _ _ _ _ _ _ _ _ _ c.loop-j.invariant.1 c.loop-j-test.true _ _ _ c.number.ensures c.loop-j.invariant.0 c.insert_kept-w.ensures.builds c.insert_kept-w.ensures.steps)
+loop-j-preserved c = (c.loop-j.invariant.0, going-turn _ _ _ _ _ _ _ _ _ _ c.loop-j.invariant.1 c.loop-j-test.true _ _ _ c.from.ensures c.loop-j.invariant.0 c.insert_kept-w.ensures.builds c.insert_kept-w.ensures.steps)
 
 pub returns : goal.returns
 returns c = let r = (ready_by _ (terms-of _ _ c.shown-e.ensures.value) c.requires) in

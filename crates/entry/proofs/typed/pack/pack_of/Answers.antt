@@ -1,6 +1,6 @@
 use Rattle.std.proofs.Common.{◌≡◌, ℕ, refl, arith}
 use Rattle.laws.specs.Loops.{run-next, run-last}
-use Rattle.reader.specs.declared.answers.Reading.{Reading}
+use Rattle.reader.specs.Answers.{Reading}
 use Rattle.changes.specs.declared.terms.Term.{Term}
 use Rattle.changes.specs.declared.terms.Pack.{Pack}
 use Rattle.changes.specs.terms.Terms.{pushed}

@@ -4,4 +4,4 @@ use Rattle.entry.proofs.typed.pack.term_of.Goals as goal
 
 pub returns : goal.returns
 unfolding term_read
-returns c = rw c.whole-coefficient.ensures refl
+returns c = rw c.whole.ensures refl

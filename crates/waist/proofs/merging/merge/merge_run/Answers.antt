@@ -27,8 +27,8 @@ loop-s-preserved-then-p-q c =
     let h = merging-first _ _ _ _ _ _ _ _ _ _ _ _ c.requires.run_of c.requires.run_of_2 _ _ _ _ (cells _ _ _) _ _ c.loop-s.invariant.0 c.front-p.ensures.value c.front-q.ensures.value c.if-p-q.true in
     (own_turn _ _ _ _ _ _ _ _ _ _ _ _ c.requires.run_of c.requires.run_of_2 _ _ _ _ _ _ _ _ _ _ _ _ _ c.loop-s.invariant.0 c.loop-s.invariant.1 c.front-p.ensures.value c.front-q.ensures.value (omega arith) _ c.if-p-q.true c.own-x.ensures c.put_if-n.ensures.result_after, c.loop-s.invariant.1, omega (arith, h.0), omega arith)
 
-pub bounds-others-j : goal.bounds-others-j
-bounds-others-j c =
+pub bounds-other-j : goal.bounds-other-j
+bounds-other-j c =
     let h = merging-second _ _ _ _ _ _ _ _ _ _ _ _ c.requires.run_of c.requires.run_of_2 _ _ _ _ (cells _ _ _) _ _ c.loop-s.invariant.0 c.front-p.ensures.value c.front-q.ensures.value c.if-q-p.true in
     omega (arith, h.0)
 
@@ -48,8 +48,8 @@ bounds-vals-s-in-loop-s c =
     let h = merging-third _ _ _ _ _ _ _ _ _ _ _ _ c.requires.run_of c.requires.run_of_2 _ _ _ _ (cells _ _ _) _ _ c.loop-s.invariant.0 c.front-p.ensures.value c.front-q.ensures.value c.if-p-q.false c.if-q-p.false c.loop-s-test.true in
     omega (arith, h.0)
 
-pub bounds-others-j-in-loop-s : goal.bounds-others-j-in-loop-s
-bounds-others-j-in-loop-s c =
+pub bounds-other-j-in-loop-s : goal.bounds-other-j-in-loop-s
+bounds-other-j-in-loop-s c =
     let h = merging-third _ _ _ _ _ _ _ _ _ _ _ _ c.requires.run_of c.requires.run_of_2 _ _ _ _ (cells _ _ _) _ _ c.loop-s.invariant.0 c.front-p.ensures.value c.front-q.ensures.value c.if-p-q.false c.if-q-p.false c.loop-s-test.true in
     omega (arith, h.1)
 
@@ -66,4 +66,4 @@ loop-s-preserved c =
 pub returns : goal.returns
 returns c =
     let h = merging-end _ _ _ _ _ _ _ _ _ _ _ _ c.requires.run_of c.requires.run_of_2 _ _ (cells _ _ _) _ _ c.loop-s.invariant.0 c.loop-s-test.false in
-    record { size_after = h.0; wrote_value = h.1; size_le_last_place = (packed-few 0 _ _ [] [] _ _ _ _ _ h.0).1 }
+    record { run_after = h.0; wrote_value = h.1; size_le_last_place = (packed-few 0 _ _ [] [] _ _ _ _ _ h.0).1 }

@@ -7,7 +7,7 @@ use Rattle.waist.specs.merging.Merging.{Merging}
 use Rattle.waist.proofs.merging.merge.merge_run.Given as goal
 
 abbrev pub invariant-loop-s : goal.invariant-loop-s
-invariant-loop-s l = Merging l.cutoff l.keys l.vals l.a l.e l.i l.at l.cols l.others l.m l.k l.bound l.s l.j (cells l.fresh l.sums l.n) (mark_of l.w) (cells l.initial.fresh l.initial.sums 0) × (l.base ≡ l.i * row_span) × (l.s ≤ l.e) × (l.j ≤ l.m)
+invariant-loop-s l = Merging l.cutoff l.keys l.vals l.a l.e l.i l.at l.other.keys l.other.vals l.m l.k l.bound l.s l.j (cells l.fresh.keys l.fresh.vals l.n) (mark_of l.w) (cells l.initial.fresh.keys l.initial.fresh.vals 0) × (l.base ≡ l.i * row_span) × (l.s ≤ l.e) × (l.j ≤ l.m)
 
 abbrev pub decreases-loop-s : goal.decreases-loop-s
 decreases-loop-s l = l.e + l.m - (l.s + l.j)

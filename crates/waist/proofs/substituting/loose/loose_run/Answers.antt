@@ -20,4 +20,4 @@ unfolding absent zero64
 loop-p-preserved c = (run-next _ _ _ _ (omega arith) (loose-on _ _ _ _ _ c.if-x.false) c.loop-p.invariant.0, omega arith)
 
 pub returns : goal.returns
-returns c = record { result_after = run-last _ _ _ _ (omega arith) c.loop-p.invariant.0; upper_bound = omega arith }
+returns c = record { run_after = run-last _ _ _ _ (omega arith) c.loop-p.invariant.0; upper_bound = omega arith }

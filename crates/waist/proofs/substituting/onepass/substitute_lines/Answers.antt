@@ -38,14 +38,14 @@ overflow_add-c c =
     let r = held-room _ _ _ _ c.requires.held c.requires.count_le_most_rows in
     omega (arith, r, c.if-c-n.false)
 
-pub merge_line-r-requires : goal.merge_line-r-requires
+pub merge_line-p-requires : goal.merge_line-p-requires
 unfolding Leads
-merge_line-r-requires c =
+merge_line-p-requires c =
     let g = c.loop-i.invariant _ _ c.requires.count_le_most_rows c.requires.spots (going-begin _ _ _ _ _ _ _ _ _ _ c.requires.count_le_most_rows c.requires.spots _ _ _ c.requires.held _ _ _ c.first_line-first.ensures (omega (arith, c.if-count-first.false)) refl c.run_start-b.ensures _ _ c.slide.ensures.keys_after c.slide.ensures.vals_after) in
-    record { i_le_most_rows = omega (arith, c.requires.count_le_most_rows, c.loop-i-test.true); ready = going-ready _ _ _ _ _ _ _ _ _ _ _ _ _ _ _ _ g (omega (arith, c.loop-i-test.true)) _ c.requires.at_le_last_place refl c.if-c-n.false; m_le_row_room = c.requires.m_le_row_room; run_of = c.requires.run_of }
+    record { i_le_most_rows = omega (arith, c.requires.count_le_most_rows, c.loop-i-test.true); ready = going-ready _ _ _ _ _ _ _ _ _ _ _ _ _ _ _ _ g (omega (arith, c.loop-i-test.true)) _ c.requires.at_le_last_place refl c.if-c-n.false; size_le_row_room = c.requires.size_le_row_room; run_of = c.requires.run_of }
 
 pub loop-i-preserved : goal.loop-i-preserved
-loop-i-preserved c = leads-merged _ _ _ _ _ _ _ _ _ _ _ _ _ _ (lines _ _ _ _ _) c.loop-i.invariant (omega (arith, c.loop-i-test.true)) _ (lines _ _ _ _ _) c.merge_line-r.ensures
+loop-i-preserved c = leads-merged _ _ _ _ _ _ _ _ _ _ _ _ _ _ (lines _ _ _ _ _) c.loop-i.invariant (omega (arith, c.loop-i-test.true)) _ (lines _ _ _ _ _) c.merge_line-p.ensures
 
 pub loop-i-preserved-then-c-n : goal.loop-i-preserved-then-c-n
 loop-i-preserved-then-c-n c = leads-over _ _ _ _ _ _ _ _ _ _ _ _ _ _ (lines _ _ _ _ _) c.loop-i.invariant (omega (arith, c.loop-i-test.true)) (omega (arith, c.if-c-n.true))

@@ -1,6 +1,0 @@
--- What waits to be written stays within the buffer.
-use Rattle.std.proofs.Common.{◌≤◌}
-use Rattle.lines.proofs.stream.serve.Given as goal
-
-abbrev pub invariant-loop : goal.invariant-loop
-invariant-loop g l = l.p.at ≤ 8192

@@ -1,6 +1,0 @@
-use mathlib.Core.Path.{refl, ◌∙◌}
-use Rattle.solver.specs.Closing.{says-yes}
-use Rattle.solver.proofs.begin.answer_of.Goals as goal
-
-pub returns : goal.returns
-returns c = rw (c.says_yes-whole.ensures ∙ says-yes c.args.e.wrote) refl
