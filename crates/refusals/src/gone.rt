@@ -96,6 +96,7 @@ fn makes_entry(words: &Words, bytes: &Bytes, reals: &Reals, x: Taken, i: usize) 
     let g = words[sparse::GONE_COUNT] as usize;
     let waits = is_live(words, sparse::GONE_NUMBERS, g, n);
     let taken = edit_use(x, n) + term_uses(words, bytes, x, bytes[sparse::VARIABLE_PLACES + i]);
+    // `old != old` as in `variables::less`: no law joins `is_nan` to what the definitions say.
     (0 < uses) & (uses <= taken) & !(old != old) & !waits
 }
 

@@ -1,4 +1,5 @@
 // "Remove: take each error symbol's strength out of the objective, marker's first (by its row if basic)."
+// The five tables are parameters of their own here: which of them are read alone their types say, and a `TablesMut` would need a clause for each.
 ghost use Rattle.std.specs.Prelude.{false, ◌≤◌, get_or};
 ghost use Rattle.steps.specs.Remove.{remove_marker_effects, remove_constraint_effects};
 ghost use Rattle.rows.specs.Marks.{mark_of};

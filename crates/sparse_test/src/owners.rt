@@ -17,7 +17,7 @@ const REQUIRED: f64 = 1001001000.0;
 // No symbol's place, or none that a cell may have.
 const SHUT: u8 = 9;
 
-// A kind's code is one more, since 0 is the code of a place that is claimed.
+// A kind's code is one more, since 0 is the code of a place that is claimed. (A byte, and no enum: the table of codes is one of bytes, and `open_in`, under `reads`, sums them.)
 fn code_of(kind: u8) -> u8
     ensures { result ≡ code_of kind }
 {

@@ -1,4 +1,5 @@
 // The artificial objective: the line after the rows of the sparse tables, for as long as a temporary slack stands.
+// The five tables are parameters of their own here: which of them are read alone their types say, and a `TablesMut` would need a clause for each.
 ghost use Rattle.std.specs.Prelude.{◌≡◌, true, false, ◌+◌, ◌<◌, get_or};
 ghost use Rattle.std.proofs.Math.Option.{none};
 ghost use Rattle.std.specs.Float.{nan};

@@ -1,4 +1,5 @@
 // The objective on tables that stand: a symbol inserted in it, or a row's cells.
+// The five tables are parameters of their own here: which of them are read alone their types say, and a `TablesMut` would need a clause for each.
 ghost use Rattle.std.specs.Prelude.{◌≡◌, false, ◌≤◌, get_or};
 ghost use Rattle.steps.specs.Number.{worse};
 ghost use Rattle.steps.specs.CreateRow.{insert_in_objective};

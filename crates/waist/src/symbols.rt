@@ -1,4 +1,5 @@
 // Symbols that come and go in the sparse tables.
+// The five tables are parameters of their own here: which of them are read alone their types say, and a `TablesMut` would need a clause for each.
 ghost use Rattle.std.specs.Prelude.{◌≡◌, false, ◌+◌, ◌≤◌, ◌<◌, get_or};
 ghost use Rattle.steps.specs.Number.{Mark};
 ghost use Rattle.steps.specs.Work.{new_symbol, append_symbol, purge};

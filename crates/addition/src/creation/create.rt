@@ -1,4 +1,5 @@
 // Steps 1 to 3: the row of a constraint with its tag, as it is added.
+// The five tables are parameters of their own here: which of them are read alone their types say, and a `TablesMut` would need a clause for each.
 ghost use Rattle.std.specs.Prelude.{◌≡◌, false, ◌+◌, ◌<◌};
 ghost use Rattle.steps.specs.CreateRow.{add_tag};
 ghost use Rattle.rows.specs.Marks.{mark_of};

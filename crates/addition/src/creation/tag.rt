@@ -1,4 +1,5 @@
 // Add's step 2, the tag of a new row: its slack, error and dummy symbols come, into the tableau, the row and the objective.
+// The five tables are parameters of their own here: which of them are read alone their types say, and a `TablesMut` would need a clause for each.
 ghost use Rattle.std.specs.Prelude.{◌≡◌, false, ◌+◌, ◌≤◌, ◌<◌};
 ghost use Rattle.steps.specs.Work.{new_symbol};
 ghost use Rattle.steps.specs.State.{equal};

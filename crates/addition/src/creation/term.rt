@@ -1,4 +1,5 @@
 // Step 1: each term's variable is found or made, its use counted, and its row or its symbol inserted in the row that is being built.
+// The five tables are parameters of their own here: which of them are read alone their types say, and a `TablesMut` would need a clause for each.
 ghost use Rattle.std.specs.Prelude.{◌≡◌, false, ◌+◌, ◌≤◌, ◌<◌, get_or};
 ghost use Rattle.steps.specs.Number.{Mark, near_zero};
 ghost use Rattle.steps.specs.Row.{insert_row};

@@ -1,4 +1,5 @@
 // The shift of the constants that a suggestion moves, with the notes that it leaves.
+// The five tables are parameters of their own here: which of them are read alone their types say, and a `TablesMut` would need a clause for each.
 ghost use Rattle.std.specs.Prelude.{◌≡◌, false, ◌&&◌, ◌+◌, ◌≤◌, ◌<◌, get_or};
 ghost use Rattle.steps.specs.Number.{worse};
 ghost use Rattle.steps.specs.Edit as steps;
