@@ -7,7 +7,7 @@ use Rattle.std.proofs.Math.ListN.{length-drop}
 use Rattle.std.proofs.Math.Seq.{length-take-le, get_or-take, get_or-drop}
 use Rattle.std.proofs.Math.Bool.{true, false}
 use Rattle.std.proofs.Math.Dec.{ltb}
-use borrow.Author.Tests.{ltb-true, ltb-false, lt-ltb}
+use borrow.Author.Tests.{ltb-true, ltb-false}
 use Rattle.layout.specs.cells.Search.{same-at}
 use Rattle.rows.specs.places.Finding.{place_in, place-le, place_is, place-live}
 
@@ -35,28 +35,30 @@ module _ (l : List ℕ) (a n x : ℕ) where
     read : (j d : ℕ) → j < n → get_or part j d ≡ number j
     read j d h = ap (λ (z : List ℕ). get_or z j d) is ∙ get_or-take n (drop a l) j d h ∙ get_or-drop a l j d ∙ same-at l (a + j) d (omega (arith, fit, h))
 
-    -- no number below x comes after one that is not
-    pub parted : Ascends l a n → (i j d : ℕ) → i ≤ j → j < length part → ltb (get_or part j d) x ≡ true → ltb (get_or part i d) x ≡ true
-    parted up i j d h k q = ap (λ (y : ℕ). ltb y x) (read i d (omega (arith, h, u))) ∙ lt-ltb (number i) x (go (ltb i j) refl)
+    -- they rise, so that halving may search them
+    pub rising : Ascends l a n → (i j : ℕ) → i ≤ j → j < length part → get_or part i 0 ≤ get_or part j 0
+    rising up i j h k = rw (read i 0 (omega (arith, h, u)), read j 0 u) (go (ltb i j) refl)
       where
         u : j < n
         u = omega (arith, k, long)
 
-        at : number j < x
-        at = ltb-true (number j) x (sym (ap (λ (y : ℕ). ltb y x) (read j d u)) ∙ q)
-
-        go : (b : Bool) → ltb i j ≡ b → number i < x
-        go true e = let v = up i j (ltb-true i j e) u in omega (arith, v, at)
+        go : (b : Bool) → ltb i j ≡ b → number i ≤ number j
+        go true e = let v = up i j (ltb-true i j e) u in omega (arith, v)
         go false e =
             let c : j ≡ i = omega (arith, h, ltb-false i j e) in
-            subst (λ (y : ℕ). number y < x) c at
+            subst (λ (y : ℕ). number y ≤ number j) c (omega arith)
 
-    pub halved : {r : ℕ} → r ≤ n → ((j d : ℕ) → 0 ≤ j → j < r → ltb (get_or part j d) x ≡ true) → ((j d : ℕ) → r ≤ j → j < length part → ltb (get_or part j d) x ≡ false) → Halved r
-    halved {r} h below above =
-        record {
-          below = λ j u. ltb-true (number j) x (sym (ap (λ (y : ℕ). ltb y x) (read j 0 (omega (arith, u, h)))) ∙ below j 0 (omega arith) u);
-          reached = λ q. ltb-false (number r) x (sym (ap (λ (y : ℕ). ltb y x) (read r 0 q)) ∙ above r 0 (omega arith) (omega (arith, q, long)));
-        }
+    pub here : {r : ℕ} → r < length part → get_or part r 0 ≡ x → (r < n) × (number r ≡ x)
+    here {r} h e =
+        let u : r < n = omega (arith, h, long) in
+        (u, sym (read r 0 u) ∙ e)
+
+    -- a place to insert x: the numbers before it are below x, those from it on above
+    pub halved : {r : ℕ} → r ≤ length part → ((j : ℕ) → j < r → get_or part j 0 < x) → ((j : ℕ) → r ≤ j → j < length part → x < get_or part j 0) → Halved r × (r < n → number r ≡ x → ⊥)
+    halved {r} h below above = (record { below = λ j u. rw (read j 0 (omega (arith, u, h, long))) at (below j u); reached = λ q. let p = past q in omega (arith, p) }, λ q e. let p = past q in omega (arith, p, e))
+      where
+        past : r < n → x < number r
+        past q = rw (read r 0 q) at (above r (omega arith) (omega (arith, q, long)))
 
   module _ (up : Ascends l a n) where
     apart : (i j : ℕ) → i < n → j < n → number i ≡ number j → i ≡ j

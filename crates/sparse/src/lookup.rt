@@ -13,6 +13,7 @@ pub fn look_up(words: &Words, a: usize, n: usize, x: u64) -> usize
     ensures value { result ≡ place_from words.now a n x }
     ensures upper_bound { result ≤ n }
 {
-    let i = words[a..a + n].partition_point(|word| *word < x);
-    if i < n && words[a + i] == x { i } else { n }
+    words[a..a + n]
+        .binary_search_by(|word| word.cmp(&x))
+        .unwrap_or(n)
 }

@@ -23,7 +23,7 @@ use layout::TERM_ROOM;
 use layout::cells::LAST_PLACE;
 use sparse::tables::Tables;
 use sparse::{Bytes, MOST_CONSTRAINTS, MOST_GONE, MOST_VARIABLES, Words};
-use stretch::{every, up};
+use stretch::{bytes_up, each, every, up};
 
 // The greatest number that a u32 holds.
 const GREATEST_U32: u64 = 4294967295;
@@ -62,7 +62,7 @@ fn counts_fit(words: &Words) -> bool
 }
 
 // The n words from place a on.
-fn words_up(words: &Words, a: usize, n: usize, low: u64, high: u64) -> bool
+pub fn words_up(words: &Words, a: usize, n: usize, low: u64, high: u64) -> bool
     requires { a + n ≤ words_size }
     ensures { result ≡ up_in words.now a n low high }
 {
@@ -89,9 +89,8 @@ fn bytes_fit(bytes: &Bytes, k: usize, r: usize, c: usize) -> bool
     requires c_le_most_constraints { c ≤ most_constraints }
     ensures { result ≡ bytes_fit bytes.now k r c }
 {
-    let few = every(0, c, |i| bytes[sparse::TERM_COUNTS + i] <= TERM_ROOM as u8);
-    let place = |i: usize| u64::from(bytes[sparse::ROW_PLACES + 1 + i]);
-    few & up(r, place, 1, k as u64 + 1)
+    each(0, c, |i| bytes[sparse::TERM_COUNTS + i] <= TERM_ROOM as u8)
+        & bytes_up(bytes, sparse::ROW_PLACES + 1, r, 1, (k + 1) as u8)
 }
 
 // How many terms the first c constraints have; no more than there is room for, if no constraint has.

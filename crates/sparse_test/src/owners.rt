@@ -7,7 +7,7 @@ ghost use Rattle.rows.specs.places.Shares.{shares};
 ghost use Rattle.sparse_test.specs.Stretch.{most_in};
 ghost use Rattle.sparse_test.specs.Tested.{code_of, codes, claim, claim_other, marker_code, softly, claim_variables, claim_constraints, claim_edits, constraint_fits, edit_fits, claimed, owned_fit};
 
-use crate::stretch::every;
+use crate::stretch::each;
 use layout::cells::PLACE_ROOM;
 use sparse::{Bytes, Reals};
 
@@ -35,7 +35,8 @@ pub fn fill_codes(table: &mut [u8; PLACE_ROOM], bytes: &Bytes, k: usize)
     requires table_value { table.old ≡ replicate place_room 9 }
     ensures { table.new ≡ codes bytes.now k }
 {
-    for p in 1..k + 1 {
+    for i in 0..k {
+        let p = i + 1;
         table[p] = code_of(bytes[sparse::KINDS + p]);
     }
 }
@@ -74,10 +75,12 @@ fn claim_variables(table: &mut [u8; PLACE_ROOM], bytes: &Bytes, v: usize) -> boo
     ensures value { result ≡ ((claim_variables bytes.now v (shares table.old true)).ok && most_in bytes.now changed_at v 1) }
 {
     let mut ok = true;
+    let mut fits = true;
     for i in 0..v {
         ok &= claim(table, bytes[sparse::VARIABLE_PLACES + i], 1);
+        fits &= bytes[sparse::CHANGED + i] <= 1;
     }
-    ok & every(0, v, |i| bytes[sparse::CHANGED + i] <= 1)
+    ok & fits
 }
 
 // An inequality's marker is its slack; an equality's is an Error, or a Dummy where there is no other symbol.
@@ -108,16 +111,16 @@ fn claim_constraints(table: &mut [u8; PLACE_ROOM], bytes: &Bytes, reals: &Reals,
     ensures value { result ≡ ((claim_constraints bytes.now c (shares table.old true)).ok && constraint_fits bytes.now reals.now c) }
 {
     let mut ok = true;
+    let mut fits = true;
     for i in 0..c {
         let o = bytes[sparse::CONSTRAINT_OTHERS + i];
-        let x = marker_code(bytes[sparse::RELATIONS + i], o);
+        let relation = bytes[sparse::RELATIONS + i];
+        let x = marker_code(relation, o);
         ok &= claim_tag(table, bytes[sparse::CONSTRAINT_MARKERS + i], x, o);
+        let soft = strength_fits(reals[sparse::CONSTRAINT_STRENGTHS + i], o);
+        fits &= soft & (relation <= 2);
     }
-    ok & every(0, c, |i| {
-        let o = bytes[sparse::CONSTRAINT_OTHERS + i];
-        strength_fits(reals[sparse::CONSTRAINT_STRENGTHS + i], o)
-            & (bytes[sparse::RELATIONS + i] <= 2)
-    })
+    ok & fits
 }
 
 // Two Errors each.
@@ -127,20 +130,20 @@ fn claim_edits(table: &mut [u8; PLACE_ROOM], bytes: &Bytes, reals: &Reals, e: us
     ensures value { result ≡ ((claim_edits bytes.now e (shares table.old true)).ok && edit_fits bytes.now reals.now e) }
 {
     let mut ok = true;
+    let mut fits = true;
     for i in 0..e {
         let o = bytes[sparse::EDIT_OTHERS + i];
         ok &= claim_tag(table, bytes[sparse::EDIT_MARKERS + i], 3, o);
+        fits &= (reals[sparse::EDIT_STRENGTHS + i] < REQUIRED) & (o != 0);
     }
-    ok & every(0, e, |i| {
-        (reals[sparse::EDIT_STRENGTHS + i] < REQUIRED) & (bytes[sparse::EDIT_OTHERS + i] != 0)
-    })
+    ok & fits
 }
 
 fn all_claimed(table: &[u8; PLACE_ROOM], k: usize) -> bool
     requires { k ≤ last_place }
     ensures { result ≡ all_in (λ i. eqb (get_or table.now (1 + i) 0) 0) 0 k }
 {
-    every(0, k, |i| table[1 + i] == 0)
+    each(0, k, |i| table[1 + i] == 0)
 }
 
 pub fn owned_fit(

@@ -6,7 +6,7 @@ ghost use Rattle.sparse.specs.Places.{most_rows, most_variables, most_constraint
 ghost use Rattle.sparse.specs.Lookup.{Ascends};
 ghost use Rattle.sparse_test.specs.Tested.{olds_fit, returned_fit, reals_fit};
 
-use crate::stretch::{every, reals_finite};
+use crate::stretch::{each, every, reals_finite};
 use rows::places::old_fits;
 use sparse::lookup::look_up;
 use sparse::{Reals, Words};
@@ -28,7 +28,11 @@ pub fn returned_fit(words: &Words, reals: &Reals, v: usize, g: usize) -> bool
     requires ascends { Ascends words.now gone_numbers_at g }
     ensures { result ≡ returned_fit words.now reals.now v g }
 {
-    every(0, v, |i| {
+    // Mostly none are gone, and no variable needs to be looked up then.
+    if g == 0 {
+        return true;
+    }
+    each(0, v, |i| {
         let p = look_up(
             words,
             sparse::GONE_NUMBERS,

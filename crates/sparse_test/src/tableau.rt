@@ -24,12 +24,13 @@ pub fn shut_basics(
     ensures opened_2 { Opened table.new bytes.now k r }
     ensures value { result ≡ costs_fit reals.now bytes.now r }
 {
+    let mut ok = true;
     for i in 0..r {
-        table[usize::from(bytes[sparse::ROW_PLACES + 1 + i])] = 9;
+        let p = usize::from(bytes[sparse::ROW_PLACES + 1 + i]);
+        table[p] = 9;
+        ok &= reals[sparse::OBJECTIVE + p] == 0.0;
     }
-    every(0, r, |i| {
-        reals[sparse::OBJECTIVE + usize::from(bytes[sparse::ROW_PLACES + 1 + i])] == 0.0
-    })
+    ok
 }
 
 // The codes at the cells' places come to 0 exactly if each is open.

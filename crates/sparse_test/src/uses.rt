@@ -6,7 +6,7 @@ ghost use Rattle.sparse_test.specs.Tally.{Most};
 ghost use Rattle.sparse_test.specs.Tested.{index_in, number_in, edits_up, count_uses, no_uses, uses_are, uses_fit};
 ghost use Rattle.sparse_test.specs.Index.{near, Indexed};
 
-use crate::stretch::every;
+use crate::stretch::each;
 use layout::cells::PLACE_ROOM;
 use sparse::{Bytes, Words};
 
@@ -65,7 +65,7 @@ pub fn edits_up(words: &Words, index: &[u8; PLACE_ROOM], bytes: &Bytes, v: usize
     requires indexed { Indexed index.now bytes.now v }
     ensures { result ≡ edits_up words.now bytes.now v e }
 {
-    every(1, e, |i| {
+    each(1, e, |i| {
         let before = number_at(words, index, bytes, v, sparse::EDIT_VARIABLES + (i - 1));
         before < number_at(words, index, bytes, v, sparse::EDIT_VARIABLES + i)
     })
@@ -105,7 +105,7 @@ fn uses_are(counts: &[u64; 33], words: &Words, v: usize) -> bool
     requires { v ≤ most_variables }
     ensures { result ≡ uses_are words.now counts.now v }
 {
-    every(0, v, |i| words[sparse::VARIABLE_USES + i] == counts[i]) & (counts[v] == 0)
+    each(0, v, |i| words[sparse::VARIABLE_USES + i] == counts[i]) & (counts[v] == 0)
 }
 
 // m terms.

@@ -1,13 +1,12 @@
-use Rattle.std.proofs.Common.{rules, ◌≡◌, ◌+◌}
+use Rattle.std.proofs.Common.{rules, ◌≡◌}
 use Rattle.layout.specs.Layout.{term_room}
-use Rattle.sparse.specs.Places.{term_counts_at, row_places_at}
-use Rattle.sparse_test.specs.Stretch.{most_in, up_in}
+use Rattle.sparse.specs.Places.{term_counts_at}
+use Rattle.sparse_test.specs.Stretch.{most_in}
 use Rattle.sparse_test.specs.Tested.{bytes_fit}
 use Rattle.sparse_test.proofs.bytes_fit.Goals as goal
 
 pub returns : goal.returns
 unfolding bytes_fit most_in
 returns c =
-    let few : c.every-few.result ≡ most_in c.args.bytes.now term_counts_at c.args.c term_room = c.every-few.ensures _ (λ i b h k q. search rules) in
-    let places : c.up.result ≡ up_in c.args.bytes.now (row_places_at + 1) c.args.r 1 (c.args.k + 1) = c.up.ensures _ _ (λ i x h q. search rules) in
+    let few : c.each.result ≡ most_in c.args.bytes.now term_counts_at c.args.c term_room = c.each.ensures _ (λ i b h k q. search rules) in
     cc

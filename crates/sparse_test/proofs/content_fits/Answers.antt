@@ -6,7 +6,6 @@ use native.Mathlib.Omega.{arith}
 use Rattle.sparse.specs.Sparse.{Sparse, symbol_count, row_count, cell_count, variable_count, constraint_count, edit_count, gone_count}
 use Rattle.sparse_test.specs.Tested.{owned_fit, returned_fit, reals_fit, edits_up, uses_fit, costs_fit, keys_fit, values_fit, term_count, content_fits}
 use Rattle.sparse_test.specs.Open.{all-open}
-use Rattle.sparse_test.specs.Whole.{tables}
 use Rattle.sparse_test.proofs.content_fits.Goals as goal
 
 module _ (t : Sparse) where

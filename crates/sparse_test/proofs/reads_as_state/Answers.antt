@@ -1,5 +1,5 @@
 use Rattle.sparse.specs.Tables.{lent}
-use Rattle.sparse_test.specs.Whole.{tables, counts-in, rows_few, few-terms, gone-up, no-counts, no_words, no_bytes, whole-test}
+use Rattle.sparse_test.specs.Whole.{counts-in, rows_few, few-terms, gone-up, no-counts, no_words, no_bytes, whole-test}
 use Rattle.sparse_test.proofs.reads_as_state.Goals as goal
 
 pub returns-then-not-counts_fit : goal.returns-then-not-counts_fit

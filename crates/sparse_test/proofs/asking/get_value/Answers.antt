@@ -2,7 +2,6 @@ use Rattle.sparse.specs.Tables.{lent}
 use mathlib.Core.Path.{sym, ◌∙◌}
 use Rattle.steps.specs.Number.{zero64}
 use Rattle.steps.specs.Changes.{value}
-use Rattle.sparse_test.specs.Whole.{tables}
 use Rattle.sparse_test.specs.Asked.{not-asked, answered}
 use Rattle.sparse_test.proofs.asking.get_value.Goals as goal
 

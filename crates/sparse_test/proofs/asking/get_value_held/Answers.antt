@@ -1,6 +1,5 @@
 use Rattle.sparse.specs.Tables.{lent}
 use mathlib.Core.Path.{sym, ◌∙◌}
-use Rattle.sparse_test.specs.Whole.{tables}
 use Rattle.sparse_test.specs.Meaning.{reads-form}
 use Rattle.sparse_test.specs.Asked.{value-is}
 use Rattle.sparse_test.proofs.asking.get_value_held.Goals as goal

@@ -2,7 +2,6 @@ use Rattle.sparse.specs.Tables.{lent}
 use mathlib.Core.Path.{sym, ◌∙◌}
 use mathlib.Core.Bool.{false}
 use Rattle.steps.specs.Tests.{has_constraint}
-use Rattle.sparse_test.specs.Whole.{tables}
 use Rattle.sparse_test.specs.Asked.{not-asked, answered}
 use Rattle.sparse_test.proofs.asking.has_constraint.Goals as goal
 

@@ -4,7 +4,6 @@ use mathlib.Core.Path.{sym, ap, ◌∙◌}
 use native.Mathlib.Omega.{arith}
 use lib.Dec.{ltb}
 use Rattle.sparse.specs.Sparse.{constraint_count}
-use Rattle.sparse_test.specs.Whole.{tables}
 use Rattle.sparse_test.specs.Meaning.{reads-form}
 use Rattle.sparse_test.specs.Meant.{reads-constraints}
 use Rattle.sparse_test.specs.Asked.{has-constraint}

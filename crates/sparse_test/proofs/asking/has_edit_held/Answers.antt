@@ -1,6 +1,5 @@
 use Rattle.sparse.specs.Tables.{lent}
 use mathlib.Core.Path.{sym, ◌∙◌}
-use Rattle.sparse_test.specs.Whole.{tables}
 use Rattle.sparse_test.specs.Meaning.{reads-form}
 use Rattle.sparse_test.specs.Meant.{reads-apart}
 use Rattle.sparse_test.specs.Asked.{has-edit}

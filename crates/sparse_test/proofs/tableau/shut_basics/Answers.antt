@@ -1,8 +1,10 @@
-use Rattle.std.proofs.Common.{rules, ℕ, ◌≡◌, ◌≤◌, subst, List}
+use Rattle.std.proofs.Common.{ℕ, ◌≡◌, ◌≤◌, refl, ap, subst, ◌&&◌, ◌+◌, List, get_or}
 use native.Mathlib.Omega.{arith}
-use lib.Ieee.{of_bits}
+use lib.Ieee.{nan, of_bits}
 use Rattle.steps.specs.Number.{zero64}
 use Rattle.steps.specs.Symbol.{absent}
+use Rattle.laws.specs.Lists.{all_on, all-next, all-last}
+use Rattle.sparse.specs.Places.{objective_at}
 use Rattle.sparse_test.specs.Tested.{costs_fit}
 use Rattle.sparse_test.specs.Open.{Opened, one-shut}
 use Rattle.sparse_test.proofs.tableau.shut_basics.Goals as goal
@@ -13,11 +15,12 @@ done b k r i {l} h g f =
     subst (λ (z : ℕ). Opened l b k z) o f
 
 pub loop-i-init : goal.loop-i-init
-loop-i-init c = c.requires.opened
+unfolding all_on costs_fit
+loop-i-init c = (c.requires.opened, refl)
 
 pub loop-i-preserved : goal.loop-i-preserved
-loop-i-preserved c = one-shut _ _ _ c.loop-i.invariant c.from.ensures (omega arith)
+unfolding absent zero64 of_bits
+loop-i-preserved c = (one-shut _ _ _ c.loop-i.invariant.0 c.from-p.ensures (omega arith), all-next _ _ _ _ (omega arith) (ap (λ (p : ℕ). c.loop-i.ok && absent (get_or c.args.reals.now (objective_at + p) nan)) c.from-p.ensures) c.loop-i.invariant.1)
 
 pub returns : goal.returns
-unfolding costs_fit absent zero64 of_bits
-returns c = record { opened_2 = done _ _ _ _ (omega arith) (omega arith) c.loop-i.invariant; value = c.every.ensures _ (λ i b h k q. search rules) }
+returns c = record { opened_2 = done _ _ _ _ (omega arith) (omega arith) c.loop-i.invariant.0; value = all-last _ _ _ _ (omega arith) c.loop-i.invariant.1 }

@@ -4,4 +4,4 @@ use Rattle.sparse_test.proofs.uses.edits_up.Goals as goal
 
 pub returns : goal.returns
 unfolding edits_up
-returns c = c.every.ensures _ (λ i b h k q. search rules)
+returns c = c.each.ensures _ (λ i b h k q. search rules)
