@@ -137,6 +137,11 @@ module _ (t : Sparse) (ok : reads t ≡ true) where
 
   -- ---- what the code leaves
 
+  -- its loop begins with lists of zeros
+  pub begun : (b : List ℕ) {ns gs : List ℕ} {us : List Float} {e : Ended} → ns ≡ replicate places 0 → us ≡ replicate places zero64 → gs ≡ replicate places 0
+      → e ≡ list_all t.words b (gone_count t) (variable_count t) (listing t.reals (lists ns us gs 0) 0) → e ≡ list_all t.words b (gone_count t) (variable_count t) (listing t.reals empty 0)
+  begun b x y z h = h ∙ rw (x, y, z) refl
+
   module _ {w b : List ℕ} {r : List Float} {l : Lists} (h : ended r l ≡ list_all t.words b (gone_count t) (variable_count t) (listing t.reals empty 0)) (k : b ≡ cleared_by t.words t.bytes)
       (z : w ≡ set (set t.words should_clear_at (1 - get_or t.words should_clear_at 0)) gone_count_at 0) where
     abbrev clear : Bool

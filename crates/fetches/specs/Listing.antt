@@ -39,7 +39,15 @@ listing r l e = record { reals = r; lists = l; told = e }
 
 -- .. as the code has them
 abbrev pub entries : code.Listed → Lists
-entries l = lists l.numbers l.moved l.gone l.count
+entries l = lists l.numbers.now l.moved.now l.gone.now l.count
+
+-- no list stands in another's place: what is written through the one is read through the other
+abbrev pub SameLists : code.Listed → code.Listed → Type 0
+SameLists l m = (l.numbers.ghost_name ≡ m.numbers.ghost_name) × (l.moved.ghost_name ≡ m.moved.ghost_name) × (l.gone.ghost_name ≡ m.gone.ghost_name)
+
+-- what three references lend ends as what the same three lists hold
+pub given-back : (P : Lists → Type 0) {n g : List ℕ} {v : List Float} (l : code.Listed) → n ≡ l.numbers.now → v ≡ l.moved.now → g ≡ l.gone.now → P (entries l) → P (lists n v g l.count)
+given-back P l e₁ e₂ e₃ p = rw (e₁, e₂, e₃) p
 
 -- the reals and the lists at the end
 pub record Ended : Type 0 where

@@ -80,13 +80,16 @@ pub fn fetch_held(
     ensures { fetch 0 result numbers.new moved.new gone.new (tables words.new keys.now bytes.new reals.new values.now) ≡ fetch_in (tables words.old keys.now bytes.old reals.old values.now) }
 {
     clear_reported(words, bytes);
-    let mut out = Listed::empty();
+    clear_lists(numbers, moved, gone);
+    let mut out = Listed {
+        numbers,
+        moved,
+        gone,
+        count: 0,
+    };
     listing::list_changes(words, bytes, reals, &mut out);
     words[SHOULD_CLEAR] = 1 - words[SHOULD_CLEAR];
     words[GONE_COUNT] = 0;
-    *numbers = out.numbers;
-    *moved = out.moved;
-    *gone = out.gone;
     out.count
 }
 

@@ -1,46 +1,35 @@
 // The list of a fetch: the variables by ascending number, and the gone ones among them, "gone before a value of the same number".
-ghost use Rattle.std.specs.Prelude.{◌≡◌, ◌+◌, ◌-◌, ◌<◌, ◌≤◌, get_or, set, replicate};
+ghost use Rattle.std.specs.Prelude.{◌≡◌, ◌+◌, ◌-◌, ◌<◌, ◌≤◌, get_or, set};
 ghost use Rattle.std.specs.Int.{from_bool};
-ghost use Rattle.steps.specs.Number.{zero64};
 ghost use Rattle.sparse.specs.Places.{most_rows, most_variables, most_gone, row_count_at, variable_count_at, gone_count_at, gone_numbers_at};
 ghost use Rattle.sparse.specs.Lookup.{Ascends};
 ghost use Rattle.fetches.specs.Fetch.{places};
 ghost use Rattle.fetches.specs.Lists.{lists};
 ghost use Rattle.fetches.specs.Telling.{gone_to, tell_gone};
-ghost use Rattle.fetches.specs.Listing.{ended, entries, listing, returned, list_news, list_all};
+ghost use Rattle.fetches.specs.Listing.{ended, entries, listing, SameLists, returned, list_news, list_all};
 
-use crate::{Flags, Moved, Numbers, PLACES};
+use crate::{Flags, Moved, Numbers};
 use sparse::lookup::look_up;
 use sparse::{
     Bytes, CHANGED, GONE_COUNT, GONE_NUMBERS, OLD_VALUES, ROW_COUNT, Reals, VARIABLE_COUNT,
     VARIABLE_NUMBERS, VARIABLE_PLACES, Words,
 };
 
-// The lists of a fetch, and how many of their places are filled.
-#[derive(Clone, Copy)]
-pub struct Listed {
-    pub numbers: Numbers,
-    pub moved: Moved,
-    pub gone: Flags,
+// The lists of a fetch, as they are lent, and how many of their places are filled.
+#[derive(Drop)]
+pub struct Listed<'a> {
+    pub numbers: &'a mut Numbers,
+    pub moved: &'a mut Moved,
+    pub gone: &'a mut Flags,
     pub count: u32,
 }
 
-impl Listed {
-    pub fn empty() -> Listed
-        ensures { entries result ≡ lists (replicate places 0) (replicate places zero64) (replicate places 0) 0 }
-    {
-        Listed {
-            numbers: [0; PLACES],
-            moved: [0.0; PLACES],
-            gone: [0; PLACES],
-            count: 0,
-        }
-    }
-
+impl Listed<'_> {
     // One entry more.
     fn push(&mut self, number: u64, value: f64, gone: bool)
         requires { self.old.count < places }
-        ensures after { entries self.new ≡ lists (set self.old.numbers self.old.count number) (set self.old.moved self.old.count value) (set self.old.gone self.old.count (from_bool gone)) (self.old.count + 1) }
+        ensures after { entries self.new ≡ lists (set self.old.numbers.now self.old.count number) (set self.old.moved.now self.old.count value) (set self.old.gone.now self.old.count (from_bool gone)) (self.old.count + 1) }
+        ensures same { SameLists self.old self.new }
     {
         let i = self.count as usize;
         self.numbers[i] = number;
@@ -82,6 +71,7 @@ fn tell_gone(words: &Words, out: &mut Listed, a: usize, b: usize)
     requires a_bound { out.old.count + (b - a) ≤ places }
     ensures after { entries out.new ≡ tell_gone words.now a b (entries out.old) }
     ensures count { out.new.count ≡ out.old.count + (b - a) }
+    ensures same { SameLists out.old out.new }
 {
     for j in a..b {
         out.push(words[GONE_NUMBERS + j], 0.0, true);
@@ -106,6 +96,7 @@ fn note_news(
     ensures result_after { listing reals.new (entries out.new) result ≡ list_news words.now bytes.now (get_or words.now gone_count_at 0) i (listing reals.old (entries out.old) told) }
     ensures told_bound_2 { result ≤ get_or words.now gone_count_at 0 }
     ensures count_bound_2 { out.new.count ≤ i + 1 + result }
+    ensures same { SameLists out.old out.new }
 {
     let g = words[GONE_COUNT] as usize;
     let n = words[VARIABLE_NUMBERS + i];
@@ -135,7 +126,8 @@ pub fn list_changes(words: &Words, bytes: &Bytes, reals: &mut Reals, out: &mut L
     requires variable_count_at_bound { get_or words.now variable_count_at 0 ≤ most_variables }
     requires gone_count_at_bound { get_or words.now gone_count_at 0 ≤ most_gone }
     requires ascends { Ascends words.now gone_numbers_at (get_or words.now gone_count_at 0) }
-    ensures { ended reals.new (entries out.new) ≡ list_all words.now bytes.now (get_or words.now gone_count_at 0) (get_or words.now variable_count_at 0) (listing reals.old (lists out.old.numbers out.old.moved out.old.gone 0) 0) }
+    ensures after { ended reals.new (entries out.new) ≡ list_all words.now bytes.now (get_or words.now gone_count_at 0) (get_or words.now variable_count_at 0) (listing reals.old (lists out.old.numbers.now out.old.moved.now out.old.gone.now 0) 0) }
+    ensures same { SameLists out.old out.new }
 {
     out.count = 0;
     let k = words[VARIABLE_COUNT] as usize;

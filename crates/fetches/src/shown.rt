@@ -82,9 +82,10 @@ fn coefficients_of(reals: &Reals, from: usize, n: usize) -> Coefficients
     requires term_room_bound { from + term_room ≤ most_terms }
     ensures { result ≡ filled zero64 (coefficient_at reals.now from) n }
 {
-    let a = sparse::COEFFICIENTS + from;
     let mut r = [0.0f64; TERM_ROOM];
-    r[..n].copy_from_slice(&reals[a..a + n]);
+    for j in 0..n {
+        r[j] = reals[sparse::COEFFICIENTS + (from + j)];
+    }
     r
 }
 

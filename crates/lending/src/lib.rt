@@ -67,14 +67,13 @@ pub fn enter(tables: &Tables, room: &mut TablesMut) -> bool
     true
 }
 
-fn put_back_if(on: bool, tables: &mut TablesMut, room: &TablesMut)
-    requires { Then on (Counts (held room.now)) }
-    ensures does { held tables.new ≡ cond on (put_over (held room.now) (held tables.old)) (held tables.old) }
+fn put_back_if(on: bool, tables: &mut TablesMut, room: &Tables)
+    requires { Then on (Counts (lent room.now)) }
+    ensures does { held tables.new ≡ cond on (put_over (lent room.now) (held tables.old)) (held tables.old) }
     ensures same { Same tables.old tables.new }
 {
-    let wwords = &*room.words;
     if on {
-        let c = wwords[sparse::CONSTRAINT_COUNT] as usize;
+        let c = room.words[sparse::CONSTRAINT_COUNT] as usize;
         let m = sparse_test::term_count(room.bytes, c);
         crate::sparse_copy::put_over(tables, room, m);
     }
@@ -88,7 +87,7 @@ pub fn leave(on: bool, tables: &mut TablesMut, room: &mut TablesMut)
     ensures same_tables { Same tables.old tables.new }
     ensures same_room { Same room.old room.new }
 {
-    put_back_if(on, tables, room);
+    put_back_if(on, tables, &room.lend());
     room::clear(room);
 }
 

@@ -4,31 +4,35 @@ ghost use Rattle.sparse.specs.Form.{Counts};
 ghost use Rattle.sparse.specs.Sparse.{constraint_count, terms_from};
 ghost use Rattle.sparse.specs.Copy.{put_over};
 ghost use Rattle.lending.specs.sparse_copy.Over.{tables};
-ghost use Rattle.sparse.specs.Tables.{held, Same};
+ghost use Rattle.sparse.specs.Tables.{held, lent, Same};
 
-use sparse::tables::TablesMut;
+use sparse::tables::{Tables, TablesMut};
 
 pub mod put;
 
 // The live part of the second five over the first; m is the count of all terms.
-pub fn put_over(tables: &mut TablesMut, room: &TablesMut, m: usize)
-    requires counts { Counts (held room.now) }
-    requires m_value { m ≡ terms_from (held room.now) (constraint_count (held room.now)) }
-    ensures does { held tables.new ≡ put_over (held room.now) (held tables.old) }
+pub fn put_over(tables: &mut TablesMut, from: &Tables, m: usize)
+    requires counts { Counts (lent from.now) }
+    requires m_value { m ≡ terms_from (lent from.now) (constraint_count (lent from.now)) }
+    ensures does { held tables.new ≡ put_over (lent from.now) (held tables.old) }
     ensures same { Same tables.old tables.new }
 {
-    let wwords = &*room.words;
-    let k = wwords[sparse::SYMBOL_COUNT] as usize;
-    let r = wwords[sparse::ROW_COUNT] as usize;
-    let n = wwords[sparse::CELL_COUNT] as usize;
-    let v = wwords[sparse::VARIABLE_COUNT] as usize;
-    let c = wwords[sparse::CONSTRAINT_COUNT] as usize;
-    let e = wwords[sparse::EDIT_COUNT] as usize;
-    let g = wwords[sparse::GONE_COUNT] as usize;
-    put::put_words(tables.words, wwords, k, v, c, g);
-    put::part(tables.keys, room.keys, 0, n);
-    put::part(tables.values, room.values, 0, n);
-    put::put_names(tables.bytes, room.bytes, k, r, v);
-    put::put_records(tables.bytes, room.bytes, c, e, m);
-    put::put_reals(tables.reals, room.reals, k, r, v, c, e, m);
+    let words = from.words;
+    let keys = from.keys;
+    let bytes = from.bytes;
+    let reals = from.reals;
+    let values = from.values;
+    let k = words[sparse::SYMBOL_COUNT] as usize;
+    let r = words[sparse::ROW_COUNT] as usize;
+    let n = words[sparse::CELL_COUNT] as usize;
+    let v = words[sparse::VARIABLE_COUNT] as usize;
+    let c = words[sparse::CONSTRAINT_COUNT] as usize;
+    let e = words[sparse::EDIT_COUNT] as usize;
+    let g = words[sparse::GONE_COUNT] as usize;
+    put::put_words(tables.words, words, k, v, c, g);
+    put::part(tables.keys, keys, 0, n);
+    put::part(tables.values, values, 0, n);
+    put::put_names(tables.bytes, bytes, k, r, v);
+    put::put_records(tables.bytes, bytes, c, e, m);
+    put::put_reals(tables.reals, reals, k, r, v, c, e, m);
 }

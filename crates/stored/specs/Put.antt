@@ -59,6 +59,36 @@ pub record CoefficientsPut (coefs : List Float) (s n : ℕ) (b u : List Float) :
   pub put : (j : ℕ) → j < n → get_or u (coefficients_at + (s + j)) nan ≡ get_or coefs j nan
   pub rest : Rest nan (coefficients_at + s) n b u
 
+module _ (coefs : List Float) (s : ℕ) (b : List Float) where
+  pub no-coefficients : CoefficientsPut coefs s 0 b b
+  no-coefficients = record { put = λ j h. absurd (omega (arith, h)); rest = record { before = λ q h. refl; after = λ q h. refl; long = refl } }
+
+  pub next-coefficient : (n : ℕ) (u : List Float) {x : Float} → coefficients_at + (s + n) < length u → x ≡ get_or coefs n nan → CoefficientsPut coefs s n b u → CoefficientsPut coefs s (n + 1) b (set u (coefficients_at + (s + n)) x)
+  next-coefficient n u {x} l e t =
+      record {
+        put = λ j h. go j h (ltb j n) refl;
+        rest =
+            record {
+              before = λ q h. get_or-set_other u (coefficients_at + (s + n)) q x nan (λ z. omega (arith, h, z)) ∙ t.rest.before q h;
+              after = λ q h. get_or-set_other u (coefficients_at + (s + n)) q x nan (λ z. omega (arith, h, z)) ∙ t.rest.after q (omega (arith, h));
+              long = length-set u (coefficients_at + (s + n)) x ∙ t.rest.long;
+            };
+      }
+    where
+      go : (j : ℕ) → j < n + 1 → (z : Bool) → ltb j n ≡ z → get_or (set u (coefficients_at + (s + n)) x) (coefficients_at + (s + j)) nan ≡ get_or coefs j nan
+      go j h true q =
+          let k = ltb-true j n q in
+          get_or-set_other u (coefficients_at + (s + n)) (coefficients_at + (s + j)) x nan (λ z. omega (arith, k, z)) ∙ t.put j k
+      go j h false q =
+          let k = ltb-false j n q in
+          let o : j ≡ n = omega (arith, h, k) in
+          rw o (get_or-set_same u (coefficients_at + (s + n)) x nan l ∙ e)
+
+  pub coefficients-end : (n m : ℕ) (u : List Float) → m ≤ n → n ≤ m → CoefficientsPut coefs s n b u → CoefficientsPut coefs s m b u
+  coefficients-end n m u h k t =
+      let o : n ≡ m = omega (arith, h, k) in
+      rw o at t
+
 -- ---- a constraint at the i-th place, its terms from s on
 
 pub record ConstraintPut (i s n g marker other relation : ℕ) (strength constant : Float) (p : Pack) (ww wb : List ℕ) (wr : List Float) (uw ub : List ℕ) (ur : List Float) : Type 0 where

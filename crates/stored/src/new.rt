@@ -34,8 +34,11 @@ fn put_coefficients(reals: &mut Reals, s: usize, p: Pack)
     requires count_bound { s + p.count ≤ most_terms }
     ensures { CoefficientsPut p.coefs s p.count reals.old reals.new }
 {
-    let a = sparse::COEFFICIENTS + s;
-    reals[a..a + p.count].copy_from_slice(&p.coefs[..p.count]);
+    let n = p.count;
+    let coefs = p.coefs;
+    for j in 0..n {
+        reals[sparse::COEFFICIENTS + (s + j)] = coefs[j];
+    }
 }
 
 // A constraint as it is stored: its number and group, its two tag symbols by their places, its relation with its strength, and its terms and constant.

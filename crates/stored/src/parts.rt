@@ -62,9 +62,9 @@ fn part<T: Copy, const N: usize>(to: &mut [T; N], from: &[T; N], a: usize, b: us
     requires n_bound_2 { b + n ≤ N }
     ensures { (z : T) → Part z (λ x. x) a b n from.now to.old to.new }
 {
-    let out = &mut to[..];
-    let read = &from[..];
-    out[b..b + n].copy_from_slice(&read[a..a + n]);
+    for k in 0..n {
+        to[b + k] = from[a + k];
+    }
 }
 
 // Each place by its name in a map.
@@ -91,7 +91,7 @@ pub fn split<T: Copy, const N: usize>(to: &mut [T; N], from: &[T; N], at: usize,
     part(to, from, at + (p.at + p.drop), at + (p.at + p.free), p.rest);
 }
 
-// The same, each place by its name in a map: `named_part` looks every byte up, so that it is a loop where `part` is a copy.
+// The same, each place by its name in a map.
 pub fn split_named(
     to: &mut Bytes,
     from: &Bytes,

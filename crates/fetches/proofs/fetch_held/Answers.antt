@@ -1,9 +1,11 @@
-use mathlib.Core.Path.{refl, ap, ◌∙◌}
-use Rattle.fetches.specs.Lists.{Lists, lists}
+use Rattle.std.specs.Prelude.{◌-◌, get_or, set}
+use mathlib.Core.Path.{◌≡◌, refl}
+use Rattle.std.proofs.Common.{rules}
+use Rattle.fetches.specs.Fetch.{fetch, fetch_in}
 use Rattle.sparse_test.specs.Whole.{tables}
-use Rattle.sparse.specs.Sparse.{gone_count, variable_count}
-use Rattle.fetches.specs.Listing.{listing, list_all}
-use Rattle.fetches.specs.Done.{form, gone-ascends, fetch-done}
+use Rattle.sparse.specs.Places.{should_clear_at, gone_count_at}
+use Rattle.fetches.specs.Listing.{given-back}
+use Rattle.fetches.specs.Done.{form, gone-ascends, begun, fetch-done}
 use Rattle.fetches.proofs.fetch_held.Goals as goal
 
 pub clear_reported-requires : goal.clear_reported-requires
@@ -20,4 +22,7 @@ overflow_sub-words c = (form _ c.requires).clear
 pub returns : goal.returns
 returns c =
     let t = tables c.args.words.now c.args.keys.now c.args.bytes.now c.args.reals.now c.args.values.now in
-    fetch-done t c.requires (c.list_changes.ensures ∙ ap (λ (m : Lists). list_all c.args.words.now c.clear_reported.new.bytes (gone_count t) (variable_count t) (listing c.args.reals.now (lists m.numbers m.values m.gone 0) 0)) c.empty-out.ensures) c.clear_reported.ensures refl
+    let w = set (set t.words should_clear_at (1 - get_or t.words should_clear_at 0)) gone_count_at 0 in
+    let e = c.clear_lists.ensures in
+    given-back (λ l. fetch 0 l.count l.numbers l.values l.gone (tables w t.keys c.clear_reported.new.bytes c.list_changes.new.reals t.values) ≡ fetch_in t) c.list_changes.new.out (search rules) (search rules) (search rules)
+    (fetch-done t c.requires (begun t c.requires _ e.numbers_after e.moved_after e.gone_after c.list_changes.ensures.after) c.clear_reported.ensures refl)

@@ -1,5 +1,4 @@
 use Rattle.sparse.specs.Tables.{held, lent}
-use Rattle.lending.specs.sparse_copy.Over.{tables}
 use Rattle.sparse_test.specs.Meaning.{reads-form}
 use Rattle.lending.specs.Entered.{entered}
 use Rattle.lending.proofs.enter_held.Goals as goal

@@ -1,11 +1,12 @@
 -- The live part of each table over another, with the counts that the words have; and tables that are all zero.
 -- Assumes nothing.
-use Prim.Native.Nat.{zero, suc}
-use Rattle.std.specs.Prelude.{ℕ, ◌+◌, ◌≤◌, ◌≡◌, refl, List, Float, length, get_or, replicate}
-use Rattle.std.proofs.Common.{◌∙◌, [], ◌∷◌, ◌++◌, take, drop, drop-cons, sym, ap, arith}
+use Rattle.std.specs.Prelude.{ℕ, ◌+◌, ◌≡◌, refl, List, Float, length, get_or, replicate}
+use Rattle.std.proofs.Common.{◌∙◌}
 use Rattle.std.specs.Float.{nan}
-use Rattle.laws.specs.Lists.{tab, length-tab, laid}
+use Rattle.laws.specs.Loops.{run}
+use Rattle.laws.specs.Lists.{tab}
 use Rattle.layout.specs.Layout.{over}
+use Rattle.layout.specs.Laying.{remade, stretch}
 use Rattle.steps.specs.Number.{zero64}
 use Rattle.sparse.specs.Places.{next_id_at, ids_at, variable_numbers_at, variable_uses_at, constraint_numbers_at, constraint_groups_at, gone_numbers_at, kinds_at, row_places_at, variable_places_at, changed_at, constraint_markers_at, constraint_others_at, term_counts_at, edit_variables_at, edit_markers_at, edit_others_at, terms_at, relations_at, constants_at, old_values_at, objective_at, cutoff_at, constraint_strengths_at, edit_strengths_at, suggestions_at, coefficients_at, constraint_constants_at}
 use Rattle.sparse.specs.Sparse.{Sparse, symbol_count, row_count, cell_count, variable_count, constraint_count, edit_count, gone_count, terms_from}
@@ -19,29 +20,9 @@ tables w k b r v = record { words = w; keys = k; bytes = b; reals = r; values = 
 unfoldable pub put_part : {A : Type 0} → A → List A → ℕ → ℕ → List A → List A
 put_part d from a n to = over a (tab (λ j. get_or from j d) a n) to
 
-module _ {A : Type 0} where
-  part-list : (from : List A) (d : A) (a n : ℕ) → a + n ≤ length from → tab (λ j. get_or from j d) a n ≡ take n (drop a from)
-  unfolding tab
-  part-list from d a zero h = refl
-  part-list from d a (suc n) h = rw (drop-cons from a d (omega (arith, h))) (ap (λ (l : List A). get_or from a d ∷ l) (part-list from d (suc a) n (omega (arith, h))))
-
-  over-list : (a : ℕ) (l m : List A) → a + length l ≤ length m → over a l m ≡ take a m ++ (l ++ drop (length l) (drop a m))
-  unfolding over laid
-  over-list zero [] [] h = refl
-  over-list zero (x ∷ l) [] h = absurd (omega (arith, h))
-  over-list (suc a) l [] h = absurd (omega (arith, h))
-  over-list zero [] (y ∷ m) h = refl
-  over-list zero (x ∷ l) (y ∷ m) h = ap (λ (r : List A). x ∷ r) (over-list zero l m (omega (arith, h)))
-  over-list (suc a) l (y ∷ m) h = ap (λ (r : List A). y ∷ r) (over-list a l m (omega (arith, h)))
-
-  -- as it is left by a copy of k places from a on
-  pub part-copied : (d : A) (from to : List A) (a n : ℕ) {k : ℕ} {copied : List A} → a + n ≤ length to → a + n ≤ length from → k ≡ n → copied ≡ take k (drop a from) → take a to ++ (copied ++ drop k (drop a to)) ≡ put_part d from a n to
-  unfolding put_part
-  part-copied d from to a n h f e q =
-      let g : ℕ → A = λ j. get_or from j d in
-      let t : length (tab g a n) ≡ n = length-tab g a n in
-      let o : over a (tab g a n) to ≡ take a to ++ (tab g a n ++ drop n (drop a to)) = rw t at (over-list a (tab g a n) to (rw t h)) in
-      rw (q, e, ← part-list from d a n f) (sym o)
+pub part-runs : {A : Type 0} (d : A) (from : List A) (a n : ℕ) (to : List A) → run (remade d (λ i _. get_or from i d)) a (a + n) to ≡ put_part d from a n to
+unfolding put_part over
+part-runs d from a n to = stretch d from (tab (λ j. get_or from j d) a n) a n (a + n) to refl refl
 
 -- ---- table by table: k symbols, r rows, v variables, c constraints, e edits, m terms, g gone
 

@@ -13,7 +13,9 @@ pub fn part<T: Copy>(to: &mut [T], from: &[T], a: usize, n: usize)
     requires from { a + n ≤ length from.now }
     ensures { (d : T) → to.new ≡ put_part d from.now a n to.old }
 {
-    to[a..a + n].copy_from_slice(&from[a..a + n]);
+    for i in a..a + n {
+        to[i] = from[i];
+    }
 }
 
 pub fn put_words(to: &mut Words, from: &Words, k: usize, v: usize, c: usize, g: usize)

@@ -1,4 +1,5 @@
 use Prim.Native.Nat.{◌+◌}
+use Rattle.std.proofs.Common.{rules}
 use lib.ListN.{set}
 use Rattle.sparse.specs.Places.{old_values_at}
 use mathlib.Core.Path.{ap, ◌∙◌}
@@ -8,10 +9,10 @@ use Rattle.fetches.specs.Listing.{listing, entries, news-same, news-none, news-l
 use Rattle.fetches.proofs.listing.note_news.Goals as goal
 
 pub returns-then-not-bytes-i : goal.returns-then-not-bytes-i
-returns-then-not-bytes-i c = record { result_after = news-same c.args.words.now c.args.bytes.now _ c.args.i (listing c.args.reals.now (entries c.args.out.now) c.args.told) c.has_returned-back.ensures c.if-not-bytes-i.true; told_bound_2 = c.requires.told_bound; count_bound_2 = omega (arith, c.requires.count_bound) }
+returns-then-not-bytes-i c = record { result_after = news-same c.args.words.now c.args.bytes.now _ c.args.i (listing c.args.reals.now (entries c.args.out.now) c.args.told) c.has_returned-back.ensures c.if-not-bytes-i.true; told_bound_2 = c.requires.told_bound; count_bound_2 = omega (arith, c.requires.count_bound); same = search rules }
 
 pub returns-then-not-reals-i : goal.returns-then-not-reals-i
-returns-then-not-reals-i c = record { result_after = news-none c.args.words.now c.args.bytes.now _ c.args.i (listing c.args.reals.now (entries c.args.out.now) c.args.told) c.has_returned-back.ensures c.constant_of-x.ensures c.if-not-reals-i.true; told_bound_2 = c.requires.told_bound; count_bound_2 = omega (arith, c.requires.count_bound) }
+returns-then-not-reals-i c = record { result_after = news-none c.args.words.now c.args.bytes.now _ c.args.i (listing c.args.reals.now (entries c.args.out.now) c.args.told) c.has_returned-back.ensures c.constant_of-x.ensures c.if-not-reals-i.true; told_bound_2 = c.requires.told_bound; count_bound_2 = omega (arith, c.requires.count_bound); same = search rules }
 
 pub gone_to-e-requires : goal.gone_to-e-requires
 gone_to-e-requires c = record { g_le_most_gone = c.requires.gone_count_at_bound; e_le_g = c.requires.told_bound }
@@ -30,4 +31,5 @@ returns c =
           ∙ news-listed c.args.words.now c.args.bytes.now _ c.args.i (listing c.args.reals.now (entries c.args.out.now) c.args.told) c.has_returned-back.ensures c.constant_of-x.ensures _ _ _ _ c.if-not-bytes-i.false c.if-not-reals-i.false c.gone_to-e.ensures.value c.tell_gone.ensures.after;
       told_bound_2 = c.gone_to-e.ensures.upper_bound;
       count_bound_2 = let k = ap (λ (m : Lists). m.count) c.push.ensures.after in omega (arith, k, c.gone_to-e.ensures.lower_bound, c.tell_gone.ensures.count, c.requires.count_bound);
+      same = search rules;
     }

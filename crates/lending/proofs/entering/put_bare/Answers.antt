@@ -1,6 +1,5 @@
 use Rattle.sparse.specs.Tables.{held, lent}
 use Rattle.std.specs.Float.{nan}
-use Rattle.lending.specs.sparse_copy.Over.{tables}
 use Rattle.lending.specs.Bare.{bare-over}
 use Rattle.lending.proofs.entering.put_bare.Goals as goal
 
