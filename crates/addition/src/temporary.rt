@@ -57,7 +57,7 @@ fn pivot_temporary(
     ensures goes { Goes false (ended_of result) (held room.new) }
     ensures same { Same room.old room.new }
 {
-    let f = any_pivotable_symbol(room, i);
+    let f = any_pivotable_symbol(&room.lend(), i);
     let Some(q) = f else {
         return Err(Refused {
             why: Refusal::CannotBeMet,
@@ -88,7 +88,7 @@ fn remove_temporary(
         return purge_temporary(room, p, pivots, before);
     };
     let i = at as u8;
-    if is_empty_row(room, i) {
+    if is_empty_row(&room.lend(), i) {
         return purge_temporary(room, p, pivots, before);
     }
     pivot_temporary(room, p, i, pivots, before)

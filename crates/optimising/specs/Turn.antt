@@ -104,11 +104,11 @@ module _ (art : Bool) (run : Pass) (budget : ℕ) where
   pass-starts pivots before t s = record { rest = refl; goes = s; on = refl }
 
   module _ {z : Outcome Work} {t : Sparse} {turn : Turn} (p : Passing art run budget z turn t) where
-    pass-turns : turn.more ≡ true → {r : Turn} {u : Sparse} → Turned art run budget turn.ended.pivots turn.ended.wrote t r u → Passing art run budget z r u
+    pub pass-turns : turn.more ≡ true → {r : Turn} {u : Sparse} → Turned art run budget turn.ended.pivots turn.ended.wrote t r u → Passing art run budget z r u
     unfolding rest_of
     pass-turns m {r} {u} q = record { rest = q.rest ∙ (rw m at p.rest); goes = q.goes; on = then-of _ r.more (λ e. (then-given _ e q.on).0) }
 
-    pass-ends : turn.more ≡ false → (outcome_of art turn.ended t ≡ z) × (Goes art turn.ended t)
+    pub pass-ends : turn.more ≡ false → (outcome_of art turn.ended t ≡ z) × (Goes art turn.ended t)
     unfolding rest_of
     pass-ends m = (rw m at p.rest, p.goes)
 

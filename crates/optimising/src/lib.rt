@@ -69,11 +69,11 @@ fn optimise_turn(
     ensures does { Turned art (optimise_on art) budget pivots before (held room.old) (turn_of pivots before result) (held room.new) }
     ensures same { Same room.old room.new }
 {
-    let f = get_goal_entering_symbol(art, room);
+    let f = get_goal_entering_symbol(art, &room.lend());
     let Some(p) = f else {
         return Ok(None);
     };
-    let g = get_leaving_row(art, room, p as u8);
+    let g = get_leaving_row(art, &room.lend(), p as u8);
     let Some(i) = g else {
         return Err(Refused {
             why: Refusal::NoLeavingRow,
@@ -123,7 +123,7 @@ fn dual_turn(
     let Some(i) = f else {
         return Ok(None);
     };
-    let g = get_dual_entering_symbol(room, i as u8);
+    let g = get_dual_entering_symbol(&room.lend(), i as u8);
     let Some(p) = g else {
         return Err(Refused {
             why: Refusal::NoEnteringSymbol,

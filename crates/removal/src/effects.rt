@@ -12,6 +12,7 @@ ghost use Rattle.waist.specs.Tags.{tag_at};
 use rows::number::Wrote;
 use sparse::{Bytes, Keys, Reals, Values, Words};
 use waist::choices::row_of;
+use waist::kinds::Kind;
 use waist::objective::{insert_in_objective, insert_row_in_objective};
 use waist::substituting::notes::kind_at;
 
@@ -31,7 +32,7 @@ fn remove_marker_effects(
     requires p_bound { p ≤ get_or words.now symbol_count_at 0 }
     ensures { Makes false false (mark_of before) (mark_of result) (remove_marker_effects (symbol_at (sparse words.now keys.now bytes.now reals.old values.now) p) strength) (sparse words.now keys.now bytes.now reals.old values.now) (sparse words.now keys.now bytes.now reals.new values.now) }
 {
-    if !kind_at(bytes, p).is_error() {
+    if !Kind::from(kind_at(bytes, p)).is_error() {
         return before;
     }
     let f = row_of(words, bytes, p);

@@ -50,7 +50,7 @@ fn note_leaving(
     ensures { (a : Mark) → Standing false a (sparse words.old keys.now bytes.old reals.now values.now) → Makes false false a a (note_leaving (row_symbol (sparse words.old keys.now bytes.old reals.now values.now) i)) (sparse words.old keys.now bytes.old reals.now values.now) (sparse words.new keys.now bytes.new reals.now values.now) }
 {
     let p = bytes[ROW_PLACES + i as usize];
-    let kind = kind_at(bytes, p);
+    let kind = Kind::from(kind_at(bytes, p));
     let on = leaves_noted(kind, reals[CONSTANTS + i as usize]);
     note_on(on, words, bytes, p);
 }
@@ -110,7 +110,7 @@ fn enter_and_drop(room: &mut TablesMut, p: u8, pivots: u32, before: Wrote) -> Re
     ensures goes { Goes false (ended_of result) (held room.new) }
     ensures same { Same room.old room.new }
 {
-    let f = get_marker_leaving_row(room, p);
+    let f = get_marker_leaving_row(&room.lend(), p);
     let Some(i) = f else {
         return Err(Refused {
             why: Refusal::NoRemovalRow,

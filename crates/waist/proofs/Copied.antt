@@ -1,4 +1,4 @@
--- What a stretch copied or filled is, as a loop over its places: a place closed up or opened, a run pasted, places cleared.
+-- What a stretch copied or filled is, as a loop over its places: a place opened, a run pasted, places cleared.
 use Prim.Native.Nat.{ℕ, zero, suc, ◌+◌, ◌-◌, ◌≤◌, ◌<◌}
 use mathlib.Core.Path.{◌≡◌, refl, sym, ap, ◌∙◌}
 use mathlib.Core.List.{List, [], ◌∷◌, ◌++◌}
@@ -6,25 +6,13 @@ use native.Mathlib.Omega.{arith}
 use lib.ListN.{length, take, drop, set, get_or, replicate, length-drop}
 use lib.Seq.{paste, paste-zero, paste-suc, drop-drop, length-take-le}
 use Rattle.laws.specs.Loops.{delete, insert_at, put, map_in}
-use Rattle.rows.specs.moves.Close.{closed, opened}
+use Rattle.rows.specs.moves.Close.{opened}
 use Rattle.layout.specs.cells.Seek.{run-inv}
 use Rattle.waist.specs.merging.Merge.{pasted}
 use Rattle.std.proofs.Common.{append_assoc, not-suc-le-zero, le_of_suc-le-suc}
 use Rattle.std.proofs.Math.Numerals.{add-one}
 
 module _ {A : Type 0} where
-  -- n elements come one place down, over place i
-  down : (d : A) (i n e : ℕ) (l : List A) → i + n ≡ e → e < length l → take i l ++ take n (drop (suc i) l) ++ drop e l ≡ closed d i e l
-  unfolding closed delete insert_at
-  down d i n e [] q h = absurd (not-suc-le-zero h)
-  down d zero zero zero (x ∷ l) q h = refl
-  down d zero zero (suc e) (x ∷ l) q h = absurd (omega (arith, q))
-  down d zero (suc n) zero (x ∷ l) q h = absurd (omega (arith, q))
-  down d zero (suc n) (suc e) (x ∷ []) q h = absurd (not-suc-le-zero (le_of_suc-le-suc h))
-  down d zero (suc n) (suc e) (x ∷ y ∷ l) q h = ap (λ (r : List A). y ∷ r) (down d zero n e (y ∷ l) (omega (arith, q)) (le_of_suc-le-suc h))
-  down d (suc i) n zero (x ∷ l) q h = absurd (omega (arith, q))
-  down d (suc i) n (suc e) (x ∷ l) q h = ap (λ (r : List A). x ∷ r) (down d i n e l (omega (arith, q)) (le_of_suc-le-suc h))
-
   -- n elements go one place up, over place e: what is left without place i
   up : (i n e : ℕ) (l : List A) → i + n ≡ e → e < length l → delete i (take (suc i) l ++ take n (drop i l) ++ drop (suc e) l) ≡ delete e l
   unfolding delete
@@ -36,12 +24,6 @@ module _ {A : Type 0} where
   up zero (suc n) (suc e) (x ∷ y ∷ l) q h = ap (λ (r : List A). x ∷ r) (up zero n e (y ∷ l) (omega (arith, q)) (le_of_suc-le-suc h))
   up (suc i) n zero (x ∷ l) q h = absurd (omega (arith, q))
   up (suc i) n (suc e) (x ∷ l) q h = ap (λ (r : List A). x ∷ r) (up i n e l (omega (arith, q)) (le_of_suc-le-suc h))
-
-  pub copied-closed : (d : A) (i e : ℕ) (l : List A) {m : List A} → i ≤ e → e < length l → m ≡ paste l i (drop (i + 1) l) (e + 1 - (i + 1)) → m ≡ closed d i e l
-  copied-closed d i e l h k q =
-      let n : e + 1 - (i + 1) ≡ e - i = omega (arith, h) in
-      let s : i + (e - i) ≡ e = omega (arith, h) in
-      q ∙ rw (n, s, add-one) refl ∙ down d i (e - i) e l s k
 
   pub copied-opened : (i e : ℕ) (y : A) (l : List A) {m : List A} → i ≤ e → e < length l → length m ≡ length l → m ≡ paste l (i + 1) (drop i l) (e - i) → set m i y ≡ opened i e y l
   unfolding opened

@@ -11,6 +11,7 @@ use Rattle.steps.specs.Number.{Mark}
 use Rattle.steps.specs.Symbol.{Symbol, first_symbol}
 use Rattle.steps.specs.Optimise.{goal_cells, get_entering_symbol, get_leaving_row, get_dual_entering_symbol}
 use Rattle.steps.specs.Artificial.{any_pivotable_symbol, is_empty_row}
+use Rattle.steps.specs.Remove.{get_marker_leaving_row}
 use Rattle.rows.specs.choose.Choose.{Found}
 use Rattle.rows.specs.declared.choose.Want.TheVariants as want
 use Rattle.rows.specs.choose.Choose.{Within, on_found, wants, is_nothing}
@@ -64,3 +65,24 @@ module _ (t : Sparse) (i : ℕ) (row : List Float) (l : Loads i t row) {r : Foun
       ∙ sym (ap (λ (c : List Float). picked (λ (s : Symbol). false) true (first_symbol (wants want.Any) (seen false) (symbols_of t) c)) (sym l)
       ∙ ap (λ (o : Option Symbol). picked (λ (s : Symbol). false) true o) (look-chosen t want.Any false row)
       ∙ on_some (λ (s : Symbol). false) true (λ p. symbol_at t p) (look_of want.Any false t.words t.bytes row))
+
+-- ---- of tables that are lent, as of those that a call holds
+
+module _ {t u : Sparse} (e : t ≡ u) {r : Found} where
+  pub entering-same : {art : Bool} → Chooses art (get_entering_symbol (goal_of art)) (symbol_at t) (symbol_count t) t r → Chooses art (get_entering_symbol (goal_of art)) (symbol_at u) (symbol_count u) u r
+  entering-same h = rw (← e) h
+
+  pub leaving-same : {art : Bool} (p : ℕ) → Chooses art (get_leaving_row (symbol_at t p)) (row_symbol t) (row_count t) t r → Chooses art (get_leaving_row (symbol_at u p)) (row_symbol u) (row_count u) u r
+  leaving-same p h = rw (← e) h
+
+  pub dual-entering-same : (i : ℕ) → Chooses false (get_dual_entering_symbol (basic_of t i).row) (symbol_at t) (symbol_count t) t r → Chooses false (get_dual_entering_symbol (basic_of u i).row) (symbol_at u) (symbol_count u) u r
+  dual-entering-same i h = rw (← e) h
+
+  pub pivotable-same : (i : ℕ) → Chooses false (any_pivotable_symbol (basic_of t i).row) (symbol_at t) (symbol_count t) t r → Chooses false (any_pivotable_symbol (basic_of u i).row) (symbol_at u) (symbol_count u) u r
+  pivotable-same i h = rw (← e) h
+
+  pub marker-same : (p : ℕ) → Chooses false (get_marker_leaving_row (symbol_at t p).id) (row_symbol t) (row_count t) t r → Chooses false (get_marker_leaving_row (symbol_at u p).id) (row_symbol u) (row_count u) u r
+  marker-same p h = rw (← e) h
+
+pub empty-same : {t u : Sparse} → t ≡ u → (i : ℕ) {b : Bool} → ((a : Mark) (v : ℕ) → b ≡ is_empty_row (basic_of t i).row (work_of false a v t)) → (a : Mark) (v : ℕ) → b ≡ is_empty_row (basic_of u i).row (work_of false a v u)
+empty-same e i h a v = rw (← e) (h a v)

@@ -14,7 +14,7 @@ ghost use Rattle.waist.specs.Working.{work_of, Sound};
 ghost use Rattle.waist.specs.Standing.{row_symbol, Chooses};
 ghost use Rattle.waist.specs.Choosing.{goal_of, is_dummy_kind, dual_leaving_of, entering_of};
 ghost use Rattle.waist.specs.Rows.{row_for};
-ghost use Rattle.sparse.specs.Tables.{held};
+ghost use Rattle.sparse.specs.Tables.{lent};
 
 use crate::kinds::Kind;
 use crate::looks::{first_along, load_line};
@@ -23,7 +23,7 @@ use crate::ratios::{dual_along, ratio_row};
 use crate::substituting::notes::kind_at;
 use layout::cells::ROW_ROOM;
 use rows::choose::Want;
-use sparse::tables::TablesMut;
+use sparse::tables::Tables;
 use sparse::{
     Bytes, CONSTANTS, KINDS, OBJECTIVE, ROW_COUNT, ROW_PLACES, Reals, SYMBOL_COUNT, Words,
 };
@@ -43,7 +43,7 @@ pub fn get_dual_leaving_row(words: &Words, bytes: &Bytes, reals: &Reals) -> Opti
     let n = words[ROW_COUNT] as usize;
     for i in 1..n + 1 {
         let p = bytes[ROW_PLACES + i];
-        if is_below(kind_at(bytes, p), reals[CONSTANTS + i]) {
+        if is_below(Kind::from(kind_at(bytes, p)), reals[CONSTANTS + i]) {
             return Some(i);
         }
     }
@@ -72,39 +72,39 @@ pub fn get_entering_symbol(words: &Words, bytes: &Bytes, reals: &Reals) -> Optio
 }
 
 // In the objective, or in the artificial objective: the line after the rows.
-pub fn get_goal_entering_symbol(art: bool, room: &TablesMut) -> Option<usize>
-    requires { Sound art (held room.now) }
-    ensures { Chooses art (get_entering_symbol (goal_of art)) (symbol_at (held room.now)) (get_or room.now.words.now symbol_count_at 0) (held room.now) result }
+pub fn get_goal_entering_symbol(art: bool, tables: &Tables) -> Option<usize>
+    requires { Sound art (lent tables.now) }
+    ensures { Chooses art (get_entering_symbol (goal_of art)) (symbol_at (lent tables.now)) (get_or tables.now.words.now symbol_count_at 0) (lent tables.now) result }
 {
-    let words = &*room.words;
+    let words = tables.words;
     if art {
         let mut row: [f64; ROW_ROOM] = [0.0; ROW_ROOM];
         let i = 1 + words[ROW_COUNT] as u8;
-        load_line(room, i, &mut row);
-        return first_along(Want::NonDummy, true, words, room.bytes, &row);
+        load_line(tables, i, &mut row);
+        return first_along(Want::NonDummy, true, words, tables.bytes, &row);
     }
-    get_entering_symbol(words, room.bytes, room.reals)
+    get_entering_symbol(words, tables.bytes, tables.reals)
 }
 
 // "Leaving is the restricted row with a negative cell there and the smallest -constant/cell".
-pub fn get_leaving_row(art: bool, room: &TablesMut, p: u8) -> Option<usize>
-    requires sound { Sound art (held room.now) }
+pub fn get_leaving_row(art: bool, tables: &Tables, p: u8) -> Option<usize>
+    requires sound { Sound art (lent tables.now) }
     requires le_p { 1 ≤ p }
-    requires p_bound { p ≤ get_or room.now.words.now symbol_count_at 0 }
-    ensures { Chooses art (get_leaving_row (symbol_at (held room.now) p)) (row_symbol (held room.now)) (get_or room.now.words.now row_count_at 0) (held room.now) result }
+    requires p_bound { p ≤ get_or tables.now.words.now symbol_count_at 0 }
+    ensures { Chooses art (get_leaving_row (symbol_at (lent tables.now) p)) (row_symbol (lent tables.now)) (get_or tables.now.words.now row_count_at 0) (lent tables.now) result }
 {
-    ratio_row(true, art, room, p)
+    ratio_row(true, art, tables, p)
 }
 
 // "Entering is the non-dummy positive cell with strictly smallest objective cell / cell, the lowest id on a tie", of row i.
-pub fn get_dual_entering_symbol(room: &TablesMut, i: u8) -> Option<usize>
-    requires sound { Sound false (held room.now) }
-    requires i_bound { i ≤ get_or room.now.words.now row_count_at 0 }
-    ensures { Chooses false (get_dual_entering_symbol (basic_of (held room.now) i).row) (symbol_at (held room.now)) (get_or room.now.words.now symbol_count_at 0) (held room.now) result }
+pub fn get_dual_entering_symbol(tables: &Tables, i: u8) -> Option<usize>
+    requires sound { Sound false (lent tables.now) }
+    requires i_bound { i ≤ get_or tables.now.words.now row_count_at 0 }
+    ensures { Chooses false (get_dual_entering_symbol (basic_of (lent tables.now) i).row) (symbol_at (lent tables.now)) (get_or tables.now.words.now symbol_count_at 0) (lent tables.now) result }
 {
     let mut row: [f64; ROW_ROOM] = [0.0; ROW_ROOM];
-    load_line(room, i, &mut row);
-    dual_along(room.words, room.bytes, room.reals, &row)
+    load_line(tables, i, &mut row);
+    dual_along(tables.words, tables.bytes, tables.reals, &row)
 }
 
 // The row that is for the symbol at place p.
@@ -118,46 +118,46 @@ pub fn row_of(words: &Words, bytes: &Bytes, p: u8) -> Option<usize>
 }
 
 // "the row's first slack or Error", of row i.
-pub fn any_pivotable_symbol(room: &TablesMut, i: u8) -> Option<usize>
-    requires sound { Sound false (held room.now) }
-    requires i_bound { i ≤ get_or room.now.words.now row_count_at 0 }
-    ensures { Chooses false (any_pivotable_symbol (basic_of (held room.now) i).row) (symbol_at (held room.now)) (get_or room.now.words.now symbol_count_at 0) (held room.now) result }
+pub fn any_pivotable_symbol(tables: &Tables, i: u8) -> Option<usize>
+    requires sound { Sound false (lent tables.now) }
+    requires i_bound { i ≤ get_or tables.now.words.now row_count_at 0 }
+    ensures { Chooses false (any_pivotable_symbol (basic_of (lent tables.now) i).row) (symbol_at (lent tables.now)) (get_or tables.now.words.now symbol_count_at 0) (lent tables.now) result }
 {
     let mut row: [f64; ROW_ROOM] = [0.0; ROW_ROOM];
-    load_line(room, i, &mut row);
-    first_along(Want::Pivotable, false, room.words, room.bytes, &row)
+    load_line(tables, i, &mut row);
+    first_along(Want::Pivotable, false, tables.words, tables.bytes, &row)
 }
 
 // "an empty row": row i.
-pub fn is_empty_row(room: &TablesMut, i: u8) -> bool
-    requires sound { Sound false (held room.now) }
-    requires i_bound { i ≤ get_or room.now.words.now row_count_at 0 }
-    ensures { (a : Mark) (v : ℕ) → result ≡ is_empty_row (basic_of (held room.now) i).row (work_of false a v (held room.now)) }
+pub fn is_empty_row(tables: &Tables, i: u8) -> bool
+    requires sound { Sound false (lent tables.now) }
+    requires i_bound { i ≤ get_or tables.now.words.now row_count_at 0 }
+    ensures { (a : Mark) (v : ℕ) → result ≡ is_empty_row (basic_of (lent tables.now) i).row (work_of false a v (lent tables.now)) }
 {
     let mut row: [f64; ROW_ROOM] = [0.0; ROW_ROOM];
-    load_line(room, i, &mut row);
-    first_along(Want::Any, false, room.words, room.bytes, &row).is_none()
+    load_line(tables, i, &mut row);
+    first_along(Want::Any, false, tables.words, tables.bytes, &row).is_none()
 }
 
 // "the leaving row is, in rank: .."
-pub fn get_marker_leaving_row(room: &TablesMut, p: u8) -> Option<usize>
-    requires sound { Sound false (held room.now) }
+pub fn get_marker_leaving_row(tables: &Tables, p: u8) -> Option<usize>
+    requires sound { Sound false (lent tables.now) }
     requires le_p { 1 ≤ p }
-    requires p_bound { p ≤ get_or room.now.words.now symbol_count_at 0 }
-    ensures { Chooses false (get_marker_leaving_row (symbol_at (held room.now) p).id) (row_symbol (held room.now)) (get_or room.now.words.now row_count_at 0) (held room.now) result }
+    requires p_bound { p ≤ get_or tables.now.words.now symbol_count_at 0 }
+    ensures { Chooses false (get_marker_leaving_row (symbol_at (lent tables.now) p).id) (row_symbol (lent tables.now)) (get_or tables.now.words.now row_count_at 0) (lent tables.now) result }
 {
     // `or_else` tells the proof nothing of what its closure gave, unless each of the three has clauses of its own.
-    let f = first_dummy_row(room, p);
+    let f = first_dummy_row(tables, p);
     let None = f else {
         return f;
     };
-    let g = ratio_row(true, false, room, p);
+    let g = ratio_row(true, false, tables, p);
     let None = g else {
         return g;
     };
-    let h = ratio_row(false, false, room, p);
+    let h = ratio_row(false, false, tables, p);
     let None = h else {
         return h;
     };
-    last_external_row(room, p)
+    last_external_row(tables, p)
 }

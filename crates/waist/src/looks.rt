@@ -6,13 +6,13 @@ ghost use Rattle.sparse.specs.Sparse.{Sparse};
 ghost use Rattle.layout.specs.cells.Names.{last_place};
 ghost use Rattle.waist.specs.Kinds.{kind_byte};
 ghost use Rattle.waist.specs.Looks.{of_kind, seen, look_of, Loadable, Loads};
-ghost use Rattle.sparse.specs.Tables.{held};
+ghost use Rattle.sparse.specs.Tables.{lent};
 
 use crate::kinds::Kind;
 use layout::cells::ROW_ROOM;
 use layout::cells::row::load_row;
 use rows::choose::Want;
-use sparse::tables::TablesMut;
+use sparse::tables::Tables;
 use sparse::{Bytes, CELL_COUNT, KINDS, SYMBOL_COUNT, Words};
 
 fn wanted(want: Want, kind: Kind) -> bool
@@ -63,13 +63,13 @@ pub fn first_along(
 }
 
 // Line i as a dense row.
-pub fn load_line(room: &TablesMut, i: u8, row: &mut [f64; ROW_ROOM])
-    requires loadable { Loadable (held room.now) }
+pub fn load_line(tables: &Tables, i: u8, row: &mut [f64; ROW_ROOM])
+    requires loadable { Loadable (lent tables.now) }
     requires i_le_most_rows { i ≤ most_rows }
-    ensures { Loads i (held room.now) row.new }
+    ensures { Loads i (lent tables.now) row.new }
 {
-    let words = &*room.words;
+    let words = tables.words;
     let n = words[CELL_COUNT] as usize;
     let k = words[SYMBOL_COUNT] as usize;
-    load_row(room.keys, room.values, n, i, k, row);
+    load_row(tables.keys, tables.values, n, i, k, row);
 }

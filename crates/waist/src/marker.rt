@@ -11,27 +11,27 @@ ghost use Rattle.waist.specs.Working.{Sound};
 ghost use Rattle.waist.specs.Choosing.{is_dummy_kind};
 ghost use Rattle.waist.specs.Ratios.{column_at};
 ghost use Rattle.waist.specs.MarkerRow.{dummy_row_of, external_row_of};
-ghost use Rattle.sparse.specs.Tables.{held};
+ghost use Rattle.sparse.specs.Tables.{lent};
 
 use crate::kinds::Kind;
 use crate::spots::spots_of;
 use crate::substituting::notes::kind_at;
 use layout::cells::LINES_ROOM;
 use layout::cells::spots::spot_cell;
-use sparse::tables::TablesMut;
+use sparse::tables::Tables;
 use sparse::{CELL_COUNT, ROW_COUNT, ROW_PLACES};
 
 // Row i's cell at place p.
-fn column_at(room: &TablesMut, p: u8, spots: &[u16; LINES_ROOM], i: usize) -> f64
-    requires sound { Sound false (held room.now) }
+fn column_at(tables: &Tables, p: u8, spots: &[u16; LINES_ROOM], i: usize) -> f64
+    requires sound { Sound false (lent tables.now) }
     requires p_le_last_place { p ≤ last_place }
     requires i_le_most_rows { i ≤ most_rows }
-    requires spots { Spots room.now.keys.now (get_or room.now.words.now cell_count_at 0) p spots.now }
-    ensures { result ≡ column_at (held room.now) p i }
+    requires spots { Spots tables.now.keys.now (get_or tables.now.words.now cell_count_at 0) p spots.now }
+    ensures { result ≡ column_at (lent tables.now) p i }
 {
-    let words = &*room.words;
+    let words = tables.words;
     let m = words[CELL_COUNT] as usize;
-    spot_cell(room.keys, room.values, m, p, spots, i)
+    spot_cell(tables.keys, tables.values, m, p, spots, i)
 }
 
 fn holds_as_dummy(kind: Kind, x: f64) -> bool
@@ -41,19 +41,19 @@ fn holds_as_dummy(kind: Kind, x: f64) -> bool
 }
 
 // "the first Dummy row holding the marker"
-pub fn first_dummy_row(room: &TablesMut, p: u8) -> Option<usize>
-    requires sound { Sound false (held room.now) }
+pub fn first_dummy_row(tables: &Tables, p: u8) -> Option<usize>
+    requires sound { Sound false (lent tables.now) }
     requires p_le_last_place { p ≤ last_place }
-    ensures value { result ≡ dummy_row_of p (held room.now) }
-    ensures within { Within (get_or room.now.words.now row_count_at 0) result }
+    ensures value { result ≡ dummy_row_of p (lent tables.now) }
+    ensures within { Within (get_or tables.now.words.now row_count_at 0) result }
 {
-    let words = &*room.words;
-    let bytes = &*room.bytes;
+    let words = tables.words;
+    let bytes = tables.bytes;
     let n = words[ROW_COUNT] as usize;
-    let spots = spots_of(false, room, p);
+    let spots = spots_of(false, tables, p);
     for i in 1..n + 1 {
-        let kind = kind_at(bytes, bytes[ROW_PLACES + i]);
-        let x = column_at(room, p, &spots, i);
+        let kind = Kind::from(kind_at(bytes, bytes[ROW_PLACES + i]));
+        let x = column_at(tables, p, &spots, i);
         if holds_as_dummy(kind, x) {
             return Some(i);
         }
@@ -68,19 +68,19 @@ fn holds_as_external(kind: Kind, x: f64) -> bool
 }
 
 // "the last External row holding it"
-pub fn last_external_row(room: &TablesMut, p: u8) -> Option<usize>
-    requires sound { Sound false (held room.now) }
+pub fn last_external_row(tables: &Tables, p: u8) -> Option<usize>
+    requires sound { Sound false (lent tables.now) }
     requires p_le_last_place { p ≤ last_place }
-    ensures value { result ≡ external_row_of p (held room.now) }
-    ensures within { Within (get_or room.now.words.now row_count_at 0) result }
+    ensures value { result ≡ external_row_of p (lent tables.now) }
+    ensures within { Within (get_or tables.now.words.now row_count_at 0) result }
 {
-    let words = &*room.words;
-    let bytes = &*room.bytes;
-    let spots = spots_of(false, room, p);
+    let words = tables.words;
+    let bytes = tables.bytes;
+    let spots = spots_of(false, tables, p);
     let n = words[ROW_COUNT] as usize;
     for i in (1..n + 1).rev() {
-        let kind = kind_at(bytes, bytes[ROW_PLACES + i]);
-        let x = column_at(room, p, &spots, i);
+        let kind = Kind::from(kind_at(bytes, bytes[ROW_PLACES + i]));
+        let x = column_at(tables, p, &spots, i);
         if holds_as_external(kind, x) {
             return Some(i);
         }

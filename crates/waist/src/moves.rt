@@ -8,7 +8,9 @@ pub fn close<T: Copy>(xs: &mut [T], i: usize, e: usize)
     requires e_bound { e < length xs.old }
     ensures { (d : T) → xs.new ≡ closed d i e xs.old }
 {
-    xs.copy_within(i + 1..e + 1, i);
+    for j in i..e {
+        xs[j] = xs[j + 1];
+    }
 }
 
 // Place e, which is free, is filled: x comes to place i, and those from there on go one place up.

@@ -42,7 +42,7 @@ pub fn enter_basis(art: bool, room: &mut TablesMut, at: u8, row: &[f64; ROW_ROOM
     ensures same { Same room.old room.new }
 {
     let w = substitute(art, room, at, row);
-    let on = enters_noted(kind_at(room.bytes, at), row[0]);
+    let on = enters_noted(Kind::from(kind_at(room.bytes, at)), row[0]);
     var_changed_if(on, room.words, room.bytes, at);
     keep_row(art, room, at, row);
     w

@@ -10,7 +10,7 @@ ghost use Rattle.waist.specs.substituting.Notes.{is_external_kind};
 ghost use Rattle.waist.specs.Working.{Sound};
 ghost use Rattle.waist.specs.Choosing.{is_dummy_kind};
 ghost use Rattle.waist.specs.Ratios.{signed, over, ratio_row_of, dual_entering_of};
-ghost use Rattle.sparse.specs.Tables.{held};
+ghost use Rattle.sparse.specs.Tables.{lent};
 
 use crate::kinds::Kind;
 use crate::spots::spots_of;
@@ -18,7 +18,7 @@ use crate::substituting::notes::kind_at;
 use layout::cells::ROW_ROOM;
 use layout::cells::spots::spot_cell;
 use rows::choose::Best;
-use sparse::tables::TablesMut;
+use sparse::tables::Tables;
 use sparse::{
     Bytes, CELL_COUNT, CONSTANTS, KINDS, OBJECTIVE, ROW_COUNT, ROW_PLACES, Reals, SYMBOL_COUNT,
     Words,
@@ -94,22 +94,22 @@ fn row_better(
 }
 
 // With `down`: "the restricted row with a negative cell there and the smallest -constant/cell"; else "restricted with positive cell, smallest constant/cell".
-pub fn ratio_row(down: bool, art: bool, room: &TablesMut, p: u8) -> Option<usize>
-    requires sound { Sound art (held room.now) }
+pub fn ratio_row(down: bool, art: bool, tables: &Tables, p: u8) -> Option<usize>
+    requires sound { Sound art (lent tables.now) }
     requires p_le_last_place { p ≤ last_place }
-    ensures value { result ≡ ratio_row_of down p (held room.now) }
-    ensures within { Within (get_or room.now.words.now row_count_at 0) result }
+    ensures value { result ≡ ratio_row_of down p (lent tables.now) }
+    ensures within { Within (get_or tables.now.words.now row_count_at 0) result }
 {
-    let words = &*room.words;
-    let bytes = &*room.bytes;
-    let reals = &*room.reals;
+    let words = tables.words;
+    let bytes = tables.bytes;
+    let reals = tables.reals;
     let n = words[ROW_COUNT] as usize;
     let m = words[CELL_COUNT] as usize;
-    let spots = spots_of(art, room, p);
+    let spots = spots_of(art, tables, p);
     let mut b: Option<Best> = None;
     for i in 1..n + 1 {
-        let kind = kind_at(bytes, bytes[ROW_PLACES + i]);
-        let x = spot_cell(room.keys, room.values, m, p, &spots, i);
+        let kind = Kind::from(kind_at(bytes, bytes[ROW_PLACES + i]));
+        let x = spot_cell(tables.keys, tables.values, m, p, &spots, i);
         b = row_better(down, i, kind, x, reals[CONSTANTS + i], b);
     }
     found_of(b, n)

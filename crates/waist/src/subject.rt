@@ -33,7 +33,7 @@ fn negative_tag(bytes: &Bytes, row: &[f64; ROW_ROOM], p: u8) -> Option<usize>
     requires { p ≤ last_place }
     ensures { result ≡ negative_of p bytes.now row.now }
 {
-    negative_pivotable(kind_at(bytes, p), row[p as usize]).then_some(p as usize)
+    negative_pivotable(Kind::from(kind_at(bytes, p)), row[p as usize]).then_some(p as usize)
 }
 
 // "first External; else marker if slack or Error with negative cell; else other likewise"; 0 is no other.

@@ -168,7 +168,7 @@ fn shift_rows(
     for i in 1..count + 1 {
         let p = bytes[ROW_PLACES + i as usize];
         let s = shift_of(d, keys, values, n, &spots, p, i);
-        let on = is_noted(kind_at(bytes, p), s);
+        let on = is_noted(Kind::from(kind_at(bytes, p)), s);
         var_changed_if(on, words, bytes, p);
         w = shift_row(reals, i, s, w);
     }

@@ -15,6 +15,8 @@ pub fn paste(run: &Run, keys: &mut [u16; CELL_ROOM], vals: &mut [f64; CELL_ROOM]
     ensures vals_after { vals.new ≡ pasted nan a run.now.size run.now.vals vals.old }
 {
     let m = run.size;
-    keys[a..a + m].copy_from_slice(&run.keys[..m]);
-    vals[a..a + m].copy_from_slice(&run.vals[..m]);
+    for j in 0..m {
+        keys[a + j] = run.keys[j];
+        vals[a + j] = run.vals[j];
+    }
 }

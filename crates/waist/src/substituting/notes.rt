@@ -4,7 +4,7 @@ ghost use Rattle.laws.specs.Loops.{map_in};
 ghost use Rattle.sparse.specs.Places.{most_rows, most_variables, variable_count_at, kinds_at, changed_at};
 ghost use Rattle.layout.specs.cells.Names.{last_place};
 ghost use Rattle.layout.specs.cells.Spots.{Spots};
-ghost use Rattle.waist.specs.Kinds.{kind_byte, KindOf};
+ghost use Rattle.waist.specs.Kinds.{kind_byte};
 ghost use Rattle.waist.specs.substituting.Held.{Held};
 ghost use Rattle.waist.specs.substituting.Notes.{noted, flagged_in, var_changed_at, var_changed_if, is_external_kind, changes, note_rows};
 
@@ -65,11 +65,11 @@ pub fn var_changed_if(on: bool, words: &mut Words, bytes: &mut Bytes, p: u8)
     }
 }
 
-// The kind of the symbol at place p.
-pub fn kind_at(bytes: &Bytes, p: u8) -> Kind
-    ensures { KindOf (get_or bytes.now (kinds_at + p) 0) result }
+// The kind of the symbol at place p, as the tables hold it.
+pub fn kind_at(bytes: &Bytes, p: u8) -> u8
+    ensures { result ≡ get_or bytes.now (kinds_at + p) 0 }
 {
-    Kind::from(bytes[KINDS + p as usize])
+    bytes[KINDS + p as usize]
 }
 
 // What the substitution will say of the constant: k is the row's cell, y the constant of the row that is inserted.
@@ -103,7 +103,7 @@ pub fn note_rows(
     for i in 1..count + 1 {
         let p = bytes[ROW_PLACES + i as usize];
         let k = spot_cell(keys, values, n, at, spots, i as usize);
-        let on = is_noted(kind_at(bytes, p), k, y);
+        let on = is_noted(Kind::from(kind_at(bytes, p)), k, y);
         var_changed_if(on, words, bytes, p);
     }
 }

@@ -15,7 +15,7 @@ use rows::number::{OBJECTIVE_BOUND, Wrote, nothing};
 use sparse::{OBJECTIVE, Reals};
 
 // The cell at place p gets o times k; an absent o is passed over.
-fn insert_at(cutoff: f64, reals: &mut Reals, p: usize, o: f64, k: f64, before: Wrote) -> Wrote
+pub fn insert_at(cutoff: f64, reals: &mut Reals, p: usize, o: f64, k: f64, before: Wrote) -> Wrote
     requires { p ≤ last_place }
     ensures result_value { mark_of result ≡ inserted_mark cutoff objective_bound k (mark_of before) (get_or reals.old (objective_at + p) nan) o }
     ensures reals_after { reals.new ≡ set reals.old (objective_at + p) (inserted_value cutoff k (get_or reals.old (objective_at + p) nan) o) }

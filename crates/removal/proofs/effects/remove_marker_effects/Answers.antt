@@ -8,13 +8,13 @@ use Rattle.removal.specs.Effects.{error-read, no-error, not-basic, is-basic}
 use Rattle.removal.proofs.effects.remove_marker_effects.Goals as goal
 
 pub returns-then-not-is_error : goal.returns-then-not-is_error
-returns-then-not-is_error c = no-error _ _ _ _ c.requires.standing (error-read (sparse c.args.words.now c.args.keys.now c.args.bytes.now c.args.reals.now c.args.values.now) c.args.p c.kind_at.result c.kind_at.ensures c.is_error.ensures ∙ c.if-not-is_error.true)
+returns-then-not-is_error c = no-error _ _ _ _ c.requires.standing (error-read (sparse c.args.words.now c.args.keys.now c.args.bytes.now c.args.reals.now c.args.values.now) c.args.p c.from.result (rw c.kind_at.ensures at c.from.ensures) c.is_error.ensures ∙ c.if-not-is_error.true)
 
 pub returns-in_default : goal.returns-in_default
-returns-in_default c = not-basic _ _ _ _ (error-read (sparse c.args.words.now c.args.keys.now c.args.bytes.now c.args.reals.now c.args.values.now) c.args.p c.kind_at.result c.kind_at.ensures c.is_error.ensures ∙ c.if-not-is_error.false) _ (row-found false (sparse c.args.words.now c.args.keys.now c.args.bytes.now c.args.reals.now c.args.values.now) c.requires.standing.sound _ c.requires.le_p c.requires.p_bound) (sym c.row_of-f.ensures.value ∙ c.in_default.is) c.insert_in_objective.ensures
+returns-in_default c = not-basic _ _ _ _ (error-read (sparse c.args.words.now c.args.keys.now c.args.bytes.now c.args.reals.now c.args.values.now) c.args.p c.from.result (rw c.kind_at.ensures at c.from.ensures) c.is_error.ensures ∙ c.if-not-is_error.false) _ (row-found false (sparse c.args.words.now c.args.keys.now c.args.bytes.now c.args.reals.now c.args.values.now) c.requires.standing.sound _ c.requires.le_p c.requires.p_bound) (sym c.row_of-f.ensures.value ∙ c.in_default.is) c.insert_in_objective.ensures
 
 pub returns : goal.returns
-returns c = is-basic _ _ _ _ (error-read (sparse c.args.words.now c.args.keys.now c.args.bytes.now c.args.reals.now c.args.values.now) c.args.p c.kind_at.result c.kind_at.ensures c.is_error.ensures ∙ c.if-not-is_error.false) _ (row-found false (sparse c.args.words.now c.args.keys.now c.args.bytes.now c.args.reals.now c.args.values.now) c.requires.standing.sound _ c.requires.le_p c.requires.p_bound) _ (sym c.row_of-f.ensures.value ∙ c.in-Some.is) c.insert_row_in_objective.ensures
+returns c = is-basic _ _ _ _ (error-read (sparse c.args.words.now c.args.keys.now c.args.bytes.now c.args.reals.now c.args.values.now) c.args.p c.from.result (rw c.kind_at.ensures at c.from.ensures) c.is_error.ensures ∙ c.if-not-is_error.false) _ (row-found false (sparse c.args.words.now c.args.keys.now c.args.bytes.now c.args.reals.now c.args.values.now) c.requires.standing.sound _ c.requires.le_p c.requires.p_bound) _ (sym c.row_of-f.ensures.value ∙ c.in-Some.is) c.insert_row_in_objective.ensures
 
 pub row_of-f-requires : goal.row_of-f-requires
 row_of-f-requires c = c.requires.standing.sound.few

@@ -13,10 +13,10 @@ pub column_at-x-requires : goal.column_at-x-requires
 column_at-x-requires c = record { sound = c.requires.sound; p_le_last_place = c.requires.p_le_last_place; i_le_most_rows = omega (arith, c.requires.sound.few); spots = c.spots_of-spots.ensures }
 
 pub returns-then-holds_as_dummy : goal.returns-then-holds_as_dummy
-returns-then-holds_as_dummy c = record { value = first-here _ _ _ _ _ (omega arith) (sym (dummy-held _ _ _ refl c.column_at-x.ensures (rw (← dummy-read _ _ c.kind_at-kind.ensures) c.holds_as_dummy.ensures)) ∙ c.if-holds_as_dummy.true) c.loop-i.invariant; within = (omega arith, omega arith) }
+returns-then-holds_as_dummy c = record { value = first-here _ _ _ _ _ (omega arith) (sym (dummy-held _ _ _ refl c.column_at-x.ensures (rw (← dummy-read _ _ (rw c.kind_at.ensures at c.from-kind.ensures)) c.holds_as_dummy.ensures)) ∙ c.if-holds_as_dummy.true) c.loop-i.invariant; within = (omega arith, omega arith) }
 
 pub loop-i-preserved : goal.loop-i-preserved
-loop-i-preserved c = first_next _ _ _ _ _ (omega arith) (sym (dummy-held _ _ _ refl c.column_at-x.ensures (rw (← dummy-read _ _ c.kind_at-kind.ensures) c.holds_as_dummy.ensures)) ∙ c.if-holds_as_dummy.false) c.loop-i.invariant
+loop-i-preserved c = first_next _ _ _ _ _ (omega arith) (sym (dummy-held _ _ _ refl c.column_at-x.ensures (rw (← dummy-read _ _ (rw c.kind_at.ensures at c.from-kind.ensures)) c.holds_as_dummy.ensures)) ∙ c.if-holds_as_dummy.false) c.loop-i.invariant
 
 pub returns : goal.returns
 returns c = record { value = first-last _ _ _ _ _ (omega arith) c.loop-i.invariant; within = tt }

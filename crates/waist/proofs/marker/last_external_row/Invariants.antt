@@ -1,4 +1,4 @@
-use Rattle.sparse.specs.Tables.{held}
+use Rattle.sparse.specs.Tables.{lent}
 use Prim.Native.Nat.{◌-◌, ◌≤◌}
 use mathlib.Core.Path.{◌≡◌}
 use Rattle.std.specs.Prelude.{Some, None}
@@ -7,4 +7,4 @@ use Rattle.waist.specs.MarkerRow.{external_held, external_row_of}
 use Rattle.waist.proofs.marker.last_external_row.Given as goal
 
 abbrev pub invariant-loop-i : goal.invariant-loop-i
-invariant-loop-i l = (back (external_held l.p (held l.room)) Some None (l.i - 1) ≡ external_row_of l.p (held l.room)) × (1 ≤ l.i)
+invariant-loop-i l = (back (external_held l.p (lent l.tables)) Some None (l.i - 1) ≡ external_row_of l.p (lent l.tables)) × (1 ≤ l.i)

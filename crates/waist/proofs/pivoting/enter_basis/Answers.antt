@@ -21,4 +21,4 @@ returns-clause-does c =
     let l = noted-low _ _ _ _ c.requires.sound c.requires.le_at c.requires.at_bound c.requires.free c.requires.row_count_at_bound c.requires.settled_row c.substitute-w.ensures.does in
     let n = note-calls _ _ _ _ c.substitute-w.ensures.does.sound l.0 l.1 _ _ c.var_changed_if.ensures in
     enter-calls _ _ _ _ c.requires.sound c.requires.le_at c.requires.at_bound c.requires.free c.requires.row_count_at_bound c.requires.settled_row c.substitute-w.ensures.does n c.keep_row.ensures.does
-    (on-by _ _ _ _ c.requires.sound c.requires.le_at c.requires.at_bound c.requires.free c.requires.row_count_at_bound c.requires.settled_row c.substitute-w.ensures.does (get_or c.args.row.now 0 nan) refl (rw (← external-read _ _ c.kind_at.ensures) c.enters_noted-on.ensures))
+    (on-by _ _ _ _ c.requires.sound c.requires.le_at c.requires.at_bound c.requires.free c.requires.row_count_at_bound c.requires.settled_row c.substitute-w.ensures.does (get_or c.args.row.now 0 nan) refl (rw (← external-read _ _ (rw c.kind_at.ensures at c.from.ensures)) c.enters_noted-on.ensures))

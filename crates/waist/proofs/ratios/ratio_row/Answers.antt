@@ -17,7 +17,7 @@ spot_cell-x-requires c =
     record { n_le_cell_room = omega (arith, f); i_lt_lines_room = omega (arith, c.requires.sound.few, c.loop-i-test.true); ascending = c.requires.sound.held.up; spots = c.spots_of-spots.ensures }
 
 pub loop-i-preserved : goal.loop-i-preserved
-loop-i-preserved c = run-next _ _ _ _ (omega arith) (ratio-turn _ _ _ _ _ refl c.spot_cell-x.ensures (rw (← external-read _ _ c.kind_at-kind.ensures) c.row_better-b.ensures)) c.loop-i.invariant
+loop-i-preserved c = run-next _ _ _ _ (omega arith) (ratio-turn _ _ _ _ _ refl c.spot_cell-x.ensures (rw (← external-read _ _ (rw c.kind_at.ensures at c.from-kind.ensures)) c.row_better-b.ensures)) c.loop-i.invariant
 
 pub returns : goal.returns
 unfolding ratio_row_of

@@ -5,4 +5,4 @@ use Rattle.waist.proofs.Options.{some-if}
 use Rattle.waist.proofs.subject.negative_tag.Goals as goal
 
 pub returns : goal.returns
-returns c = c.then_some.ensures ∙ some-if _ _ ∙ tag-is _ _ _ (rw (← symbol-read _ _ c.kind_at.ensures) c.negative_pivotable.ensures)
+returns c = c.then_some.ensures ∙ some-if _ _ ∙ tag-is _ _ _ (rw (← symbol-read _ _ (rw c.kind_at.ensures at c.from.ensures)) c.negative_pivotable.ensures)

@@ -16,7 +16,7 @@ shift_of-s-requires c = record { n_le_cell_room = omega (arith, c.requires.cell_
 
 pub loop-i-preserved : goal.loop-i-preserved
 loop-i-preserved c = (
-  run-next _ _ _ _ (omega arith) (shift-turn _ _ _ _ _ _ _ _ _ c.shift_of-s.ensures refl (rw (← external-read _ _ c.kind_at.ensures) c.is_noted-on.ensures) c.var_changed_if.ensures c.shift_row-w.ensures.result_value c.shift_row-w.ensures.reals_after) c.loop-i.invariant.0,
+  run-next _ _ _ _ (omega arith) (shift-turn _ _ _ _ _ _ _ _ _ c.shift_of-s.ensures refl (rw (← external-read _ _ (rw c.kind_at.ensures at c.from.ensures)) c.is_noted-on.ensures) c.var_changed_if.ensures c.shift_row-w.ensures.result_value c.shift_row-w.ensures.reals_after) c.loop-i.invariant.0,
   ap (λ (z : Noted). get_or z.words variable_count_at 0) c.var_changed_if.ensures ∙ noted-count _ _ _ ∙ c.loop-i.invariant.1,
 )
 

@@ -23,7 +23,7 @@ var_changed_if-requires c = c.loop-i.invariant.1
 pub loop-i-preserved : goal.loop-i-preserved
 loop-i-preserved c =
     let e = ap (λ (s : Noted). get_or s.words variable_count_at 0) c.var_changed_if.ensures ∙ noted-count _ _ _ in
-    (run-next _ _ _ _ (omega (arith, c.loop-i-test.true)) (note-turn _ _ _ _ _ _ _ _ c.spot_cell-k.ensures refl (rw (← external-read _ _ c.kind_at.ensures) c.is_noted-on.ensures) c.var_changed_if.ensures) c.loop-i.invariant.0, omega (arith, e, c.loop-i.invariant.1))
+    (run-next _ _ _ _ (omega (arith, c.loop-i-test.true)) (note-turn _ _ _ _ _ _ _ _ c.spot_cell-k.ensures refl (rw (← external-read _ _ (rw c.kind_at.ensures at c.from.ensures)) c.is_noted-on.ensures) c.var_changed_if.ensures) c.loop-i.invariant.0, omega (arith, e, c.loop-i.invariant.1))
 
 pub returns : goal.returns
 returns c = run-last _ _ _ _ (omega (arith, c.loop-i-test.false)) c.loop-i.invariant.0
