@@ -3,7 +3,7 @@ use cable_lines::state::State;
 use reader::fault::Refusal;
 use reader::second::Weighted;
 use text::buffer::Out;
-use text::replies::put_second;
+use text::replies::{Numbered, put_second};
 use text::serving::{Program, Taken};
 
 #[derive(Drop)]
@@ -27,6 +27,6 @@ impl Program for Cable {
     }
 
     fn put(&mut self, answer: Result<Weighted, Refusal>, out: &mut Out, at: usize) -> usize {
-        put_second(out, at, answer)
+        put_second(out, at, answer.map_err(Numbered::from))
     }
 }

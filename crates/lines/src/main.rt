@@ -6,7 +6,7 @@ use reader::fault::Refusal;
 use std::io;
 use text::buffer::Out;
 use text::duplex::Duplex;
-use text::replies::put_line;
+use text::replies::{Numbered, put_line};
 use text::serving;
 use text::stream::{Answers, Cut};
 
@@ -18,7 +18,7 @@ impl Answers for FirstEdition {
             Some(line) => read_line(line),
             None => Err(Refusal::TooLong),
         };
-        put_line(out, at, r)
+        put_line(out, at, r.map_err(Numbered::from))
     }
 }
 

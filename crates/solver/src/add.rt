@@ -10,7 +10,7 @@ ghost use Rattle.solver.specs.Concluding.{Done};
 ghost use Rattle.lending.specs.Entered.{Entered};
 ghost use Rattle.sparse.specs.Tables.{held, lent, Same};
 
-use crate::begin::{accepted, by_test, close, refused, stored_mark};
+use crate::begin::{accepted, close, refused, refused_by_test, stored_mark};
 use addition::add::add_steps;
 use addition::inputs::strength_of;
 use changes::tags::Relation;
@@ -76,7 +76,7 @@ pub fn add(
         constant,
         strength,
     ) {
-        return by_test(tables.words, why);
+        return refused_by_test(tables.words, why);
     }
     add_known(tables, room, g, n, q, constant, relation, budget)
 }

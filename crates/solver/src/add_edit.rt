@@ -7,7 +7,7 @@ ghost use Rattle.solver.specs.Concluding.{Done};
 ghost use Rattle.lending.specs.Entered.{Entered};
 ghost use Rattle.sparse.specs.Tables.{held, lent, Same};
 
-use crate::begin::{accepted, by_test, close, refused, stored_mark};
+use crate::begin::{accepted, close, refused, refused_by_test, stored_mark};
 use addition::add::add_steps;
 use changes::tags::Relation;
 use lending::Answer;
@@ -54,7 +54,7 @@ pub fn add_edit(tables: &Tables, room: &mut TablesMut, n: u32, strength: f64, bu
         n,
         held,
     ) {
-        return by_test(tables.words, why);
+        return refused_by_test(tables.words, why);
     }
     add_edit_known(tables, room, n, strength, budget)
 }

@@ -16,7 +16,7 @@ ghost use Rattle.lending.specs.Entered.{Entered};
 ghost use Rattle.solver.specs.Backed.{back_words, back_bytes, back_reals, back_over};
 ghost use Rattle.sparse.specs.Tables.{held, lent, Same};
 
-use crate::begin::{accepted, by_test, mark_bit, refused};
+use crate::begin::{accepted, mark_bit, refused, refused_by_test};
 use crate::suggest::drag;
 use lending::Answer;
 use lending::sparse_copy::put;
@@ -111,7 +111,7 @@ pub fn suggest_back(
     ensures same_room { Same room.old room.new }
 {
     if let Err(why) = refusals::suggest_tests(tables.words, tables.bytes, n, new) {
-        return by_test(tables.words, why);
+        return refused_by_test(tables.words, why);
     }
     suggest_known(tables, room, n, new, budget)
 }

@@ -1,5 +1,5 @@
 // What every call begins and ends with: the stored mark, the answer, and the room closed before the records come over.
-ghost use Rattle.std.specs.Prelude.{◌≡◌, Ok, Err};
+ghost use Rattle.std.specs.Prelude.{◌≡◌, ◌≤◌, Ok, Err};
 ghost use Rattle.layout.specs.Layout.{bit_of};
 ghost use Rattle.rows.specs.Marks.{mark_of};
 ghost use Rattle.sparse.specs.Refusals.{refusal_number};
@@ -25,14 +25,22 @@ pub fn stored_mark(words: &Words) -> Wrote
 }
 
 // "A refusal answers the stored mark"
-pub fn by_test(words: &Words, why: Refusal) -> Answer
-    ensures { answer_of result ≡ by_test (refusal_number why) words.now }
+pub fn by_test(words: &Words, number: u64) -> Answer
+    requires { number ≤ 27 }
+    ensures { answer_of result ≡ by_test number words.now }
 {
     Answer {
-        number: why.number(),
+        number: number as u32,
         pivots: 0,
         whole: words[sparse::WHOLE] == 1,
     }
+}
+
+// The same of a refusal by its name.
+pub fn refused_by_test(words: &Words, why: Refusal) -> Answer
+    ensures { answer_of result ≡ by_test (refusal_number why) words.now }
+{
+    by_test(words, why.number() as u64)
 }
 
 fn says_yes(wrote: Wrote) -> bool

@@ -14,7 +14,7 @@ ghost use Rattle.solver.specs.Dropped.{Went};
 ghost use Rattle.sparse.specs.Tables.{held, lent, Same};
 
 use crate::again::{bring_all, remove_again};
-use crate::begin::by_test;
+use crate::begin::refused_by_test;
 use lending::Answer;
 use sparse::tables::{Tables, TablesMut};
 
@@ -67,7 +67,7 @@ pub fn drop(tables: &Tables, room: &mut TablesMut, g: u16, budget: u32) -> Answe
     ensures same { Same room.old room.new }
 {
     if let Err(why) = refusals::drop_tests(tables.words, tables.bytes, tables.reals, g) {
-        return by_test(tables.words, why);
+        return refused_by_test(tables.words, why);
     }
     bring_all(tables, room);
     drop_all(room, g, budget)

@@ -6,7 +6,7 @@ ghost use Rattle.solver.specs.Concluding.{Done, EnteredFrom, DoneFrom};
 ghost use Rattle.lending.specs.Entered.{Entered};
 ghost use Rattle.sparse.specs.Tables.{held, lent, Same};
 
-use crate::begin::{accepted, by_test, close, refused, stored_mark};
+use crate::begin::{accepted, close, refused, refused_by_test, stored_mark};
 use lending::Answer;
 use removal::remove_steps;
 use sparse::lookup::look_up;
@@ -51,7 +51,7 @@ pub fn remove(tables: &Tables, room: &mut TablesMut, n: u32, budget: u32) -> Ans
     ensures same { Same room.old room.new }
 {
     if let Err(why) = refusals::remove_tests(tables.words, tables.bytes, tables.reals, n) {
-        return by_test(tables.words, why);
+        return refused_by_test(tables.words, why);
     }
     remove_known(tables.words, tables.bytes, tables.reals, room, n, budget)
 }

@@ -10,7 +10,7 @@ ghost use Rattle.waist.specs.Ending.{outcome_of, Goes, ended_of};
 ghost use Rattle.lending.specs.Entered.{Entered};
 ghost use Rattle.sparse.specs.Tables.{held, lent, Same};
 
-use crate::begin::{accepted, by_test, close, refused, stored_mark};
+use crate::begin::{accepted, close, refused, refused_by_test, stored_mark};
 use lending::Answer;
 use optimising::suggestion::suggest::suggest_steps;
 use sparse::tables::{Tables, TablesMut};
@@ -62,7 +62,7 @@ pub fn suggest(tables: &Tables, room: &mut TablesMut, n: u32, new: f64, budget: 
     ensures same { Same room.old room.new }
 {
     if let Err(why) = refusals::suggest_tests(tables.words, tables.bytes, n, new) {
-        return by_test(tables.words, why);
+        return refused_by_test(tables.words, why);
     }
     suggest_known(tables, room, n, new, budget)
 }

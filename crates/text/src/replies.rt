@@ -1,9 +1,8 @@
 // The answer to a line as text, written into a buffer from a place on; each function answers the next place.
 ghost use Rattle.std.specs.Prelude.{◌≡◌, ◌+◌, ◌<◌, ◌≤◌, [], ◌∷◌, ◌++◌, Ok};
-ghost use Rattle.reader.specs.Answers.{shown};
 ghost use Rattle.reader.specs.second.Replies.{answered};
 ghost use Rattle.text.specs.Put.{Put};
-ghost use Rattle.text.specs.replies.Replies.{few_of, signed_text, term_text, terms_text, relation_text, refusal_text, head_text, reading_text, reply_text, usual};
+ghost use Rattle.text.specs.replies.Replies.{few_of, signed_text, term_text, terms_text, relation_text, refusal_text, head_text, reading_text, numbered_by, result_text, usual_of};
 
 pub use crate::buffer::Out;
 use crate::buffer::{put_byte, put_number, put_text};
@@ -14,6 +13,24 @@ use reader::second::endings::REQUIRED;
 use reader::sides::Mark;
 
 const ZERO: u64 = 9007199254740992;
+
+// A refusal as it is written, whatever its number: 20 with the offset.
+#[derive(Clone, Copy)]
+pub struct Numbered {
+    pub number: u32,
+    pub offset: usize,
+}
+
+impl From<Refusal> for Numbered {
+    ghost from_gives = { λ r n. n ≡ numbered_by r };
+
+    fn from(r: Refusal) -> Numbered {
+        Numbered {
+            number: r.number(),
+            offset: r.offset(),
+        }
+    }
+}
 
 // A whole number, which stands as what it is above ZERO.
 fn put_signed(out: &mut Out, at: usize, x: u64) -> usize
@@ -129,21 +146,21 @@ fn put_reading(out: &mut Out, at: usize, x: Weighted) -> usize
     put_terms(out, i, variables, coefficients, n)
 }
 
-fn put_reply(out: &mut Out, at: usize, x: Result<Weighted, Refusal>) -> usize
+fn put_reply(out: &mut Out, at: usize, x: Result<Weighted, Numbered>) -> usize
     requires { at + 778 ≤ 8192 }
-    ensures put { Put out.old out.new at result (reply_text (answered x)) }
+    ensures put { Put out.old out.new at result (result_text x) }
     ensures upper_bound { result ≤ at + 778 }
 {
     match x {
         Ok(x) => put_reading(out, at, x),
-        Err(r) => put_refusal(out, at, r.number(), r.offset()),
+        Err(n) => put_refusal(out, at, n.number, n.offset),
     }
 }
 
 // An answer of the second edition and its newline.
-pub fn put_second(out: &mut Out, at: usize, x: Result<Weighted, Refusal>) -> usize
+pub fn put_second(out: &mut Out, at: usize, x: Result<Weighted, Numbered>) -> usize
     requires { at ≤ 7000 }
-    ensures put { Put out.old out.new at result (reply_text (answered x) ++ (10 ∷ [])) }
+    ensures put { Put out.old out.new at result (result_text x ++ (10 ∷ [])) }
     ensures upper_bound { result ≤ 8192 }
 {
     let i = put_reply(out, at, x);
@@ -151,9 +168,9 @@ pub fn put_second(out: &mut Out, at: usize, x: Result<Weighted, Refusal>) -> usi
 }
 
 // An answer of the first edition, which says neither strength nor group, and its newline.
-pub fn put_line(out: &mut Out, at: usize, r: Result<Constraint, Refusal>) -> usize
+pub fn put_line(out: &mut Out, at: usize, r: Result<Constraint, Numbered>) -> usize
     requires { at ≤ 7000 }
-    ensures put { Put out.old out.new at result (reply_text (usual (shown r)) ++ (10 ∷ [])) }
+    ensures put { Put out.old out.new at result (result_text (usual_of r) ++ (10 ∷ [])) }
     ensures upper_bound { result ≤ 8192 }
 {
     match r {
@@ -165,6 +182,6 @@ pub fn put_line(out: &mut Out, at: usize, r: Result<Constraint, Refusal>) -> usi
             };
             put_second(out, at, Ok(x))
         }
-        Err(e) => put_second(out, at, Err(e)),
+        Err(n) => put_second(out, at, Err(n)),
     }
 }

@@ -42,7 +42,7 @@ fn put_given(out: &mut [u8], at: usize, g: Option<Given>) -> usize
     put_refused(out, at, number)
 }
 
-fn put_written(out: &mut [u8], at: usize, line: &[u8]) -> usize
+pub fn put_written(out: &mut [u8], at: usize, line: &[u8]) -> usize
     requires { at + 200 ≤ length out.old }
     ensures { result ≤ at + 200 }
 {

@@ -5,8 +5,6 @@ use Rattle.std.specs.Float.{nan}
 use Rattle.grammar.specs.plain.Decimal.{decimal}
 use Rattle.grammar.specs.edition.Endings.{required}
 use Rattle.grammar.specs.plain.Plain.{size_text, ending_text}
-use Rattle.changes.specs.declared.tags.Relation.{Relation}
-use Rattle.changes.specs.declared.tags.Relation.TheVariants.{AtMost, Equal, AtLeast}
 use Rattle.writing.specs.declared.figures.Figure.{Figure}
 use Rattle.writing.specs.Figures.{figure_of}
 
@@ -28,14 +26,12 @@ up_to vs cs (suc i) = up_to vs cs i ++ place_text vs cs i
 unfoldable pub const_text : Figure → Bool → List ℕ
 const_text f alone = cond (not alone && f.size == 0) [] (sign_text f.negative alone ++ decimal f.size)
 
--- `<=`, `=`, `>=`
-unfoldable pub relation_text : Relation → List ℕ
-relation_text (AtMost s) = 60 ∷ 61 ∷ []
-relation_text (Equal s) = 61 ∷ []
-relation_text (AtLeast s) = 62 ∷ 61 ∷ []
+-- `<=`, `=`, `>=`, by the first byte
+unfoldable pub relation_text : ℕ → List ℕ
+relation_text m = cond (m == 61) (61 ∷ []) (m ∷ 61 ∷ [])
 
-unfoldable pub line_text : List ℕ → List Float → ℕ → Figure → Relation → ℕ → ℕ → List ℕ
-line_text vs cs n c r s g = up_to vs cs n ++ (const_text c (n == 0) ++ (relation_text r ++ ((48 ∷ []) ++ ending_text s g)))
+unfoldable pub line_text : List ℕ → List Float → ℕ → Figure → ℕ → ℕ → ℕ → List ℕ
+line_text vs cs n c m s g = up_to vs cs n ++ (const_text c (n == 0) ++ (relation_text m ++ ((48 ∷ []) ++ ending_text s g)))
 
 -- ---- by what the code has tested
 
@@ -66,6 +62,14 @@ module _ (f : Figure) (alone : Bool) where
   pub constant-some : not alone && (f.size == 0) ≡ false → const_text f alone ≡ sign_text f.negative alone ++ decimal f.size
   unfolding const_text
   constant-some e = rw e
+
+pub mark-one : (m : ℕ) → m ≡ 61 → relation_text m ≡ 61 ∷ []
+unfolding relation_text
+mark-one m e = rw (eq-eqb m 61 e)
+
+pub mark-two : (m : ℕ) → (m ≢ 61) → relation_text m ≡ (m ∷ []) ++ (61 ∷ [])
+unfolding relation_text
+mark-two m e = rw (ne_eqb m 61 e)
 
 module _ (n g : ℕ) where
   pub ending-none : nat_eq n required && (g == 1) ≡ true → ending_text n g ≡ []

@@ -30,6 +30,12 @@ relation_in (AtMost s) = at_most
 relation_in (Equal s) = equal
 relation_in (AtLeast s) = at_least
 
+-- the first byte of its mark
+unfoldable pub mark_in : Given → ℕ
+mark_in (AtMost s) = 60
+mark_in (Equal s) = 61
+mark_in (AtLeast s) = 62
+
 -- a relation carries its strength
 unfoldable pub strength_in : Given → Float
 strength_in (AtMost s) = s
@@ -109,8 +115,8 @@ size_is x h = by (is_figure x) h
     by true h = refl
     by false h = absurd h
 
-mark-is : (r : Given) → relation_text r ≡ mark_of (relation_in r)
-unfolding relation_text
+mark-is : (r : Given) → relation_text (mark_in r) ≡ mark_of (relation_in r)
+unfolding relation_text mark_in
 mark-is (AtMost s) = refl
 mark-is (Equal s) = refl
 mark-is (AtLeast s) = refl
@@ -208,15 +214,15 @@ module _ (r : Given) (g : ℕ) (x : Float) (p : Pack) where
   -- ---- what the code answers
 
   abbrev text : List ℕ
-  text = line_text p.vars p.coefs p.count (figure_of x) r (figure_of y).size g
+  text = line_text p.vars p.coefs p.count (figure_of x) (mark_in r) (figure_of y).size g
 
   text-is : Facts → text ≡ plain_text c
   unfolding line_text plain_text constraint_of
   text-is f =
       let list = tab (term_at p.vars p.coefs) 0 p.count in
       let e = sum_is p.vars p.coefs p.count x f.wholes f.constant in
-      sym (append_assoc (up_to p.vars p.coefs p.count) (const_text (figure_of x) (p.count == 0)) (relation_text r ++ ((48 ∷ []) ++ ending_text (figure_of y).size g)))
-      ∙ (ap (λ (w : List ℕ). w ++ (relation_text r ++ (48 ∷ ending_text (figure_of y).size g))) e
+      sym (append_assoc (up_to p.vars p.coefs p.count) (const_text (figure_of x) (p.count == 0)) (relation_text (mark_in r) ++ ((48 ∷ []) ++ ending_text (figure_of y).size g)))
+      ∙ (ap (λ (w : List ℕ). w ++ (relation_text (mark_in r) ++ (48 ∷ ending_text (figure_of y).size g))) e
       ∙ ap₂ (λ (m : List ℕ) (n : ℕ). sum_text (val x) list ++ (m ++ (48 ∷ ending_text n g))) (mark-is r) (size_is y f.strong))
 
   written : Facts → writes r g x p ≡ cond (nat_le (length text) room) (wrote text) (refused 32)
@@ -289,15 +295,15 @@ module _ (p : Pack) (c s : Figure) (g : ℕ) where
 pub count-few : (p : Pack) → p.finite && nat_le p.count 16 ≡ true → p.count ≤ 16
 count-few p e = leb→le p.count 16 (both p.finite (nat_le p.count 16) (rw e tt)).1
 
-module _ (r : Given) (g : ℕ) (x : Float) (p : Pack) (q : Float) (c s : Figure) {t : Bool} (eq : q ≡ strength_in r) (ec : c ≡ figure_of x) (es : s ≡ figure_of q) (et : t ≡ said_in p c s g) where
+module _ (r : Given) (g : ℕ) (x : Float) (p : Pack) (m : ℕ) (q : Float) (c s : Figure) {t : Bool} (em : m ≡ mark_in r) (eq : q ≡ strength_in r) (ec : c ≡ figure_of x) (es : s ≡ figure_of q) (et : t ≡ said_in p c s g) where
   tested-is : t ≡ tested r g x p
   tested-is = et ∙ (ap₂ (λ (a b : Figure). said_in p a b g) ec (es ∙ ap figure_of eq))
 
   abbrev in_hand : List ℕ
-  in_hand = line_text p.vars p.coefs p.count c r s.size g
+  in_hand = line_text p.vars p.coefs p.count c m s.size g
 
   text_in-hand : in_hand ≡ text r g x p
-  text_in-hand = rw (ec, es, eq)
+  text_in-hand = rw (ec, es, eq, em)
 
   module _ (o z : List ℕ) (size : length o ≡ room) (clear : z ≡ replicate (length o) 0) where
     pub code-refuses : t ≡ false → called_is 36 z ≡ called o (writes r g x p)

@@ -11,7 +11,7 @@ pub mod texts;
 
 use crate::buffer::{ROOM, clear};
 use crate::figures::figure_of;
-use crate::said::{said, strength_of};
+use crate::said::{mark_of, said, strength_of};
 use crate::texts::put_line;
 use changes::tags::Relation;
 use changes::terms::Pack;
@@ -21,10 +21,11 @@ fn write_in(out: &mut [u8], relation: Relation, group: u16, constant: f64, p: Pa
     ensures { called_is result out.new ≡ called out.old (writes relation group constant p) }
 {
     clear(out);
+    let mark = mark_of(relation);
     let c = figure_of(constant);
     let s = figure_of(strength_of(relation));
     if said(p, c, s, group) {
-        let n = put_line(out, p, p.count, c, relation, s.size, group);
+        let n = put_line(out, p, p.count, c, mark, s.size, group);
         if n <= ROOM {
             return 0;
         }

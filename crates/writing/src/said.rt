@@ -1,7 +1,7 @@
 // What a line can say.
 ghost use Rattle.std.specs.Prelude.{◌≡◌, ◌≤◌};
 ghost use Rattle.writing.specs.Given.{ok_figure, rises_at, all_up_to};
-ghost use Rattle.writing.specs.Writes.{strength_in, said_in};
+ghost use Rattle.writing.specs.Writes.{mark_in, strength_in, said_in};
 
 use crate::figures::{Figure, REQUIRED, figure_of};
 use changes::tags::Relation;
@@ -17,6 +17,17 @@ const MOST_GROUP: u16 = 65535;
 
 // "more than 16 variables"
 const MOST_TERMS: usize = 16;
+
+// The first byte of a relation's mark.
+pub fn mark_of(relation: Relation) -> u8
+    ensures { result ≡ mark_in relation }
+{
+    match relation {
+        Relation::AtMost(_) => b'<',
+        Relation::Equal(_) => b'=',
+        Relation::AtLeast(_) => b'>',
+    }
+}
 
 pub fn strength_of(relation: Relation) -> f64
     ensures { result ≡ strength_in relation }

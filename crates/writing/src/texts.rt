@@ -7,7 +7,6 @@ ghost use Rattle.writing.specs.Texts.{sign_text, figure_text, up_to, const_text,
 
 use crate::buffer::{put, put_number};
 use crate::figures::{Figure, REQUIRED, figure_of};
-use changes::tags::Relation;
 use changes::terms::Pack;
 
 fn put_sign(out: &mut [u8], at: usize, negative: bool, first: bool) -> usize
@@ -67,20 +66,15 @@ fn put_constant(out: &mut [u8], at: usize, f: Figure, alone: bool) -> usize
     put_number(out, next, f.size)
 }
 
-fn put_relation(out: &mut [u8], at: usize, relation: Relation) -> usize
-    ensures { Adds out.old out.new at result (relation_text relation) }
+// A mark's first byte says which it is.
+fn put_relation(out: &mut [u8], at: usize, mark: u8) -> usize
+    ensures { Adds out.old out.new at result (relation_text mark) }
 {
-    match relation {
-        Relation::Equal(_) => put(out, at, b'='),
-        Relation::AtMost(_) => {
-            let next = put(out, at, b'<');
-            put(out, next, b'=')
-        }
-        Relation::AtLeast(_) => {
-            let next = put(out, at, b'>');
-            put(out, next, b'=')
-        }
+    if mark == b'=' {
+        return put(out, at, b'=');
     }
+    let next = put(out, at, mark);
+    put(out, next, b'=')
 }
 
 // "the ending unless it is required and group 1"
@@ -102,16 +96,16 @@ pub fn put_line(
     p: Pack,
     n: usize,
     constant: Figure,
-    relation: Relation,
+    mark: u8,
     strength: u64,
     group: u16,
 ) -> usize
     requires { n ≤ 16 }
-    ensures { Adds out.old out.new 0 result (line_text p.vars p.coefs n constant relation strength group) }
+    ensures { Adds out.old out.new 0 result (line_text p.vars p.coefs n constant mark strength group) }
 {
     let a = put_terms(out, 0, p, n);
     let b = put_constant(out, a, constant, n == 0);
-    let c = put_relation(out, b, relation);
+    let c = put_relation(out, b, mark);
     let d = put(out, c, b'0');
     put_ending(out, d, strength, group)
 }

@@ -119,7 +119,7 @@ mark-back grammar.equal = refl
 mark-back grammar.at_least = refl
 
 module _ (n : ℕ) (line : List ℕ) (budget : ℕ) (work t : Sparse) {r : Reading} (e : r ≡ as_read (read_line line)) where
-  text-refused : {m : Bool} {u : Sparse} → (r.number ≢ 0) → m ≡ mark_in t → u ≡ t → text r.offset (called (record { number = r.number; pivots = 0; whole = m }) u) ≡ text_of n line budget work t
+  pub text-refused : {m : Bool} {u : Sparse} → (r.number ≢ 0) → m ≡ mark_in t → u ≡ t → text r.offset (called (record { number = r.number; pivots = 0; whole = m }) u) ≡ text_of n line budget work t
   unfolding text_of add_read
   text-refused {m} {u} h f g = go (read_line line) e
     where
@@ -128,7 +128,7 @@ module _ (n : ℕ) (line : List ℕ) (budget : ℕ) (work t : Sparse) {r : Readi
       go (outside at) d = rw (d, f, g) refl
       go (refused k) d = rw (d, f, g) refl
 
-  text-added : (p : Pack) (k : Float) (x : Relation) (c : Called) → r.number ≡ 0 → p ≡ pack_of (terms_read r) → k ≡ whole_of (value_of r.constant) → relation_of x ≡ required_by (sides.relation_of r.relation)
+  pub text-added : (p : Pack) (k : Float) (x : Relation) (c : Called) → r.number ≡ 0 → p ≡ pack_of (terms_read r) → k ≡ whole_of (value_of r.constant) → relation_of x ≡ required_by (sides.relation_of r.relation)
       → c ≡ call_of (add 1 n (terms_in (listed p)) k (relation_of x) budget) work t → text 0 c ≡ text_of n line budget work t
   unfolding text_of add_read
   text-added p k x c z g h i j = go (read_line line) (line-fit line) e

@@ -1,6 +1,5 @@
 use Rattle.sparse.specs.Tables.{held}
 use Rattle.std.proofs.Common.{rules}
-use Rattle.lending.specs.sparse_copy.Over.{tables}
 use Rattle.lending.specs.Lending.{answer_of}
 use Rattle.solver.specs.Change.{known-called}
 use Rattle.solver.proofs.change.Goals as goal

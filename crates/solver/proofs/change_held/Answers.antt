@@ -1,6 +1,5 @@
 use Rattle.sparse.specs.Tables.{held, lent}
 use Rattle.std.proofs.Common.{rules}
-use Rattle.lending.specs.sparse_copy.Over.{tables}
 use Rattle.changes.specs.Change.{changing_of}
 use Rattle.solver.specs.Again.{made_again}
 use Rattle.solver.proofs.change_held.Goals as goal

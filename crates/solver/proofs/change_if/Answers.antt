@@ -1,6 +1,5 @@
 use Rattle.sparse.specs.Tables.{held, lent}
 use Rattle.steps.specs.Changing.{made}
-use Rattle.lending.specs.sparse_copy.Over.{tables}
 use Rattle.changes.specs.Change.{changing_of}
 use Rattle.solver.specs.Concluding.{entered-if, if-not, if-done}
 use Rattle.solver.proofs.change_if.Goals as goal

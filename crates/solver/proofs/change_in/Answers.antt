@@ -1,5 +1,4 @@
 use Rattle.sparse.specs.Tables.{held, lent}
-use Rattle.lending.specs.sparse_copy.Over.{tables}
 use Rattle.solver.specs.Change.{known-done}
 use Rattle.solver.proofs.change_in.Goals as goal
 

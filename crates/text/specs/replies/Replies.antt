@@ -1,10 +1,13 @@
 -- The answer to a line as text: `ok RELATION STRENGTH GROUP CONSTANT N V1 K1 ..`, `no 20 OFFSET`, or `no NUMBER`.
-use Rattle.std.specs.Prelude.{◌≡◌, ℕ, zero, suc, ◌+◌, ◌-◌, cond, List, [], ◌∷◌, ◌++◌, ◌==◌, nat_le, nat_lt, slice_index, Err}
+use Rattle.std.specs.Prelude.{◌≡◌, ℕ, zero, suc, ◌+◌, ◌-◌, cond, List, [], ◌∷◌, ◌++◌, ◌==◌, nat_le, nat_lt, slice_index, Bool, true, false, Result, Ok, Err}
 use Rattle.std.proofs.Common.{add-one, refl, sym, ◌∙◌}
 use Rattle.text.specs.Answers.{number_text}
 use Rattle.reader.specs.declared.sides.Mark.{Mark}
 use Rattle.reader.specs.declared.sides.Mark.TheVariants.{AtMost, Equal, AtLeast}
+use Rattle.reader.specs.declared.answers.Constraint.{Constraint}
+use Rattle.reader.specs.declared.second.Weighted.{Weighted}
 use Rattle.reader.specs.declared.fault.Refusal.{Refusal}
+use Rattle.text.specs.declared.replies.Numbered.{Numbered}
 use Rattle.reader.specs.Faults.{refusal_number, offset_of, some-number}
 use Rattle.reader.specs.Answers.{Reading, shown}
 use Rattle.reader.specs.second.Replies.{Reply, answered}
@@ -50,6 +53,45 @@ usual r = record { reading = r; strength = 1001001000; group = 1 }
 unfoldable pub reply_text : Reply → List ℕ
 reply_text x = cond (x.reading.number == 0) (reading_text x) (refusal_text x.reading.number x.reading.offset)
 
+-- ---- as the code has it: what reads, or a refusal by its number
+
+abbrev pub result_text : Result Weighted Numbered → List ℕ
+result_text (Ok x) = reading_text (answered (Ok x))
+result_text (Err n) = refusal_text n.number n.offset
+
+abbrev pub usual_of : Result Constraint Numbered → Result Weighted Numbered
+usual_of (Ok c) = Ok (record { constraint = c; strength = 1001001000; group = 1 })
+usual_of (Err n) = Err n
+
+abbrev pub numbered_by : Refusal → Numbered
+numbered_by r = record { number = refusal_number r; offset = offset_of r }
+
+-- every reading, of any number: 0 reads
+abbrev pub constraint_in : Reading → Constraint
+constraint_in r = record { relation = r.relation; constant = r.constant; count = r.count; variables = r.variables; coefficients = r.coefficients }
+
+unfoldable pub result_of : Reply → Result Weighted Numbered
+result_of x = cond (x.reading.number == 0) (Ok (record { constraint = constraint_in x.reading; strength = x.strength; group = x.group })) (Err (record { number = x.reading.number; offset = x.reading.offset }))
+
+unfoldable pub line_of : Reading → Result Constraint Numbered
+line_of r = cond (r.number == 0) (Ok (constraint_in r)) (Err (record { number = r.number; offset = r.offset }))
+
+pub result-reply : (x : Reply) → result_text (result_of x) ≡ reply_text x
+unfolding result_of reply_text
+result-reply x = by (x.reading.number == 0)
+  where
+    by : (b : Bool) → result_text (cond b (Ok (record { constraint = constraint_in x.reading; strength = x.strength; group = x.group })) (Err (record { number = x.reading.number; offset = x.reading.offset }))) ≡ cond b (reading_text x) (refusal_text x.reading.number x.reading.offset)
+    by true = refl
+    by false = refl
+
+pub line-reply : (r : Reading) → result_text (usual_of (line_of r)) ≡ reply_text (usual r)
+unfolding line_of reply_text
+line-reply r = by (r.number == 0)
+  where
+    by : (b : Bool) → result_text (usual_of (cond b (Ok (constraint_in r)) (Err (record { number = r.number; offset = r.offset })))) ≡ cond b (reading_text (usual r)) (refusal_text r.number r.offset)
+    by true = refl
+    by false = refl
+
 pub terms-next : (n : ℕ) (vs ks : List ℕ) → terms_text (n + 1) vs ks ≡ terms_text n vs ks ++ term_text (slice_index vs n) (slice_index ks n)
 unfolding terms_text
 terms-next n vs ks = rw add-one
@@ -62,3 +104,18 @@ refused-text r s g = rw (some-number r) refl
 -- in either edition
 pub refused-line : (r : Refusal) → reply_text (answered (Err r)) ≡ reply_text (usual (shown (Err r)))
 refused-line r = refused-text r 0 0 ∙ sym (refused-text r 1001001000 1)
+
+-- what a reader answers, its refusal by its number, is said as the reader's reply
+abbrev pub numbered : {A : Type 0} → Result A Refusal → Result A Numbered
+numbered (Ok x) = Ok x
+numbered (Err r) = Err (numbered_by r)
+
+pub answered-text : (x : Result Weighted Refusal) → result_text (numbered x) ≡ reply_text (answered x)
+unfolding reply_text
+answered-text (Ok x) = refl
+answered-text (Err r) = sym (refused-text r 0 0)
+
+pub shown-text : (r : Result Constraint Refusal) → result_text (usual_of (numbered r)) ≡ reply_text (usual (shown r))
+unfolding reply_text
+shown-text (Ok c) = refl
+shown-text (Err r) = sym (refused-text r 1001001000 1)

@@ -17,4 +17,4 @@ add_tests-requires c =
     record { words_bound = k.variables; words_bound_2 = k.constraints; words_bound_3 = k.edits; ascends = numbers-at-start t w c.requires; ascends_2 = constraints-at-start t w c.requires }
 
 pub returns-in-Err-clause-does : goal.returns-in-Err-clause-does
-returns-in-Err-clause-does c = add-by-test c.args.g c.args.n c.args.budget c.proper-q.result c.args.constant (relation_of c.args.relation) (lent c.args.tables.now) (held c.args.room.now) (held c.args.room.now) c.by_test.result c.requires (c.in-Err.ensures ∙ ap (λ (s : Float). add_refusal (cutoff_in c.args.tables.now.reals.now) c.args.g c.args.n c.proper-q.result c.args.constant s c.args.tables.now.words.now) c.strength_of-strength.ensures) (number-some c.in-Err.why) c.by_test.ensures (listed c.args.p) c.proper-q.ensures
+returns-in-Err-clause-does c = add-by-test c.args.g c.args.n c.args.budget c.proper-q.result c.args.constant (relation_of c.args.relation) (lent c.args.tables.now) (held c.args.room.now) (held c.args.room.now) c.refused_by_test.result c.requires (c.in-Err.ensures ∙ ap (λ (s : Float). add_refusal (cutoff_in c.args.tables.now.reals.now) c.args.g c.args.n c.proper-q.result c.args.constant s c.args.tables.now.words.now) c.strength_of-strength.ensures) (number-some c.in-Err.why) c.refused_by_test.ensures (listed c.args.p) c.proper-q.ensures

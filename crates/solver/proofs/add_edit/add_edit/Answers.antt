@@ -15,4 +15,4 @@ add_edit_tests-requires c =
     record { words_bound = k.variables; words_bound_2 = k.constraints; words_bound_3 = k.edits; ascends = numbers-at-start t w c.requires }
 
 pub returns-in-Err-clause-does : goal.returns-in-Err-clause-does
-returns-in-Err-clause-does c = add-edit-by-test c.args.n c.args.budget c.args.strength (lent c.args.tables.now) (held c.args.room.now) (held c.args.room.now) c.by_test.result c.requires (c.in-Err.ensures ∙ ap (λ (s : Float). add_edit_refusal (cutoff_in c.args.tables.now.reals.now) c.args.n s c.args.tables.now.words.now c.args.tables.now.bytes.now) c.clip-held.ensures) (number-some c.in-Err.why) c.by_test.ensures
+returns-in-Err-clause-does c = add-edit-by-test c.args.n c.args.budget c.args.strength (lent c.args.tables.now) (held c.args.room.now) (held c.args.room.now) c.refused_by_test.result c.requires (c.in-Err.ensures ∙ ap (λ (s : Float). add_edit_refusal (cutoff_in c.args.tables.now.reals.now) c.args.n s c.args.tables.now.words.now c.args.tables.now.bytes.now) c.clip-held.ensures) (number-some c.in-Err.why) c.refused_by_test.ensures

@@ -1,6 +1,5 @@
 use Rattle.sparse.specs.Tables.{held, lent}
 use Rattle.std.proofs.Common.{rules}
-use Rattle.lending.specs.sparse_copy.Over.{tables}
 use Rattle.solver.specs.Again.{all-stored, all-brought, all_read}
 use Rattle.solver.proofs.again.bring_all.Goals as goal
 

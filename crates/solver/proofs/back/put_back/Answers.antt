@@ -1,6 +1,5 @@
 use Rattle.sparse.specs.Tables.{held}
 use Rattle.std.specs.Float.{nan}
-use Rattle.lending.specs.sparse_copy.Over.{tables}
 use Rattle.solver.specs.Backed.{tables-back}
 use Rattle.solver.proofs.back.put_back.Goals as goal
 

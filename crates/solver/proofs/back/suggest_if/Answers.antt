@@ -1,5 +1,4 @@
 use Rattle.sparse.specs.Tables.{held}
-use Rattle.lending.specs.sparse_copy.Over.{tables}
 use Rattle.steps.specs.Calls.{suggest}
 use Rattle.lending.specs.Lending.{answer_of}
 use Rattle.solver.specs.Concluding.{entered-if}

@@ -1,8 +1,6 @@
 use Rattle.sparse.specs.Tables.{held, lent}
-use native.Mathlib.Omega.{arith}
 use Rattle.steps.specs.State.{comparison_of}
 use Rattle.changes.specs.tags.Tags.{relation_of}
-use Rattle.lending.specs.sparse_copy.Over.{tables}
 use Rattle.solver.specs.Brings.{stores_both, room-terms, constraint-comes}
 use Rattle.solver.proofs.bringing.with_constraint.Goals as goal
 

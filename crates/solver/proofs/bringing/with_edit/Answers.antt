@@ -1,6 +1,5 @@
 use Rattle.sparse.specs.Tables.{held, lent}
 use native.Mathlib.Omega.{arith}
-use Rattle.lending.specs.sparse_copy.Over.{tables}
 use Rattle.solver.specs.Brings.{stores_both, edit-comes}
 use Rattle.solver.proofs.bringing.with_edit.Goals as goal
 

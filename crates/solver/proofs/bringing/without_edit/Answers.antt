@@ -1,5 +1,4 @@
 use Rattle.sparse.specs.Tables.{held, lent}
-use Rattle.lending.specs.sparse_copy.Over.{tables}
 use Rattle.solver.specs.Brings.{stores_both, edit-behind}
 use Rattle.solver.proofs.bringing.without_edit.Goals as goal
 

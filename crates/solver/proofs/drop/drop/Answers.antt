@@ -10,7 +10,7 @@ pub drop_tests-requires : goal.drop_tests-requires
 drop_tests-requires c = tabled (lent c.args.tables.now) c.requires.reads
 
 pub returns-in-Err-clause-does : goal.returns-in-Err-clause-does
-returns-in-Err-clause-does c = drop-by-test c.args.g c.args.budget (lent c.args.tables.now) (held c.args.room.now) c.by_test.result c.requires.reads c.in-Err.ensures (number-some c.in-Err.why) c.by_test.ensures
+returns-in-Err-clause-does c = drop-by-test c.args.g c.args.budget (lent c.args.tables.now) (held c.args.room.now) c.refused_by_test.result c.requires.reads c.in-Err.ensures (number-some c.in-Err.why) c.refused_by_test.ensures
 
 pub drop_all-requires-clause-values_value_2 : goal.drop_all-requires-clause-values_value_2
 drop_all-requires-clause-values_value_2 c = rw c.bring_all.ensures.wvalues_value (drop-passes (lent c.args.tables.now) c.args.g c.requires.reads (sym c.in_default.ensures))

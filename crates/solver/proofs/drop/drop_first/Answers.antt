@@ -2,7 +2,6 @@ use Rattle.sparse.specs.Tables.{held}
 use Prim.Native.Nat.{◌-◌}
 use mathlib.Core.Path.{refl}
 use native.Mathlib.Omega.{arith}
-use Rattle.lending.specs.sparse_copy.Over.{tables}
 use Rattle.sparse_test.specs.Meaning.{reads-form}
 use Rattle.solver.specs.Dropped.{place-in, first_small, first-free, first-within, went-by}
 use Rattle.solver.proofs.drop.drop_first.Goals as goal

@@ -12,4 +12,4 @@ remove_tests-requires c =
     record { tabled = tabled t c.requires.reads; ascends = constraints-at-start t w c.requires }
 
 pub returns-in-Err-clause-does : goal.returns-in-Err-clause-does
-returns-in-Err-clause-does c = remove-by-test c.args.n c.args.budget (lent c.args.tables.now) (held c.args.room.now) (held c.args.room.now) c.by_test.result c.requires c.in-Err.ensures (number-some c.in-Err.why) c.by_test.ensures
+returns-in-Err-clause-does c = remove-by-test c.args.n c.args.budget (lent c.args.tables.now) (held c.args.room.now) (held c.args.room.now) c.refused_by_test.result c.requires c.in-Err.ensures (number-some c.in-Err.why) c.refused_by_test.ensures

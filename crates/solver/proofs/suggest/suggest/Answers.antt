@@ -14,7 +14,7 @@ suggest_tests-requires c =
     record { words_bound = k.variables; words_bound_2 = k.edits; ascends = numbers-at-start t w c.requires }
 
 pub returns-in-Err-clause-does : goal.returns-in-Err-clause-does
-returns-in-Err-clause-does c = suggest-by-test c.args.n c.args.budget c.args.new (lent c.args.tables.now) (held c.args.room.now) (held c.args.room.now) c.by_test.result c.requires c.in-Err.ensures (number-some c.in-Err.why) c.by_test.ensures
+returns-in-Err-clause-does c = suggest-by-test c.args.n c.args.budget c.args.new (lent c.args.tables.now) (held c.args.room.now) (held c.args.room.now) c.refused_by_test.result c.requires c.in-Err.ensures (number-some c.in-Err.why) c.refused_by_test.ensures
 
 pub suggest_known-requires : goal.suggest_known-requires
 suggest_known-requires c = let p = suggest-passed c.args.n c.args.new c.args.tables.now.words.now c.args.tables.now.bytes.now (sym c.in_default.ensures) in

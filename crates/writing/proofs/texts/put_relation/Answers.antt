@@ -1,16 +1,9 @@
-use Rattle.std.proofs.Common.{ap}
 use Rattle.writing.specs.Buffer.{text-as, then}
-use Rattle.writing.specs.Texts.{relation_text}
+use Rattle.writing.specs.Texts.{mark-one, mark-two}
 use Rattle.writing.proofs.texts.put_relation.Goals as goal
 
-pub returns-in-Equal : goal.returns-in-Equal
-unfolding relation_text
-returns-in-Equal c = text-as (ap relation_text c.in-Equal.is) c.put.ensures
+pub returns-then-mark-eq61 : goal.returns-then-mark-eq61
+returns-then-mark-eq61 c = text-as (mark-one _ c.if-mark-eq61.true) c.put.ensures
 
-pub returns-in-AtMost : goal.returns-in-AtMost
-unfolding relation_text
-returns-in-AtMost c = text-as (ap relation_text c.in-AtMost.is) (then c.put-next.ensures c.put-in-AtMost.ensures)
-
-pub returns-in-AtLeast : goal.returns-in-AtLeast
-unfolding relation_text
-returns-in-AtLeast c = text-as (ap relation_text c.in-AtLeast.is) (then c.put-next-in-AtLeast.ensures c.put-in-AtLeast.ensures)
+pub returns : goal.returns
+returns c = text-as (mark-two _ c.if-mark-eq61.false) (then c.put-next.ensures c.put-2.ensures)
