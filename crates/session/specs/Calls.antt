@@ -1,5 +1,5 @@
 -- Every call's answer and what it leaves: `reply_of`, of the call that a line names.
-use Rattle.std.specs.Prelude.{ℕ, ◌≤◌, ◌<◌, ◌≡◌, Bool, true, false, List, [], ◌∷◌, map, length, take, Float, Option, Some, None}
+use Rattle.std.specs.Prelude.{ℕ, ◌≤◌, ◌<◌, ◌≡◌, Bool, false, List, [], ◌∷◌, map, length, take, Float, Option, Some, None}
 use Rattle.std.proofs.Math.Path.{refl}
 use Rattle.std.proofs.Common.{sym, ap, arith, le-leb}
 use Rattle.std.proofs.Math.Option.{Option as Held, none, some}
@@ -38,7 +38,7 @@ use Rattle.text.specs.declared.calls.Line.{Line}
 use Rattle.text.specs.Words.{words_of}
 use Rattle.text.specs.Format as format
 use Rattle.text.specs.Lines.{as_term, as_relation, line_of}
-use Rattle.text.specs.Stream.{held_of}
+use Rattle.text.specs.Stream.{held_of, held_in}
 use Rattle.text.specs.Answers.{Wrote, answer_text, float_text, flag_text, unread_text, answer-short, hex-length, flag-length}
 use Rattle.session.specs.Said.{Said, said, Spoken, fetch_said, fetch-short}
 
@@ -219,6 +219,15 @@ reply-short (Some dumps) t = omega arith
 reply-short (Some (sets_next n)) t = omega arith
 
 -- ---- a line
+
+-- with no number it is too long
+pub held-as : (line : List ℕ) (t : Sparse) {o : Option ℕ} {n : ℕ} {s : Said} → o ≡ Some n → held_reply (held_of line n) t ≡ s → held_reply (held_in line o) t ≡ s
+unfolding held_in
+held-as line t e q = rw e q
+
+pub held-none : (line : List ℕ) (t : Sparse) {o : Option ℕ} → o ≡ None → held_reply (held_in line o) t ≡ reply_of None t
+unfolding held_in held_reply reply_of
+held-none line t e = rw e refl
 
 module _ (line : List ℕ) (held : ℕ) (t : Sparse) where
   pub held-long : 4096 < held → held_reply (held_of line held) t ≡ reply_of None t

@@ -1,7 +1,7 @@
 -- "`show C`: `REL STRENGTH GROUP CONSTANT N V1 K1 ...` or `no 5`": what it is answered, and what a line is, of either kind.
 use Rattle.std.specs.Prelude.{ℕ, ◌-◌, ◌≤◌, ◌<◌, ◌≡◌, Bool, true, false, cond, List, length, get_or, take, replicate, Float, Option, Some, None}
 use Rattle.std.proofs.Math.Path.{refl}
-use Rattle.std.proofs.Common.{sym, ap, ◌∙◌, arith, le-leb}
+use Rattle.std.proofs.Common.{ap, ◌∙◌, arith, le-leb}
 use Rattle.std.proofs.Math.Option.{Option as Held, none, some}
 use Rattle.std.proofs.lemmas.Bool.{lt-leb}
 use Rattle.steps.specs.Number.{zero64}
@@ -12,7 +12,7 @@ use Rattle.sparse_test.specs.Reads.{reads}
 use Rattle.fetches.specs.shown.Shown.{Line, line, without, line_of, show_of}
 use Rattle.fetches.specs.shown.Few.{FewOf, few-shown, show-few}
 use Rattle.text.specs.Words.{words_of}
-use Rattle.text.specs.Stream.{held_of}
+use Rattle.text.specs.Stream.{held_of, held_in}
 use Rattle.text.specs.Answers.{Wrote}
 use Rattle.text.specs.Put.{Put, wrote-put, put_as}
 use Rattle.text.specs.show_text.Show.{asks_for, given_text, no_text, shown_text, given-shown, given-short, no_short}
@@ -83,6 +83,19 @@ shown-short n t = go (reads t) refl
     go false e = omega (arith, no_short 18)
 
 -- ---- a line
+
+module _ (l : List ℕ) (t : Sparse) {o : Option ℕ} {n : ℕ} (e : o ≡ Some n) where
+  pub answer-as : held_reply (held_of l n) t ≡ held_answer (held_of l n) t → held_reply (held_in l (Some n)) t ≡ held_answer (held_in l o) t
+  unfolding held_in
+  answer-as q = rw e q
+
+  pub answer-in : held_answer (held_of l n) t ≡ held_answer (held_in l o) t
+  unfolding held_in
+  answer-in = rw e refl
+
+pub none-answer : (l : List ℕ) (t : Sparse) {o : Option ℕ} → o ≡ None → held_reply (held_in l o) t ≡ held_answer (held_in l o) t
+unfolding held_answer held_in
+none-answer l t e = rw e refl
 
 module _ (l : List ℕ) (held : ℕ) (t : Sparse) where
   pub long-answer : 4096 < held → held_reply (held_of l held) t ≡ held_answer (held_of l held) t

@@ -1,6 +1,6 @@
 // A line answered: the text of the answer, into the lent buffer.
 ghost use Rattle.std.specs.Prelude.{◌≡◌, ◌≤◌, length, take, Some};
-ghost use Rattle.sparse.specs.Tables.{lent, held as sparse};
+ghost use Rattle.sparse.specs.Tables.{lent, held as sparse, Same};
 ghost use Rattle.lending.specs.Lending.{called, answer_of, call_of};
 ghost use Rattle.steps.specs.Changing.{made};
 ghost use Rattle.changes.specs.Change.{changing_of};
@@ -9,7 +9,7 @@ ghost use Rattle.text.specs.Answers.{Wrote};
 ghost use Rattle.text.specs.Words.{words_of};
 ghost use Rattle.text.specs.Format.{call_of as Format·callOf};
 ghost use Rattle.text.specs.Lines.{line_of};
-ghost use Rattle.text.specs.Stream.{held_of};
+ghost use Rattle.text.specs.Stream.{held_in};
 ghost use Rattle.text.specs.show_text.Show.{asks_for};
 ghost use Rattle.session.specs.Said.{Spoken, fetch_said};
 ghost use Rattle.session.specs.Calls.{room, reply_of, call_from, asked_text, held_reply};
@@ -28,7 +28,8 @@ use text::writing;
 
 // A change, in a working room of its own; p: the terms of an add.
 fn change(tables: &mut TablesMut, c: Change, p: Pack, budget: u16) -> Answer
-    ensures { called (answer_of result) (sparse tables.new) ≡ call_of (made (changing_of c p budget)) room (sparse tables.old) }
+    ensures does { called (answer_of result) (sparse tables.new) ≡ call_of (made (changing_of c p budget)) room (sparse tables.old) }
+    ensures same { Same tables.old tables.new }
 {
     let mut w: Words = [0; sparse::WORDS_SIZE];
     let mut k: Keys = [0; layout::cells::CELL_ROOM];
@@ -47,7 +48,8 @@ fn change(tables: &mut TablesMut, c: Change, p: Pack, budget: u16) -> Answer
 
 fn say_fetch(tables: &mut TablesMut, out: &mut Out, at: usize) -> usize
     requires { at ≤ 5000 }
-    ensures { Spoken (fetch_said (fetch_of (sparse tables.old))) out.old out.new at result (sparse tables.new) }
+    ensures spoken { Spoken (fetch_said (fetch_of (sparse tables.old))) out.old out.new at result (sparse tables.new) }
+    ensures same { Same tables.old tables.new }
 {
     let mut numbers: fetches::Numbers = [0; fetches::PLACES];
     let mut moved: fetches::Moved = [0.0; fetches::PLACES];
@@ -107,7 +109,8 @@ fn say_shown(number: u32, tables: &Tables, out: &mut Out, at: usize) -> usize
 // p: the terms of an add.
 fn answer(call: Call, p: Pack, tables: &mut TablesMut, out: &mut Out, at: usize) -> usize
     requires { at ≤ 5000 }
-    ensures { Spoken (reply_of (Some (call_from call p)) (sparse tables.old)) out.old out.new at result (sparse tables.new) }
+    ensures spoken { Spoken (reply_of (Some (call_from call p)) (sparse tables.old)) out.old out.new at result (sparse tables.new) }
+    ensures same { Same tables.old tables.new }
 {
     match call {
         Call::Reset(cutoff) => {
@@ -130,22 +133,26 @@ fn read_front(line: &[u8], held: usize) -> Option<Line>
     text::reading::read_line(&line[..held])
 }
 
-// A call of the steps in the line of which `held` bytes were read: none if they are more than the buffer's.
+// A call of the steps in the line of which `held` bytes were read: none if it was too long, with no number, or they are more than the buffer's.
 fn answer_line(
     line: &[u8; 4096],
-    held: usize,
+    held: Option<usize>,
     tables: &mut TablesMut,
     out: &mut Out,
     at: usize,
 ) -> usize
     requires { at ≤ 5000 }
-    ensures spoken { Spoken (held_reply (held_of line.now held) (sparse tables.old)) out.old out.new at result (sparse tables.new) }
+    ensures spoken { Spoken (held_reply (held_in line.now held) (sparse tables.old)) out.old out.new at result (sparse tables.new) }
     ensures upper_bound { result ≤ 8000 }
+    ensures same { Same tables.old tables.new }
 {
-    if 4096 < held {
+    let Some(count) = held else {
+        return writing::put_unread(out, at);
+    };
+    if 4096 < count {
         return writing::put_unread(out, at);
     }
-    let Some(l) = read_front(line, held) else {
+    let Some(l) = read_front(line, count) else {
         return writing::put_unread(out, at);
     };
     answer(l.call, l.terms, tables, out, at)
@@ -158,22 +165,26 @@ fn show_front(line: &[u8], held: usize) -> Option<u32>
     text::show_text::read_show(&line[..held])
 }
 
-// The line of which `held` bytes were read: no call if they are more than the buffer's.
+// The line of which `held` bytes were read: no call if it was too long, with no number, or they are more than the buffer's.
 pub fn answer_held(
     line: &[u8; 4096],
-    held: usize,
+    held: Option<usize>,
     tables: &mut TablesMut,
     out: &mut Out,
     at: usize,
 ) -> usize
     requires { at ≤ 5000 }
-    ensures spoken { Spoken (held_answer (held_of line.now held) (sparse tables.old)) out.old out.new at result (sparse tables.new) }
+    ensures spoken { Spoken (held_answer (held_in line.now held) (sparse tables.old)) out.old out.new at result (sparse tables.new) }
     ensures upper_bound { result ≤ 8000 }
+    ensures same { Same tables.old tables.new }
 {
-    if 4096 < held {
+    let Some(read) = held else {
+        return answer_line(line, held, tables, out, at);
+    };
+    if 4096 < read {
         return answer_line(line, held, tables, out, at);
     }
-    let Some(n) = show_front(line, held) else {
+    let Some(n) = show_front(line, read) else {
         return answer_line(line, held, tables, out, at);
     };
     say_shown(n, &tables.lend(), out, at)

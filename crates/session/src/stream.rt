@@ -4,6 +4,7 @@
 // (A run of its own beside `text::serving`: after a write that failed nothing more is written, as `flush` says.)
 ghost use Rattle.std.specs.Prelude.{◌≡◌, ◌≤◌, length, take as front, IsTrue, IsFalse, IsErr};
 ghost use Rattle.std.specs.Io.KnownBytes.{Appends};
+ghost use Rattle.sparse.specs.Tables.{Same};
 
 use crate::answers::answer_held;
 use sparse::tables::TablesMut;
@@ -150,14 +151,13 @@ pub fn say<R, W: Write>(
     requires end_bound { p.end ≤ 4096 }
     ensures at_bound_2 { result.at ≤ 8192 }
     ensures end_bound_2 { result.end ≤ 4096 }
+    ensures same { Same tables.old tables.new }
 {
     if !p.whole {
         return p;
     }
     let mut q = with_room(duplex, out, p);
-    // More than the buffer's bytes stand for a line that is too long, as in the clauses of `answer_held`.
-    let held = q.held.unwrap_or(4097);
-    let next = answer_held(line, held, tables, out, q.at);
+    let next = answer_held(line, q.held, tables, out, q.at);
     q.at = put_byte(out, next, 10);
     q.held = Some(0);
     q.whole = false;

@@ -2,29 +2,42 @@
 use Rattle.std.proofs.Common.{subst}
 use Rattle.text.specs.Answers.{Wrote}
 use Rattle.sparse.specs.Tables.{held}
-use Rattle.session.specs.Shows.{shown_reply, long-answer, other-answer, shown-spoken, as-spoken}
+use Rattle.session.specs.Shows.{shown_reply, none-answer, answer-as, answer-in, long-answer, other-answer, shown-spoken, as-spoken}
 use Rattle.session.proofs.answers.answer_held.Goals as goal
 
-pub returns-then-held-gt4096 : goal.returns-then-held-gt4096
-returns-then-held-gt4096 c =
+pub returns-in_default-clause-spoken : goal.returns-in_default-clause-spoken
+returns-in_default-clause-spoken c =
     let a = c.args in
     let t = held a.tables.now in
     let w = c.answer_line in
-    let h = as-spoken a.out.now w.new.out a.at w.result (long-answer a.line.now a.held t c.if-held-gt4096.true) (w.ensures.spoken, w.ensures.upper_bound) in
-    record { spoken = h.0; upper_bound = h.1 }
+    (as-spoken a.out.now w.new.out a.at w.result (none-answer a.line.now t c.in_default.is) (w.ensures.spoken, w.ensures.upper_bound)).0
 
-pub returns-in_default : goal.returns-in_default
-returns-in_default c =
+pub returns-then-read-gt4096-clause-spoken : goal.returns-then-read-gt4096-clause-spoken
+returns-then-read-gt4096-clause-spoken c =
     let a = c.args in
     let t = held a.tables.now in
-    let w = c.answer_line-in_default in
-    let h = as-spoken a.out.now w.new.out a.at w.result (other-answer a.line.now a.held t c.if-held-gt4096.false c.show_front.ensures c.in_default.is) (w.ensures.spoken, w.ensures.upper_bound) in
-    record { spoken = h.0; upper_bound = h.1 }
+    let w = c.answer_line-then-read-gt4096 in
+    (as-spoken a.out.now w.new.out a.at w.result (answer-as a.line.now t c.in-Some.is (long-answer a.line.now c.in-Some.read t c.if-read-gt4096.true)) (w.ensures.spoken, w.ensures.upper_bound)).0
 
-pub returns : goal.returns
-returns c =
+pub returns-in_default-show_front-clause-spoken : goal.returns-in_default-show_front-clause-spoken
+returns-in_default-show_front-clause-spoken c =
+    let a = c.args in
+    let t = held a.tables.now in
+    let w = c.answer_line-in_default-show_front in
+    (as-spoken a.out.now w.new.out a.at w.result (answer-as a.line.now t c.in-Some.is (other-answer a.line.now c.in-Some.read t c.if-read-gt4096.false c.show_front.ensures c.in_default-show_front.is)) (w.ensures.spoken, w.ensures.upper_bound)).0
+
+pub returns-clause-spoken : goal.returns-clause-spoken
+returns-clause-spoken c =
     let a = c.args in
     let t = held a.tables.now in
     let w = c.say_shown in
-    let h = shown-spoken a.line.now a.held t a.out.now w.new.out a.at w.result c.if-held-gt4096.false c.show_front.ensures c.in-Some.is c.requires (subst (λ u. Wrote a.out.now w.new.out a.at w.result (shown_reply c.in-Some.n u)) c.lend.ensures w.ensures) in
-    record { spoken = h.0; upper_bound = h.1 }
+    let h = shown-spoken a.line.now c.in-Some.read t a.out.now w.new.out a.at w.result c.if-read-gt4096.false c.show_front.ensures c.in-Some-show_front.is c.requires (subst (λ u. Wrote a.out.now w.new.out a.at w.result (shown_reply c.in-Some-show_front.n u)) c.lend.ensures w.ensures) in
+    (as-spoken a.out.now w.new.out a.at w.result (answer-in a.line.now t c.in-Some.is) h).0
+
+pub returns-clause-upper_bound : goal.returns-clause-upper_bound
+returns-clause-upper_bound c =
+    let a = c.args in
+    let t = held a.tables.now in
+    let w = c.say_shown in
+    let h = shown-spoken a.line.now c.in-Some.read t a.out.now w.new.out a.at w.result c.if-read-gt4096.false c.show_front.ensures c.in-Some-show_front.is c.requires (subst (λ u. Wrote a.out.now w.new.out a.at w.result (shown_reply c.in-Some-show_front.n u)) c.lend.ensures w.ensures) in
+    h.1

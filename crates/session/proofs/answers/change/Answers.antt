@@ -4,6 +4,6 @@ use Rattle.lending.specs.Entered.{zero_room}
 use Rattle.lending.specs.Lending.{call_of}
 use Rattle.session.proofs.answers.change.Goals as goal
 
-pub returns : goal.returns
+pub returns-clause-does : goal.returns-clause-does
 unfolding zero_room of_bits call_of
-returns c = c.change.ensures.values_value
+returns-clause-does c = c.change.ensures.values_value

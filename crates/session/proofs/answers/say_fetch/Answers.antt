@@ -18,8 +18,8 @@ put_fetch-requires c =
       count_in_bounds_4 = omega (arith, few, long.2);
     }
 
-pub returns : goal.returns
-returns c =
+pub returns-clause-spoken : goal.returns-clause-spoken
+returns-clause-spoken c =
     let a = c.args in
     let f = c.fetch_changes-f in
     let w = c.put_fetch in
