@@ -3,7 +3,7 @@ ghost use Rattle.std.specs.Prelude.{◌≡◌, true, [], map, Ok};
 ghost use Rattle.reader.specs.Sides.{relation_of};
 ghost use Rattle.cable_lines.specs.Cable.{takes, closes};
 ghost use Rattle.cable_lines.specs.State.{held_by};
-ghost use Rattle.knobharbor.specs.handed.Handed.{kind_of, handed, handed_by, read_by, unrefused, reply_in, words_in, reals_in, whole_at};
+ghost use Rattle.knobharbor.specs.handed.Handed.{kind_of, handed, handed_by, read_by, unrefused, reply_in, words_in, reals_of, reals_in, whole_at};
 ghost use Rattle.cable_lines.specs.Given.{told};
 ghost use Rattle.reader.specs.second.Replies.{answered};
 
@@ -75,10 +75,9 @@ fn words_in(t: Taken) -> Words
     }
 }
 
-fn reals_in(t: Taken) -> Reals
-    ensures { result ≡ reals_in (told t) }
+fn reals_in(x: Weighted) -> Reals
+    ensures { result ≡ reals_of (answered (Ok x)) }
 {
-    let x = weighted_in(t);
     let constant = whole(x.constraint.constant);
     let strength = std::num::nearest_u64_to_f64(x.strength as u64);
     [constant, strength]
@@ -87,7 +86,11 @@ fn reals_in(t: Taken) -> Reals
 fn wholes(x: [u64; TERM_ROOM]) -> Coefficients
     ensures { result ≡ map whole_at x }
 {
-    x.map(whole)
+    let mut r = [0.0; TERM_ROOM];
+    for i in 0..TERM_ROOM {
+        r[i] = whole(x[i]);
+    }
+    r
 }
 
 fn hand_over(
@@ -102,11 +105,11 @@ fn hand_over(
     ensures variables_after { variables.new ≡ (reply_in (told t).answer).reading.variables }
     ensures coefficients_after { coefficients.new ≡ map whole_at (reply_in (told t).answer).reading.coefficients }
 {
-    let x = weighted_in(t).constraint;
-    let v = x.variables;
-    let c = x.coefficients;
+    let x = weighted_in(t);
+    let v = x.constraint.variables;
+    let c = x.constraint.coefficients;
     *words = words_in(t);
-    *reals = reals_in(t);
+    *reals = reals_in(x);
     *variables = v;
     *coefficients = wholes(c);
 }

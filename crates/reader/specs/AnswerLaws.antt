@@ -110,7 +110,7 @@ module _ (vs xs : List ℕ) (m : Mark) (p : Place) where
 -- ---- the whole line
 
 module _ (w numbers sums : List ℕ) (h : length w ≤ 4096) where
-  line-answer : (l : Result (Mark × Place) Fault) → run_from w 0 first left nothing ≡ line_of numbers sums l → read_line w ≡ answered (line_of numbers sums l)
+  pub line-answer : (l : Result (Mark × Place) Fault) → run_from w 0 first left nothing ≡ line_of numbers sums l → read_line w ≡ answered (line_of numbers sums l)
   unfolding read_line
   line-answer l o = rw (le-leb (length w) 4096 h) (ap answered o)
 

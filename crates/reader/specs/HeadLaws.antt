@@ -79,7 +79,7 @@ module _ (w : List ℕ) (at : ℕ) (f : code.Factor) (small : f.product ≤ 1048
 
 -- ---- further on
 
-placed-from : (w : List ℕ) (at i : ℕ) (k : Kind) → at ≤ i → Placed w i k → Placed w at k
+pub placed-from : (w : List ℕ) (at i : ℕ) (k : Kind) → at ≤ i → Placed w i k → Placed w at k
 placed-from w at i (Number n b bare) h p = (omega (arith, p.0), p.1, p.2)
 placed-from w at i (Variable v b bare) h p = (omega (arith, p.0), p.1)
 placed-from w at i (Open b) h p = (omega (arith, p.0), p.1)

@@ -8,7 +8,10 @@ use crate::fault::Fault;
 pub fn byte_at(s: &[u8], at: usize) -> u8
     ensures { result ≡ get_or s.now at 0 }
 {
-    *s.get(at).unwrap_or(&0)
+    match s.get(at) {
+        Some(b) => *b,
+        None => 0,
+    }
 }
 
 // The place behind the spaces. (With `position` it is a sum of `at` and a place in the rest: no plainer.)

@@ -6,6 +6,7 @@ use Rattle.std.proofs.Math.Option.{Option, none, some}
 use Rattle.std.proofs.Math.Nat.{zero-add, suc-add}
 use Rattle.std.specs.Float.Ieee.{of_bits, of_int}
 use Rattle.grammar.specs.Sums.{Relation, at_most, equal, at_least, Term, Reading, most, small_terms}
+use Rattle.laws.specs.Loops.{zip_in}
 use Rattle.laws.specs.streams.Lines.{grown}
 use Rattle.reader.specs.sums.Held.{zero_at, value_of}
 use Rattle.reader.specs.Sides.{relation_of}
@@ -110,8 +111,20 @@ words_in t =
     let x : code.Reply = reply_in t.answer in
     t.taken ∷ x.reading.number ∷ x.reading.offset ∷ kind_in t ∷ x.reading.count ∷ x.group ∷ []
 
+-- the constant and the strength of one answer
+abbrev pub reals_of : code.Reply → List Float
+reals_of x = whole_at x.reading.constant ∷ whole_of (pos x.strength) ∷ []
+
 abbrev pub reals_in : Taken → List Float
-reals_in t = whole_at (reply_in t.answer).reading.constant ∷ whole_of (pos (reply_in t.answer).strength) ∷ []
+reals_in t = reals_of (reply_in t.answer)
+
+pub wholes-start : (n : ℕ) (l : List Float) (x : List ℕ) → length l ≡ n → length x ≡ n → zip_in (λ _ y. whole_at y) 0 n l x ≡ map whole_at x
+unfolding zip_in
+wholes-start n [] [] e f = refl
+wholes-start n [] (y ∷ x) e f = absurd (omega arith)
+wholes-start n (k ∷ l) [] e f = absurd (omega arith)
+wholes-start zero (k ∷ l) (y ∷ x) e f = absurd (omega arith)
+wholes-start (suc n) (k ∷ l) (y ∷ x) e f = ap (λ (r : List Float). whole_at y ∷ r) (wholes-start n l x (omega arith) (omega arith))
 
 zero-at : whole_at zero_at ≡ zero64
 unfolding whole_at whole_of zero64 of_bits of_int

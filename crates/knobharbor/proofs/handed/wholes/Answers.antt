@@ -1,17 +1,16 @@
-use Rattle.std.proofs.Common.{rules, ◌≡◌, sym, ◌∙◌, length, arith, map, get_or, ext_get_or}
-use Rattle.std.proofs.lemmas.List.{length-map}
-use Rattle.layout.specs.Layout.{term_room}
-use Rattle.layout.specs.Laying.{get_d_map}
+use Rattle.std.proofs.Common.{refl, arith, rules}
+use Rattle.laws.specs.Loops.{zip-next, zip-last}
 use Rattle.steps.specs.Number.{zero64}
-use Rattle.knobharbor.specs.handed.Handed.{whole_at}
+use Rattle.layout.specs.Layout.{term_room}
+use Rattle.knobharbor.specs.handed.Handed.{whole_at, wholes-start}
 use Rattle.knobharbor.proofs.handed.wholes.Goals as goal
 
-pub returns : goal.returns
+pub loop-i-init : goal.loop-i-init
+loop-i-init c = wholes-start term_room _ _ refl (search rules)
+
+pub loop-i-preserved : goal.loop-i-preserved
 unfolding whole_at
-returns c =
-    let n : length c.args.x ≡ term_room = search rules in
-    let long : length c.map.result ≡ term_room = c.map.ensures.items.long in
-    ext_get_or zero64 c.map.result (map whole_at c.args.x) (long ∙ sym n ∙ sym (length-map c.args.x whole_at)) λ j h.
-    let r = c.map.ensures.items.at j 0 zero64 (omega (arith, h, long)) in
-    let one : get_or c.map.result j zero64 ≡ whole_at (get_or c.args.x j 0) = search rules in
-    one ∙ sym (get_d_map whole_at c.args.x j 0 zero64 (omega (arith, h, long, n)))
+loop-i-preserved c = zip-next (λ _ y. whole_at y) _ term_room _ _ zero64 0 (omega arith) (omega arith) c.whole.ensures c.loop-i.invariant
+
+pub returns : goal.returns
+returns c = zip-last (λ _ y. whole_at y) _ term_room _ _ (omega arith) c.loop-i.invariant
