@@ -4,14 +4,11 @@ ghost use Rattle.reader.specs.Scan.{Skips, digit_at, WholeIs};
 
 use crate::fault::Fault;
 
-// The byte at a place, 0 past the end: a byte of no line either.
+// The byte at a place, 0 past the end: a byte of no line either. (`get` gives an Option of a reference, which `tools/cross` refuses for 32 bits.)
 pub fn byte_at(s: &[u8], at: usize) -> u8
     ensures { result ≡ get_or s.now at 0 }
 {
-    match s.get(at) {
-        Some(b) => *b,
-        None => 0,
-    }
+    if at < s.len() { s[at] } else { 0 }
 }
 
 // The place behind the spaces. (With `position` it is a sum of `at` and a place in the rest: no plainer.)

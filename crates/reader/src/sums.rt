@@ -24,8 +24,7 @@ fn place_of(numbers: &Numbers, count: usize, v: u32) -> usize
     requires { count ≤ 1366 }
     ensures { Place numbers.now count v result }
 {
-    let used = &numbers[..count];
-    used.iter().position(|n| v <= *n).unwrap_or(count)
+    (0..count).find(|i| v <= numbers[*i]).unwrap_or(count)
 }
 
 // A place is opened: what stands from there on, up to the free place e, moves up by one.
@@ -34,7 +33,9 @@ fn open<T: Copy>(table: &mut [T; 1366], i: usize, e: usize, x: T)
     requires e_bound { e < 1366 }
     ensures { table.new ≡ insert_at i x (delete e table.old) }
 {
-    table.copy_within(i..e, i + 1);
+    for j in (i..e).rev() {
+        table[j + 1] = table[j];
+    }
     table[i] = x;
 }
 

@@ -1,4 +1,4 @@
-// By one place within a table: a place closed up, and a place opened.
+// By one place within a table: a place closed up, and a place opened. (By ranges: `layout::cells::slide` says why not by `copy_within`.)
 ghost use Rattle.std.specs.Prelude.{◌≡◌, ◌≤◌, ◌<◌, length};
 ghost use Rattle.rows.specs.moves.Close.{closed, opened};
 
@@ -19,6 +19,8 @@ pub fn open<T: Copy>(xs: &mut [T], i: usize, e: usize, x: T)
     requires e_bound { e < length xs.old }
     ensures { xs.new ≡ opened i e x xs.old }
 {
-    xs.copy_within(i..e, i + 1);
+    for j in (i..e).rev() {
+        xs[j + 1] = xs[j];
+    }
     xs[i] = x;
 }

@@ -1,6 +1,13 @@
-use Rattle.std.proofs.Common.{arith}
-use Rattle.reader.proofs.Opened.{opened-by}
+use mathlib.Core.Path.{◌≡◌, refl, ap, ◌∙◌}
+use native.Mathlib.Omega.{arith}
+use Rattle.laws.specs.Loops.{insert_at, down-next, put}
 use Rattle.reader.proofs.sums.open.Goals as goal
 
+pub loop-j-init : goal.loop-j-init
+loop-j-init g c = (refl, c.requires.i_le_e)
+
+pub loop-j-preserved : goal.loop-j-preserved
+loop-j-preserved g c = (down-next _ _ c.index-table-j.result (omega arith) (omega arith) refl ∙ c.loop-j.invariant.0, omega arith)
+
 pub returns : goal.returns
-returns g c = opened-by _ _ _ _ c.requires.i_le_e (omega arith) c.copy_within.ensures.len c.copy_within.ensures.after
+returns g c = let q : c.loop-j.j ≡ c.args.i = omega arith in put _ _ _ (omega arith) ∙ ap (insert_at _ _) (rw q at c.loop-j.invariant.0)

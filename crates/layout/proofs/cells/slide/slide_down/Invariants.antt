@@ -1,0 +1,9 @@
+use Prim.Native.Nat.{◌-◌, ◌≤◌}
+use mathlib.Core.Path.{◌≡◌}
+use lib.ListN.{length}
+use Rattle.layout.specs.cells.Names.{cell_room}
+use Rattle.layout.specs.cells.Cells.{moved}
+use Rattle.layout.proofs.cells.slide.slide_down.Given as goal
+
+abbrev pub invariant-loop-j : goal.invariant-loop-j
+invariant-loop-j l = (moved l.j (l.j - l.d) (l.n - l.j) l.keys ≡ moved l.a (l.a - l.d) (l.n - l.a) l.initial.keys) × (moved l.j (l.j - l.d) (l.n - l.j) l.vals ≡ moved l.a (l.a - l.d) (l.n - l.a) l.initial.vals) × (length l.keys ≡ cell_room) × (length l.vals ≡ cell_room) × (l.a ≤ l.j) × (l.j ≤ l.n)
