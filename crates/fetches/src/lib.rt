@@ -54,7 +54,8 @@ fn clear_reported(words: &Words, bytes: &mut Bytes)
     }
 }
 
-fn clear_lists(numbers: &mut Numbers, moved: &mut Moved, gone: &mut Flags)
+// The three lists zero, whatever they held: what `Listed` begins with.
+pub fn clear_lists(numbers: &mut Numbers, moved: &mut Moved, gone: &mut Flags)
     ensures numbers_after { numbers.new ≡ replicate places 0 }
     ensures moved_after { moved.new ≡ replicate places zero64 }
     ensures gone_after { gone.new ≡ replicate places 0 }
